@@ -1,38 +1,38 @@
--- Steps of bring-up that write neither ICR nor ICS.
+-- Calls of initialization that write neither ICR nor ICS.
 use Rattle.std.proofs.Common.{◌≡◌, ◌++◌, ◌∷◌, [], ℕ, Bool, List, sym, ap, subst}
 use Rattle.std.specs.List.{All}
 use Rattle.std.proofs.lemmas.List.Elements.{All-append}
 use Rattle.adapter.specs.Table.{array_register_at, register_at}
-use Rattle.bus.specs.PastOfStretch.{Past, joined}
+use Rattle.bus.specs.Pasts.{Past, joined}
 use Rattle.bus.specs.Settings.{Write, writes_in}
 use Rattle.bus.specs.declared.bus.Bus.{Ghosts}
 use Rattle.bus.proofs.Lists.{all-weaker}
 use Rattle.bus.proofs.Settings.{writes-append}
 use Rattle.bring_up.specs.FilterSetting.{SetsFilter}
-use Rattle.bring_up.specs.RingRegisters.{receive_control, receive_writes, ring_writes, transmit_writes}
-use Rattle.bring_up.specs.SettingSteps.{Asks, IsNotOfCauses, RecordsNone, RecordsNoCause, Sets}
-use Rattle.bring_up.specs.WrittenRegisters.{allocation_writes, link_writes, mask_writes, reset_writes, write_at}
+use Rattle.bring_up.specs.RingRegisters.{receive_control, receive_writes, ring_setup_writes, transmit_writes}
+use Rattle.bring_up.specs.SettingSteps.{WritesOneRegister, IsNotOfCauses, RecordsNone, RecordsNoCause, Sets}
+use Rattle.bring_up.specs.WrittenRegisters.{allocation_writes, enable_link_writes, mask_writes, reset_writes, write_at}
 use Rattle.bring_up.proofs.WritesOf.{filter-of, of-both, of-one, ring-of}
 
--- Two intervals.
+-- Two consecutive intervals.
 pub joined-causes : (first later : Past) → RecordsNoCause first → RecordsNoCause later → RecordsNoCause (joined first later)
 joined-causes first later one two =
     subst (All RecordsNone) (sym (writes-append first.accesses later.accesses))
     (All-append RecordsNone (writes_in first.accesses) (writes_in later.accesses) one two)
 
--- A step that makes such writes.
+-- A call that makes such writes.
 pub sets-causes : {B : Type 0} (bus : Ghosts B) (old new : B) (writes : List Write) (sets : Sets bus writes old new)
     → All RecordsNone writes → RecordsNoCause sets.past
 sets-causes bus old new writes sets leave = subst (All RecordsNone) (sym sets.writes_are) leave
 
--- A step that asks through another register.
+-- A call that writes only another register.
 pub asks-causes : {B : Type 0} (bus : Ghosts B) (old new : B) (offset : ℕ) → IsNotOfCauses (register_at offset)
-    → (asks : Asks bus offset old new) → RecordsNoCause asks.past
+    → (asks : WritesOneRegister bus offset old new) → RecordsNoCause asks.past
 asks-causes bus old new offset other asks =
     all-weaker (λ (write : Write). write.offset ≡ offset) RecordsNone (writes_in asks.past.accesses)
     (λ write is. subst IsNotOfCauses (ap register_at (sym is)) other) asks.only
 
--- The registers of the steps.
+-- The registers of the calls.
 
 pub eerd-causes : IsNotOfCauses (register_at 0x0014)
 unfolding register_at array_register_at
@@ -51,7 +51,7 @@ pub allocation-causes : (kilobytes : ℕ) → All RecordsNone (allocation_writes
 unfolding register_at array_register_at
 allocation-causes kilobytes = of-one IsNotOfCauses 0x1000 kilobytes tt
 
-pub link-causes : All RecordsNone link_writes
+pub link-causes : All RecordsNone enable_link_writes
 unfolding register_at array_register_at
 link-causes = of-one IsNotOfCauses 0x0000 0x60 tt
 
@@ -62,7 +62,7 @@ filter-causes bus named named_vlans address old new filter =
     (filter-of IsNotOfCauses (λ n. tt) (λ n. tt) (λ n. tt) (λ n. tt) filter.groups filter.vlans address
     filter.has_groups.words filter.has_vlans.words)
 
-pub receive_ring-causes : (base bytes : ℕ) → All RecordsNone (ring_writes 0x2800 base bytes)
+pub receive_ring-causes : (base bytes : ℕ) → All RecordsNone (ring_setup_writes 0x2800 base bytes)
 unfolding register_at array_register_at
 receive_ring-causes base bytes = ring-of IsNotOfCauses 0x2800 base bytes tt tt tt tt tt
 
@@ -74,10 +74,10 @@ pub receive-causes : (promiscuous by_vlan : Bool) → All RecordsNone (receive_w
 unfolding register_at array_register_at
 receive-causes promiscuous by_vlan = of-one IsNotOfCauses 0x0100 (receive_control promiscuous by_vlan) tt
 
-pub transmit-causes : (base bytes : ℕ) → All RecordsNone (ring_writes 0x3800 base bytes ++ transmit_writes)
+pub transmit-causes : (base bytes : ℕ) → All RecordsNone (ring_setup_writes 0x3800 base bytes ++ transmit_writes)
 unfolding register_at array_register_at
 transmit-causes base bytes =
-    of-both IsNotOfCauses (ring_writes 0x3800 base bytes) transmit_writes (ring-of IsNotOfCauses 0x3800 base bytes tt tt tt tt tt)
+    of-both IsNotOfCauses (ring_setup_writes 0x3800 base bytes) transmit_writes (ring-of IsNotOfCauses 0x3800 base bytes tt tt tt tt tt)
     (of-one IsNotOfCauses 0x0400 0x000400FA tt)
 
 pub mask-causes : All RecordsNone mask_writes

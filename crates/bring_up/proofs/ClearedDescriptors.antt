@@ -1,4 +1,4 @@
--- A driver clears descriptors of its own.
+-- A driver clears descriptors that the adapter doesn't use.
 use Rattle.std.proofs.Common.{Bool, false, ◌≡◌, ◌≤◌, ◌<◌, ◌+◌, ◌-◌, ◌*◌, ◌%◌, ◌^◌, ◌++◌, ◌∷◌, [], ℕ, List, length, map, replicate}
 use Rattle.std.proofs.Common.{inr, refl, sym, ap, subst, ◌∙◌, arith}
 use Rattle.std.specs.List.{All}
@@ -19,7 +19,7 @@ use Rattle.bus.specs.RegisterSetting.{with_transmit_ring}
 use Rattle.bus.specs.Keeping.{view_of}
 use Rattle.bus.specs.Law.{Acts}
 use Rattle.bus.specs.DriversStores.{IsDriversArea}
-use Rattle.bus.specs.PastOfStretch.{nothing}
+use Rattle.bus.specs.Pasts.{nothing}
 use Rattle.bus.specs.declared.bus.Bus.{Ghosts}
 use Rattle.bus.specs.declared.event.Access.TheVariants.{Stores}
 use Rattle.bus.proofs.IdleRings.{offered-none, outstanding-none}
@@ -40,18 +40,18 @@ use Rattle.bring_up.specs.ClearedDescriptors.{clears}
 abbrev zeros : List ℕ
 zeros = replicate 16 0
 
--- A descriptor lies in memory, and a store to it leaves what the law speaks of.
+-- Memory contains the descriptor, and a store to it keeps the conditions of the bus law.
 record CanClear (d : DriverState) (world : World) (address : ℕ) : Type 0 where
   lies : LiesIn world.memory address 16
   own : IsDriversArea d.oldest_receive d.oldest_transmit world (area_at address 16)
 
--- A slot of the transmit ring's place, while the transmit side is off.
+-- A slot of the transmit ring, while the transmit side is off
 
--- a ring of this slot alone
+-- a ring with this slot only
 abbrev ring_of_one : ℕ → RingRegisters
 ring_of_one address = record { base_low = address; base_high = 0; length_bytes = 16; head = 0; tail = 0 }
 
--- Such a ring could be set up, so the slot is apart from all that is received.
+-- Such a ring could be set up, so the slot is apart from all areas of the receive side.
 sent-own : (d : DriverState) (slot : ℕ) (world : World) → ReadyWith false d world → slot < d.layout.tx
     → CanClear d world (transmit_slot d.layout slot)
 sent-own d slot world ready below =
@@ -109,7 +109,7 @@ clears-sent d slot world ready below =
     (record { from = omega arith; to = omega (arith, below) })
     (places-apart d.layout TransmitRing (ReceiveBuffer number) tt known (λ same. absurd (cc))))
 
--- A receive slot that is neither outstanding nor staged, if the first slot is the oldest.
+-- A receive slot that is neither outstanding nor staged, if the oldest slot is the first one.
 clears-spare : {up : Bool} (d : DriverState) (slot : ℕ) (world : World) → ReadyWith up d world → d.oldest_receive ≡ 0
     → length d.buffers + length d.staged ≤ slot → slot < d.layout.rx
     → GoesTo up (driver_in d world) (driver_in d (world_after_store (receive_slot slot) zeros world)) (driver_did [] []) nothing
@@ -125,7 +125,7 @@ clears-spare {up} d slot world ready oldest past below =
     nothing) at
     (spare_slot_is_stored up d i zeros world ready refl (omega (arith, all, below)))
 
--- Over a bus.
+-- Over a bus
 
 abbrev pub StoreActs : {B : Type 0} (bus : Ghosts B) (old new : B) (address : ℕ) → Type 0
 StoreActs bus old new address = Acts (view_of bus) old new (Stores address (replicate 16 0))

@@ -1,4 +1,4 @@
--- What all writes of bring-up leave of what an adapter is set to.
+-- The settings after all writes of initialization.
 use Rattle.std.proofs.Common.{◌≡◌, ◌++◌, ◌∷◌, ◌+◌, ◌-◌, ◌*◌, ◌<◌, ◌^◌, [], ℕ, List, length, replicate, refl, sym, subst, arith}
 use Rattle.std.proofs.lemmas.List.{length-replicate}
 use Rattle.mdic_phy.specs.Phy.{new_phy}
@@ -12,8 +12,8 @@ use Rattle.bus.specs.Settings.{Settings, Write, settings_after_all, settings_of}
 use Rattle.bring_up.specs.Configuration.{CanBeHad}
 use Rattle.bring_up.specs.ConfiguredAdapters.{AreWords, IsConfigured, WritesConfigure, all_writes, names_vlans, writes_before_rings}
 use Rattle.bring_up.specs.FilterTables.{address_writes, table_writes}
-use Rattle.bring_up.specs.RingRegisters.{receive_control, receive_writes, ring_writes, transmit_writes}
-use Rattle.bring_up.specs.WrittenRegisters.{allocation_writes, link_writes, mask_writes, reset_writes, write_at}
+use Rattle.bring_up.specs.RingRegisters.{receive_control, receive_writes, ring_setup_writes, transmit_writes}
+use Rattle.bring_up.specs.WrittenRegisters.{allocation_writes, enable_link_writes, mask_writes, reset_writes, write_at}
 use Rattle.bring_up.specs.declared.config.Config.{Config}
 use Rattle.bring_up.proofs.RingSettings.{base-told, count-told, receive-ring-sets, receive-tail-sets, ring-fits, ring_at}
 use Rattle.bring_up.proofs.RingSettings.{transmit-ring-sets}
@@ -21,7 +21,7 @@ use Rattle.bring_up.proofs.SingleSettings.{SetTo, allocation-sets, groups-join, 
 use Rattle.bring_up.proofs.SingleSettings.{transmit-sets}
 use Rattle.bring_up.proofs.TableSettings.{address-set, groups-set, vlans-set}
 
--- the filter when its tables and addresses have been written
+-- the filter after its tables and addresses were written
 abbrev pub filter_written : (address groups vlans : List ℕ) → FilterRegisters
 filter_written address groups vlans = record {
   ral = low_word address ∷ replicate 15 0;
@@ -32,14 +32,14 @@ filter_written address groups vlans = record {
   vet = 0x8100;
 }
 
--- an adapter when all but the rings and what follows has been written
+-- an adapter after the writes before those of the rings
 abbrev pub adapter_before_rings : Config → (address groups vlans image : List ℕ) → Link → AdapterState
 adapter_before_rings config address groups vlans image link = record (adapter_at_reset image (new_phy link) config.rxa) {
   device_control = 0x60;
   filter = filter_written address groups vlans;
 }
 
--- behind a reset
+-- after a reset
 tables-set : (config : Config) (address groups vlans image : List ℕ) (link : Link)
     → IsAddress address → length groups ≡ 128 → length vlans ≡ 128 → AreWords groups → AreWords vlans
     → SetTo (table_writes 0x5200 groups ++ (table_writes 0x5600 vlans ++ address_writes address))
@@ -67,24 +67,24 @@ before-rings config address groups vlans size settings had is groups_whole vlans
     let allocated : AdapterState = record start { receive_kilobytes = config.rxa } in
     let linked : AdapterState = record allocated { device_control = 0x60 } in
     let end : AdapterState = adapter_before_rings config address groups vlans settings.image settings.link in
-    let behind = set-join link_writes tables allocated linked end (link-sets allocated)
+    let behind = set-join enable_link_writes tables allocated linked end (link-sets allocated)
     (tables-set config address groups vlans settings.image settings.link is groups_whole vlans_whole groups_are vlans_are) in
-    let rest = set-join (allocation_writes config.rxa) (link_writes ++ tables) start allocated end
+    let rest = set-join (allocation_writes config.rxa) (enable_link_writes ++ tables) start allocated end
     (allocation-sets config.rxa start had.numbers.allocation) behind in
-    groups-join reset_writes (allocation_writes config.rxa ++ (link_writes ++ tables)) settings (settings_of start) (settings_of end)
+    groups-join reset_writes (allocation_writes config.rxa ++ (enable_link_writes ++ tables)) settings (settings_of start) (settings_of end)
     (reset-sets settings) rest
 
--- the writes from those of the rings on, if this many receive slots are offered
+-- the writes of the rings and those after them, if this number of receive slots is offered
 abbrev pub writes_offering : Config → (slots : ℕ) → List Write
 writes_offering config slots =
-    ring_writes 0x2800 0 (16 * config.rx)
+    ring_setup_writes 0x2800 0 (16 * config.rx)
     ++ (write_at 0x2818 slots ∷ []
     ++ (receive_writes config.promiscuous (names_vlans config.vlans)
-    ++ (ring_writes 0x3800 (16 * config.rx) (16 * config.tx)
+    ++ (ring_setup_writes 0x3800 (16 * config.rx) (16 * config.tx)
     ++ (transmit_writes
     ++ mask_writes))))
 
--- an adapter when all is written
+-- an adapter after all writes
 abbrev pub adapter_configured : Config → (address groups vlans image : List ℕ) → Link → (slots : ℕ) → AdapterState
 adapter_configured config address groups vlans image link slots =
     let before = adapter_before_rings config address groups vlans image link in
@@ -105,8 +105,8 @@ from-rings config address groups vlans image link size slots had tail_fits =
     let rx_most = counts.rx.most in
     let near : config.rx < 2 ^ 32 = omega arith in
     let tagged = names_vlans config.vlans in
-    let receive_part = ring_writes 0x2800 0 (16 * config.rx) in
-    let transmit_part = ring_writes 0x3800 (16 * config.rx) (16 * config.tx) in
+    let receive_part = ring_setup_writes 0x2800 0 (16 * config.rx) in
+    let transmit_part = ring_setup_writes 0x3800 (16 * config.rx) (16 * config.tx) in
     let tail_part = write_at 0x2818 slots ∷ [] in
     let passing = receive_writes config.promiscuous tagged in
     let sending = transmit_part ++ (transmit_writes ++ mask_writes) in

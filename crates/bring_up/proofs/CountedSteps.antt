@@ -1,4 +1,4 @@
--- Steps that ask, with a count of their accesses.
+-- Calls that write only one register, with a count of their accesses.
 use Rattle.std.proofs.Common.{◌≡◌, ◌+◌, ◌≤◌, ◌∷◌, [], ℕ, List, length, length-append, refl, sym, ap, subst, ◌∙◌, arith}
 use Rattle.std.specs.List.{All}
 use Rattle.std.proofs.lemmas.List.Elements.{All-append, All-cons}
@@ -7,7 +7,7 @@ use Rattle.adapter.specs.State.{AdapterState}
 use Rattle.adapter.specs.World.{World, world_after_read, world_after_write}
 use Rattle.bus.specs.Keeping.{view_of}
 use Rattle.bus.specs.Law.{Acts}
-use Rattle.bus.specs.PastOfStretch.{joined}
+use Rattle.bus.specs.Pasts.{joined}
 use Rattle.bus.specs.declared.bus.Bus.{Ghosts}
 use Rattle.bus.specs.declared.event.Access.{Access}
 use Rattle.bus.specs.declared.event.Access.TheVariants.{Reads, Writes}
@@ -16,26 +16,26 @@ use Rattle.bus.specs.Settings.{Settings, Write, settings_of, writes_in}
 use Rattle.bus.proofs.Lists.{all-none}
 use Rattle.bus.proofs.AdaptersAtRest.{accesses_keep_rest, happenings_keep_rest}
 use Rattle.bus.proofs.Settings.{happenings_leave_settings, reads-leave, writes-append}
-use Rattle.bring_up.specs.SettingSteps.{Asks, IsAside}
-use Rattle.bring_up.proofs.Steps.{StretchesJoin}
+use Rattle.bring_up.specs.SettingSteps.{WritesOneRegister, IsAside}
+use Rattle.bring_up.proofs.Steps.{IntervalsJoin}
 
--- the write is of this register
+-- the write is a write of this register
 abbrev pub IsOf : ℕ → Write → Type 0
 IsOf offset write = write.offset ≡ offset
 
 module _ {B : Type 0} (bus : Ghosts B) where
-  -- A step asks, in so many accesses at least.
+  -- A call writes only this register, in at least this number of accesses.
   pub record AsksAtLeast (old new : B) (offset count : ℕ) : Type 0 where
-    pub asks : Asks bus offset old new
+    pub asks : WritesOneRegister bus offset old new
     pub count_is : count ≤ length asks.past.accesses
 
-  -- It leaves the image of the EEPROM.
-  pub asks-image : (old new : B) (offset : ℕ) → Asks bus offset old new
+  -- The image of the EEPROM doesn't change.
+  pub asks-image : (old new : B) (offset : ℕ) → WritesOneRegister bus offset old new
       → (bus.world new).adapter.image ≡ (bus.world old).adapter.image
   asks-image old new offset asks = ap (λ (settings : Settings). settings.image) asks.settings
 
-  -- Two such steps are one.
-  pub asks-more : StretchesJoin bus → (a b c : B) (offset first later : ℕ) → AsksAtLeast a b offset first
+  -- Two such calls join.
+  pub asks-more : IntervalsJoin bus → (a b c : B) (offset first later : ℕ) → AsksAtLeast a b offset first
       → AsksAtLeast b c offset later → AsksAtLeast a c offset (first + later)
   asks-more joins a b c offset first later one two =
       let before : List Access = one.asks.past.accesses in
@@ -62,7 +62,7 @@ module _ {B : Type 0} (bus : Ghosts B) where
         count_is = omega (arith, length-append before behind, one.count_is, two.count_is);
       }
 
-  -- An access that writes no register but the one asked, and leaves the settings, behind whatever happens before it.
+  -- An access that writes no register except this one, and changes no setting, whatever happens before it.
   asks-access : (old new : B) (access : Access) (effect : World → World → Type 0) (offset : ℕ)
       → (acts : Acts (view_of bus) old new access effect) → All (IsOf offset) (writes_in (access ∷ []))
       → settings_of (bus.world new).adapter ≡ settings_of acts.middle.adapter → (IsAtRest acts.middle → IsAtRest (bus.world new))
@@ -80,7 +80,7 @@ module _ {B : Type 0} (bus : Ghosts B) where
     count_is = omega (arith, ap (length {A = Access}) acts.only);
   }
 
-  -- A read of any register asks,
+  -- A read of any register is such a call.
   pub asks-read : (old new : B) (asked offset value : ℕ) (answer : World → Type 0)
       → Acts (view_of bus) old new (Reads offset value)
       (λ before after. answer before × (after ≡ world_after_read offset before))
@@ -91,7 +91,7 @@ module _ {B : Type 0} (bus : Ghosts B) where
       (ap (λ (w : World). settings_of w.adapter) acts.effect_is.1 ∙ reads-leave offset acts.middle.adapter)
       (λ rest. subst IsAtRest (sym acts.effect_is.1) (accesses_keep_rest (Reads offset value) acts.middle tt refl rest))
 
-  -- and so does a write of a register that is no part of the settings.
+  -- A write of a register that isn't part of the settings is such a call.
   pub asks-write : (old new : B) (offset value : ℕ) → IsAside (record { offset = offset; value = value })
       → ((adapter : AdapterState) → settings_of (after_write offset value adapter) ≡ settings_of adapter)
       → Acts (view_of bus) old new (Writes offset value) (λ before after. after ≡ world_after_write offset value before)

@@ -1,19 +1,19 @@
--- A device is found, step by step.
+-- A device is found, call by call.
 use Rattle.std.proofs.Common.{◌≡◌, ◌++◌, ℕ, List, sym, ap, ◌∙◌}
 use Rattle.adapter.specs.World.{World}
-use Rattle.bus.specs.PastOfStretch.{Past, joined}
+use Rattle.bus.specs.Pasts.{Past, joined}
 use Rattle.bus.specs.declared.bus.Bus.{Ghosts}
 use Rattle.bus.specs.AdaptersAtRest.{IsAtRest}
 use Rattle.bus.specs.Settings.{Settings, Write, settings_after_all, settings_of}
 use Rattle.bus.proofs.Settings.{image-stays, link-stays, settings-append}
-use Rattle.bring_up.proofs.Steps.{StretchesJoin}
+use Rattle.bring_up.proofs.Steps.{IntervalsJoin}
 use Rattle.bring_up.proofs.WritesAtRest.{allocation-aside, link-aside}
 use Rattle.bring_up.proofs.CausesLeft.{allocation-causes, asks-causes, eerd-causes, joined-causes, link-causes, mdic-causes, reset-causes}
 use Rattle.bring_up.proofs.CausesLeft.{sets-causes}
-use Rattle.bring_up.specs.SettingSteps.{Asks, RecordsNoCause, Sets}
-use Rattle.bring_up.specs.WrittenRegisters.{allocation_writes, link_writes, reset_writes}
+use Rattle.bring_up.specs.SettingSteps.{WritesOneRegister, RecordsNoCause, Sets}
+use Rattle.bring_up.specs.WrittenRegisters.{allocation_writes, enable_link_writes, reset_writes}
 
--- The image was read: the device is at rest, as it is behind a reset.
+-- The image was read, and the device is at rest, with the settings of a reset.
 pub record IsRead {B : Type 0} (bus : Ghosts B) (old new : B) : Type 0 where
   pub past : Past
   pub reports : bus.happened old new past
@@ -21,8 +21,8 @@ pub record IsRead {B : Type 0} (bus : Ghosts B) (old new : B) : Type 0 where
   pub settings : settings_of (bus.world new).adapter ≡ settings_after_all reset_writes (settings_of (bus.world old).adapter)
   pub no_cause : RecordsNoCause past
 
-pub is-read : {B : Type 0} (bus : Ghosts B) → StretchesJoin bus
-    → (old middle new : B) → Sets bus reset_writes old middle → IsAtRest (bus.world middle) → Asks bus 0x0014 middle new
+pub is-read : {B : Type 0} (bus : Ghosts B) → IntervalsJoin bus
+    → (old middle new : B) → Sets bus reset_writes old middle → IsAtRest (bus.world middle) → WritesOneRegister bus 0x0014 middle new
     → IsRead bus old new
 is-read bus joins old middle new resets rest asks = record {
   past = joined resets.past asks.past;
@@ -33,16 +33,16 @@ is-read bus joins old middle new resets rest asks = record {
       (asks-causes bus middle new 0x0014 eerd-causes asks);
 }
 
--- And the packet buffer is shared out, and the link let come up.
+-- The packet buffer is allocated, and the link is enabled.
 pub record IsPrepared {B : Type 0} (bus : Ghosts B) (old new : B) (kilobytes : ℕ) : Type 0 where
   pub past : Past
   pub reports : bus.happened old new past
   pub rests : IsAtRest (bus.world new)
   pub settings : settings_of (bus.world new).adapter
-      ≡ settings_after_all (reset_writes ++ (allocation_writes kilobytes ++ link_writes)) (settings_of (bus.world old).adapter)
+      ≡ settings_after_all (reset_writes ++ (allocation_writes kilobytes ++ enable_link_writes)) (settings_of (bus.world old).adapter)
   pub no_cause : RecordsNoCause past
 
--- The EEPROM, and how the link comes up, are those of before.
+-- The EEPROM and the setting of the link don't change.
 pub device-image : (a b : World) (writes : List Write) → settings_of b.adapter ≡ settings_after_all writes (settings_of a.adapter)
     → b.adapter.image ≡ a.adapter.image
 device-image a b writes set = ap (λ (settings : Settings). settings.image) set ∙ image-stays writes (settings_of a.adapter)
@@ -51,10 +51,10 @@ pub device-link : (a b : World) (writes : List Write) → settings_of b.adapter 
     → b.adapter.phy.link ≡ a.adapter.phy.link
 device-link a b writes set = ap (λ (settings : Settings). settings.link) set ∙ link-stays writes (settings_of a.adapter)
 
--- The packet buffer was shared out, and the link let come up, behind that.
-pub is-set : {B : Type 0} (bus : Ghosts B) → StretchesJoin bus
+-- The packet buffer was allocated and the link enabled after the image was read.
+pub is-set : {B : Type 0} (bus : Ghosts B) → IntervalsJoin bus
     → (old read shared new : B) (kilobytes : ℕ) → IsRead bus old read
-    → Sets bus (allocation_writes kilobytes) read shared → Sets bus link_writes shared new
+    → Sets bus (allocation_writes kilobytes) read shared → Sets bus enable_link_writes shared new
     → IsPrepared bus old new kilobytes
 is-set bus joins old read shared new kilobytes is shares links = record {
   past = joined is.past (joined shares.past links.past);
@@ -63,19 +63,19 @@ is-set bus joins old read shared new kilobytes is shares links = record {
   rests = (links.rests link-aside (shares.rests (allocation-aside kilobytes) is.rests).0).0;
   settings =
       links.settings
-      ∙ ap (settings_after_all link_writes) (shares.settings ∙ ap (settings_after_all (allocation_writes kilobytes)) is.settings)
-      ∙ sym (settings-append (allocation_writes kilobytes) link_writes
+      ∙ ap (settings_after_all enable_link_writes) (shares.settings ∙ ap (settings_after_all (allocation_writes kilobytes)) is.settings)
+      ∙ sym (settings-append (allocation_writes kilobytes) enable_link_writes
       (settings_after_all reset_writes (settings_of (bus.world old).adapter)))
-      ∙ sym (settings-append reset_writes (allocation_writes kilobytes ++ link_writes) (settings_of (bus.world old).adapter));
+      ∙ sym (settings-append reset_writes (allocation_writes kilobytes ++ enable_link_writes) (settings_of (bus.world old).adapter));
   no_cause = joined-causes is.past (joined shares.past links.past) is.no_cause
       (joined-causes shares.past links.past
       (sets-causes bus read shared (allocation_writes kilobytes) shares (allocation-causes kilobytes))
-      (sets-causes bus shared new link_writes links link-causes));
+      (sets-causes bus shared new enable_link_writes links link-causes));
 }
 
--- A register of the PHY was asked behind that.
-pub still-ready : {B : Type 0} (bus : Ghosts B) → StretchesJoin bus
-    → (old middle new : B) (kilobytes : ℕ) → IsPrepared bus old middle kilobytes → Asks bus 0x0020 middle new
+-- A register of the PHY was accessed after that.
+pub still-ready : {B : Type 0} (bus : Ghosts B) → IntervalsJoin bus
+    → (old middle new : B) (kilobytes : ℕ) → IsPrepared bus old middle kilobytes → WritesOneRegister bus 0x0020 middle new
     → IsPrepared bus old new kilobytes
 still-ready bus joins old middle new kilobytes is asks = record {
   past = joined is.past asks.past;

@@ -1,4 +1,4 @@
--- Writes of registers as stretches of a driver's run, if it is known in which world each begins.
+-- Register writes as intervals of a driver's run, if the world right before each write is known.
 use Rattle.std.proofs.Common.{◌≡◌, ◌<◌, ◌+◌, ◌*◌, ◌⊎◌, ⊎_elim, ◌++◌, ◌∷◌, []}
 use Rattle.std.proofs.Common.{Bool, true, false, ℕ, List, length, Option, bit_and, inl}
 use Rattle.std.proofs.Common.{inr, refl, sym, ap, subst, ◌∙◌, arith}
@@ -19,7 +19,7 @@ use Rattle.adapter.specs.declared.register.Register.TheVariants.{Rctl, Tctl}
 use Rattle.bus.specs.RegisterSetting.{with_receive_control, with_transmit_control}
 use Rattle.bus.specs.Keeping.{view_of}
 use Rattle.bus.specs.Law.{Acts}
-use Rattle.bus.specs.PastOfStretch.{Past, joined, nothing}
+use Rattle.bus.specs.Pasts.{Past, joined, nothing}
 use Rattle.bus.specs.Settings.{IsOff}
 use Rattle.bus.specs.declared.bus.Bus.{Ghosts}
 use Rattle.bus.specs.declared.event.Access.{Access}
@@ -34,11 +34,11 @@ use Rattle.driver_law.proofs.Accesses.{SetsBy, follows-acts, follows-join, write
 use Rattle.driver_law.proofs.TransmitControl.{causes_are_enabled, transmitter_is_enabled}
 use Rattle.driver_law.proofs.ReceiveControl.{receiver_is_enabled}
 use Rattle.driver_law.proofs.Steps.{goes-happens}
-use Rattle.driver_law.proofs.Stretches.{goes_join, joined-nothing}
-use Rattle.bring_up.specs.DriverSteps.{Accessed, EnablesCauses, LeavesDriver, LetsFramesIn}
+use Rattle.driver_law.proofs.Intervals.{goes_join, joined-nothing}
+use Rattle.bring_up.specs.DriverSteps.{MakesAccesses, EnablesCauses, LeavesDriver, LetsFramesIn}
 use Rattle.bring_up.specs.RingRegisters.{receive_control, receive_writes, transmit_writes}
 
--- One access, from the very world in which it begins.
+-- One access, from the world right before it.
 unfoldable pub ran_by-begins : {first_up up : Bool} {B : Type 0} (bus : Ghosts B) (old new : B) (access : Access)
     (effect : World → World → Type 0) (d : DriverState) (acts : Acts (view_of bus) old new access effect)
     → SetsBy access effect (bus.world new)
@@ -61,15 +61,15 @@ abbrev pub WriteActs : {B : Type 0} (bus : Ghosts B) (old new : B) (offset value
 WriteActs bus old new offset value = Acts (view_of bus) old new (Writes offset value)
     (λ before after. after ≡ world_after_write offset value before)
 
--- An access, whatever the driver knows.
+-- An access, whatever the state of the driver.
 unfoldable pub accessed-by : {B : Type 0} (bus : Ghosts B) (old new : B) (access : Access) (effect : World → World → Type 0)
-    → Acts (view_of bus) old new access effect → SetsBy access effect (bus.world new) → Accessed bus (access ∷ []) old new
+    → Acts (view_of bus) old new access effect → SetsBy access effect (bus.world new) → MakesAccesses bus (access ∷ []) old new
 accessed-by bus old new access effect acts sets =
     record { past = acts.past; reports = acts.told; only = acts.only; follows = follows-acts bus old new access effect acts sets }
 
 unfoldable pub accessed-join : {B : Type 0} (bus : Ghosts B)
     → ((a b c : B) (first later : Past) → bus.happened a b first → bus.happened b c later → bus.happened a c (joined first later))
-    → (a b c : B) (xs ys : List Access) → Accessed bus xs a b → Accessed bus ys b c → Accessed bus (xs ++ ys) a c
+    → (a b c : B) (xs ys : List Access) → MakesAccesses bus xs a b → MakesAccesses bus ys b c → MakesAccesses bus (xs ++ ys) a c
 accessed-join bus joins a b c xs ys one two = record {
   past = joined one.past two.past;
   reports = joins a b c one.past two.past one.reports two.reports;
@@ -77,7 +77,7 @@ accessed-join bus joins a b c xs ys one two = record {
   follows = follows-join (bus.world a) (bus.world b) (bus.world c) one.past two.past one.follows two.follows;
 }
 
--- RCTL.
+-- RCTL
 
 control-kept : (promiscuous by_vlan : Bool) → bit_and (receive_control promiscuous by_vlan) 0x0607B33A ≡ receive_control promiscuous by_vlan
 control-kept true true = refl
@@ -141,7 +141,7 @@ lets-frames-in bus old new promiscuous by_vlan value d is written ready none off
       no_arrival = record { none_stored = arrives.0; none_missed = arrives.1 };
     }
 
--- TCTL.
+-- TCTL
 
 transmit_control-written : (world : World) → world_after_write 0x0400 0x000400FA world ≡ with_transmit_control 0x000400FA world
 transmit_control-written world =
@@ -162,9 +162,9 @@ lets-frames-out bus old new value d is written ready below knows =
     (λ there. subst (λ (w : World). Goes (driver_in d middle) (driver_in d w) (driver_did [] []) nothing) (sym done)
     (transmitter_is_enabled d 0x000400FA middle there below still refl))
 
--- IMS.
+-- IMS
 
--- What was told of frames that end in finished slots before it.
+-- If no frame ended in finished slots before an interval or RXT0 was recorded, the same holds after it.
 pub asked-still : (d : DriverState) (a b : World) (past : Past) → Goes (driver_in d a) (driver_in d b) (driver_did [] []) past
     → (frames_ended (driver_in d a) ≡ []) ⊎ HasBit a.adapter.causes.recorded 7
     → (frames_ended (driver_in d b) ≡ []) ⊎ HasBit b.adapter.causes.recorded 7

@@ -1,4 +1,4 @@
--- A driver disables its receiver and resets its adapter, access by access.
+-- A driver disables the receiver and resets its adapter, access by access.
 use Rattle.std.proofs.Common.{◌≡◌, ◌≤◌, ◌++◌, ◌∷◌, [], ℕ, Bool, List, Option, length, refl, sym, ap, subst, ◌∙◌}
 use Rattle.std.specs.List.{All}
 use Rattle.std.proofs.lemmas.List.Elements.{All-cons}
@@ -13,7 +13,7 @@ use Rattle.adapter.specs.declared.register.Register.TheVariants.{Ctrl, Imc, Rctl
 use Rattle.bus.specs.Keeping.{view_of}
 use Rattle.bus.specs.Law.{Acts}
 use Rattle.bus.specs.Link.{HasLink, IsNotOfPhy, LeavesPhy}
-use Rattle.bus.specs.PastOfStretch.{nothing}
+use Rattle.bus.specs.Pasts.{nothing}
 use Rattle.bus.specs.RegisterSetting.{with_receive_control}
 use Rattle.bus.specs.Settings.{Write}
 use Rattle.bus.specs.declared.bus.Bus.{Ghosts}
@@ -33,10 +33,10 @@ use Rattle.bring_up.specs.RingRegisters.{disable_writes}
 use Rattle.bring_up.specs.SettingSteps.{IsAside, Sets}
 use Rattle.bring_up.specs.WrittenRegisters.{write_at}
 use Rattle.bring_up.proofs.DriverAccesses.{WriteActs, accessed-by, accessed-join}
-use Rattle.bring_up.proofs.Steps.{StretchesJoin, no-frames, sets-access, sets-read, sets-write}
+use Rattle.bring_up.proofs.Steps.{IntervalsJoin, no-frames, sets-access, sets-read, sets-write}
 use Rattle.bring_up.proofs.WritesAtRest.{mask-aside, reset-written}
 
--- The receiver is disabled: RCTL is written with 0.
+-- The receiver is disabled: RCTL is written with 0
 
 disabled-written : (world : World) → world_after_write 0x0100 0 world ≡ with_receive_control 0 world
 disabled-written world =
@@ -56,7 +56,7 @@ pub disabled-off : {B : Type 0} (bus : Ghosts B) (old new : B) → WriteActs bus
     → (bus.world new).adapter.filter.rctl ≡ 0
 disabled-off bus old new acts = ap (λ (w : World). w.adapter.filter.rctl) (acts.effect_is ∙ disabled-written acts.middle)
 
--- The link stays up.
+-- The link remains up
 
 -- CTRL is written with SLU and ASDE.
 pub link_control-keeps : (before after : World) → after ≡ world_after_write 0x0000 0x60 before → HasLink before → HasLink after
@@ -65,14 +65,14 @@ link_control-keeps before after written link =
     ∙ ap (λ (found : Option Register). let w : World = record before { adapter = left_by_write found 0x60 before.adapter } in w)
     (register_at-there Ctrl tt))) (record { up = link.up; no_command = link.no_command })
 
--- IMC isn't of the PHY.
+-- IMC isn't a register of the PHY.
 mask-leaves_phy : All LeavesPhy (write_at 0x00D8 0xFFFFFFFF ∷ [])
 mask-leaves_phy =
     All-cons LeavesPhy (write_at 0x00D8 0xFFFFFFFF) [] (subst IsNotOfPhy (sym (register_at-there Imc tt)) tt) (all-none LeavesPhy)
 
--- The reset.
+-- The reset
 
--- A driver without slots stays so at a step that leaves its adapter at rest.
+-- A driver without slots remains so in a call after which its adapter is still at rest.
 pub rests-sets : {B : Type 0} (bus : Ghosts B) (old new : B) (writes : List Write) (d : DriverState) → Sets bus writes old new
     → All IsAside writes → RestsWith d (bus.world old) → RestsWith d (bus.world new)
 rests-sets bus old new writes d sets aside rests =
@@ -84,7 +84,7 @@ rests-sets bus old new writes d sets aside rests =
       stand = subst (λ (bytes : List ℕ). All (Stands d.layout bytes) d.handed_out) (sym memory) rests.stand;
     }
 
-pub resets : {B : Type 0} (bus : Ghosts B) → StretchesJoin bus → (up : Bool) (b0 b1 b2 b3 : B) (value causes : ℕ) (answer : World → Type 0)
+pub resets : {B : Type 0} (bus : Ghosts B) → IntervalsJoin bus → (up : Bool) (b0 b1 b2 b3 : B) (value causes : ℕ) (answer : World → Type 0)
     (d : DriverState) (pool : List ℕ) → value ≡ 0x04000000 → WriteActs bus b0 b1 0x0000 value → WriteActs bus b1 b2 0x00D8 0xFFFFFFFF
     → Acts (view_of bus) b2 b3 (Reads 0x00C0 causes) (λ before after. answer before × (after ≡ world_after_read 0x00C0 before))
     → ReadyWith up d (bus.world b0) → HaveSameNumbers (d.pool ++ (d.buffers ++ d.staged)) pool → ResetsDriver bus up pool d b0 b3

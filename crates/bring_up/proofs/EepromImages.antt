@@ -1,30 +1,30 @@
--- The words of an EEPROM, read one behind the other.
+-- The words of an EEPROM, read in order.
 use Rattle.std.proofs.Common.{◌≡◌, ◌≢◌, ◌+◌, ◌<◌, ◌≤◌, ◌∙◌}
 use Rattle.std.proofs.Common.{true, ℕ, List, Result, Err, IsErr, Ok, length, nat_lt, set, slice_index, refl, sym, ap, arith, rules}
 use Rattle.std.proofs.Common.{below_more, get_or-set_other, get_or-set_same}
 use Rattle.std.proofs.lemmas.Bool.{false≢true}
 use Rattle.std.proofs.lemmas.Grind.{same_number_lists}
 use Rattle.eeprom.specs.Image.{word_at}
-use Rattle.bus.specs.PastOfStretch.{nothing}
+use Rattle.bus.specs.Pasts.{nothing}
 use Rattle.bus.specs.declared.bus.Bus.{Ghosts}
 use Rattle.bring_up.specs.EepromReading.{ReadsImage, ReadsWord}
-use Rattle.bring_up.specs.SettingSteps.{Asks}
+use Rattle.bring_up.specs.SettingSteps.{WritesOneRegister}
 use Rattle.bring_up.specs.declared.init_error.InitError.{InitError}
 use Rattle.bring_up.proofs.CountedSteps.{AsksAtLeast, asks-image, asks-more}
-use Rattle.bring_up.proofs.Steps.{StretchesJoin, asks-join, asks-nothing}
+use Rattle.bring_up.proofs.Steps.{IntervalsJoin, asks-join, asks-nothing}
 
 -- An address below 64 is that of a word.
 word-in : (image : List ℕ) (address : ℕ) → address < 64 → word_at image address ≡ slice_index image address
 word-in image address small = let below : nat_lt address 64 ≡ true = search rules in rw below refl
 
 module _ {B : Type 0} (bus : Ghosts B) where
-  -- So many words from the first on are the adapter's.
+  -- The first `count` words were read, and are those of the adapter's EEPROM.
   pub record FirstWords (start now : B) (words : List ℕ) (count : ℕ) : Type 0 where
-    pub asks : Asks bus 0x0014 start now
+    pub asks : WritesOneRegister bus 0x0014 start now
     pub same : (k : ℕ) → k < count → slice_index words k ≡ word_at (bus.world start).adapter.image k
     pub size : 0 < count → length (bus.world start).adapter.image ≡ 64
 
-  -- No word was read yet.
+  -- No word has been read.
   pub first-none : ((b : B) → bus.happened b b nothing) → (b : B) (words : List ℕ) → FirstWords b b words 0
   first-none stays b words = record {
     asks = asks-nothing bus stays b 0x0014;
@@ -32,8 +32,8 @@ module _ {B : Type 0} (bus : Ghosts B) where
     size = λ below. absurd (omega arith);
   }
 
-  -- One more is.
-  pub first-more : StretchesJoin bus → (start now next : B) (words : List ℕ) (count word : ℕ) → count < length words
+  -- One more word was read.
+  pub first-more : IntervalsJoin bus → (start now next : B) (words : List ℕ) (count word : ℕ) → count < length words
       → FirstWords start now words count → ReadsWord bus count (Ok word) now next
       → FirstWords start next (set words count word) (count + 1)
   first-more joins start now next words count word within first reads =
@@ -48,7 +48,7 @@ module _ {B : Type 0} (bus : Ghosts B) where
         size = λ some. ap (length {A = ℕ}) (sym same) ∙ reads.size;
       }
 
-  -- All were read.
+  -- All words were read.
   pub all-read : (start now : B) (words image : List ℕ) (count : ℕ) → 64 ≤ count → image ≡ words → length image ≡ 64
       → FirstWords start now words count → ReadsImage bus (Ok image) start now
   all-read start now words image count many is size first =
@@ -64,8 +64,8 @@ module _ {B : Type 0} (bus : Ghosts B) where
         in_vain = tt;
       }
 
-  -- Reading stopped at a word.
-  pub read-failed : StretchesJoin bus → (start now next : B) (words : List ℕ) (count : ℕ) (error : InitError)
+  -- Reading a word failed.
+  pub read-failed : IntervalsJoin bus → (start now next : B) (words : List ℕ) (count : ℕ) (error : InitError)
       → (result : Result (List ℕ) InitError) → IsErr result → FirstWords start now words count
       → ReadsWord bus count (Err error) now next → ReadsImage bus result start next
   read-failed joins start now next words count error (Ok image) fails first reads = absurd (false≢true fails)

@@ -1,4 +1,4 @@
--- The count of a PHY behind the start of its negotiation, and what its status shows.
+-- The countdown of a PHY after the start of its negotiation, and its status.
 use Rattle.std.proofs.Common.{◌≡◌, ◌<◌, ◌≢◌, ◌≤◌, ◌+◌, ◌-◌, ◌*◌, ◌⊎◌, ℕ, zero, suc, Bool, true, false, cond, None, bit_and, inl, inr, refl}
 use Rattle.std.proofs.Common.{sym, ap, subst, ◌∙◌, arith, nat_le}
 use Rattle.std.specs.Bool.{⊤}
@@ -16,7 +16,7 @@ use Rattle.adapter.specs.State.{AdapterState}
 use Rattle.adapter.specs.World.{World}
 use Rattle.bus.specs.Law.{Management, management_of}
 use Rattle.bus.specs.Link.{HasLink}
-use Rattle.bring_up.specs.Link.{Ends, IsNegotiating, NeedsMoreThan, restart_word, started, status_word}
+use Rattle.bring_up.specs.Link.{EndsCommand, IsNegotiating, NeedsMoreThan, restart_word, started, status_word}
 use Rattle.bring_up.proofs.MdicAndPhy.{shown_status, ticks-none}
 
 link-iterate : (n : ℕ) (phy : PhyState) → (iterate after_tick n phy).link ≡ phy.link
@@ -27,7 +27,7 @@ latch-iterate : (n : ℕ) (phy : PhyState) → (iterate after_tick n phy).latche
 latch-iterate zero phy = refl
 latch-iterate (suc n) phy = latch-iterate n (after_tick phy)
 
--- A link that is up stays up.
+-- A link that is up remains up
 
 complete-stays : (negotiation : Negotiation) → is_complete negotiation ≡ true → is_complete (counted negotiation) ≡ true
 complete-stays NotStarted up = up
@@ -38,10 +38,10 @@ pub up-iterate : (n : ℕ) (phy : PhyState) → link_is_up phy ≡ true → link
 up-iterate zero phy up = up
 up-iterate (suc n) phy up = up-iterate n (after_tick phy) (complete-stays phy.negotiation up)
 
--- Negotiation behind its start.
+-- Negotiation after its start
 
 pub negotiating : (lively : Type 0) (all : ℕ) (a : Management) (adapter : AdapterState) (answer : ℕ)
-    → Ends lively restart_word all a (management_of adapter) answer
+    → EndsCommand lively restart_word all a (management_of adapter) answer
     → (begun : IsNegotiating adapter) × (begun.ticks < all)
 negotiating lively all a adapter answer ends =
     let link : adapter.phy.link ≡ ends.phy.link = ap (λ (p : PhyState). p.link) ends.leaves
@@ -54,7 +54,7 @@ negotiating lively all a adapter answer ends =
     let all_are = ends.ticks.all_are in
     (begun, omega arith)
 
--- At least so many ticks of its count have fallen.
+-- At least this number of ticks has come since negotiation started.
 abbrev pub CountedFor : ℕ → Link → Negotiation → Type 0
 CountedFor ticks Never negotiation = ⊤
 CountedFor ticks (After d) NotStarted = ⊥
@@ -99,7 +99,7 @@ has_counted adapter begun =
     subst (HasCounted 0) (sym begun.phy)
     (counted-ticks begun.ticks 0 0 (started adapter.phy.link) (omega arith) (counted-at_start adapter.phy.link))
 
--- A link that is still down needs more ticks than have fallen.
+-- A link that is still down needs more ticks than have come.
 down-needs : (ticks : ℕ) (link : Link) (negotiation : Negotiation) → 1 ≤ ticks → CountedFor ticks link negotiation
     → is_complete negotiation ≡ false → NeedsMoreThan ticks link
 down-needs ticks Never negotiation some has down = tt
@@ -110,7 +110,7 @@ down-needs ticks (After d) (Running left) some has down =
     omega arith
 down-needs ticks (After d) Complete some has down = absurd (true≢false down)
 
--- What a read of the status shows.
+-- What a read of the status shows
 
 -- bits 5 and 2 aren't both set
 abbrev pub NotBoth : ℕ → Type 0
@@ -145,8 +145,8 @@ both-bits false latched set = absurd (set refl)
 abbrev HasBoth : ℕ → Type 0
 HasBoth value = HasBit value 5 × HasBit value 2
 
--- Where an answer has bit 2 it has bit 5 too,
-pub seen-of : (lively : Type 0) (all : ℕ) (a b : Management) (answer : ℕ) → Ends lively status_word all a b answer
+-- If a status has bits 5 and 2, negotiation is complete.
+pub seen-of : (lively : Type 0) (all : ℕ) (a b : Management) (answer : ℕ) → EndsCommand lively status_word all a b answer
     → bit_and answer 0x04 ≢ 0 → HasBit b.mdic.value 5 × HasBit b.mdic.value 2
 seen-of lively all a b answer ends set =
     let at = ends.phy in
@@ -154,9 +154,9 @@ seen-of lively all a b answer ends set =
     let both = both-bits (link_is_up at) at.latched_low (λ unset. set (ap (λ (v : ℕ). bit_and v 0x04) ends.answers ∙ unset)) in
     subst HasBoth (sym (value ∙ ends.answers)) both
 
--- and the link is up.
+-- If a status has bits 5 and 2, the link is up.
 pub up-of : (lively : Type 0) (all : ℕ) (a : Management) (world : World) (answer : ℕ)
-    → Ends lively status_word all a (management_of world.adapter) answer → bit_and answer 0x04 ≢ 0 → HasLink world
+    → EndsCommand lively status_word all a (management_of world.adapter) answer → bit_and answer 0x04 ≢ 0 → HasLink world
 up-of lively all a world answer ends set =
     let at = ends.phy in
     let up : link_is_up at
@@ -166,9 +166,10 @@ up-of lively all a world answer ends set =
       no_command = ap (λ (l : MdicState). l.pending) ends.mdic;
     }
 
--- Rounds of the wait.
+-- Rounds of the wait
 
--- So many rounds behind a start of negotiation at least: two ticks a round, and from the first on the latch is clear.
+-- At least this number of rounds after negotiation started: two ticks in each round, and the latch is clear after the
+-- first round.
 pub record Rounds (rounds : ℕ) (management : Management) : Type 0 where
   pub no_command : management.mdic.pending ≡ None
   pub counted : HasCounted (2 * rounds) management.phy
@@ -183,7 +184,7 @@ no-rounds adapter begun = record {
   needs = λ some. absurd (omega arith);
 }
 
-pub one-round : (lively : Type 0) (all : ℕ) (a b : Management) (rounds answer : ℕ) → lively → Ends lively status_word all a b answer
+pub one-round : (lively : Type 0) (all : ℕ) (a b : Management) (rounds answer : ℕ) → lively → EndsCommand lively status_word all a b answer
     → NotBoth answer → Rounds rounds a → Rounds (rounds + 1) b
 one-round lively all a b rounds answer alive ends down before =
     let at = ends.phy in

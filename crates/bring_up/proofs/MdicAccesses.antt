@@ -1,4 +1,4 @@
--- Steps that only ask, with how many accesses they make at least.
+-- Calls that write only MDIC, with the least number of their accesses.
 use Rattle.std.proofs.Common.{◌≡◌, ◌≤◌, ◌+◌, ◌++◌, ◌∷◌, [], ℕ, List, length, refl, sym, ap, subst, ◌∙◌, arith, length-append}
 use Rattle.std.specs.List.{All}
 use Rattle.std.proofs.lemmas.List.Elements.{All-append, All-cons}
@@ -8,7 +8,7 @@ use Rattle.adapter.specs.Table.{register_at}
 use Rattle.adapter.specs.World.{World, world_after_read, world_after_write}
 use Rattle.bus.specs.Keeping.{view_of}
 use Rattle.bus.specs.Law.{Acts}
-use Rattle.bus.specs.PastOfStretch.{Past, joined, nothing}
+use Rattle.bus.specs.Pasts.{Past, joined, nothing}
 use Rattle.bus.specs.declared.bus.Bus.{Ghosts}
 use Rattle.bus.specs.declared.event.Access.{Access}
 use Rattle.bus.specs.declared.event.Access.TheVariants.{Reads, Writes}
@@ -17,18 +17,18 @@ use Rattle.bus.specs.Settings.{Write, settings_of, writes_in}
 use Rattle.bus.proofs.Lists.{all-none}
 use Rattle.bus.proofs.AdaptersAtRest.{accesses_keep_rest, happenings_keep_rest}
 use Rattle.bus.proofs.Settings.{happenings_leave_settings, reads-leave, writes-append}
-use Rattle.bring_up.specs.SettingSteps.{Asks}
-use Rattle.bring_up.proofs.Steps.{StretchesJoin, asks-nothing}
+use Rattle.bring_up.specs.SettingSteps.{WritesOneRegister}
+use Rattle.bring_up.proofs.Steps.{IntervalsJoin, asks-nothing}
 
 pub record AsksTimes {B : Type 0} (bus : Ghosts B) (old new : B) (offset times : ℕ) : Type 0 where
-  pub asks : Asks bus offset old new
+  pub asks : WritesOneRegister bus offset old new
   pub often : times ≤ length asks.past.accesses
 
 pub asks-fewer : {B : Type 0} (bus : Ghosts B) (old new : B) (offset many few : ℕ)
     → few ≤ many → AsksTimes bus old new offset many → AsksTimes bus old new offset few
 asks-fewer bus old new offset many few fewer times = record { asks = times.asks; often = let often = times.often in omega arith }
 
--- An access that leaves the settings, behind whatever happens before it.
+-- An access that changes no setting, whatever happens before it.
 abbrev asks-access : {B : Type 0} (bus : Ghosts B) (old new : B) (access : Access) (effect : World → World → Type 0) (offset : ℕ)
     → (acts : Acts (view_of bus) old new access effect) → All (λ write. write.offset ≡ offset) (writes_in (access ∷ []))
     → settings_of (bus.world new).adapter ≡ settings_of acts.middle.adapter → (IsAtRest acts.middle → IsAtRest (bus.world new))
@@ -66,7 +66,7 @@ asks-write bus old new offset value elsewhere leaves acts =
     (ap (λ (w : World). settings_of w.adapter) acts.effect_is ∙ leaves acts.middle.adapter)
     (λ rest. subst IsAtRest (sym acts.effect_is) (accesses_keep_rest (Writes offset value) acts.middle elsewhere refl rest))
 
--- No frame in either stretch is none in both.
+-- If no frame comes or leaves in either interval, no frame comes or leaves in both together.
 pub no-frames : (first later : Past) → NoFrame first → NoFrame later → NoFrame (joined first later)
 no-frames first later one two = record {
   none_put = rw (one.none_put, two.none_put) refl;
@@ -74,7 +74,7 @@ no-frames first later one two = record {
   none_missed = rw (one.none_missed, two.none_missed) refl;
 }
 
-abbrev pub asks-both : {B : Type 0} (bus : Ghosts B) → StretchesJoin bus
+abbrev pub asks-both : {B : Type 0} (bus : Ghosts B) → IntervalsJoin bus
     → (a b c : B) (offset m n : ℕ) → AsksTimes bus a b offset m → AsksTimes bus b c offset n
     → AsksTimes bus a c offset (m + n)
 asks-both bus joins a b c offset m n first later =
@@ -101,7 +101,7 @@ asks-both bus joins a b c offset m n first later =
           omega arith;
     }
 
--- Nothing is asked.
+-- No access.
 pub asks-none : {B : Type 0} (bus : Ghosts B) → ((b : B) → bus.happened b b nothing)
     → (b : B) (offset : ℕ) → AsksTimes bus b b offset 0
 asks-none bus stays b offset = record { asks = asks-nothing bus stays b offset; often = omega arith }

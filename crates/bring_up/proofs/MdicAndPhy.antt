@@ -1,4 +1,4 @@
--- MDIC and the PHY behind ticks and commands.
+-- MDIC and the PHY after ticks and commands.
 use Rattle.std.proofs.Common.{◌≡◌, ◌+◌, ◌≢◌, ◌≤◌, ◌||◌, ℕ, zero, suc, Bool, true, false, cond, Option, None, bit_and, inl, inr, refl, sym}
 use Rattle.std.proofs.Common.{ap, subst, ◌∙◌, arith}
 use Rattle.std.specs.Fn.{iterate}
@@ -8,9 +8,9 @@ use Rattle.mdic_phy.specs.declared.phy.Negotiation.TheVariants.{NotStarted, Runn
 use Rattle.mdic_phy.specs.Mdic.{MdicState, after_write, ended, kept, operation_of, phy_ended, with_data, with_ready}
 use Rattle.mdic_phy.specs.Phy.{PhyState, after_tick, is_counting, link_is_up}
 use Rattle.bus.specs.Law.{Management, phy_ticked}
-use Rattle.bring_up.specs.Link.{Ends, IsCommand, restart_word, status_word}
+use Rattle.bring_up.specs.Link.{EndsCommand, IsCommand, restart_word, status_word}
 
--- Without a command a tick is one of the PHY.
+-- Without a pending command, a tick changes only the PHY
 
 abbrev pub quiet : ℕ → PhyState → Management
 quiet value phy = record { mdic = record { value = value; pending = None }; phy = phy }
@@ -47,7 +47,7 @@ pending-none n management none =
     ap (λ (l : Management). (iterate phy_ticked n l).mdic.pending) (quiet-of management none)
     ∙ ap (λ (l : Management). l.mdic.pending) (ticks-quiet n management.mdic.value management.phy)
 
--- A command that was given.
+-- A command that was written
 
 abbrev pub commanded : ℕ → Management → Management
 commanded words management = record { mdic = after_write words; phy = management.phy }
@@ -58,12 +58,12 @@ by_command P words command restart status = elim command [
   | inr is ↦ subst P (sym is) status
 ]
 
--- where a command is pending there is work
+-- if a command is pending, a tick does something
 works : (counts : Bool) (a b : Management) → cond (counts || true) a b ≡ a
 works true a b = refl
 works false a b = refl
 
--- Its tick ends it.
+-- The next tick ends the command.
 abbrev Ended : Management → ℕ → Type 0
 Ended management words = phy_ticked (commanded words management)
     ≡ quiet (ended (operation_of words) (kept words) (after_tick management.phy))
@@ -82,7 +82,7 @@ ticks-end words n command management =
     ∙ ticks-quiet n (ended (operation_of words) (kept words) (after_tick management.phy))
     (phy_ended (operation_of words) (kept words) (after_tick management.phy))
 
--- What MDIC then shows.
+-- What MDIC shows after a command
 
 abbrev pub ready_bit : ℕ
 ready_bit = 0x1000_0000
@@ -90,7 +90,7 @@ ready_bit = 0x1000_0000
 abbrev pub error_bit : ℕ
 error_bit = 0x4000_0000
 
--- what a read of the status answers, by the link and its latch
+-- the status that a read shows, by the link and its latch
 abbrev pub shown_status : Bool → Bool → ℕ
 shown_status up latched = with_ready (with_data (cond up (cond latched 0x20 0x24) 0) status_word)
 
@@ -114,7 +114,7 @@ right-then words command s =
     by_command (λ w. bit_and (ended (operation_of w) (kept w) s) error_bit ≡ 0) words command refl
     (status-bit error_bit 0 refl refl refl (link_is_up s) s.latched_low)
 
--- Where R isn't shown no tick fell, and where it is the command has ended.
+-- If R isn't shown, no tick has come; if R is shown, the command has ended.
 
 pub not-ended : (words n : ℕ) → IsCommand words → (a b : Management) → b ≡ iterate phy_ticked n (commanded words a)
     → bit_and b.mdic.value ready_bit ≡ 0 → n ≡ 0
@@ -128,7 +128,7 @@ not-ended words (suc n) command a b is unset =
 
 pub ends-of : (lively : Type 0) (words n ticks all : ℕ) → ticks + n ≡ all → IsCommand words → (a b : Management) → (lively → 1 ≤ ticks)
     → b ≡ iterate phy_ticked n (commanded words (iterate phy_ticked ticks a))
-    → bit_and b.mdic.value ready_bit ≢ 0 → Ends lively words all a b b.mdic.value
+    → bit_and b.mdic.value ready_bit ≢ 0 → EndsCommand lively words all a b b.mdic.value
 ends-of lively words zero ticks all total command a b ticked is set =
     absurd (set (ap (λ (l : Management). bit_and l.mdic.value ready_bit) is ∙ not-ready-yet words command))
 ends-of lively words (suc n) ticks all total command a b ticked is set =

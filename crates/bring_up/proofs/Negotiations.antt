@@ -1,7 +1,7 @@
--- The start of negotiation and the wait for the link over an honest bus, by their commands.
+-- The start of negotiation and the wait for the link over an honest bus, command by command.
 use Rattle.std.proofs.Common.{◌≡◌, ◌≢◌, ◌+◌, ◌*◌, ℕ, Result, Err, Ok, bit_and, refl, subst, ◌∙◌, arith}
 use Rattle.std.proofs.lemmas.Bool.{false≢true}
-use Rattle.bus.specs.PastOfStretch.{nothing}
+use Rattle.bus.specs.Pasts.{nothing}
 use Rattle.bus.specs.declared.bus.Bus.{Ghosts}
 use Rattle.bring_up.specs.declared.init_error.InitError.{InitError}
 use Rattle.bring_up.specs.declared.init_error.InitError.TheVariants.{NoLink, PhyTimeout}
@@ -9,7 +9,7 @@ use Rattle.bring_up.specs.Link.{AwaitsLink, Commands, IsNegotiating, NeedsMoreTh
 use Rattle.bring_up.proofs.MdicAccesses.{AsksTimes, asks-both, asks-fewer, asks-none}
 use Rattle.bring_up.proofs.PhyCommands.{management_behind}
 use Rattle.bring_up.proofs.LinkTicks.{NotBoth, Rounds, negotiating, no-rounds, one-round, seen-of, up-of}
-use Rattle.bring_up.proofs.Steps.{StretchesJoin}
+use Rattle.bring_up.proofs.Steps.{IntervalsJoin}
 
 pub negotiates : {B : Type 0} (bus : Ghosts B) (old new : B) (answer : ℕ) (done : Unit {0})
     → Commands bus restart_word (Ok answer) old new → Negotiates bus (Ok done) old new
@@ -32,7 +32,7 @@ negotiates-late bus old new error told commands = record {
   in_time = λ ticks. absurd (false≢true (commands.in_time ticks));
 }
 
--- The link was not seen in so many rounds.
+-- The link wasn't seen in this number of rounds.
 pub record Awaits {B : Type 0} (bus : Ghosts B) (old now : B) (rounds : ℕ) : Type 0 where
   pub asked : AsksTimes bus old now 0x0020 (2 * rounds)
   pub link : (bus.world now).adapter.phy.link ≡ (bus.world old).adapter.phy.link
@@ -46,8 +46,8 @@ begins bus stays b = record {
   counted = λ ticks begun. no-rounds (bus.world b).adapter begun;
 }
 
--- the command of one round more
-commands-both : {B : Type 0} (bus : Ghosts B) → StretchesJoin bus
+-- the command of one more round
+commands-both : {B : Type 0} (bus : Ghosts B) → IntervalsJoin bus
     → (old now new : B) (rounds : ℕ) (result : Result ℕ InitError) → Awaits bus old now rounds
     → Commands bus status_word result now new
     → AsksTimes bus old new 0x0020 (2 * rounds + 2)
@@ -55,7 +55,7 @@ commands-both bus joins old now new rounds result awaits commands =
     asks-both bus joins old now new 0x0020 (2 * rounds) 2 awaits.asked
     (record { asks = commands.asks; often = commands.accesses })
 
-pub awaits-on : {B : Type 0} (bus : Ghosts B) → StretchesJoin bus
+pub awaits-on : {B : Type 0} (bus : Ghosts B) → IntervalsJoin bus
     → (old now new : B) (rounds answer : ℕ) → (bus.lively old → bus.lively now) → Awaits bus old now rounds
     → Commands bus status_word (Ok answer) now new
     → NotBoth answer → Awaits bus old new (rounds + 1)
@@ -69,8 +69,8 @@ awaits-on bus joins old now new rounds answer alive awaits commands down = recor
       (alive ticks) commands.ends down (awaits.counted ticks begun);
 }
 
--- It is seen.
-pub awaits-up : {B : Type 0} (bus : Ghosts B) → StretchesJoin bus
+-- The link is seen.
+pub awaits-up : {B : Type 0} (bus : Ghosts B) → IntervalsJoin bus
     → (old now new : B) (rounds answer : ℕ) (done : Unit {0}) → Awaits bus old now rounds
     → Commands bus status_word (Ok answer) now new
     → bit_and answer 0x04 ≢ 0 → AwaitsLink bus (Ok done) old new
@@ -87,7 +87,7 @@ awaits-up bus joins old now new rounds answer done awaits commands set = record 
 }
 
 -- A command doesn't end.
-pub awaits-late : {B : Type 0} (bus : Ghosts B) → StretchesJoin bus
+pub awaits-late : {B : Type 0} (bus : Ghosts B) → IntervalsJoin bus
     → (old now new : B) (rounds : ℕ) (error told : InitError) → told ≡ PhyTimeout → (bus.lively old → bus.lively now)
     → Awaits bus old now rounds
     → Commands bus status_word (Err error) now new → AwaitsLink bus (Err told) old new
@@ -105,7 +105,7 @@ awaits-late bus joins old now new rounds error told timeout alive awaits command
       slow = λ ticks begun is. absurd (cc);
     }
 
--- It wasn't seen in 1,000 rounds.
+-- The link wasn't seen in 1,000 rounds.
 pub awaits-none : {B : Type 0} (bus : Ghosts B) (old now : B) (rounds : ℕ)
     → rounds ≡ 1000
     → Awaits bus old now rounds → AwaitsLink bus (Err NoLink) old now

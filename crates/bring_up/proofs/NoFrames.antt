@@ -1,4 +1,4 @@
--- What stays while a driver sets its receive ring up.
+-- What remains true while a driver sets up its receive ring.
 use Rattle.std.proofs.Common.{◌≡◌, ◌+◌, ◌*◌, ◌%◌, ◌++◌, ◌∷◌, [], ℕ, zero, suc, Bool, true, false, List, Option, None, Some, if◌then◌else◌}
 use Rattle.std.proofs.Common.{refl, sym, ap, subst, ◌∙◌}
 use Rattle.std.specs.List.{All}
@@ -33,7 +33,7 @@ quiet_stays d d' a b past goes set while_off leaves quiet =
       record { none_put = sends.0; none_stored = arrives.none_stored; none_missed = arrives.none_missed },
     )
 
--- The transmit ring.
+-- The transmit ring
 
 row-leaves_transmits : (register : Register) (value : ℕ) (state : AdapterState) → IsNotTransmitRing (Some register)
     → (by_row (row_of register).kept register value state).transmit_ring ≡ state.transmit_ring
@@ -76,7 +76,7 @@ new_transmit_ring_stays d a b past ready set leaves new =
     ap (λ (registers : RingRegisters). let moved : RingRegisters = record registers { head = ring.head } in moved) start
     ∙ ap (λ (head : ℕ). let moved : RingRegisters = record new_ring { head = head } in moved) (ready.transmit.idle ∙ tail)
 
--- Stores write no register.
+-- Stores write no register
 
 pub stores-write_none : (counts : Counts) (slot : ℕ) (numbers : List ℕ) → writes_in (stores_from counts slot numbers) ≡ []
 stores-write_none counts slot [] = refl

@@ -9,16 +9,16 @@ use Rattle.bus.specs.Law.{Acts, Management, management_of, phy_ticked}
 use Rattle.bus.specs.declared.bus.Bus.{Ghosts}
 use Rattle.bus.specs.declared.event.Access.TheVariants.{Reads, Writes}
 use Rattle.bring_up.specs.declared.init_error.InitError.TheVariants.{PhyTimeout}
-use Rattle.bring_up.specs.Link.{Commands, Ends, IsCommand}
+use Rattle.bring_up.specs.Link.{Commands, EndsCommand, IsCommand}
 use Rattle.bring_up.proofs.MdicAccesses.{AsksTimes, asks-both, asks-read, asks-write}
 use Rattle.bring_up.proofs.MdicAndPhy.{commanded, ends-of, error_bit, not-ended, ready_bit, right-then}
-use Rattle.bring_up.proofs.Steps.{StretchesJoin}
+use Rattle.bring_up.proofs.Steps.{IntervalsJoin}
 use Rattle.bus.proofs.LinkSettings.{link-ticks}
 
 abbrev pub management_behind : World → Management
 management_behind world = management_of world.adapter
 
--- What a read of MDIC finds: the line behind some ticks.
+-- A read of MDIC shows its value after some ticks.
 pub record Finds (lively : Type 0) (ticks : ℕ) (a b : Management) (value : ℕ) : Type 0 where
   pub ticked : lively → 1 ≤ ticks
   pub management : b ≡ iterate phy_ticked ticks a
@@ -37,7 +37,7 @@ finds bus old new value acts =
       shown = acts.effect_is.0 ∙ sym (ap (λ (l : Management). l.mdic.value) after);
     }
 
--- The command is given, and so many reads didn't show R.
+-- The command was written, and this number of reads didn't show R.
 pub record Waits {B : Type 0} (bus : Ghosts B) (old now : B) (words reads : ℕ) : Type 0 where
   pub asked : AsksTimes bus old now 0x0020 (reads + 1)
   pub ticks : ℕ
@@ -59,7 +59,7 @@ gives bus old new words acts = record {
   none_in_vain = λ ticks. refl;
 }
 
-pub waits-on : {B : Type 0} (bus : Ghosts B) → StretchesJoin bus
+pub waits-on : {B : Type 0} (bus : Ghosts B) → IntervalsJoin bus
     → (old now new : B) (words reads value : ℕ) → IsCommand words → (bus.lively old → bus.lively now)
     → Waits bus old now words reads
     → Acts (view_of bus) now new (Reads 0x0020 value) (λ before after. (value ≡ answer_at 0x0020 before.adapter)
@@ -89,12 +89,12 @@ link-stays : (a b : Management) (n words ticks : ℕ) → b ≡ iterate phy_tick
 link-stays a b n words ticks is =
     ap (λ (l : Management). l.phy.link) is ∙ link-ticks n (commanded words (iterate phy_ticked ticks a)) ∙ link-ticks ticks a
 
--- What holds where a read shows R.
+-- What holds if a read shows R.
 pub record Answered {B : Type 0} (bus : Ghosts B) (old new : B) (words value : ℕ) : Type 0 where
   pub commands : Commands bus words (Ok value) old new
   pub right : bit_and value error_bit ≡ 0
 
-pub answered : {B : Type 0} (bus : Ghosts B) → StretchesJoin bus
+pub answered : {B : Type 0} (bus : Ghosts B) → IntervalsJoin bus
     → (old now new : B) (words reads value : ℕ) → IsCommand words → Waits bus old now words reads
     → Acts (view_of bus) now new (Reads 0x0020 value) (λ before after. (value ≡ answer_at 0x0020 before.adapter)
     × (after ≡ world_after_read 0x0020 before))
@@ -116,14 +116,14 @@ answered bus joins old now new words reads value command waits acts set =
         asks = both.asks;
         accesses = let often = both.often in omega arith;
         link = link-stays a b acts.past.phy_ticks words waits.ticks management;
-        ends = subst (Ends (bus.lively old) words all a b) (sym found.shown) ends;
+        ends = subst (EndsCommand (bus.lively old) words all a b) (sym found.shown) ends;
         late = tt;
         in_time = λ ticks. refl;
       };
       right = ap (λ (v : ℕ). bit_and v error_bit) (found.shown ∙ ends.answers) ∙ right-then words command ends.phy;
     }
 
--- What holds where none of 1,000 reads did.
+-- What holds if none of 1,000 reads showed R.
 pub unanswered : {B : Type 0} (bus : Ghosts B) (old now : B) (words reads : ℕ)
     → 1000 ≤ reads
     → Waits bus old now words reads → Commands bus words (Err PhyTimeout) old now

@@ -32,26 +32,26 @@ use Rattle.bus.proofs.IdleRings.{outstanding-none}
 use Rattle.bus.proofs.Lists.{all-none, pairs-none}
 use Rattle.bus.proofs.AdaptersAtRest.{happenings_keep_rest, rest_is_idle}
 use Rattle.driver_law.proofs.Resets.{rest_keeps_memory}
-use Rattle.driver_law.specs.Beginnings.{HasBegun}
+use Rattle.driver_law.specs.Beginnings.{IsAtBeginning}
 use Rattle.driver_law.specs.DriverState.{owners}
 use Rattle.driver_law.specs.Resets.{reset_driver}
 use Rattle.driver_law.proofs.Beginnings.{drivers_begin}
 use Rattle.driver_law.proofs.Readiness.{none-to_send}
 use Rattle.bring_up.specs.RestingRings.{DriversBeginAgain, DriversBeginAtRest, HasNewRings, HasReceiveRing, SetsAtRest}
-use Rattle.bring_up.specs.RingRegisters.{ring_writes}
+use Rattle.bring_up.specs.RingRegisters.{ring_setup_writes}
 use Rattle.bring_up.proofs.DriverAccesses.{WriteActs}
 use Rattle.bring_up.proofs.RingWrites.{IsRingPlace, high-written, length-written, low-written, receive-written, ring-known, ring_at}
 use Rattle.bring_up.proofs.RingWrites.{still-ring, with_receive_ring}
-use Rattle.bring_up.proofs.Steps.{StretchesJoin, accesses-join, no-frames, sets-access, sets-join, sets-write}
+use Rattle.bring_up.proofs.Steps.{IntervalsJoin, accesses-join, no-frames, sets-access, sets-join, sets-write}
 
--- At rest, with these registers of the receive ring.
+-- The adapter is at rest, with these registers of the receive ring.
 record HasRing (receives : RingRegisters) (rx : ℕ) (world : World) : Type 0 where
   rest : IsAtRest world
   receives_is : world.adapter.receive_ring ≡ receives
   transmits : world.adapter.transmit_ring ≡ new_ring
   room : 16 * rx ≤ length world.memory
 
--- A ring that begins at 0 lies in memory, apart from a new one.
+-- A ring that begins at 0 and fits into memory is apart from a new ring.
 alone : (memory : List ℕ) (rx : ℕ) (ring : RingRegisters) → 16 * rx ≤ length memory → (ring_of ring).base ≡ 0 → count_of (ring_of ring) ≤ rx
     → AreSeparate memory (ring_area (ring_of ring) ∷ ring_area (ring_of new_ring) ∷ [])
 alone memory rx ring room first short =
@@ -113,8 +113,8 @@ rests-write bus old new part value word rx before after is written idle first sh
           ap (λ (w : World). w.memory) acts.effect_is ∙ rest_keeps_memory (bus.world old) middle acts.past acts.before state.rest;
     }
 
--- One step, and then another.
-rests-join : {B : Type 0} (bus : Ghosts B) → StretchesJoin bus
+-- Two consecutive calls.
+rests-join : {B : Type 0} (bus : Ghosts B) → IntervalsJoin bus
     → (a b c : B) (first later : List Write) (P Q R : World → Type 0) → SetsAtRest bus first P Q a b
     → SetsAtRest bus later Q R b c
     → SetsAtRest bus (first ++ later) P R a c
@@ -127,14 +127,14 @@ rests-join bus joins a b c first later P Q R one two = record {
   memory = λ before. two.memory (one.after_is before) ∙ one.memory before;
 }
 
--- All five.
-pub rests-ring : {B : Type 0} (bus : Ghosts B) → StretchesJoin bus
+-- All five writes.
+pub rests-ring : {B : Type 0} (bus : Ghosts B) → IntervalsJoin bus
     → (b0 b1 b2 b3 b4 b5 : B) (low high base bytes rx : ℕ) → low ≡ base % 2 ^ 32 → high ≡ base / 2 ^ 32 → base ≡ 0 → bytes ≡ 16 * rx
     → IsRingSize rx
     → WriteActs bus b0 b1 0x2800 low → WriteActs bus b1 b2 0x2804 high
     → WriteActs bus b2 b3 0x2808 bytes
     → WriteActs bus b3 b4 0x2810 0 → WriteActs bus b4 b5 0x2818 0
-    → SetsAtRest bus (ring_writes 0x2800 base bytes) (HasNewRings rx) (HasReceiveRing rx) b0 b5
+    → SetsAtRest bus (ring_setup_writes 0x2800 base bytes) (HasNewRings rx) (HasReceiveRing rx) b0 b5
 rests-ring bus joins b0 b1 b2 b3 b4 b5 low high base bytes rx low_is high_is first long size one two three four five =
     let place : IsRingPlace base rx = record { sixteens = omega (arith, first); below = omega (arith, first); size = size } in
     let most = size.most in
@@ -173,7 +173,7 @@ rests-ring bus joins b0 b1 b2 b3 b4 b5 low high base bytes rx low_is high_is fir
           (record { rest = state.rest; receives_is = state.receives; transmits = state.transmits; room = state.room });
     }
 
--- A driver begins.
+-- A driver begins
 
 held-none : (world : World) → IsAtRest world → world.adapter.receive_ring.tail ≡ 0 → frames_held 0 world ≡ []
 held-none world rest first =
@@ -193,7 +193,7 @@ drivers_begin_at_rest counts setup groups pool world allowed owner lies has =
     let transmits = has.transmits in
     let off : ¬ (HasBit world.adapter.filter.rctl rctl_en) = subst (λ (control : ℕ). ¬ (HasBit control 1)) (sym rest.control)
     (HasBit-zero 1) in
-    let begun : HasBegun false counts setup groups pool world = record {
+    let begun : IsAtBeginning false counts setup groups pool world = record {
       driver_is = record {
         oldest_slot = omega (arith, allowed.rx.least);
         room = omega (arith, allowed.rx.least);
@@ -224,7 +224,7 @@ drivers_begin_at_rest counts setup groups pool world allowed owner lies has =
       };
     }
 
--- It begins as a new driver whose free buffers are those of all owners, so only the owners differ.
+-- The driver begins as a new driver, except for the owners of buffers.
 pub drivers_begin_again : DriversBeginAgain
 drivers_begin_again driver pool world allowed rests has =
     let counts = driver.layout in

@@ -1,4 +1,4 @@
--- What the writes of a ring's registers leave of what an adapter is set to.
+-- The settings after the writes of a ring's registers.
 use Rattle.std.proofs.Common.{◌≡◌, ◌∷◌, ◌+◌, ◌*◌, ◌/◌, ◌%◌, ◌<◌, ◌^◌, [], ℕ, bit_and, refl, ap, ◌∙◌, arith}
 use Rattle.std.proofs.lemmas.Grind.{and_high_numeral}
 use Rattle.std.proofs.lemmas.Nat.{and_mask, div-add-mod'}
@@ -9,16 +9,16 @@ use Rattle.adapter.specs.Rings.{ring_of}
 use Rattle.adapter.specs.State.{AdapterState}
 use Rattle.adapter.specs.Table.{array_register_at, register_at}
 use Rattle.bus.specs.Settings.{settings_of}
-use Rattle.bring_up.specs.RingRegisters.{ring_writes}
+use Rattle.bring_up.specs.RingRegisters.{ring_setup_writes}
 use Rattle.bring_up.specs.WrittenRegisters.{write_at}
 use Rattle.bring_up.proofs.SingleSettings.{SetTo}
 use Rattle.bring_up.proofs.TableSettings.{word-kept}
 
--- a ring's registers, by its base and its length in bytes, with head and tail at its first slot
+-- a ring's registers with this base and this length in bytes, and with head and tail 0
 abbrev pub ring_at : (base bytes : ℕ) → RingRegisters
 ring_at base bytes = record { base_low = base % 2 ^ 32; base_high = base / 2 ^ 32; length_bytes = bytes; head = 0; tail = 0 }
 
--- the registers as their masks leave them
+-- the registers after the writes, each with the bits that it implements
 abbrev ring_written : (base bytes : ℕ) → RingRegisters
 ring_written base bytes = record {
   base_low = bit_and (base % 2 ^ 32) 0xFFFFFFF0;
@@ -28,14 +28,14 @@ ring_written base bytes = record {
   tail = 0;
 }
 
--- A base fits its two registers, and a length its own.
+-- The base fits into its two registers, and the length into its register.
 pub record FitsRegisters (base bytes : ℕ) : Type 0 where
   pub aligned : base % 16 ≡ 0
   pub base_below : base < 2 ^ 64
   pub pieces : bytes % 128 ≡ 0
   pub bytes_below : bytes < 2 ^ 20
 
--- What the registers keep is what is written.
+-- The registers store the values that are written
 
 low-kept : (base : ℕ) → base % 16 ≡ 0 → bit_and (base % 2 ^ 32) 0xFFFFFFF0 ≡ base % 2 ^ 32
 low-kept base aligned =
@@ -64,13 +64,13 @@ ring-kept base bytes fits =
     rw (low, high, length) refl
 
 pub receive-ring-sets : (base bytes : ℕ) (adapter : AdapterState) → FitsRegisters base bytes
-    → SetTo (ring_writes 0x2800 base bytes) adapter (record adapter { receive_ring = ring_at base bytes })
+    → SetTo (ring_setup_writes 0x2800 base bytes) adapter (record adapter { receive_ring = ring_at base bytes })
 unfolding register_at array_register_at
 receive-ring-sets base bytes adapter fits =
     ap (λ (ring : RingRegisters). settings_of (record adapter { receive_ring = ring })) (ring-kept base bytes fits)
 
 pub transmit-ring-sets : (base bytes : ℕ) (adapter : AdapterState) → FitsRegisters base bytes
-    → SetTo (ring_writes 0x3800 base bytes) adapter (record adapter { transmit_ring = ring_at base bytes })
+    → SetTo (ring_setup_writes 0x3800 base bytes) adapter (record adapter { transmit_ring = ring_at base bytes })
 unfolding register_at array_register_at
 transmit-ring-sets base bytes adapter fits =
     ap (λ (ring : RingRegisters). settings_of (record adapter { transmit_ring = ring })) (ring-kept base bytes fits)
@@ -81,14 +81,14 @@ unfolding register_at array_register_at
 receive-tail-sets slot adapter below =
     ap (λ (kept : ℕ). settings_of (record adapter { receive_ring = record adapter.receive_ring { tail = kept } })) (slot-kept slot below)
 
--- The ring that is told so has its base and its slots.
+-- A ring with these registers has this base and this number of slots
 pub base-told : (base bytes : ℕ) → (ring_of (ring_at base bytes)).base ≡ base
 base-told base bytes = div-add-mod' base (2 ^ 32)
 
 pub count-told : (base n : ℕ) → IsRingSize n → count_of (ring_of (ring_at base (16 * n))) ≡ n
 count-told base n size = let most = size.most in omega arith
 
--- A ring of an allowed size, at the beginning of memory or behind another.
+-- A ring of a valid size, at the beginning of memory or after another ring.
 pub ring-fits : (before n : ℕ) → before < 2 ^ 32 → IsRingSize n → FitsRegisters (16 * before) (16 * n)
 ring-fits before n near size =
     let most = size.most in

@@ -1,4 +1,4 @@
--- What the five writes leave of a ring's registers.
+-- A ring's registers after the five writes.
 use Rattle.std.proofs.Common.{◌≡◌, ◌<◌, ◌+◌, ◌*◌, ◌/◌, ◌%◌, ◌^◌, ℕ, Option, bit_and, refl, sym, ap, ◌∙◌, arith}
 use Rattle.std.proofs.lemmas.Nat.Bits.{and_high_mask}
 use Rattle.dma_memory.specs.Layout.{IsRingSize}
@@ -14,7 +14,7 @@ use Rattle.adapter.specs.declared.register.RingRegister.TheVariants.{BaseHigh, B
 use Rattle.adapter.specs.declared.ring.RingRegisters.{RingRegisters}
 use Rattle.bus.specs.RegisterSetting.{with_transmit_ring}
 
--- The registers, one of them written.
+-- The registers after one of them was written
 
 pub transmit-written : (part : RingRegister) (value : ℕ) (world : World)
     → world_after_write (0x3800 + ring_distance part) value world
@@ -34,18 +34,18 @@ receive-written part value world =
     ap (λ (register : Option Register). let after : World = record world { adapter = left_by_write register value world.adapter } in after)
     (register_at-there (Receive part) tt)
 
--- A ring whose head alone may have moved, and which has nothing outstanding before and behind that, is the same.
+-- If only the head of a ring may have changed, and head equals tail before and after, the ring is the same.
 pub still-ring : (a b : RingRegisters) → b ≡ record a { head = b.head } → a.head ≡ a.tail → b.head ≡ b.tail → b ≡ a
 still-ring a b same before behind =
     let tail : b.tail ≡ a.tail = ap (λ (ring : RingRegisters). ring.tail) same in
     same ∙ ap (λ (index : ℕ). let ring : RingRegisters = record a { head = index } in ring) (behind ∙ tail ∙ sym before)
 
--- A ring at an address, with nothing offered.
+-- A ring at an address, with no slot offered
 
 abbrev pub ring_at : (base bytes : ℕ) → RingRegisters
 ring_at base bytes = record { base_low = base; base_high = 0; length_bytes = bytes; head = 0; tail = 0 }
 
--- It fits its registers.
+-- The base and the size of the ring fit into its registers.
 pub record IsRingPlace (base count : ℕ) : Type 0 where
   pub sixteens : base % 16 ≡ 0
   pub below : base < 2 ^ 32
@@ -72,7 +72,7 @@ length-written base count bytes place long =
     let whole : bit_and bytes 1048448 ≡ bytes = omega (arith, masked, long, eights) in
     ap (ring_at base) whole
 
--- The driver knows it then.
+-- The ring agrees with the driver.
 pub ring-known : (base count bytes : ℕ) → IsRingPlace base count → bytes ≡ 16 * count
     → KnowsRing (ring_of (ring_at base bytes)) base count 0
 ring-known base count bytes place long =

@@ -1,4 +1,4 @@
--- What a driver sets up fixes the registers of the receive filter: tables with the same bits are the same.
+-- A driver's setup determines the registers of the receive filter, because tables with the same bits are the same.
 use Rattle.std.proofs.Common.{suc, zero, ◌≡◌, ◌<◌, ◌+◌, ◌*◌, ◌/◌, ◌%◌, ◌^◌, ◌↔◌, ◌⊎◌, inl, inr, ℕ, List, arith, refl, sym, ap, ◌∙◌}
 use Rattle.std.specs.Prelude.{slice_index}
 use Rattle.std.proofs.Math.Nat.{div-div-eq-div-mul, div-one, mul_comm, pow-suc}
@@ -8,7 +8,7 @@ use Rattle.rx_engine.specs.Registers.{FilterRegisters}
 use Rattle.rx_engine.specs.NumberTables.{HasNumbers}
 use Rattle.bring_up.specs.ConfiguredAdapters.{AreWords, SetupsAgree}
 
--- the bits of the half
+-- the bits of half of a number
 half-bit : (w place : ℕ) → HasBit (w / 2) place ↔ HasBit w (suc place)
 half-bit w place =
     let same : w / 2 / 2 ^ place ≡ w / 2 ^ suc place =

@@ -1,4 +1,4 @@
--- What the writes of single registers leave of what an adapter is set to.
+-- The settings after writes of single registers.
 use Rattle.std.proofs.Common.{◌≡◌, ◌++◌, ◌%◌, ℕ, Bool, true, false, List, refl, ap, ◌∙◌, arith}
 use Rattle.std.proofs.lemmas.Bool.Decides.{nat_tests}
 use Rattle.mdic_phy.specs.Phy.{new_phy}
@@ -9,13 +9,13 @@ use Rattle.adapter.specs.Table.{array_register_at, register_at}
 use Rattle.bus.specs.Settings.{Settings, Write, settings_after_all, settings_of}
 use Rattle.bus.proofs.Settings.{settings-append}
 use Rattle.bring_up.specs.RingRegisters.{receive_control, receive_writes, transmit_writes}
-use Rattle.bring_up.specs.WrittenRegisters.{allocation_writes, link_writes, mask_writes, reset_writes}
+use Rattle.bring_up.specs.WrittenRegisters.{allocation_writes, enable_link_writes, mask_writes, reset_writes}
 
--- These writes make the settings of one adapter those of another.
+-- These writes change the settings of the first adapter to those of the second.
 abbrev pub SetTo : List Write → (old new : AdapterState) → Type 0
 SetTo writes old new = settings_after_all writes (settings_of old) ≡ settings_of new
 
--- One group of writes behind another.
+-- Two consecutive groups of writes.
 pub groups-join : (first later : List Write) (old middle new : Settings)
     → settings_after_all first old ≡ middle → settings_after_all later middle ≡ new → settings_after_all (first ++ later) old ≡ new
 groups-join first later old middle new one two = settings-append first later old ∙ ap (settings_after_all later) one ∙ two
@@ -24,14 +24,14 @@ pub set-join : (first later : List Write) (old middle new : AdapterState)
     → SetTo first old middle → SetTo later middle new → SetTo (first ++ later) old new
 set-join first later old middle new one two = groups-join first later (settings_of old) (settings_of middle) (settings_of new) one two
 
--- A reset leaves the EEPROM and PBA.
+-- A reset doesn't change the EEPROM and PBA.
 pub reset-sets : (settings : Settings)
     → settings_after_all reset_writes settings
     ≡ settings_of (adapter_at_reset settings.image (new_phy settings.link) settings.receive_kilobytes)
 unfolding register_at array_register_at
 reset-sets settings = refl
 
--- PBA takes a number that may be RXA.
+-- PBA stores a valid value of RXA.
 allocation-fits : (kilobytes old : ℕ) → IsAllocation kilobytes → allocation_written kilobytes old ≡ kilobytes
 allocation-fits kilobytes old fits =
     let least = fits.least in
@@ -46,11 +46,11 @@ unfolding register_at array_register_at
 allocation-sets kilobytes adapter fits =
     ap (λ (n : ℕ). settings_of (record adapter { receive_kilobytes = n })) (allocation-fits kilobytes adapter.receive_kilobytes fits)
 
-pub link-sets : (adapter : AdapterState) → SetTo link_writes adapter (record adapter { device_control = 0x60 })
+pub link-sets : (adapter : AdapterState) → SetTo enable_link_writes adapter (record adapter { device_control = 0x60 })
 unfolding register_at array_register_at
 link-sets adapter = refl
 
--- RCTL keeps what is written, whatever is to pass.
+-- RCTL stores the value that is written.
 pub receive-sets : (promiscuous by_vlan : Bool) (adapter : AdapterState)
     → SetTo (receive_writes promiscuous by_vlan) adapter
     (record adapter { filter = record adapter.filter { rctl = receive_control promiscuous by_vlan } })
@@ -64,7 +64,7 @@ pub transmit-sets : (adapter : AdapterState) → SetTo transmit_writes adapter (
 unfolding register_at array_register_at
 transmit-sets adapter = refl
 
--- where no cause was in the mask
+-- if no cause was in the mask
 pub mask-sets : (adapter : AdapterState) → adapter.causes.mask ≡ 0
     → SetTo mask_writes adapter (record adapter { causes = record adapter.causes { mask = 0xD1 } })
 unfolding register_at array_register_at

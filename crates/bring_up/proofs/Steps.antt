@@ -1,4 +1,4 @@
--- Accesses of bring-up, one behind the other.
+-- Accesses of initialization, in order.
 use Rattle.std.proofs.Common.{◌≡◌, ◌++◌, ◌∷◌, [], ℕ, List, refl, sym, ap, subst, ◌∙◌}
 use Rattle.std.specs.List.{All}
 use Rattle.std.proofs.lemmas.List.{map-append}
@@ -7,7 +7,7 @@ use Rattle.adapter.specs.World.{World, world_after_read, world_after_write}
 use Rattle.bus.specs.Keeping.{view_of}
 use Rattle.bus.specs.Law.{Acts}
 use Rattle.bus.specs.Link.{HasLink, LeavesPhy}
-use Rattle.bus.specs.PastOfStretch.{Past, joined, nothing}
+use Rattle.bus.specs.Pasts.{Past, joined, nothing}
 use Rattle.bus.specs.declared.bus.Bus.{Ghosts}
 use Rattle.bus.specs.declared.event.Access.{Access}
 use Rattle.bus.specs.declared.event.Access.TheVariants.{Reads, Writes}
@@ -19,14 +19,14 @@ use Rattle.bus.proofs.AdaptersAtRest.{accesses_keep_rest, happenings_keep_rest}
 use Rattle.bus.proofs.Settings.{happenings_leave_settings, reads-leave, settings-append, writes-append, writes-set}
 use Rattle.driver_law.proofs.Resets.{rest_keeps_memory}
 use Rattle.bring_up.specs.DriverSteps.{accesses_of}
-use Rattle.bring_up.specs.SettingSteps.{Asks, IsAside, Sets, SetsOnly}
+use Rattle.bring_up.specs.SettingSteps.{WritesOneRegister, IsAside, Sets, SetsOnly}
 
--- What happens in two intervals happens in both together: a law of the bus.
-abbrev pub StretchesJoin : {B : Type 0} → Ghosts B → Type 0
-StretchesJoin {B} bus =
+-- What happens in two consecutive intervals happens in both together: a law of the bus.
+abbrev pub IntervalsJoin : {B : Type 0} → Ghosts B → Type 0
+IntervalsJoin {B} bus =
     (a b c : B) (first later : Past) → bus.happened a b first → bus.happened b c later → bus.happened a c (joined first later)
 
--- Nothing is done.
+-- No access.
 unfoldable pub sets-nothing : {B : Type 0} (bus : Ghosts B) → ((b : B) → bus.happened b b nothing) → (b : B) → Sets bus [] b b
 sets-nothing bus stays b = record {
   past = nothing;
@@ -38,7 +38,7 @@ sets-nothing bus stays b = record {
   link = λ leaves link. link;
 }
 
--- What came and left in two stretches, where none did in either.
+-- If no frame comes or leaves in either interval, no frame comes or leaves in both together.
 pub no-frames : (first later : Past) → NoFrame first → NoFrame later → NoFrame (joined first later)
 no-frames first later one two = record {
   none_put = rw (one.none_put, two.none_put) refl;
@@ -46,8 +46,8 @@ no-frames first later one two = record {
   none_missed = rw (one.none_missed, two.none_missed) refl;
 }
 
--- Two steps are one.
-unfoldable pub sets-join : {B : Type 0} (bus : Ghosts B) → StretchesJoin bus
+-- Two consecutive calls join.
+unfoldable pub sets-join : {B : Type 0} (bus : Ghosts B) → IntervalsJoin bus
     → (a b c : B) (first later : List Write) → Sets bus first a b → Sets bus later b c
     → Sets bus (first ++ later) a c
 sets-join bus joins a b c first later one two = record {
@@ -66,7 +66,7 @@ sets-join bus joins a b c first later one two = record {
   link = λ leaves link. two.link (all-right LeavesPhy first later leaves) (one.link (all-left LeavesPhy first later leaves) link);
 }
 
--- An access, behind whatever happens before it.
+-- An access, whatever happens before it.
 unfoldable pub sets-access : {B : Type 0} (bus : Ghosts B) (old new : B) (access : Access)
     (effect : World → World → Type 0) (writes : List Write)
     → (acts : Acts (view_of bus) old new access effect) → writes_in (access ∷ []) ≡ writes
@@ -109,7 +109,7 @@ sets-write bus old new offset value acts =
     (λ leaves link. subst HasLink (sym acts.effect_is) (accesses_keep_link (Writes offset value) acts.middle leaves link))
     (ap (λ (w : World). w.memory) acts.effect_is)
 
--- Steps that make no other access.
+-- Calls that make no other access
 
 pub accesses-join : (first later : Past) (xs ys : List Write) → first.accesses ≡ accesses_of xs → later.accesses ≡ accesses_of ys
     → (joined first later).accesses ≡ accesses_of (xs ++ ys)
@@ -121,7 +121,7 @@ pub only-nothing : {B : Type 0} (bus : Ghosts B) → ((b : B) → bus.happened b
 unfolding sets-nothing
 only-nothing bus stays b = record { sets = sets-nothing bus stays b; only = refl }
 
-pub only-join : {B : Type 0} (bus : Ghosts B) → StretchesJoin bus
+pub only-join : {B : Type 0} (bus : Ghosts B) → IntervalsJoin bus
     → (a b c : B) (first later : List Write) → SetsOnly bus first a b → SetsOnly bus later b c
     → SetsOnly bus (first ++ later) a c
 unfolding sets-join
@@ -136,7 +136,7 @@ pub only-write : {B : Type 0} (bus : Ghosts B) (old new : B) (offset value : ℕ
 unfolding sets-access sets-write
 only-write bus old new offset value acts = record { sets = sets-write bus old new offset value acts; only = acts.only }
 
--- A write of a word that is known.
+-- A write of a word that is equal to another word.
 pub only-word : {B : Type 0} (bus : Ghosts B) (old new : B) (offset value word : ℕ) → value ≡ word
     → Acts (view_of bus) old new (Writes offset value) (λ before after. after ≡ world_after_write offset value before)
     → SetsOnly bus (record { offset = offset; value = word } ∷ []) old new
@@ -144,7 +144,7 @@ only-word bus old new offset value word is acts =
     subst (λ (v : ℕ). SetsOnly bus (record { offset = offset; value = v } ∷ []) old new) is
     (only-write bus old new offset value acts)
 
--- A write at an offset that is known.
+-- A write at an offset that is equal to another offset.
 pub only-at : {B : Type 0} (bus : Ghosts B) (old new : B) (offset place value : ℕ) → offset ≡ place
     → Acts (view_of bus) old new (Writes offset value) (λ before after. after ≡ world_after_write offset value before)
     → SetsOnly bus (record { offset = place; value = value } ∷ []) old new
@@ -152,8 +152,8 @@ only-at bus old new offset place value is acts =
     subst (λ (at : ℕ). SetsOnly bus (record { offset = at; value = value } ∷ []) old new) is
     (only-write bus old new offset value acts)
 
--- Five writes are one step.
-pub only-five : {B : Type 0} (bus : Ghosts B) → StretchesJoin bus
+-- Five consecutive writes join.
+pub only-five : {B : Type 0} (bus : Ghosts B) → IntervalsJoin bus
     → (b0 b1 b2 b3 b4 b5 : B) (w1 w2 w3 w4 w5 : Write) → SetsOnly bus (w1 ∷ []) b0 b1 → SetsOnly bus (w2 ∷ []) b1 b2
     → SetsOnly bus (w3 ∷ []) b2 b3
     → SetsOnly bus (w4 ∷ []) b3 b4 → SetsOnly bus (w5 ∷ []) b4 b5 → SetsOnly bus (w1 ∷ w2 ∷ w3 ∷ w4 ∷ w5 ∷ []) b0 b5
@@ -163,10 +163,11 @@ only-five bus joins b0 b1 b2 b3 b4 b5 w1 w2 w3 w4 w5 one two three four five =
     (only-join bus joins b2 b3 b5 (w3 ∷ []) _ three
     (only-join bus joins b3 b4 b5 (w4 ∷ []) (w5 ∷ []) four five)))
 
--- What is asked by one register that isn't set.
+-- Calls that write only one register, which isn't part of the settings
 
--- Nothing is asked.
-pub asks-nothing : {B : Type 0} (bus : Ghosts B) → ((b : B) → bus.happened b b nothing) → (b : B) (offset : ℕ) → Asks bus offset b b
+-- No access.
+pub asks-nothing : {B : Type 0} (bus : Ghosts B) → ((b : B) → bus.happened b b nothing) → (b : B) (offset : ℕ)
+    → WritesOneRegister bus offset b b
 asks-nothing bus stays b offset = record {
   past = nothing;
   reports = stays b;
@@ -175,11 +176,11 @@ asks-nothing bus stays b offset = record {
   rests = λ rest. (rest, record { none_put = refl; none_stored = refl; none_missed = refl });
 }
 
--- A step that sets is one that asks, where it writes that register alone and leaves the settings.
+-- A call with these writes is a call that writes only one register, if it changes no setting.
 pub asks-of : {B : Type 0} (bus : Ghosts B) (old new : B) (offset : ℕ) (writes : List Write)
     → Sets bus writes old new
     → All (λ write. write.offset ≡ offset) writes → All IsAside writes
-    → ((settings : Settings) → settings_after_all writes settings ≡ settings) → Asks bus offset old new
+    → ((settings : Settings) → settings_after_all writes settings ≡ settings) → WritesOneRegister bus offset old new
 asks-of bus old new offset writes sets only aside same = record {
   past = sets.past;
   reports = sets.reports;
@@ -188,9 +189,9 @@ asks-of bus old new offset writes sets only aside same = record {
   rests = sets.rests aside;
 }
 
--- Two such steps are one.
-pub asks-join : {B : Type 0} (bus : Ghosts B) → StretchesJoin bus
-    → (a b c : B) (offset : ℕ) → Asks bus offset a b → Asks bus offset b c → Asks bus offset a c
+-- Two such calls join.
+pub asks-join : {B : Type 0} (bus : Ghosts B) → IntervalsJoin bus
+    → (a b c : B) (offset : ℕ) → WritesOneRegister bus offset a b → WritesOneRegister bus offset b c → WritesOneRegister bus offset a c
 asks-join bus joins a b c offset one two = record {
   past = joined one.past two.past;
   reports = joins a b c one.past two.past one.reports two.reports;

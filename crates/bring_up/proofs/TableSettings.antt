@@ -1,4 +1,4 @@
--- What the writes of the filter's tables and addresses leave of what an adapter is set to.
+-- The settings after the writes of the filter's tables and addresses.
 use Rattle.std.proofs.Common.{◌≡◌, ◌++◌, ◌∷◌, ◌+◌, ◌*◌, ◌%◌, ◌<◌, ◌≤◌, ◌^◌, [], ℕ, List, Option, Some, arith}
 use Rattle.std.proofs.Common.{append_assoc, ap, bit_and, length, refl, replicate, slice_set, sym, ◌∙◌}
 use Rattle.std.proofs.lemmas.List.{length-append}
@@ -18,21 +18,21 @@ use Rattle.bring_up.specs.ConfiguredAdapters.{AreWords}
 use Rattle.bring_up.specs.FilterTables.{address_writes, table_writes}
 use Rattle.bring_up.proofs.SingleSettings.{SetTo}
 
--- A register of 32 bits keeps a word.
+-- A register of 32 bits stores a word unchanged.
 pub word-kept : (word : ℕ) → word < 2 ^ 32 → bit_and word 0xFFFFFFFF ≡ word
 word-kept word fits = let whole : word % 2 ^ 32 ≡ word = omega arith in and_mask word 32 ∙ whole
 
--- What a write of a register leaves of what an adapter is set to.
+-- The settings after a write of a register.
 abbrev left_set : Option Register → ℕ → AdapterState → Settings
 left_set register value adapter = settings_of (left_by_write register value (adapter_with (settings_of adapter)))
 
--- A table in an adapter: where its words stand, and what a write of one leaves.
+-- A table in an adapter: the registers of its words, and the settings after a write of one word.
 record HasTable (start : ℕ) (register : ℕ → Register) (with_table : List ℕ → AdapterState) : Type 0 where
   pub there : (n : ℕ) → n < 128 → register_at (start + 4 * n) ≡ Some (register n)
   pub set : (n value : ℕ) (table : List ℕ)
       → left_set (Some (register n)) value (with_table table) ≡ settings_of (with_table (slice_set table n (bit_and value 0xFFFFFFFF)))
 
--- A word is written behind those that are.
+-- One more word is written after the first words.
 word-set : (start : ℕ) (register : ℕ → Register) (with_table : List ℕ → AdapterState) → HasTable start register with_table
     → (offset : ℕ) (written : List ℕ) (word last : ℕ) (old : List ℕ)
     → offset ≡ start + 4 * length written → length written < 128 → word < 2 ^ 32
@@ -47,7 +47,7 @@ word-set start register with_table has offset written word last old at within fi
     ∙ ap (λ (w : ℕ). settings_of (with_table (slice_set (written ++ last ∷ old) n w))) (word-kept word fits)
     ∙ ap (λ (table : List ℕ). settings_of (with_table table)) seam
 
--- The others are written behind it.
+-- The remaining words are written.
 words-set : (start : ℕ) (register : ℕ → Register) (with_table : List ℕ → AdapterState) → HasTable start register with_table
     → (offset : ℕ) (written words old : List ℕ)
     → offset ≡ start + 4 * length written → length written + length words ≤ 128 → length old ≡ length words → AreWords words
@@ -68,7 +68,7 @@ words-set start register with_table has offset written (word ∷ words) (last �
     ∙ rest
     ∙ ap (λ (table : List ℕ). settings_of (with_table table)) (append_assoc written (word ∷ []) words)
 
--- the whole of a table
+-- a whole table
 table-set : (start : ℕ) (register : ℕ → Register) (with_table : List ℕ → AdapterState) → HasTable start register with_table
     → (words old : List ℕ) → length words ≡ 128 → length old ≡ 128 → AreWords words
     → SetTo (table_writes start words) (with_table old) (with_table words)
@@ -90,7 +90,7 @@ vlans-set words adapter whole room are =
     table-set 0x5600 Vfta (λ (table : List ℕ). record adapter { filter = record adapter.filter { vfta = table } })
     (record { there = register_at-vfta; set = λ n value table. refl }) words adapter.filter.vfta whole room are
 
--- The words of an address fit their registers, which keep them.
+-- The words of an address fit into their registers
 
 low-kept : (address : List ℕ) → IsAddress address → bit_and (low_word address) 0xFFFFFFFF ≡ low_word address
 low-kept address is =
@@ -112,11 +112,11 @@ high-kept address is =
     let fits : high_word address < 65536 = omega (arith, is.bytes 4, is.bytes 5) in
     valid-kept (high_word address) fits
 
--- the first exact address, and 15 of 0
+-- the first receive address, and 15 of 0
 abbrev pub with_address : (low high : ℕ) → FilterRegisters → FilterRegisters
 with_address low high filter = record filter { ral = low ∷ replicate 15 0; rah = high ∷ replicate 15 0 }
 
--- where the other 15 are 0
+-- if the other 15 entries are 0
 pub address-set : (address : List ℕ) (low high : ℕ) (adapter : AdapterState) → IsAddress address
     → SetTo (address_writes address) (record adapter { filter = with_address low high adapter.filter })
     (record adapter { filter = with_address (low_word address) (high_word address + 2 ^ 31) adapter.filter })

@@ -10,7 +10,7 @@ use Rattle.adapter.specs.declared.register.RingRegister.{RingRegister}
 use Rattle.adapter.specs.declared.register.RingRegister.TheVariants.{BaseHigh, BaseLow, Head, Length, Tail}
 use Rattle.adapter.specs.declared.ring.RingRegisters.{RingRegisters}
 use Rattle.bus.specs.RegisterSetting.{with_transmit_ring}
-use Rattle.bus.specs.PastOfStretch.{nothing}
+use Rattle.bus.specs.Pasts.{nothing}
 use Rattle.bus.specs.declared.bus.Bus.{Ghosts}
 use Rattle.bus.specs.declared.event.Access.{Access}
 use Rattle.bus.specs.declared.event.Access.TheVariants.{Writes}
@@ -21,19 +21,19 @@ use Rattle.driver_law.proofs.Accesses.{ran_by-join, write-sets}
 use Rattle.driver_law.proofs.Steps.{goes-happens}
 use Rattle.driver_law.proofs.TransmitRing.{transmit_ring_is_written}
 use Rattle.bring_up.specs.DriverSteps.{SetsTransmitRing}
-use Rattle.bring_up.specs.RingRegisters.{ring_writes}
+use Rattle.bring_up.specs.RingRegisters.{ring_setup_writes}
 use Rattle.bring_up.proofs.DriverAccesses.{WriteActs, ran_by-begins}
 use Rattle.bring_up.proofs.RingWrites.{IsRingPlace, high-written, length-written, low-written, ring-known, ring_at, still-ring}
 use Rattle.bring_up.proofs.RingWrites.{transmit-written}
-use Rattle.bring_up.proofs.Steps.{StretchesJoin}
+use Rattle.bring_up.proofs.Steps.{IntervalsJoin}
 
--- The driver stays as it is, and the transmit ring has these registers after it.
+-- The driver remains ready, and the transmit ring has these registers after the accesses.
 record LeavesRing {B : Type 0} (bus : Ghosts B) (accesses : List Access) (old new : B) (d : DriverState)
     (after : RingRegisters) : Type 0 where
   ran : Ran bus false (only accesses) (at old d) (at new d)
   ring : (bus.world new).adapter.transmit_ring ≡ after
 
--- A ring with its head at its tail, at the place that the layout has for it.
+-- A ring with head equal to tail, at its place in the layout.
 record IsIdleRing (d : DriverState) (ring : RingRegisters) : Type 0 where
   idle : ring.head ≡ ring.tail
   last : ring.tail ≡ d.oldest_transmit
@@ -71,8 +71,8 @@ transmit-write bus old new part value word d before after is written fits acted 
       ring = ap (λ (w : World). w.adapter.transmit_ring) done;
     }
 
--- One write, and then others.
-transmit-then : {B : Type 0} (bus : Ghosts B) → StretchesJoin bus
+-- One write, and then further writes.
+transmit-then : {B : Type 0} (bus : Ghosts B) → IntervalsJoin bus
     → (xs ys : List Access) (a b c : B) (d : DriverState) (between after : RingRegisters) → LeavesRing bus xs a b d between
     → (ReadyWith false d (bus.world b) → (bus.world b).adapter.transmit_ring ≡ between → LeavesRing bus ys b c d after)
     → LeavesRing bus (xs ++ ys) a c d after
@@ -80,8 +80,8 @@ transmit-then bus joins xs ys a b c d between after one rest =
     let two = rest one.ran.goes.flows.ready one.ring in
     record { ran = ran_by-join bus joins xs ys a b c d d d [] [] [] [] one.ran two.ran; ring = two.ring }
 
--- All five.
-pub sets-transmit_ring : {B : Type 0} (bus : Ghosts B) → StretchesJoin bus
+-- All five writes.
+pub sets-transmit_ring : {B : Type 0} (bus : Ghosts B) → IntervalsJoin bus
     → (b0 b1 b2 b3 b4 b5 : B) (low high base bytes : ℕ) (d : DriverState) → low ≡ base % 2 ^ 32 → high ≡ base / 2 ^ 32
     → base ≡ 16 * d.layout.rx → bytes ≡ 16 * d.layout.tx
     → IsRingSize d.layout.rx → IsRingSize d.layout.tx → d.oldest_transmit ≡ 0
@@ -89,7 +89,7 @@ pub sets-transmit_ring : {B : Type 0} (bus : Ghosts B) → StretchesJoin bus
     → WriteActs bus b2 b3 0x3808 bytes
     → WriteActs bus b3 b4 0x3810 0 → WriteActs bus b4 b5 0x3818 0
     → ReadyWith false d (bus.world b0) → (bus.world b0).adapter.transmit_ring ≡ new_ring
-    → SetsTransmitRing bus (ring_writes 0x3800 base bytes) d b0 b5
+    → SetsTransmitRing bus (ring_setup_writes 0x3800 base bytes) d b0 b5
 sets-transmit_ring bus joins b0 b1 b2 b3 b4 b5 low high base bytes d low_is high_is first long rx tx oldest one two three
     four five ready new =
     let place : IsRingPlace base d.layout.tx = record { sixteens = omega (arith, first); below = omega (arith, first, rx.most); size = tx }

@@ -1,4 +1,4 @@
--- Writes that leave an adapter at rest, and a reset, behind which it is.
+-- Writes after which an adapter is still at rest, and a reset.
 use Rattle.std.proofs.Common.{◌≡◌, ◌∷◌, [], ℕ, Option, Some, refl, sym, ap, subst, ◌∙◌}
 use Rattle.std.specs.List.{All}
 use Rattle.std.proofs.lemmas.List.Elements.{All-cons}
@@ -13,9 +13,9 @@ use Rattle.bus.proofs.Lists.{all-none}
 use Rattle.bus.proofs.AdaptersAtRest.{rest_after_reset}
 use Rattle.driver_law.specs.Resets.{reset_world}
 use Rattle.bring_up.specs.SettingSteps.{IsAside}
-use Rattle.bring_up.specs.WrittenRegisters.{allocation_writes, link_writes, write_at}
+use Rattle.bring_up.specs.WrittenRegisters.{allocation_writes, enable_link_writes, write_at}
 
--- A register aside.
+-- A register other than RCTL and those of the rings.
 pub aside-of : (register : Register) (value : ℕ) → IsInTable register → IsElsewhere (Some register)
     → All IsAside (write_at (row_of register).offset value ∷ [])
 aside-of register value within elsewhere =
@@ -28,7 +28,7 @@ mask-aside = aside-of Imc 0xFFFFFFFF tt tt
 pub allocation-aside : (kilobytes : ℕ) → All IsAside (allocation_writes kilobytes)
 allocation-aside kilobytes = aside-of Pba kilobytes tt tt
 
-pub link-aside : All IsAside link_writes
+pub link-aside : All IsAside enable_link_writes
 link-aside = aside-of Ctrl 0x60 tt tt
 
 -- CTRL.RST is written.
@@ -41,7 +41,7 @@ pub reset-rests : (value : ℕ) (before after : World) → value ≡ 0x04000000 
 reset-rests value before after is written =
     subst IsAtRest (sym (written ∙ ap (λ (v : ℕ). world_after_write 0x0000 v before) is ∙ reset-written before)) (rest_after_reset before)
 
--- A read of ICR leaves no cause recorded.
+-- After a read of ICR no cause is recorded.
 pub read-forgets : (world : World) → (world_after_read 0x00C0 world).adapter.causes.recorded ≡ 0
 unfolding register_at
 read-forgets world = refl

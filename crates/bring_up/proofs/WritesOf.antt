@@ -1,4 +1,4 @@
--- Of which registers the writes of bring-up are.
+-- The registers that initialization writes.
 use Rattle.std.proofs.Common.{◌≡◌, ◌++◌, ◌∷◌, ◌+◌, ◌-◌, ◌*◌, ◌/◌, ◌%◌, ◌<◌, ◌≤◌, ◌^◌, [], ℕ, zero, suc, Bool, List, Option, Some, length}
 use Rattle.std.proofs.Common.{ap, ◌∙◌, sym, subst, arith}
 use Rattle.std.specs.List.{All}
@@ -14,12 +14,12 @@ use Rattle.bus.specs.Settings.{Write}
 use Rattle.bus.proofs.Lists.{all-none}
 use Rattle.bring_up.specs.ConfiguredAdapters.{LinkComesFirst, RingsComeLast, names_vlans}
 use Rattle.bring_up.specs.FilterTables.{address_writes, empty_entries, entry_writes, table_writes}
-use Rattle.bring_up.specs.RingRegisters.{receive_control, receive_writes, ring_writes, transmit_writes}
+use Rattle.bring_up.specs.RingRegisters.{receive_control, receive_writes, ring_setup_writes, transmit_writes}
 use Rattle.bring_up.specs.SettingSteps.{IsAside}
-use Rattle.bring_up.specs.WrittenRegisters.{allocation_writes, link_writes, mask_writes, reset_writes, write_at}
+use Rattle.bring_up.specs.WrittenRegisters.{allocation_writes, enable_link_writes, mask_writes, reset_writes, write_at}
 use Rattle.bring_up.proofs.WritesAtRest.{allocation-aside, link-aside}
 
--- Each of the writes is of a register of which this holds.
+-- Each write is a write of a register for which `P` holds.
 abbrev pub AreOf : (Option Register → Type 0) → List Write → Type 0
 AreOf P writes = All (λ (write : Write). P (register_at write.offset)) writes
 
@@ -30,9 +30,9 @@ of-one P offset value here = All-cons (λ (write : Write). P (register_at write.
 pub of-both : (P : Option Register → Type 0) (first later : List Write) → AreOf P first → AreOf P later → AreOf P (first ++ later)
 of-both P first later one two = All-append (λ (write : Write). P (register_at write.offset)) first later one two
 
--- The tables.
+-- The tables
 
--- a table whose words stand from an offset on
+-- a table whose words begin at an offset
 words-of : (P : Option Register → Type 0) (start : ℕ) (register : ℕ → Register)
     → ((n : ℕ) → n < 128 → register_at (start + 4 * n) ≡ Some (register n)) → ((n : ℕ) → P (Some (register n)))
     → (offset n : ℕ) (words : List ℕ) → offset ≡ start + 4 * n → n + length words ≤ 128 → AreOf P (table_writes offset words)
@@ -45,7 +45,7 @@ words-of P start register there each offset n (word ∷ words) at fits =
     (of-one P offset word (subst P (sym (ap register_at at ∙ there n within)) (each n)))
     (words-of P start register there each (offset + 4) (suc n) words next room)
 
--- the exact addresses
+-- the receive addresses
 entry-of : (P : Option Register → Type 0) → ((n : ℕ) → P (Some (Ral n))) → ((n : ℕ) → P (Some (Rah n)))
     → (entry low high : ℕ) → entry < 16 → AreOf P (entry_writes entry low high)
 entry-of P ral rah entry low high within =
@@ -62,7 +62,7 @@ entries-of P ral rah entry (suc count) fits =
     of-both P (entry_writes entry 0 0) (empty_entries (entry + 1) count)
     (entry-of P ral rah entry 0 0 within) (entries-of P ral rah (entry + 1) count room)
 
--- all of them
+-- all writes of the filter
 pub filter-of : (P : Option Register → Type 0) → ((n : ℕ) → P (Some (Mta n))) → ((n : ℕ) → P (Some (Vfta n)))
     → ((n : ℕ) → P (Some (Ral n))) → ((n : ℕ) → P (Some (Rah n)))
     → (groups vlans address : List ℕ) → length groups ≡ 128 → length vlans ≡ 128
@@ -75,7 +75,7 @@ filter-of P mta vfta ral rah groups vlans address groups_whole vlans_whole =
     (of-both P (entry_writes 0 (low_word address) (high_word address + 2 ^ 31)) (empty_entries 1 15)
     (entry-of P ral rah 0 (low_word address) (high_word address + 2 ^ 31) (omega arith)) (entries-of P ral rah 1 15 (omega arith))))
 
--- Registers beside RCTL and those of the rings.
+-- Registers other than RCTL and those of the rings
 
 reset-aside : All IsAside reset_writes
 unfolding register_at array_register_at
@@ -85,16 +85,16 @@ reset-aside = of-both IsElsewhere (write_at 0x0000 0x04000000 ∷ []) (write_at 
 pub rings-last : RingsComeLast
 rings-last config address groups vlans groups_whole vlans_whole =
     let tables = table_writes 0x5200 groups ++ (table_writes 0x5600 vlans ++ address_writes address) in
-    of-both IsElsewhere reset_writes (allocation_writes config.rxa ++ (link_writes ++ tables)) reset-aside
-    (of-both IsElsewhere (allocation_writes config.rxa) (link_writes ++ tables) (allocation-aside config.rxa)
-    (of-both IsElsewhere link_writes tables link-aside
+    of-both IsElsewhere reset_writes (allocation_writes config.rxa ++ (enable_link_writes ++ tables)) reset-aside
+    (of-both IsElsewhere (allocation_writes config.rxa) (enable_link_writes ++ tables) (allocation-aside config.rxa)
+    (of-both IsElsewhere enable_link_writes tables link-aside
     (filter-of IsElsewhere (λ n. tt) (λ n. tt) (λ n. tt) (λ n. tt) groups vlans address groups_whole vlans_whole)))
 
--- Registers beside CTRL and MDIC.
+-- Registers other than CTRL and MDIC
 
 pub ring-of : (P : Option Register → Type 0) (offset base bytes : ℕ) → P (register_at offset) → P (register_at (offset + 0x04))
     → P (register_at (offset + 0x08))
-    → P (register_at (offset + 0x10)) → P (register_at (offset + 0x18)) → AreOf P (ring_writes offset base bytes)
+    → P (register_at (offset + 0x10)) → P (register_at (offset + 0x18)) → AreOf P (ring_setup_writes offset base bytes)
 ring-of P offset base bytes low high size head tail =
     let w2 = write_at (offset + 0x04) (base / 2 ^ 32) in
     let w3 = write_at (offset + 0x08) bytes in
@@ -105,11 +105,11 @@ ring-of P offset base bytes low high size head tail =
     (of-both P (w3 ∷ []) (w4 ∷ w5 ∷ []) (of-one P (offset + 0x08) bytes size)
     (of-both P (w4 ∷ []) (w5 ∷ []) (of-one P (offset + 0x10) 0 head) (of-one P (offset + 0x18) 0 tail))))
 
-receive-leaves_phy : (base bytes : ℕ) → All LeavesPhy (ring_writes 0x2800 base bytes)
+receive-leaves_phy : (base bytes : ℕ) → All LeavesPhy (ring_setup_writes 0x2800 base bytes)
 unfolding register_at array_register_at
 receive-leaves_phy base bytes = ring-of IsNotOfPhy 0x2800 base bytes tt tt tt tt tt
 
-transmit-leaves_phy : (base bytes : ℕ) → All LeavesPhy (ring_writes 0x3800 base bytes)
+transmit-leaves_phy : (base bytes : ℕ) → All LeavesPhy (ring_setup_writes 0x3800 base bytes)
 unfolding register_at array_register_at
 transmit-leaves_phy base bytes = ring-of IsNotOfPhy 0x3800 base bytes tt tt tt tt tt
 
@@ -129,10 +129,10 @@ pub link-first : LinkComesFirst
 link-first config address groups vlans groups_whole vlans_whole =
     let tail = write_at 0x2818 (config.rx - 1) ∷ [] in
     let receives = receive_writes config.promiscuous (names_vlans config.vlans) in
-    let ring = ring_writes 0x3800 (16 * config.rx) (16 * config.tx) in
+    let ring = ring_setup_writes 0x3800 (16 * config.rx) (16 * config.tx) in
     let controls = controls-leave_phy config.promiscuous (names_vlans config.vlans) in (
       filter-of IsNotOfPhy (λ n. tt) (λ n. tt) (λ n. tt) (λ n. tt) groups vlans address groups_whole vlans_whole,
-      of-both IsNotOfPhy (ring_writes 0x2800 0 (16 * config.rx)) (tail ++ (receives ++ (ring ++ (transmit_writes ++ mask_writes))))
+      of-both IsNotOfPhy (ring_setup_writes 0x2800 0 (16 * config.rx)) (tail ++ (receives ++ (ring ++ (transmit_writes ++ mask_writes))))
           (receive-leaves_phy 0 (16 * config.rx))
           (of-both IsNotOfPhy tail (receives ++ (ring ++ (transmit_writes ++ mask_writes))) (tail-leaves_phy (config.rx - 1))
           (of-both IsNotOfPhy receives (ring ++ (transmit_writes ++ mask_writes)) controls.0

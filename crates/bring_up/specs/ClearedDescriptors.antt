@@ -1,14 +1,14 @@
--- Descriptors that are cleared.
+-- Stores that clear descriptors.
 use Rattle.std.specs.Prelude.{◌+◌, ◌*◌, ◌++◌, ℕ, zero, suc, List, [], ◌∷◌, replicate}
 use Rattle.dma_memory.specs.Layout.{descriptor_bytes}
 use Rattle.bus.specs.declared.event.Access.{Access}
 use Rattle.bus.specs.declared.event.Access.TheVariants.{Stores}
 
--- a store of 16 zero bytes at an address
+-- The store of 16 zero bytes at an address.
 abbrev pub clears : ℕ → Access
 clears address = Stores address (replicate descriptor_bytes 0)
 
--- the stores that clear `count` descriptors, from an address on
+-- The stores that clear `count` descriptors, from an address on.
 abbrev pub clears_from : (first count : ℕ) → List Access
 clears_from first zero = []
 clears_from first (suc k) = clears_from first k ++ clears (first + descriptor_bytes * k) ∷ []

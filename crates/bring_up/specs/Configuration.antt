@@ -1,4 +1,4 @@
--- Which configurations are valid (our choice where the manual doesn't say).
+-- Which configurations are valid. What the manual leaves open is our choice.
 use Rattle.std.specs.Prelude.{◌≤◌, ◌<◌, ℕ, List, [], All, Option, None, Some}
 use Rattle.dma_memory.specs.Layout.{Counts, IsAllowed, size_of}
 use Rattle.rx_engine.specs.Addresses.{IsGroup}
@@ -8,11 +8,11 @@ use Rattle.arrayvec.specs.declared.array_vec.ArrayVec.{ArrayVec}
 use Rattle.bring_up.specs.declared.config.Config.{Config}
 use Rattle.bring_up.specs.declared.config.TheConstants.{MOST_VLANS}
 
--- the sizes of rings, and the number of receive buffers
+-- The sizes of the rings, and the number of receive buffers.
 abbrev pub configured_counts : Config → Counts
 configured_counts config = record { rx = config.rx; tx = config.tx; buffers = config.buffers }
 
--- the VLANs that are named, if any
+-- The VLANs of a configuration; an empty list if tagged frames of all VLANs pass.
 abbrev pub vlans_of : Option (ArrayVec ℕ MOST_VLANS (Unit {0})) → List ℕ
 vlans_of None = []
 vlans_of (Some vlans) = vlans.items
@@ -21,7 +21,7 @@ vlans_of (Some vlans) = vlans.items
 pub record HasRightNumbers (config : Config) : Type 0 where
   -- RXA is even, from 2 to 48
   pub allocation : IsAllocation config.rxa
-  -- the first byte of each group is odd
+  -- each group has the low bit of its first byte set
   pub groups : All IsGroup config.groups.items
   -- each VLAN is below 4,096
   pub vlans : All (λ vlan. vlan < table_numbers) (vlans_of config.vlans)

@@ -1,4 +1,4 @@
--- What an adapter is set to after initialization, by its configuration and its Ethernet address, whatever else happened meanwhile.
+-- The settings of an adapter after initialization, by its configuration and its Ethernet address.
 use Rattle.std.specs.Prelude.{◌≡◌, ◌<◌, ◌+◌, ◌-◌, ◌*◌, ◌++◌, ℕ, Bool, true, false, List, ◌∷◌, [], All, Option, None, Some, length}
 use Rattle.std.specs.Prelude.{replicate}
 use Rattle.adapter.specs.declared.offsets.TheConstants.{MTA, RDBAL, RDT, TDBAL, VFTA}
@@ -17,20 +17,20 @@ use Rattle.bus.specs.Link.{LeavesPhy}
 use Rattle.bus.specs.Settings.{Settings, Write, settings_after_all}
 use Rattle.bring_up.specs.Configuration.{CanBeHad, vlans_of}
 use Rattle.bring_up.specs.FilterTables.{address_writes, table_writes}
-use Rattle.bring_up.specs.RingRegisters.{receive_control, receive_writes, ring_writes, transmit_control, transmit_writes}
+use Rattle.bring_up.specs.RingRegisters.{receive_control, receive_writes, ring_setup_writes, transmit_control, transmit_writes}
 use Rattle.bring_up.specs.SettingSteps.{IsAside}
-use Rattle.bring_up.specs.WrittenRegisters.{allocation_writes, handled_causes, link_control, link_writes, mask_writes, reset_writes}
+use Rattle.bring_up.specs.WrittenRegisters.{allocation_writes, handled_causes, link_control, enable_link_writes, mask_writes, reset_writes}
 use Rattle.bring_up.specs.WrittenRegisters.{register_limit, write_at}
 use Rattle.bring_up.specs.declared.config.Config.{Config}
 use Rattle.bring_up.specs.declared.config.TheConstants.{MOST_VLANS}
-use Rattle.rx_engine.specs.declared.filter.TheConstants.{EXACT_ADDRESSES, TABLE_WORDS, VLAN_TYPE}
+use Rattle.rx_engine.specs.declared.filter.TheConstants.{RECEIVE_ADDRESSES, TABLE_WORDS, VLAN_TYPE}
 
--- whether the configuration names VLANs, even by an empty list
+-- Whether the configuration has a list of VLANs, which may be empty.
 abbrev pub names_vlans : Option (ArrayVec ℕ MOST_VLANS (Unit {0})) → Bool
 names_vlans None = false
 names_vlans (Some vlans) = true
 
--- what a driver keeps of a configuration, with its adapter's address
+-- The setup that a driver keeps from a configuration, with its adapter's address.
 abbrev pub setup_of : Config → (address : List ℕ) → DriverSetup
 setup_of config address = record {
   rxa = config.rxa;
@@ -40,75 +40,74 @@ setup_of config address = record {
   address = address;
 }
 
--- each number has at most 32 bits
+-- Each number is below 2^32.
 abbrev pub AreWords : List ℕ → Type 0
 AreWords words = All (λ word. word < register_limit) words
 
--- All writes of registers in order, except those of EERD and MDIC, which set nothing. The tables are those of the configured groups and
--- VLANs.
+-- The register writes of initialization in order, except those of EERD and MDIC, which change no setting
 
--- the writes before those of the rings
+-- The writes before those of the rings, with these words of the group table and the VLAN table.
 abbrev pub writes_before_rings : Config → (address groups vlans : List ℕ) → List Write
 writes_before_rings config address groups vlans =
     reset_writes
     ++ (allocation_writes config.rxa
-    ++ (link_writes
+    ++ (enable_link_writes
     ++ (table_writes MTA groups
     ++ (table_writes VFTA vlans
     ++ address_writes address))))
 
--- the writes from those of the rings on
+-- The writes of the rings and those after them.
 abbrev pub writes_from_rings : Config → List Write
 writes_from_rings config =
-    ring_writes RDBAL 0 (descriptor_bytes * config.rx)
+    ring_setup_writes RDBAL 0 (descriptor_bytes * config.rx)
     ++ (write_at RDT (config.rx - 1) ∷ []
     ++ (receive_writes config.promiscuous (names_vlans config.vlans)
-    ++ (ring_writes TDBAL (descriptor_bytes * config.rx) (descriptor_bytes * config.tx)
+    ++ (ring_setup_writes TDBAL (descriptor_bytes * config.rx) (descriptor_bytes * config.tx)
     ++ (transmit_writes
     ++ mask_writes))))
 
 abbrev pub all_writes : Config → (address groups vlans : List ℕ) → List Write
 all_writes config address groups vlans = writes_before_rings config address groups vlans ++ writes_from_rings config
 
--- The values of the registers after initialization.
+-- The values of the registers after initialization
 
--- RCTL, VFTA and the exact addresses of the receive filter, which don't change after initialization
+-- RCTL, VFTA, VET and the receive addresses of the receive filter are those of the setup.
 pub record FilterHasSetup (setup : DriverSetup) (filter : FilterRegisters) : Type 0 where
-  -- RCTL has the value of the setup
+  -- the value of RCTL
   pub receive_control_is : filter.rctl ≡ receive_control setup.promiscuous setup.by_vlan
-  -- VFTA has the VLANs.
+  -- VFTA has the bits of the VLANs, and no others.
   pub vlans : HasNumbers filter.vfta setup.vlans
   -- each word of VFTA has 32 bits
   pub words : AreWords filter.vfta
   -- RAL: bytes 0 to 3 of the address in the first entry; the other 15 are 0
-  pub address_low : filter.ral ≡ low_word setup.address ∷ replicate (EXACT_ADDRESSES - 1) 0
+  pub address_low : filter.ral ≡ low_word setup.address ∷ replicate (RECEIVE_ADDRESSES - 1) 0
   -- RAH: bytes 4 and 5 of the address, and AV, in the first entry; the other 15 are 0
-  pub address_high : filter.rah ≡ (high_word setup.address + alone rah_av) ∷ replicate (EXACT_ADDRESSES - 1) 0
+  pub address_high : filter.rah ≡ (high_word setup.address + alone rah_av) ∷ replicate (RECEIVE_ADDRESSES - 1) 0
   -- VET is the type of IEEE 802.1Q
   pub vlan_type : filter.vet ≡ VLAN_TYPE
 
--- An adapter has what its driver keeps of a configuration. Of the filter, this leaves MTA alone open.
+-- An adapter has the setup of its driver: PBA.RXA, and the receive filter except MTA.
 pub record HasSetup (setup : DriverSetup) (adapter : AdapterState) : Type 0 where
   -- the receive filter, apart from MTA
   pub filter : FilterHasSetup setup adapter.filter
-  -- PBA.RXA is that of the setup
+  -- PBA.RXA
   pub allocation : adapter.receive_kilobytes ≡ setup.rxa
 
 -- The receive filter is as configured.
 pub record FilterIsConfigured (config : Config) (address : List ℕ) (filter : FilterRegisters) : Type 0 where
   pub setup : FilterHasSetup (setup_of config address) filter
-  -- MTA has the configured groups.
+  -- MTA has the bits of the configured groups, and no others.
   pub groups : HasNumbers filter.mta (numbers_of_groups config.groups.items)
   pub group_words : AreWords filter.mta
 
 -- The registers of a ring are as configured.
 pub record RingIsConfigured (base count tail : ℕ) (registers : RingRegisters) : Type 0 where
   pub base_is : (ring_of registers).base ≡ base
-  -- the number of its slots
+  -- the number of slots
   pub count_is : count_of (ring_of registers) ≡ count
   pub tail_is : registers.tail ≡ tail
 
--- All that the configuration determines.
+-- The settings that a configuration and an Ethernet address determine.
 pub record IsConfigured (config : Config) (address : List ℕ) (settings : Settings) : Type 0 where
   -- CTRL has SLU and ASDE
   pub device_control : settings.device_control ≡ link_control
@@ -119,11 +118,11 @@ pub record IsConfigured (config : Config) (address : List ℕ) (settings : Setti
   pub allocation : settings.receive_kilobytes ≡ config.rxa
   -- IMS has TXDW, RXDMT0, RXO and RXT0
   pub mask : settings.mask ≡ handled_causes
-  -- All receive slots but one are offered, and no transmit slot.
+  -- All receive slots except one are offered, and no transmit slot.
   pub receive_ring : RingIsConfigured 0 config.rx (config.rx - 1) settings.receive_ring
   pub transmit_ring : RingIsConfigured (descriptor_bytes * config.rx) config.tx 0 settings.transmit_ring
 
--- The writes of initialization configure an adapter, whatever it was set to, and leave its EEPROM.
+-- The writes of initialization configure an adapter, whatever its settings were before, and don't change its EEPROM.
 abbrev pub WritesConfigure : Type 0
 WritesConfigure =
     (config : Config) (address groups vlans : List ℕ) (size : ℕ) (settings : Settings)
@@ -132,19 +131,20 @@ WritesConfigure =
     → IsConfigured config address (settings_after_all (all_writes config address groups vlans) settings)
     × ((settings_after_all (all_writes config address groups vlans) settings).image ≡ settings.image)
 
--- Two adapters with the same setup differ in no register of the filter but MTA.
+-- Two adapters with the same setup have the same PBA.RXA and the same registers of the filter, except MTA.
 abbrev pub SetupsAgree : Type 0
 SetupsAgree =
     (setup : DriverSetup) (a b : AdapterState) → HasSetup setup a → HasSetup setup b
     → (b.filter ≡ record a.filter { mta = b.filter.mta }) × (b.receive_kilobytes ≡ a.receive_kilobytes)
 
--- If the tables have 128 words, no write before those of the rings is of RCTL or of a ring's register.
+-- If the tables have 128 words, no write before those of the rings is a write of RCTL or of a ring's register.
 abbrev pub RingsComeLast : Type 0
 RingsComeLast =
     (config : Config) (address groups vlans : List ℕ) → length groups ≡ TABLE_WORDS → length vlans ≡ TABLE_WORDS
     → All IsAside (writes_before_rings config address groups vlans)
 
--- If the tables have 128 words, no write of the filter, and none from those of the rings on, is of CTRL or MDIC.
+-- If the tables have 128 words, no write of the filter, of the rings, or after those of the rings is a write of CTRL or
+-- MDIC.
 abbrev pub LinkComesFirst : Type 0
 LinkComesFirst =
     (config : Config) (address groups vlans : List ℕ) → length groups ≡ TABLE_WORDS → length vlans ≡ TABLE_WORDS

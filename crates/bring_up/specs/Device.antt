@@ -1,37 +1,39 @@
--- What a driver knows of a device that it has found, and why it finds none.
+-- What a driver knows of a device that it has found, and when it finds no device.
 use Rattle.std.specs.Prelude.{⊤, ◌≡◌, ◌≤◌, ◌++◌, ◌*◌, ℕ, List, Result, IfErr, IfOk, length}
 use Rattle.eeprom.specs.Image.{HasRightSum}
 use Rattle.adapter.specs.World.{World}
 use Rattle.bus.specs.Link.{HasLink}
-use Rattle.bus.specs.PastOfStretch.{Past}
+use Rattle.bus.specs.Pasts.{Past}
 use Rattle.bus.specs.AdaptersAtRest.{IsAtRest}
 use Rattle.bus.specs.Settings.{settings_after_all, settings_of}
 use Rattle.bus.specs.declared.bus.Bus.{Ghosts}
 use Rattle.bring_up.specs.EepromReading.{most_reads}
 use Rattle.bring_up.specs.Link.{NeedsMoreThan}
 use Rattle.bring_up.specs.SettingSteps.{RecordsNoCause}
-use Rattle.bring_up.specs.WrittenRegisters.{allocation_writes, link_writes, reset_writes}
+use Rattle.bring_up.specs.WrittenRegisters.{allocation_writes, enable_link_writes, reset_writes}
 use Rattle.bring_up.specs.declared.init_error.InitError.{InitError}
 use Rattle.bring_up.specs.declared.init_error.InitError.TheVariants.{Checksum, EepromTimeout, Memory, NoLink, PhyTimeout}
 use Rattle.bring_up.specs.declared.init_error.InitError.TheVariants as errors
 
--- E10 and E15 are returned before any access; every other error is the device's.
+-- The error is returned before any access: E10 or E15. Every other error is the device's.
 abbrev pub IsBeforeAccess : InitError → Type 0
 IsBeforeAccess Memory = ⊤
 IsBeforeAccess errors.Config = ⊤
 IsBeforeAccess error = ⊥
 
--- The image is the adapter's, and its checksum is right. The adapter is at rest and has these settings, and its link is up.
+-- A device was found: the image is that of its EEPROM, with the right checksum. The adapter is at rest with these
+-- settings, and its link is up.
 pub record IsFound {B : Type 0} (bus : Ghosts B) (kilobytes : ℕ) (old new : B) (image : List ℕ) : Type 0 where
   pub image_is : image ≡ (bus.world old).adapter.image
   pub sum_is_right : HasRightSum image
   pub rests : IsAtRest (bus.world new)
-  pub settings : settings_of (bus.world new).adapter ≡ settings_after_all (reset_writes ++ (allocation_writes kilobytes ++ link_writes))
+  pub settings : settings_of (bus.world new).adapter ≡ settings_after_all
+      (reset_writes ++ (allocation_writes kilobytes ++ enable_link_writes))
       (settings_of (bus.world old).adapter)
   pub up : HasLink (bus.world new)
 
--- Why a device isn't found, by the error: E12 is returned only if the checksum is wrong, E11 and E13 after at least 1,000 accesses, and
--- E14 after at least 2,000.
+-- When an error is returned. E12: only if the checksum is wrong. E11 and E13: only after at least 1,000 accesses. E14:
+-- only after at least 2,000 accesses.
 abbrev pub IsErrorOf : InitError → (image : List ℕ) (accesses : ℕ) → Type 0
 IsErrorOf EepromTimeout image accesses = most_reads ≤ accesses
 IsErrorOf Checksum image accesses = ¬ (HasRightSum image)
@@ -40,8 +42,8 @@ IsErrorOf NoLink image accesses = 2 * most_reads ≤ accesses
 IsErrorOf Memory image accesses = ⊥
 IsErrorOf errors.Config image accesses = ⊥
 
--- Over a lively bus E11 and E13 are never returned, and a link that comes up within 2,000 ticks is always seen. So E12 is always returned
--- if the checksum is wrong: no other error is left then, and Ok needs a right one.
+-- When an error is returned over a lively bus. E11 and E13: never. E14: only if the checksum is right and the link
+-- needs more than 2,000 ticks. So if the checksum is wrong, E12 is returned.
 abbrev pub IsErrorOfLively : InitError → World → Type 0
 IsErrorOfLively EepromTimeout before = ⊥
 IsErrorOfLively Checksum before = ⊤
@@ -50,7 +52,7 @@ IsErrorOfLively NoLink before = HasRightSum before.adapter.image × NeedsMoreTha
 IsErrorOfLively Memory before = ⊤
 IsErrorOfLively errors.Config before = ⊤
 
--- The result of looking for a device.
+-- `find_device` was called, with this result.
 pub record FindsDevice {B : Type 0} (bus : Ghosts B) (kilobytes : ℕ) (result : Result (List ℕ) InitError) (old new : B) : Type 0 where
   pub past : Past
   pub reports : bus.happened old new past

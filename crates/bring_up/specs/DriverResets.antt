@@ -10,22 +10,24 @@ use Rattle.bus.specs.declared.event.Access.TheVariants.{Reads, Writes}
 use Rattle.driver_law.specs.Calls.{GoesTo, driver_did, driver_in}
 use Rattle.driver_law.specs.DriverState.{DriverState}
 use Rattle.driver_law.specs.Resets.{RestsWith, reset_driver, reset_world}
-use Rattle.bring_up.specs.DriverSteps.{Accessed}
+use Rattle.bring_up.specs.DriverSteps.{MakesAccesses}
 
--- A driver resets its adapter: a write of CTRL with RST, then a write of IMC and a read of ICR. `pool` has the free buffers afterwards.
+-- A driver resets its adapter: it writes CTRL with RST, writes IMC, and reads ICR. After that, the free buffers are
+-- `pool`.
 pub record ResetsDriver {B : Type 0} (bus : Ghosts B) (up : Bool) (pool : List ℕ) (d : DriverState) (old new : B) : Type 0 where
-  -- right after the write of CTRL
+  -- the bus right after the write of CTRL
   pub middle : B
-  pub first : Accessed bus (Writes CTRL (alone ctrl_rst) ∷ []) old middle
+  pub first : MakesAccesses bus (Writes CTRL (alone ctrl_rst) ∷ []) old middle
   -- the value read from ICR
   pub causes : ℕ
-  pub later : Accessed bus (Writes IMC 0xFFFFFFFF ∷ Reads ICR causes ∷ []) middle new
-  -- the world in which the write of CTRL begins: the frames held there, and those to be sent there, are given up
+  pub later : MakesAccesses bus (Writes IMC 0xFFFFFFFF ∷ Reads ICR causes ∷ []) middle new
+  -- the world right before the write of CTRL takes effect: the frames that are held or to be sent in this world are
+  -- lost
   pub last : World
   pub goes : GoesTo up (driver_in d (bus.world old)) (driver_in d last) (driver_did [] []) first.past
   pub is_reset : bus.world middle ≡ reset_world last
-  -- No frame comes or leaves after it, and the driver has no slot.
+  -- After the write of CTRL, no frame is stored or put on the wire, and the driver has no slots.
   pub no_frame : NoFrame later.past
   pub rests : RestsWith (reset_driver pool d) (bus.world new)
-  -- The PHY keeps its link.
+  -- A link that is up remains up.
   pub link : HasLink (bus.world old) → HasLink (bus.world new)

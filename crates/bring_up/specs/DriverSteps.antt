@@ -1,4 +1,4 @@
--- What a driver knows after each step of initialization that follows the setup of the receive ring (our choice).
+-- What a driver knows after each part of initialization that follows the setup of the receive ring (our choice).
 use Rattle.std.specs.Prelude.{◌≡◌, ◌⊎◌, ◌*◌, ◌++◌, ℕ, Bool, true, false, List, [], ◌∷◌, map}
 use Rattle.registers.specs.Bits.{HasBit}
 use Rattle.registers.specs.Places.{rxt0}
@@ -9,7 +9,7 @@ use Rattle.adapter.specs.Rings.{new_ring}
 use Rattle.adapter.specs.Slots.{finished}
 use Rattle.adapter.specs.World.{World, transmit_ring}
 use Rattle.adapter.specs.declared.offsets.TheConstants.{IMS}
-use Rattle.bus.specs.PastOfStretch.{Past}
+use Rattle.bus.specs.Pasts.{Past}
 use Rattle.bus.specs.Settings.{NoArrival, Write}
 use Rattle.bus.specs.declared.bus.Bus.{Ghosts}
 use Rattle.bus.specs.declared.event.Access.{Access}
@@ -19,24 +19,25 @@ use Rattle.driver_law.specs.Calls.{FollowsWrites, Goes, HasNoForgottenWork, Ran,
 use Rattle.driver_law.specs.DriverState.{DriverState}
 use Rattle.driver_law.specs.ReadyDrivers.{Ready}
 
--- these writes of registers, as accesses
+-- These register writes, as accesses.
 abbrev pub accesses_of : List Write → List Access
 accesses_of writes = map (λ (write : Write). Writes write.offset write.value) writes
 
--- The accesses are exactly these writes. The driver doesn't change, and no frame is taken or accepted. After the writes its transmit side
--- is set up if `up`, and else off.
+-- The accesses are exactly these writes. The driver is ready again, its state doesn't change, and no frame is taken or
+-- accepted. After the writes its transmit side is set up if `up` is true, and off otherwise.
 abbrev pub LeavesDriver : {B : Type 0} → Ghosts B → List Write → (up : Bool) → DriverState → (old new : B) → Type 0
 LeavesDriver bus writes up d old new = Ran bus up (only (accesses_of writes)) (at old d) (at new d)
 
--- These writes enable the receiver of a driver that holds no frame. After them no frame is held and no slot is finished, and no frame
--- arrived meanwhile.
+-- These writes enable the receiver of a driver that holds no frame. No frame arrives before them, and after them no
+-- frame is held and no slot is finished.
 pub record LetsFramesIn {B : Type 0} (bus : Ghosts B) (writes : List Write) (d : DriverState) (old new : B) : Type 0 where
   pub ran : LeavesDriver bus writes false d old new
   pub none_held : frames_held d.oldest_receive (bus.world new) ≡ []
   pub none_finished : finished d.oldest_receive (bus.world new) ≡ []
   pub no_arrival : NoArrival ran.past
 
--- The transmit ring can be set up: it is as a reset leaves it, the sizes of both rings are valid, and it begins after the receive ring.
+-- The transmit ring can be set up. The driver's oldest transmit slot is slot 0, and the ring's registers have their
+-- reset values. The sizes of both rings are valid, and the new ring begins after the receive ring.
 pub record CanSetTransmitRing (base bytes : ℕ) (d : DriverState) (world : World) : Type 0 where
   pub oldest : d.oldest_transmit ≡ 0
   pub new : world.adapter.transmit_ring ≡ new_ring
@@ -45,29 +46,30 @@ pub record CanSetTransmitRing (base bytes : ℕ) (d : DriverState) (world : Worl
   pub begins : base ≡ descriptor_bytes * d.layout.rx
   pub long : bytes ≡ descriptor_bytes * d.layout.tx
 
--- These writes set up the transmit ring, with no slot offered: the driver knows it.
+-- These writes set up the transmit ring, with no slot offered. After them the ring agrees with the driver.
 pub record SetsTransmitRing {B : Type 0} (bus : Ghosts B) (writes : List Write) (d : DriverState) (old new : B) : Type 0 where
   pub ran : LeavesDriver bus writes false d old new
   pub knows : KnowsRing (transmit_ring (bus.world new)) (descriptor_bytes * d.layout.rx) d.layout.tx 0
 
--- The accesses are exactly these. Settings, arrivals of frames and the link follow from the writes among them.
-pub record Accessed {B : Type 0} (bus : Ghosts B) (accesses : List Access) (old new : B) : Type 0 where
+-- The accesses in an interval are exactly these. `FollowsWrites` states what the writes among them determine.
+pub record MakesAccesses {B : Type 0} (bus : Ghosts B) (accesses : List Access) (old new : B) : Type 0 where
   pub past : Past
   pub reports : bus.happened old new past
   pub only : past.accesses ≡ accesses
   pub follows : FollowsWrites (bus.world old) (bus.world new) past
 
--- One write of IMS enables causes. First something happens, and then the mask alone changes.
+-- One write of IMS enables causes. Anything may happen before it, and the write changes only the mask.
 pub record EnablesCauses {B : Type 0} (bus : Ghosts B) (causes : ℕ) (d : DriverState) (old new : B) : Type 0 where
-  pub accessed : Accessed bus (Writes IMS causes ∷ []) old new
-  -- the world in which the write begins
+  pub accessed : MakesAccesses bus (Writes IMS causes ∷ []) old new
+  -- the world right before the write takes effect
   pub middle : World
   pub goes : Goes (driver_in d (bus.world old)) (driver_in d middle) (driver_did [] []) accessed.past
   pub enabled : Enabled true d causes middle (bus.world new)
-  -- The driver is ready, the frames held are those before and those stored meanwhile, and RXT0 is enabled.
+  -- The driver is ready, the frames that were stored in the interval are held after those that were held before, and
+  -- RXT0 is enabled.
   pub ready : Ready d (bus.world new)
   pub holds : frames_held d.oldest_receive (bus.world new) ≡ frames_held d.oldest_receive (bus.world old) ++ accessed.past.stored
   pub mask : HasBit (bus.world new).adapter.causes.mask rxt0
-  -- No work is forgotten, if no frame ended in finished slots before the write or RXT0 was recorded.
+  -- No work is forgotten if no frame ended in finished slots before, or RXT0 was recorded.
   pub work : (frames_ended (driver_in d (bus.world old)) ≡ []) ⊎ HasBit (bus.world old).adapter.causes.recorded rxt0
       → HasNoForgottenWork d (bus.world new)

@@ -1,4 +1,4 @@
--- The commands of initialization to the PHY, and the state of the link then.
+-- The commands of initialization to the PHY, and the link.
 use Rattle.std.specs.Prelude.{⊤, ◌≡◌, ◌≢◌, ◌≤◌, ◌<◌, ◌+◌, ◌*◌, ◌⊎◌, ℕ, true, Err, None, Result, IfErr, IfOk, IsOk, length}
 use Rattle.std.specs.Fn.{iterate}
 use Rattle.adapter.specs.declared.offsets.TheConstants.{MDIC}
@@ -16,89 +16,92 @@ use Rattle.bus.specs.Link.{HasLink}
 use Rattle.bus.specs.declared.bus.Bus.{Ghosts}
 use Rattle.bring_up.specs.declared.init_error.InitError.{InitError}
 use Rattle.bring_up.specs.declared.init_error.InitError.TheVariants.{NoLink, PhyTimeout}
-use Rattle.bring_up.specs.SettingSteps.{Asks}
+use Rattle.bring_up.specs.SettingSteps.{WritesOneRegister}
 use Rattle.mdic_phy.specs.Places.{status_complete, status_link}
 
--- a PHY with this link, whose negotiation was enabled and started
+-- A PHY with this link right after its autonegotiation was enabled and started.
 abbrev pub started : Link → PhyState
 started link = record { link = link; negotiation_enabled = true; negotiation = negotiation_of link; latched_low = true }
 
--- Negotiation was started, and since then only ticks came to the PHY. No command is pending.
+-- Autonegotiation was started, and since then nothing but ticks has changed the PHY. No command is pending.
 pub record IsNegotiating (adapter : AdapterState) : Type 0 where
   pub ticks : ℕ
   pub phy : adapter.phy ≡ iterate after_tick ticks (started adapter.phy.link)
   pub no_command : adapter.mdic.pending ≡ None
 
--- the link needs more than this number of ticks, or never comes up
+-- The link needs more than this number of ticks, or is never up.
 abbrev pub NeedsMoreThan : ℕ → Link → Type 0
 NeedsMoreThan ticks (After d) = ticks < d
 NeedsMoreThan ticks Never = ⊤
 
--- a command to the PHY, which has address 1: the operation, the PHY's register, and the data ("13.4.7 MDI Control Register")
+-- The value of MDIC for a command to the PHY, at address 1: the operation, the PHY's register, and the data ("13.4.7
+-- MDI Control Register").
 abbrev pub command_word : (operation register word : ℕ) → ℕ
 command_word operation register word = operation * alone mdic_op + alone mdic_phyadd + register * alone mdic_regadd + word
 
--- The first command of initialization (IEEE 802.3, 22.2.4): a write (01b) of the control register, which enables
--- negotiation and restarts it.
+-- The first command of initialization: a write (01b) of the PHY's control register that enables and restarts
+-- autonegotiation (IEEE 802.3, 22.2.4.1).
 abbrev pub restart_word : ℕ
 restart_word = command_word 1 0 (alone control_enable + alone control_restart)
 
--- The second command of initialization: a read (10b) of the status register.
+-- The second command of initialization: a read (10b) of the PHY's status register.
 abbrev pub status_word : ℕ
 status_word = command_word 2 1 0
 
 abbrev pub IsCommand : ℕ → Type 0
 IsCommand word = (word ≡ restart_word) ⊎ (word ≡ status_word)
 
--- The ticks around a command: of `all` ticks some came before it was given, the next one ended it, and the others came later.
+-- Of `all` ticks, some came before the command was written, one tick ended the command, and the other ticks came later.
 pub record TicksOfCommand (lively : Type 0) (all : ℕ) : Type 0 where
   pub before : ℕ
   pub later : ℕ
   pub all_are : before + 1 + later ≡ all
   pub some : lively → 1 ≤ before
 
--- A command ended between two moments of MDIC and the PHY, and MDIC reads this answer.
-pub record Ends (lively : Type 0) (word all : ℕ) (a b : Management) (answer : ℕ) : Type 0 where
+-- A command ended between two states of MDIC and the PHY, and then MDIC has this value.
+pub record EndsCommand (lively : Type 0) (word all : ℕ) (a b : Management) (answer : ℕ) : Type 0 where
   pub ticks : TicksOfCommand lively all
-  -- the PHY when the tick that ends the command has lowered its count
+  -- the PHY after the tick that ends the command
   pub phy : PhyState
   pub counted : phy ≡ after_tick (iterate phy_ticked ticks.before a).phy
   pub answers : answer ≡ ended (operation_of word) (kept word) phy
   pub mdic : b.mdic ≡ record { value = answer; pending = None }
   pub leaves : b.phy ≡ iterate after_tick ticks.later (phy_ended (operation_of word) (kept word) phy)
 
--- A command is given, and its end awaited.
+-- A command is written to MDIC, and its end is awaited, with this result.
 pub record Commands {B : Type 0} (bus : Ghosts B) (word : ℕ) (result : Result ℕ InitError) (old new : B) : Type 0 where
-  pub asks : Asks bus MDIC old new
+  pub asks : WritesOneRegister bus MDIC old new
   pub accesses : 2 ≤ length asks.past.accesses
   pub link : (bus.world new).adapter.phy.link ≡ (bus.world old).adapter.phy.link
-  -- If the result is Ok, the command has ended, and the result is its answer.
-  pub ends : IfOk result (Ends (bus.lively old) word asks.past.phy_ticks (management_of (bus.world old).adapter)
+  -- If the result is Ok, the command has ended, and the result is the value of MDIC.
+  pub ends : IfOk result (EndsCommand (bus.lively old) word asks.past.phy_ticks (management_of (bus.world old).adapter)
       (management_of (bus.world new).adapter))
   pub late : IfErr result (λ error. most_reads ≤ length asks.past.accesses)
   pub in_time : bus.lively old → IsOk result
 
--- Negotiation is started.
+-- Autonegotiation is started, with this result.
 pub record Negotiates {B : Type 0} (bus : Ghosts B) (result : Result (Unit {0}) InitError) (old new : B) : Type 0 where
-  pub asks : Asks bus MDIC old new
+  pub asks : WritesOneRegister bus MDIC old new
   pub link : (bus.world new).adapter.phy.link ≡ (bus.world old).adapter.phy.link
-  -- If the result is Ok, negotiation was started in this call, since more ticks came in the call than since its start.
+  -- If the result is Ok, autonegotiation was started in this call: fewer ticks came since its start than in the whole
+  -- call.
   pub started : IfOk result (λ done. (begun : IsNegotiating (bus.world new).adapter) × (begun.ticks < asks.past.phy_ticks))
   pub late : IfErr result (λ error. most_reads ≤ length asks.past.accesses)
   pub in_time : bus.lively old → IsOk result
 
--- The link is awaited.
+-- The link is awaited, with this result.
 pub record AwaitsLink {B : Type 0} (bus : Ghosts B) (result : Result (Unit {0}) InitError) (old new : B) : Type 0 where
-  pub asks : Asks bus MDIC old new
+  pub asks : WritesOneRegister bus MDIC old new
   pub link : (bus.world new).adapter.phy.link ≡ (bus.world old).adapter.phy.link
-  -- If the result is Ok, MDIC shows bits 5 and 2 of the PHY's status, so negotiation is complete and the link is up.
+  -- If the result is Ok, MDIC contains a status with bits 5 and 2: autonegotiation is complete and the link is up.
   pub seen : IfOk result
       (λ done. HasBit (bus.world new).adapter.mdic.value status_complete × HasBit (bus.world new).adapter.mdic.value status_link)
-  -- If the result is Ok, the link is up, and stays up by the law of links.
+  -- If the result is Ok, the link is up.
   pub up : IfOk result (λ done. HasLink (bus.world new))
   pub late : IfErr result (λ error. most_reads ≤ length asks.past.accesses)
   pub no_link : result ≡ Err NoLink → 2 * most_reads ≤ length asks.past.accesses
   pub in_time : bus.lively old → result ≢ Err PhyTimeout
-  -- If negotiation was started before, a link that comes up within 2,000 ticks is seen.
+  -- Over a lively bus, if autonegotiation was started before, E14 is returned only if the link needs more than 2,000
+  -- ticks.
   pub slow : bus.lively old → IsNegotiating (bus.world old).adapter → result ≡ Err NoLink
       → NeedsMoreThan (2 * most_reads) (bus.world old).adapter.phy.link

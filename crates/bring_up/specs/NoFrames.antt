@@ -1,4 +1,4 @@
--- What stays while a driver sets up its receive ring, before receiver and transmitter are enabled (our choice).
+-- What remains true while a driver sets up its receive ring, before receiver and transmitter are enabled (our choice).
 use Rattle.std.specs.Prelude.{⊤, ◌≡◌, [], All, Option, Some, false}
 use Rattle.adapter.specs.HostFrames.{frames_held, frames_to_send}
 use Rattle.adapter.specs.Rings.{new_ring}
@@ -6,21 +6,21 @@ use Rattle.adapter.specs.Table.{register_at}
 use Rattle.adapter.specs.World.{World}
 use Rattle.adapter.specs.declared.register.Register.{Register}
 use Rattle.adapter.specs.declared.register.Register.TheVariants.{Transmit}
-use Rattle.bus.specs.PastOfStretch.{Past}
+use Rattle.bus.specs.Pasts.{Past}
 use Rattle.bus.specs.AdaptersAtRest.{NoFrame}
 use Rattle.bus.specs.Settings.{AreSet, IsOff, LeavesReceiver, WhileOff, Write, writes_in}
 use Rattle.driver_law.specs.DriverState.{DriverState}
 use Rattle.driver_law.specs.Calls.{GoesTo, driver_did, driver_in}
 use Rattle.driver_law.specs.ReadyDrivers.{ReadyWith}
 
--- RCTL.EN is 0, no frame is held, and none is to be sent.
+-- RCTL.EN is 0, no received frame is held, and no frame is to be sent.
 pub record HasNoFrames (d : DriverState) (world : World) : Type 0 where
   pub off : IsOff world
   pub none_held : frames_held d.oldest_receive world ≡ []
   pub none_to_send : frames_to_send world ≡ []
 
--- `HasNoFrames` still holds after an interval in which RCTL isn't written and no frame is accepted for sending. No
--- frame arrives or leaves in it.
+-- `HasNoFrames` remains true in an interval in which RCTL isn't written and no frame is accepted for sending. In the interval, no frame is
+-- stored, missed or put on the wire.
 abbrev pub NoFramesStay : Type 0
 NoFramesStay =
     (d d' : DriverState) (a b : World) (past : Past) → GoesTo false (driver_in d a) (driver_in d' b) (driver_did [] []) past
@@ -30,11 +30,12 @@ abbrev pub IsNotTransmitRing : Option Register → Type 0
 IsNotTransmitRing (Some (Transmit part)) = ⊥
 IsNotTransmitRing _ = ⊤
 
--- the write isn't of a register of the transmit ring
+-- The write isn't a write of a register of the transmit ring.
 abbrev pub LeavesTransmitRing : Write → Type 0
 LeavesTransmitRing write = IsNotTransmitRing (register_at write.offset)
 
--- The transmit ring stays as a reset leaves it, if none of its registers is written and the transmit side is off.
+-- If no register of the transmit ring is written, and the transmit side is off at the end, this ring's registers keep
+-- their reset values.
 abbrev pub NewTransmitRingStays : Type 0
 NewTransmitRingStays =
     (d : DriverState) (a b : World) (past : Past) → ReadyWith false d b → AreSet a b past → All LeavesTransmitRing (writes_in past.accesses)

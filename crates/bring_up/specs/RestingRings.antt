@@ -1,4 +1,4 @@
--- An adapter at rest whose rings are set up, and the driver that begins there (our choice).
+-- An adapter at rest whose rings are set up, and a driver that begins in this state (our choice).
 use Rattle.std.specs.Prelude.{◌≡◌, ◌≤◌, ◌*◌, ℕ, false, List, length}
 use Rattle.dma_memory.specs.Layout.{Counts, IsAllowed, descriptor_bytes, size_of}
 use Rattle.dma_memory.specs.Owners.{HasOneOwner}
@@ -8,7 +8,7 @@ use Rattle.adapter.specs.World.{World, receive_ring}
 use Rattle.bus.specs.AdaptersAtRest.{IsAtRest, NoFrame}
 use Rattle.bus.specs.Settings.{Write}
 use Rattle.bus.specs.declared.bus.Bus.{Ghosts}
-use Rattle.driver_law.specs.Beginnings.{HasBegun, new_driver}
+use Rattle.driver_law.specs.Beginnings.{IsAtBeginning, new_driver}
 use Rattle.driver_law.specs.DriverState.{DriverSetup, DriverState}
 use Rattle.driver_law.specs.ReadyDrivers.{ReadyWith}
 use Rattle.driver_law.specs.Resets.{RestsWith, reset_driver}
@@ -16,21 +16,23 @@ use Rattle.bring_up.specs.DriverSteps.{accesses_of}
 use Rattle.bring_up.specs.NoFrames.{HasNoFrames}
 use Rattle.bring_up.specs.SettingSteps.{Sets}
 
--- At rest, with both rings as a reset leaves them. The memory has room for `rx` receive descriptors.
+-- The adapter is at rest, and the registers of both rings have their reset values. Memory has room for `rx` receive
+-- descriptors.
 pub record HasNewRings (rx : ℕ) (world : World) : Type 0 where
   pub rest : IsAtRest world
   pub receives : world.adapter.receive_ring ≡ new_ring
   pub transmits : world.adapter.transmit_ring ≡ new_ring
   pub room : descriptor_bytes * rx ≤ length world.memory
 
--- At rest, with a receive ring of `rx` slots at address 0, none of them offered, and a transmit ring as a reset leaves it.
+-- The adapter is at rest, with a receive ring of `rx` slots at address 0 and no slot offered. The registers of the
+-- transmit ring have their reset values.
 pub record HasReceiveRing (rx : ℕ) (world : World) : Type 0 where
   pub rest : IsAtRest world
   pub knows : KnowsRing (receive_ring world) 0 rx 0
   pub transmits : world.adapter.transmit_ring ≡ new_ring
 
--- The step makes exactly these writes. If `before` holds of the world before it, `after` holds of the world after it, no frame arrives or
--- leaves, and memory stays the same.
+-- The call makes exactly these writes. If `before` holds of the world before the call, `after` holds of the world after
+-- the call. In this case no frame is stored or put on the wire, and memory doesn't change.
 pub record SetsAtRest {B : Type 0} (bus : Ghosts B) (writes : List Write) (before after : World → Type 0) (old new : B) : Type 0 where
   pub sets : Sets bus writes old new
   pub only : sets.past.accesses ≡ accesses_of writes
@@ -38,22 +40,23 @@ pub record SetsAtRest {B : Type 0} (bus : Ghosts B) (writes : List Write) (befor
   pub no_frame : before (bus.world old) → NoFrame sets.past
   pub memory : before (bus.world old) → (bus.world new).memory ≡ (bus.world old).memory
 
--- A driver that has offered nothing is ready in this world, and no frame is held or to be sent.
+-- A driver that has offered no slot is ready in this world, and no frame is held or to be sent.
 pub record BeginsAtRest (counts : Counts) (setup : DriverSetup) (groups : List (List ℕ)) (pool : List ℕ) (world : World) : Type 0 where
-  pub begun : HasBegun false counts setup groups pool world
+  pub begun : IsAtBeginning false counts setup groups pool world
   pub ready : ReadyWith false (new_driver counts setup groups pool) world
   pub quiet : HasNoFrames (new_driver counts setup groups pool) world
 
--- A driver begins in this way if the receive ring is set up at rest, the counts are valid, and each buffer has one
--- owner.
+-- `BeginsAtRest` holds if the adapter is at rest with its receive ring set up, the counts are valid, and each buffer
+-- has one owner.
 abbrev pub DriversBeginAtRest : Type 0
 DriversBeginAtRest =
     (counts : Counts) (setup : DriverSetup) (groups : List (List ℕ)) (pool : List ℕ) (world : World)
     → IsAllowed counts → HasOneOwner counts.buffers pool → size_of counts ≤ length world.memory
     → HasReceiveRing counts.rx world → BeginsAtRest counts setup groups pool world
 
--- A driver whose adapter was reset is ready again when its receive ring is set up at rest, with no slot offered: the same buffers are free,
--- the pieces of frames that others hold are in their buffers, and no frame is held or to be sent.
+-- A driver whose adapter was reset is ready again after its receive ring is set up at rest, with no slot offered. The
+-- same buffers are free, the pieces of frames that others hold are in their buffers, and no frame is held or to be
+-- sent.
 abbrev pub DriversBeginAgain : Type 0
 DriversBeginAgain =
     (driver : DriverState) (pool : List ℕ) (world : World) → (let again = reset_driver pool driver in

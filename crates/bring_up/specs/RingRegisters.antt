@@ -1,4 +1,4 @@
--- What initialization writes into the registers of the rings, and into RCTL and TCTL, which enable both sides.
+-- The writes of initialization to the registers of the rings, and to RCTL and TCTL.
 use Rattle.std.specs.Prelude.{◌+◌, ◌*◌, ◌%◌, ◌/◌, ℕ, Bool, List, [], ◌∷◌, if◌then◌else◌}
 use Rattle.adapter.specs.declared.offsets.TheConstants.{RCTL, TCTL}
 use Rattle.adapter.specs.Rings.{ring_distance}
@@ -8,10 +8,10 @@ use Rattle.bring_up.specs.WrittenRegisters.{register_limit, write_at}
 use Rattle.registers.specs.Places.{alone, rctl_bam, rctl_bsize, rctl_en, rctl_mpe, rctl_secrc, rctl_upe, rctl_vfe}
 use Rattle.registers.specs.Places.{tctl_cold, tctl_ct, tctl_en, tctl_psp}
 
--- the writes that set up a ring: its base, its length in bytes, and 0 as head and tail; `offset` is that of the base's
--- low word
-abbrev pub ring_writes : (offset base bytes : ℕ) → List Write
-ring_writes offset base bytes =
+-- The writes that set up a ring: its base, its length in bytes, and 0 as head and tail. `offset` is the offset of RDBAL
+-- or TDBAL.
+abbrev pub ring_setup_writes : (offset base bytes : ℕ) → List Write
+ring_setup_writes offset base bytes =
     write_at offset (base % register_limit)
     ∷ write_at (offset + ring_distance BaseHigh) (base / register_limit)
     ∷ write_at (offset + ring_distance Length) bytes
@@ -19,7 +19,8 @@ ring_writes offset base bytes =
     ∷ write_at (offset + ring_distance Tail) 0
     ∷ []
 
--- RCTL: EN, BAM, BSIZE 11b (buffers of 256 bytes) and SECRC; UPE and MPE if every frame is to pass; VFE if VLANs are named
+-- The value of RCTL: EN, BAM, BSIZE 11b (buffers of 256 bytes) and SECRC; UPE and MPE if `promiscuous`; VFE if
+-- `by_vlan`.
 abbrev pub receive_control : (promiscuous by_vlan : Bool) → ℕ
 receive_control promiscuous by_vlan =
     alone rctl_en + alone rctl_bam + 3 * alone rctl_bsize + alone rctl_secrc
@@ -29,14 +30,14 @@ receive_control promiscuous by_vlan =
 abbrev pub receive_writes : (promiscuous by_vlan : Bool) → List Write
 receive_writes promiscuous by_vlan = write_at RCTL (receive_control promiscuous by_vlan) ∷ []
 
--- the write that disables the receiver: RCTL is 0
+-- The write of RCTL that disables the receiver.
 abbrev pub disable_writes : List Write
 disable_writes = write_at RCTL 0 ∷ []
 
--- TCTL: EN, PSP, CT 0x0F, COLD 0x40
+-- The value of TCTL: EN, PSP, CT 0x0F, COLD 0x40.
 abbrev pub transmit_control : ℕ
 transmit_control = alone tctl_en + alone tctl_psp + 0x0F * alone tctl_ct + 0x40 * alone tctl_cold
 
--- the write of TCTL
+-- The write of TCTL that enables the transmitter.
 abbrev pub transmit_writes : List Write
 transmit_writes = write_at TCTL transmit_control ∷ []

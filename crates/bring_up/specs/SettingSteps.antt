@@ -1,16 +1,16 @@
--- What a step of initialization does over a bus: it writes registers (our choice).
+-- The register writes of a call of initialization over a bus (our choice).
 use Rattle.std.specs.Prelude.{⊤, ◌≡◌, ℕ, List, All, Option, Some}
 use Rattle.adapter.specs.Table.{register_at}
 use Rattle.adapter.specs.declared.register.Register.{Register}
 use Rattle.adapter.specs.declared.register.Register.TheVariants.{Icr, Ics}
 use Rattle.bus.specs.AdaptersAtRest.{IsAtRest, IsElsewhere, NoFrame}
 use Rattle.bus.specs.Link.{HasLink, LeavesPhy}
-use Rattle.bus.specs.PastOfStretch.{Past}
+use Rattle.bus.specs.Pasts.{Past}
 use Rattle.bus.specs.Settings.{Write, settings_after_all, settings_of, writes_in}
 use Rattle.bus.specs.declared.bus.Bus.{Ghosts}
 use Rattle.bring_up.specs.DriverSteps.{accesses_of}
 
--- the write is of a register other than RCTL and those of the rings
+-- The write changes neither RCTL nor a register of a ring.
 abbrev pub IsAside : Write → Type 0
 IsAside write = IsElsewhere (register_at write.offset)
 
@@ -20,7 +20,7 @@ IsNotOfCauses (Some Icr) = ⊥
 IsNotOfCauses (Some Ics) = ⊥
 IsNotOfCauses _ = ⊤
 
--- the write is neither of ICR nor of ICS, so it records no interrupt cause
+-- The write writes neither ICR nor ICS, so it records no interrupt cause.
 abbrev pub RecordsNone : Write → Type 0
 RecordsNone write = IsNotOfCauses (register_at write.offset)
 
@@ -28,9 +28,10 @@ RecordsNone write = IsNotOfCauses (register_at write.offset)
 abbrev pub RecordsNoCause : Past → Type 0
 RecordsNoCause past = All RecordsNone (writes_in past.accesses)
 
--- The step makes these writes in this order, and may also read registers, load and store. The settings are then what the writes make of
--- them, whatever else happened. If RCTL and the rings' registers aren't written, an adapter at rest stays so, no frame arrives or leaves,
--- and memory stays the same. If CTRL and MDIC aren't written, a link that is up stays up.
+-- The call makes these writes in this order, and may also read registers, load and store. The settings change only by
+-- these writes, whatever else happens. If RCTL and the rings' registers aren't written, an adapter at rest remains at
+-- rest. Then no frame is stored or put on the wire, and memory doesn't change. If CTRL and MDIC aren't written, a link
+-- that is up remains up.
 pub record Sets {B : Type 0} (bus : Ghosts B) (writes : List Write) (old new : B) : Type 0 where
   pub past : Past
   pub reports : bus.happened old new past
@@ -40,13 +41,14 @@ pub record Sets {B : Type 0} (bus : Ghosts B) (writes : List Write) (old new : B
   pub memory : All IsAside writes → IsAtRest (bus.world old) → (bus.world new).memory ≡ (bus.world old).memory
   pub link : All LeavesPhy writes → HasLink (bus.world old) → HasLink (bus.world new)
 
--- The step makes exactly these writes, and no other access.
+-- The call makes exactly these writes, and no other access.
 pub record SetsOnly {B : Type 0} (bus : Ghosts B) (writes : List Write) (old new : B) : Type 0 where
   pub sets : Sets bus writes old new
   pub only : sets.past.accesses ≡ accesses_of writes
 
--- The step writes no register but the one at this offset, and the settings don't change.
-pub record Asks {B : Type 0} (bus : Ghosts B) (offset : ℕ) (old new : B) : Type 0 where
+-- The call writes no register except the one at this offset, and the settings don't change. An adapter at rest remains at rest, and no
+-- frame is stored or put on the wire.
+pub record WritesOneRegister {B : Type 0} (bus : Ghosts B) (offset : ℕ) (old new : B) : Type 0 where
   pub past : Past
   pub reports : bus.happened old new past
   pub only : All (λ write. write.offset ≡ offset) (writes_in past.accesses)

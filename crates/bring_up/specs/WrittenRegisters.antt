@@ -1,5 +1,5 @@
--- What initialization writes, register by register ("14.3 General Initialization", "14.4 Receive Initialization", "14.5 Transmit
--- Initialization"). The order is our choice.
+-- The writes of initialization, register by register ("14.3 General Initialization", "14.4 Receive Initialization",
+-- "14.5 Transmit Initialization"). The order is our choice.
 use Rattle.std.specs.Prelude.{◌+◌, ◌^◌, ℕ, List, [], ◌∷◌}
 use Rattle.adapter.specs.declared.offsets.TheConstants.{CTRL, IMC, IMS, PBA}
 use Rattle.bus.specs.Settings.{Write}
@@ -9,27 +9,27 @@ use Rattle.registers.specs.Places.{alone, ctrl_asde, ctrl_rst, ctrl_slu, rxdmt0,
 abbrev pub register_limit : ℕ
 register_limit = 2 ^ 32
 
--- a write of this value at this offset
+-- The write of this value at this offset.
 abbrev pub write_at : ℕ → ℕ → Write
 write_at offset value = record { offset = offset; value = value }
 
--- the writes of a reset: CTRL.RST, and IMC, which removes all causes from the mask
+-- The writes of a reset: RST to CTRL, and all ones to IMC, which removes all causes from the mask.
 abbrev pub reset_writes : List Write
 reset_writes = write_at CTRL (alone ctrl_rst) ∷ write_at IMC 0xFFFFFFFF ∷ []
 
--- PBA is written, with this RXA
+-- The write of PBA with this RXA.
 abbrev pub allocation_writes : ℕ → List Write
 allocation_writes kilobytes = write_at PBA kilobytes ∷ []
 
--- the value of CTRL with SLU and ASDE
+-- The value of CTRL: SLU and ASDE.
 abbrev pub link_control : ℕ
 link_control = alone ctrl_slu + alone ctrl_asde
 
--- the write of CTRL
-abbrev pub link_writes : List Write
-link_writes = write_at CTRL link_control ∷ []
+-- The write of CTRL that enables the link.
+abbrev pub enable_link_writes : List Write
+enable_link_writes = write_at CTRL link_control ∷ []
 
--- IMS: the causes that a driver handles
+-- the causes that a driver handles, and enables in IMS
 abbrev pub handled_causes : ℕ
 handled_causes = alone txdw + alone rxdmt0 + alone rxo + alone rxt0
 

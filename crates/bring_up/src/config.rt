@@ -16,7 +16,7 @@ pub const MOST_VLANS: usize = 32;
 /// The greatest number of kilobytes of the packet buffer for received frames (our choice).
 const MOST_RECEIVE_KILOBYTES: u8 = 48;
 
-/// The number of VLANs: a VLAN number has 12 bits.
+/// The number of VLANs: a VLAN identifier has 12 bits (IEEE 802.1Q).
 const VLAN_NUMBERS: u16 = 4096;
 
 /// The configuration with which an adapter is initialized.
@@ -30,11 +30,12 @@ pub struct Config {
     pub buffers: u16,
     /// The size in kilobytes of the packet buffer for received frames (PBA.RXA): even, from 2 to 48.
     pub rxa: u8,
-    /// Whether every frame passes the filter, whatever its destination (RCTL.UPE and RCTL.MPE).
+    /// Whether frames to every destination pass the filter (RCTL.UPE and RCTL.MPE). The VLAN filter still applies to
+    /// these frames.
     pub promiscuous: bool,
     /// The groups whose frames pass the filter. Each has the low bit of its first byte set.
     pub groups: ArrayVec<[u8; 6], MOST_GROUPS>,
-    /// The VLANs whose tagged frames pass the filter, each below 4,096; `None` if those of all VLANs pass.
+    /// The VLANs whose tagged frames pass the filter, each below 4,096; `None` if tagged frames of all VLANs pass.
     pub vlans: Option<ArrayVec<u16, MOST_VLANS>>,
 }
 
@@ -77,7 +78,7 @@ impl Config {
     }
 }
 
-/// Whether this number of kilobytes is a valid PBA.RXA.
+/// Whether this number of kilobytes is a valid value of PBA.RXA.
 fn is_allocation(kilobytes: u8) -> bool
     ensures { IsTrue result ↔ IsAllocation kilobytes }
 {

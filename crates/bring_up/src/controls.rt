@@ -8,9 +8,9 @@ ghost use Rattle.bus.specs.Link.{HasLink};
 ghost use Rattle.bring_up.specs.DriverResets.{ResetsDriver};
 ghost use Rattle.bring_up.specs.DriverSteps.{EnablesCauses};
 ghost use Rattle.bring_up.specs.SettingSteps.{Sets, SetsOnly};
-ghost use Rattle.bring_up.specs.WrittenRegisters.{allocation_writes, handled_causes, link_writes};
+ghost use Rattle.bring_up.specs.WrittenRegisters.{allocation_writes, handled_causes, enable_link_writes};
 ghost use Rattle.bring_up.specs.WrittenRegisters.{mask_writes, reset_writes};
-ghost use Rattle.driver_law.specs.Calls.{IsReady, at};
+ghost use Rattle.driver_law.specs.Calls.{IsReadyOver, at};
 ghost use Rattle.driver_law.specs.DriverState.{DriverState};
 
 use adapter::offsets::{CTRL, ICR, IMC, IMS, PBA};
@@ -18,15 +18,15 @@ use bitflags::Flags;
 use bus::Bus;
 use registers::{Cause, Ctrl};
 
-/// Resets the device, disables all interrupt causes and clears those that were recorded ("14.3 General
-/// Initialization": interrupts are off meanwhile). If a driver was ready, all buffers of its slots are free then, and
-/// pieces of frames that others hold are still in their buffers.
+/// Resets the device, disables all interrupt causes and clears the recorded causes ("14.3 General Initialization"). If
+/// a driver was ready before, all buffers of its slots are free after the reset. Pieces of frames that others hold are
+/// still in their buffers.
 pub fn reset_device<B: Bus>(bus: &mut B)
     ensures keeps { Keeps B.Bus bus.old bus.new }
     ensures sets { B.honest bus.old → Sets B.Bus reset_writes bus.old bus.new }
     ensures rests { B.honest bus.old → IsAtRest (B.world bus.new) }
     ensures forgets { B.honest bus.old → (B.world bus.new).adapter.causes.recorded ≡ 0 }
-    ensures resets { (up : Bool) (d : DriverState) (pool : List ℕ) → IsReady B.Bus up (at bus.old d)
+    ensures resets { (up : Bool) (d : DriverState) (pool : List ℕ) → IsReadyOver B.Bus up (at bus.old d)
         → HaveSameNumbers (d.pool ++ (d.buffers ++ d.staged)) pool → ResetsDriver B.Bus up pool d bus.old bus.new }
 {
     bus.write(CTRL, Ctrl::RST.bits());
@@ -42,17 +42,17 @@ pub fn allocate_packet_buffer<B: Bus>(bus: &mut B, kilobytes: u8)
     bus.write(PBA, u32::from(kilobytes));
 }
 
-/// Enables the link, at the speed that the PHY detects (CTRL.SLU and CTRL.ASDE). A link that is up stays up.
+/// Enables the link, at the speed that the PHY detects (CTRL.SLU and CTRL.ASDE). A link that is up remains up.
 pub fn set_link_up<B: Bus>(bus: &mut B)
     ensures keeps { Keeps B.Bus bus.old bus.new }
-    ensures sets { B.honest bus.old → SetsOnly B.Bus link_writes bus.old bus.new }
+    ensures sets { B.honest bus.old → SetsOnly B.Bus enable_link_writes bus.old bus.new }
     ensures link { B.honest bus.old → HasLink (B.world bus.old) → HasLink (B.world bus.new) }
 {
     bus.write(CTRL, Ctrl::SLU.union(Ctrl::ASDE).bits());
 }
 
-/// The causes that a driver handles: a frame was transmitted (TXDW) or received (RXT0), few receive descriptors are
-/// left (RXDMT0), or a frame was missed (RXO).
+/// The causes that a driver enables: TXDW (a transmit descriptor was written back), RXT0 (a frame was received), RXDMT0
+/// (few receive descriptors are left) and RXO (a frame was missed).
 pub fn interrupt_causes() -> Cause
     ensures { result.0 ≡ handled_causes }
 {
@@ -62,12 +62,12 @@ pub fn interrupt_causes() -> Cause
         .union(Cause::RXT0)
 }
 
-/// Enables the causes that a driver handles. A driver that is ready stays so, and no work is forgotten afterwards,
-/// if no frame ended in finished slots before or RXT0 was recorded.
+/// Enables the causes that a driver handles. A driver that is ready remains ready. No work is forgotten after the write
+/// if no frame ended in finished slots before the write, or RXT0 was recorded.
 pub fn enable_interrupts<B: Bus>(bus: &mut B)
     ensures keeps { Keeps B.Bus bus.old bus.new }
     ensures sets { B.honest bus.old → SetsOnly B.Bus mask_writes bus.old bus.new }
-    ensures enables { (d : DriverState) → IsReady B.Bus true (at bus.old d)
+    ensures enables { (d : DriverState) → IsReadyOver B.Bus true (at bus.old d)
         → EnablesCauses B.Bus handled_causes d bus.old bus.new }
 {
     bus.write(IMS, interrupt_causes().bits());

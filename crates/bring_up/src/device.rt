@@ -1,4 +1,4 @@
-//! The device is found: it is reset, its EEPROM read, and its link awaited.
+//! Finds the device: resets it, reads its EEPROM, and waits for its link.
 
 ghost use Rattle.std.specs.Prelude.{IfErr};
 ghost use Rattle.bus.specs.Keeping.{Keeps};
@@ -16,10 +16,11 @@ use eeprom::{Image, checksum_ok};
 ///
 /// # Errors
 ///
-/// - [`EepromTimeout`](InitError::EepromTimeout): a word of the EEPROM wasn't read in time.
+/// - [`EepromTimeout`](InitError::EepromTimeout): 1,000 reads of EERD for one word didn't show DONE.
 /// - [`Checksum`](InitError::Checksum): the image's checksum is wrong.
-/// - [`PhyTimeout`](InitError::PhyTimeout): a command to the PHY didn't end in time, or failed.
-/// - [`NoLink`](InitError::NoLink): the link wasn't up in time.
+/// - [`PhyTimeout`](InitError::PhyTimeout): for a command to the PHY, 1,000 reads of MDIC didn't show R, or one showed
+/// R and E.
+/// - [`NoLink`](InitError::NoLink): none of 1,000 reads of the PHY's status showed a link that is up and negotiated.
 pub fn find_device<B: Bus>(bus: &mut B, kilobytes: u8) -> Result<Image, InitError>
     ensures keeps { Keeps B.Bus bus.old bus.new }
     ensures errors { IfErr result (λ error. ¬ (IsBeforeAccess error)) }

@@ -1,4 +1,4 @@
-//! The EEPROM, word by word ("13.4.4 EEPROM Read Register").
+//! Reads the EEPROM word by word ("13.4.4 EEPROM Read Register").
 
 ghost use Rattle.std.specs.Prelude.{IsOk, IsOkUnless};
 ghost use Rattle.bus.specs.Keeping.{Keeps};
@@ -10,10 +10,10 @@ use adapter::offsets::EERD;
 use bus::Bus;
 use eeprom::{Image, WORDS};
 
-/// START, bit 0 of EERD: a write with it begins a read.
+/// START, bit 0 of EERD: a write of EERD with START begins a read of the EEPROM.
 const START: u32 = 1 << 0;
 
-/// DONE, bit 4 of EERD: DATA holds the word.
+/// DONE, bit 4 of EERD: DATA contains the word.
 const DONE: u32 = 1 << 4;
 
 /// The lowest bit of ADDR, bits 15:8 of EERD.
@@ -22,8 +22,8 @@ const ADDR_SHIFT: u32 = 8;
 /// The lowest bit of DATA, bits 31:16 of EERD.
 const DATA_SHIFT: u32 = 16;
 
-/// Reads the 64 words of the EEPROM, in order. For each it writes EERD once, and reads it until DONE is set. Over a
-/// lively bus the first read has DONE.
+/// Reads the 64 words of the EEPROM, in order. For each word, writes EERD once, and reads EERD until DONE is set. Over
+/// a lively bus no timeout occurs.
 ///
 /// # Errors
 ///
@@ -41,7 +41,7 @@ pub fn read_image<B: Bus>(bus: &mut B) -> Result<Image, InitError>
     Ok(Image::from_words(words))
 }
 
-/// Reads one word of the EEPROM, by its address from 0 to 63.
+/// Reads the word of the EEPROM at this address, from 0 to 63.
 fn read_word<B: Bus>(bus: &mut B, address: u8) -> Result<u16, InitError>
     ensures keeps { Keeps B.Bus bus.old bus.new }
     ensures only { IsOkUnless result InitError.EepromTimeout }

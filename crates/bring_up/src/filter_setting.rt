@@ -11,8 +11,8 @@ use crate::filter_tables::{group_table, vlan_table, write_addresses, write_group
 use arrayvec::ArrayVec;
 use bus::Bus;
 
-/// Sets up the receive filter: the group table and the VLAN table get the bits of these groups and VLANs, and the
-/// exact addresses this one only.
+/// Sets up the receive filter: writes the group table with the bits of these groups, and the VLAN table with the bits
+/// of these VLANs. Then writes this address as the only receive address.
 pub fn set_filter<B: Bus>(bus: &mut B, groups: &[[u8; 6]], vlans: &[u16], address: &[u8; 6])
     requires { All (λ vlan. vlan < table_numbers) vlans.now }
     ensures keeps { Keeps B.Bus bus.old bus.new }
@@ -25,7 +25,7 @@ pub fn set_filter<B: Bus>(bus: &mut B, groups: &[[u8; 6]], vlans: &[u16], addres
     write_addresses(bus, address);
 }
 
-/// The VLANs that a configuration names; none if those of all VLANs pass.
+/// The VLANs of a configuration; empty if tagged frames of all VLANs pass.
 pub fn named_vlans(vlans: &Option<ArrayVec<u16, MOST_VLANS>>) -> &[u16]
     ensures { result.now ≡ vlans_of vlans.now }
 {

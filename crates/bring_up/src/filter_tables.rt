@@ -12,9 +12,10 @@ ghost use Rattle.bring_up.specs.SettingSteps.{SetsOnly};
 use adapter::offsets::{ADDRESS_PAIR_BYTES, MTA, RAL, REGISTER_BYTES, VFTA};
 use bus::Bus;
 use registers::GroupOffset;
-use rx_engine::{AddressWords, EXACT_ADDRESSES, TABLE_WORDS, TableBit, hash_of};
+use rx_engine::{AddressWords, RECEIVE_ADDRESSES, TABLE_WORDS, TableBit, hash_of};
 
-/// The group table with the bits of these groups, each by bits 47:36 of its address (RCTL.MO 00), and all others 0.
+/// The group table with the bits of these groups. Bits 47:36 of a group's address select its bit (RCTL.MO is 00). All
+/// other bits are 0.
 pub fn group_table(groups: &[[u8; 6]]) -> [u32; TABLE_WORDS]
     ensures { HasNumbers result (numbers_of_groups groups.now) }
 {
@@ -71,21 +72,21 @@ pub fn write_vlans<B: Bus>(bus: &mut B, table: &[u32; TABLE_WORDS])
     write_table(bus, VFTA, table);
 }
 
-/// Writes the exact addresses, RAL and RAH: this one as the first, and the other 15 as 0.
+/// Writes the receive addresses, RAL and RAH: this address into the first entry, and 0 into the other 15.
 pub fn write_addresses<B: Bus>(bus: &mut B, address: &[u8; 6])
     ensures keeps { Keeps B.Bus bus.old bus.new }
     ensures sets { B.honest bus.old → SetsOnly B.Bus (address_writes address.now) bus.old bus.new }
     ensures address { IsAddress address.now }
 {
     write_address(bus, 0, AddressWords::of(address));
-    for entry in 1..EXACT_ADDRESSES as u32 {
+    for entry in 1..RECEIVE_ADDRESSES as u32 {
         write_address(bus, entry, AddressWords { low: 0, high: 0 });
     }
 }
 
-/// Writes an entry of the exact addresses.
+/// Writes RAL and RAH of one entry of the receive addresses.
 fn write_address<B: Bus>(bus: &mut B, entry: u32, words: AddressWords)
-    requires { entry < EXACT_ADDRESSES }
+    requires { entry < RECEIVE_ADDRESSES }
     ensures keeps { Keeps B.Bus bus.old bus.new }
     ensures sets { B.honest bus.old → SetsOnly B.Bus (entry_writes entry words.low words.high) bus.old bus.new }
 {

@@ -12,16 +12,16 @@ pub enum InitError {
     /// Memory couldn't be allocated. There was no access.
     #[error("E10 Memory")]
     Memory,
-    /// A word of the EEPROM was asked for, and 1,000 reads of EERD didn't show DONE.
+    /// 1,000 reads of EERD for one word of the EEPROM didn't show DONE.
     #[error("E11 EepromTimeout")]
     EepromTimeout,
     /// The sum of the 64 words of the EEPROM isn't 0xBABA modulo 65,536.
     #[error("E12 Checksum")]
     Checksum,
-    /// A command was given to the PHY, and 1,000 reads of MDIC didn't show R, or one showed R and E.
+    /// After a command to the PHY, 1,000 reads of MDIC didn't show R, or one showed R and E.
     #[error("E13 PhyTimeout")]
     PhyTimeout,
-    /// 1,000 reads of the PHY's status didn't show a link that is up and negotiated.
+    /// None of 1,000 reads of the PHY's status showed a link that is up and negotiated.
     #[error("E14 NoLink")]
     NoLink,
     /// The configuration isn't valid in this memory. There was no access.

@@ -1,5 +1,4 @@
-//! Initializes an 82540EM over any bus: its reset, its EEPROM, its PHY, its filter, its rings and its interrupts,
-//! each by separate calls.
+//! Initializes an 82540EM over any bus: separate calls for reset, EEPROM, PHY, filter, rings and interrupts.
 //!
 //! Section numbers are those of Intel's "PCI/PCI-X Family of Gigabit Ethernet Controllers Software
 //! Developer's Manual": "14.3 General Initialization", "14.4 Receive Initialization" and "14.5 Transmit

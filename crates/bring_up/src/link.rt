@@ -21,7 +21,7 @@ const STATUS_REGISTER: u32 = 1 << 16;
 /// OP 01, a write, in bits 27:26 of MDIC.
 const OP_WRITE: u32 = 0b01 << 26;
 
-/// OP 10, a read.
+/// OP 10, a read, in bits 27:26 of MDIC.
 const OP_READ: u32 = 0b10 << 26;
 
 /// R, bit 28 of MDIC: the command has ended.
@@ -42,7 +42,7 @@ const NEGOTIATED: u32 = 1 << 5;
 /// The link is up: bit 2 of the PHY's register 1.
 const LINK: u32 = 1 << 2;
 
-/// Restarts the PHY's negotiation.
+/// Enables and restarts the PHY's autonegotiation.
 ///
 /// # Errors
 ///
@@ -56,13 +56,13 @@ pub fn negotiate<B: Bus>(bus: &mut B) -> Result<(), InitError>
     Ok(())
 }
 
-/// Waits until the link is up and negotiated, for at most 1,000 reads of the PHY's status.
+/// Waits until the PHY's status shows a link that is up and negotiated, for at most 1,000 reads of the status.
 ///
 /// # Errors
 ///
 /// - [`NoLink`](InitError::NoLink): none of these reads showed a link that is up and negotiated.
-/// - [`PhyTimeout`](InitError::PhyTimeout): for one of them 1,000 reads of MDIC didn't show R, or one showed R and
-///   E.
+/// - [`PhyTimeout`](InitError::PhyTimeout): for a read of the status, 1,000 reads of MDIC didn't show R, or one showed
+/// R and E.
 pub fn await_link<B: Bus>(bus: &mut B) -> Result<(), InitError>
     ensures keeps { Keeps B.Bus bus.old bus.new }
     ensures errors { IfErr result (λ error. (error ≡ InitError.PhyTimeout) ⊎ (error ≡ InitError.NoLink)) }
@@ -77,14 +77,14 @@ pub fn await_link<B: Bus>(bus: &mut B) -> Result<(), InitError>
     Err(InitError::NoLink)
 }
 
-/// Whether the PHY's status shows that negotiation is complete (bit 5) and the link up (bit 2).
+/// Whether the PHY's status shows that autonegotiation is complete (bit 5) and that the link is up (bit 2).
 fn shows_link(status: u32) -> bool
     ensures { IsTrue result ↔ (Meet status (alone status_complete) × Meet status (alone status_link)) }
 {
     status & NEGOTIATED != 0 && status & LINK != 0
 }
 
-/// Gives the PHY a command, and waits for its end. Returns the value that was read from MDIC then.
+/// Writes a command to MDIC, and waits until it has ended. Returns the last value that was read from MDIC.
 ///
 /// # Errors
 ///

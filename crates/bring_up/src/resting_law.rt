@@ -1,4 +1,4 @@
-// A driver that begins with an adapter at rest.
+// Laws of a driver that begins with an adapter at rest.
 
 ghost use Rattle.std.specs.Prelude.{◌≡◌, ℕ, List, []};
 ghost use Rattle.dma_memory.specs.Layout.{Counts};
@@ -8,21 +8,21 @@ ghost use Rattle.bring_up.specs.ClearedDescriptors.{clears_from};
 ghost use Rattle.bring_up.specs.NoFrames.{NewTransmitRingStays, NoFramesStay};
 ghost use Rattle.bring_up.specs.RestingRings.{DriversBeginAgain, DriversBeginAtRest};
 
-/// If an adapter is at rest and its receive ring is set up with no slot offered, a driver begins ready, with its
-/// transmit side off.
+/// If an adapter is at rest, and its receive ring is set up with no slot offered, a driver that begins is ready, with
+/// its transmit side off.
 pub fn drivers_begin_at_rest()
     ensures { DriversBeginAtRest }
 {}
 
-/// If a driver's adapter was reset and its receive ring is set up again with no slot offered, the driver is ready,
-/// with its transmit side off, and others still hold the pieces of frames that they had.
+/// If a driver's adapter was reset, and its receive ring is set up again with no slot offered, the driver is ready. Its
+/// transmit side is off. Others still hold the same pieces of frames.
 pub fn drivers_begin_again()
     ensures { DriversBeginAgain }
 {}
 
-/// What doesn't change while a driver sets up its receive ring.
-/// - `quiet`: no frame arrives, leaves or is held while RCTL.EN is 0 and RCTL isn't written.
-/// - `transmit_ring`: the transmit ring stays as a reset leaves it, until one of its registers is written.
+/// What remains true while a driver sets up its receive ring.
+/// - `quiet`: while RCTL.EN is 0 and RCTL isn't written, no frame is stored, put on the wire or held.
+/// - `transmit_ring`: the registers of the transmit ring keep their reset values until one of them is written.
 /// - `staged`, `cleared`: stores of descriptors write no register.
 pub fn drivers_without_frames_stay_so()
     ensures quiet { NoFramesStay }

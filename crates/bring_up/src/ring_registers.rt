@@ -8,11 +8,11 @@ ghost use Rattle.adapter.specs.KnownRing.{KnowsRing};
 ghost use Rattle.adapter.specs.World.{transmit_ring};
 ghost use Rattle.bus.specs.Keeping.{Keeps};
 ghost use Rattle.bus.specs.Settings.{IsOff};
-ghost use Rattle.driver_law.specs.Calls.{IsReady, at};
+ghost use Rattle.driver_law.specs.Calls.{IsReadyOver, at};
 ghost use Rattle.driver_law.specs.DriverState.{DriverState, transmit_tail};
 ghost use Rattle.bring_up.specs.DriverSteps.{CanSetTransmitRing, LeavesDriver, LetsFramesIn, SetsTransmitRing};
 ghost use Rattle.bring_up.specs.RestingRings.{HasNewRings, HasReceiveRing, SetsAtRest};
-ghost use Rattle.bring_up.specs.RingRegisters.{disable_writes, receive_control, receive_writes, ring_writes};
+ghost use Rattle.bring_up.specs.RingRegisters.{disable_writes, receive_control, receive_writes, ring_setup_writes};
 ghost use Rattle.bring_up.specs.RingRegisters.{transmit_control, transmit_writes};
 ghost use Rattle.bring_up.specs.SettingSteps.{SetsOnly};
 ghost use Rattle.bring_up.specs.WrittenRegisters.{register_limit};
@@ -22,32 +22,32 @@ use bitflags::Flags;
 use bus::Bus;
 use registers::{Rctl, Tctl};
 
-/// The collision threshold of full duplex, 0x0F, in TCTL.CT; it has no effect here.
+/// The collision threshold of full duplex, 0x0F, in TCTL.CT. It has no effect in the adapter's model.
 const COLLISION_THRESHOLD: u32 = 0x0F << 4;
 
-/// The collision distance of full duplex, 0x40, in TCTL.COLD; it has no effect here.
+/// The collision distance of full duplex, 0x40, in TCTL.COLD. It has no effect in the adapter's model.
 const COLLISION_DISTANCE: u32 = 0x40 << 12;
 
-/// One more than the greatest number that a register holds.
+/// The number of values of a 32-bit register.
 const WORD: u64 = 1 << 32;
 
 /// The place of a ring in memory.
 #[derive(Clone, Copy, Debug, PartialEq, Eq)]
 pub struct RingPlace {
-    /// The address of its first descriptor, a multiple of 16.
+    /// The address of the ring's first descriptor, a multiple of 16.
     pub base: u64,
-    /// The size of its descriptors in bytes, a multiple of 128.
+    /// The size in bytes of all descriptors of the ring, a multiple of 128.
     pub bytes: u32,
 }
 
-/// Sets up the receive ring, with no slot offered. If the ring begins at address 0, an adapter at rest whose rings
-/// are as a reset leaves them stays at rest, and the driver knows its receive ring then.
+/// Sets up the receive ring, with no slot offered. If the ring begins at address 0, an adapter at rest whose rings have
+/// their reset values remains at rest. After the writes, its receive ring has this base and size (`HasReceiveRing`).
 pub fn set_receive_ring<B: Bus>(bus: &mut B, ring: RingPlace)
     ensures keeps { Keeps B.Bus bus.old bus.new }
-    ensures sets { B.honest bus.old → SetsOnly B.Bus (ring_writes RDBAL ring.base ring.bytes) bus.old bus.new }
+    ensures sets { B.honest bus.old → SetsOnly B.Bus (ring_setup_writes RDBAL ring.base ring.bytes) bus.old bus.new }
     ensures rests { (rx : ℕ) → B.honest bus.old → IsRingSize rx → ring.base ≡ 0
         → ring.bytes ≡ descriptor_bytes * rx
-        → SetsAtRest B.Bus (ring_writes RDBAL ring.base ring.bytes) (HasNewRings rx) (HasReceiveRing rx)
+        → SetsAtRest B.Bus (ring_setup_writes RDBAL ring.base ring.bytes) (HasNewRings rx) (HasReceiveRing rx)
         bus.old bus.new }
 {
     bus.write(RDBAL, low_word(ring.base));
@@ -57,14 +57,15 @@ pub fn set_receive_ring<B: Bus>(bus: &mut B, ring: RingPlace)
     bus.write(RDT, 0);
 }
 
-/// Sets up the transmit ring, with no slot offered. A driver that is ready with its transmit side off stays so if
-/// the ring is at its place of the layout, and knows its transmit ring then.
+/// Sets up the transmit ring, with no slot offered. A driver that is ready with its transmit side off remains ready in
+/// this case: the registers of the transmit ring have their reset values, and `ring` is at its place in the layout
+/// (`CanSetTransmitRing`). After the writes, the transmit ring agrees with this driver.
 pub fn set_transmit_ring<B: Bus>(bus: &mut B, ring: RingPlace)
     ensures keeps { Keeps B.Bus bus.old bus.new }
-    ensures sets { B.honest bus.old → SetsOnly B.Bus (ring_writes TDBAL ring.base ring.bytes) bus.old bus.new }
-    ensures ran { (d : DriverState) → IsReady B.Bus false (at bus.old d)
+    ensures sets { B.honest bus.old → SetsOnly B.Bus (ring_setup_writes TDBAL ring.base ring.bytes) bus.old bus.new }
+    ensures ran { (d : DriverState) → IsReadyOver B.Bus false (at bus.old d)
         → CanSetTransmitRing ring.base ring.bytes d (B.world bus.old)
-        → SetsTransmitRing B.Bus (ring_writes TDBAL ring.base ring.bytes) d bus.old bus.new }
+        → SetsTransmitRing B.Bus (ring_setup_writes TDBAL ring.base ring.bytes) d bus.old bus.new }
 {
     bus.write(TDBAL, low_word(ring.base));
     bus.write(TDBAH, high_word(ring.base));
@@ -73,24 +74,24 @@ pub fn set_transmit_ring<B: Bus>(bus: &mut B, ring: RingPlace)
     bus.write(TDT, 0);
 }
 
-/// Disables the receiver: RCTL is 0. A ready driver remains ready, even if frames end in its slots.
+/// Disables the receiver by writing 0 to RCTL. A driver that is ready remains ready, even if frames end in its slots.
 pub fn disable_receiver<B: Bus>(bus: &mut B)
     ensures keeps { Keeps B.Bus bus.old bus.new }
     ensures sets { B.honest bus.old → SetsOnly B.Bus disable_writes bus.old bus.new }
     ensures off { B.honest bus.old → (B.world bus.new).adapter.filter.rctl ≡ 0 }
-    ensures ran { (up : Bool) (d : DriverState) → IsReady B.Bus up (at bus.old d)
+    ensures ran { (up : Bool) (d : DriverState) → IsReadyOver B.Bus up (at bus.old d)
         → LeavesDriver B.Bus disable_writes up d bus.old bus.new }
 {
     bus.write(RCTL, 0);
 }
 
-/// Enables the receiver, with broadcast frames and buffers of 256 bytes. Every frame passes the filter if
-/// `promiscuous`. Of tagged frames only those of the VLAN table pass if `by_vlan`. A driver that is ready, with
-/// RCTL.EN 0 and no frame held, stays so, and no frame is held afterwards.
+/// Enables the receiver, with broadcast frames and buffers of 256 bytes. If `promiscuous`, frames to every destination
+/// pass the filter. If `by_vlan`, a tagged frame passes only if its VLAN is in the VLAN table. If RCTL.EN was 0 and no
+/// frame was held, a driver that is ready remains ready, and no frame is held after the write.
 pub fn enable_receiver<B: Bus>(bus: &mut B, promiscuous: bool, by_vlan: bool)
     ensures keeps { Keeps B.Bus bus.old bus.new }
     ensures sets { B.honest bus.old → SetsOnly B.Bus (receive_writes promiscuous by_vlan) bus.old bus.new }
-    ensures ran { (d : DriverState) → IsReady B.Bus false (at bus.old d)
+    ensures ran { (d : DriverState) → IsReadyOver B.Bus false (at bus.old d)
         → frames_held d.oldest_receive (B.world bus.old) ≡ [] → IsOff (B.world bus.old)
         → LetsFramesIn B.Bus (receive_writes promiscuous by_vlan) d bus.old bus.new }
 {
@@ -114,12 +115,13 @@ fn receive_control(promiscuous: bool, by_vlan: bool) -> u32
     control.bits()
 }
 
-/// Enables the transmitter, which pads short frames. A driver that is ready and knows its transmit ring is then
-/// ready with its transmit side set up.
+/// Enables the transmitter, with padding of short frames. Before the write, the driver must be ready with its transmit
+/// side off, and the transmit ring must agree with the driver. Then the driver is ready after the write, with its
+/// transmit side set up.
 pub fn enable_transmitter<B: Bus>(bus: &mut B)
     ensures keeps { Keeps B.Bus bus.old bus.new }
     ensures sets { B.honest bus.old → SetsOnly B.Bus transmit_writes bus.old bus.new }
-    ensures ran { (d : DriverState) → IsReady B.Bus false (at bus.old d) → d.oldest_transmit < d.layout.tx
+    ensures ran { (d : DriverState) → IsReadyOver B.Bus false (at bus.old d) → d.oldest_transmit < d.layout.tx
         → KnowsRing (transmit_ring (B.world bus.old)) (descriptor_bytes * d.layout.rx) d.layout.tx (transmit_tail d)
         → LeavesDriver B.Bus transmit_writes true d bus.old bus.new }
 {

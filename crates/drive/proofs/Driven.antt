@@ -1,4 +1,4 @@
--- What a whole drive did.
+-- A complete drive.
 use Rattle.std.proofs.Common.{◌≡◌, ◌++◌, [], ℕ, true, List, Option, refl, ap, subst, ◌∙◌}
 use Rattle.std.specs.Io.KnownBytes.{Appends, append_known}
 use Rattle.std.proofs.KnownBytes.{Appends-trans}
@@ -20,7 +20,7 @@ use Rattle.drive.specs.declared.counts.DriveRings.{DriveRings}
 use Rattle.drive.proofs.Numbers.{number_after-count}
 use Rattle.drive.proofs.SentFrames.{sends-then}
 
--- The header waits first, then the packets are written, and then what waits goes out.
+-- The header waits first, then the packets are written, and then the bytes that wait are written.
 trace-of : (before mid after : Option (List ℕ)) (header waiting : List ℕ) (received : List (List ℕ)) → header ≡ file_header Micros
     → Appends (append_known before header) (append_known mid waiting) (packets_of 0 received) → Appends mid after waiting
     → Appends before after (written Micros (numbered 0 received))

@@ -1,4 +1,4 @@
--- Intervals of an exchange, one after the other, and those of single calls.
+-- Consecutive intervals of an exchange, and the intervals of single calls.
 use Rattle.std.proofs.Common.{◌≡◌, ◌≤◌, ◌++◌, ◌∷◌, [], ℕ, Bool, true, false, List, Option, Ok, Err, arith, length, ◌<◌, map, refl, sym, ap}
 use Rattle.std.proofs.Common.{subst}
 use Rattle.std.proofs.Common.{◌∙◌, take}
@@ -12,20 +12,20 @@ use Rattle.driver.specs.declared.transmit.SendError.TheVariants.{RingFull, TooLo
 use Rattle.dma_memory.specs.Layout.{size_of}
 use Rattle.bus.specs.BusMembers.{Composes}
 use Rattle.bus.specs.Keeping.{Keeps}
-use Rattle.bus.specs.PastOfStretch.{Past, joined, nothing}
+use Rattle.bus.specs.Pasts.{Past, joined, nothing}
 use Rattle.bus.specs.declared.bus.Bus.{Ghosts}
 use Rattle.bus.proofs.Composition.{happens_none}
 use Rattle.bus.proofs.Keeping.{keeps-here, keeps-on}
 use Rattle.driver_law.specs.Calls.{FlowsTo}
-use Rattle.driver_law.proofs.Stretches.{flows_join}
+use Rattle.driver_law.proofs.Intervals.{flows_join}
 use Rattle.driver.specs.SendSteps.{SendAnswer, accepted_by}
 use Rattle.driver.specs.declared.interrupt.Handled.{Handled}
 use Rattle.packet_socket.specs.HostActs.{OverBus, CallsOver, CallsUp, Effect, Ends, PassesStages, CallStages, Then}
 use Rattle.packet_socket.specs.HostCalls.{Given, HostFlowsTo, HostGoesTo, HostMoment, IsReadyHost}
-use Rattle.packet_socket.specs.HostCalls.{HostInWorld, HostDid, did, in_world}
+use Rattle.packet_socket.specs.HostCalls.{HostInWorld, HostDid, host_did, in_world}
 use Rattle.packet_socket.specs.HostEffects.{InterruptEffect, RecvEffect, SendEffect, given_by}
 use Rattle.packet_socket.proofs.Effects.{Maps, flows-changed, interrupt-map, recv-map, send-map}
-use Rattle.packet_socket.proofs.Stretches.{host-happens, host-join}
+use Rattle.packet_socket.proofs.Intervals.{host-happens, host-join}
 use Rattle.pcap_trace.specs.Format.{packet_of}
 use Rattle.pcap_trace.specs.declared.unit.Unit.TheVariants.{Micros}
 use Rattle.drive.specs.Exchanging.{ExchangeMoment, Exchanges, HostFlows, exchange_at, accepted_of, given_of, host_moment}
@@ -58,7 +58,7 @@ exchanges-here bus composes now =
         taken = [];
         past = nothing;
         reports = composes.stays now.bus;
-        flows = flows-of_goes (in_world now.host w) (in_world now.host w) (did [] [] []) nothing
+        flows = flows-of_goes (in_world now.host w) (in_world now.host w) (host_did [] [] []) nothing
             (host-happens now.host w w nothing is.ready (happens_none w));
       };
     }
@@ -73,14 +73,14 @@ flows-on bus composes a b c accepted more received later one two = record {
   reports = composes.joins a.bus b.bus c.bus one.past two.past one.reports two.reports;
   flows = subst
       (λ (given : List Given). HostFlowsTo true (in_world a.host (bus.world a.bus)) (in_world c.host (bus.world c.bus))
-      (did (one.taken ++ two.taken) given (accepted ++ more)) (joined one.past two.past))
+      (host_did (one.taken ++ two.taken) given (accepted ++ more)) (joined one.past two.past))
       (sym (map-append given_of received later))
       (host-join (FlowsTo true) (FlowsTo true) (flows_join {first_up = true} {up = true}) (in_world a.host (bus.world a.bus))
-      (in_world b.host (bus.world b.bus)) (in_world c.host (bus.world c.bus)) (did one.taken (map given_of received) accepted)
-      (did two.taken (map given_of later) more) one.past two.past one.flows two.flows);
+      (in_world b.host (bus.world b.bus)) (in_world c.host (bus.world c.bus)) (host_did one.taken (map given_of received) accepted)
+      (host_did two.taken (map given_of later) more) one.past two.past one.flows two.flows);
 }
 
--- One interval after the other.
+-- Two consecutive intervals.
 pub exchanges-on : {B : Type 0} (bus : Ghosts B) → Composes bus.happened bus.lent_stays → (a b c : ExchangeMoment B)
     (accepted more : List (List ℕ)) → Exchanges bus accepted a b → Exchanges bus more b c → Exchanges bus (accepted ++ more) a c
 exchanges-on bus composes a b c accepted more one two = record {
@@ -119,7 +119,7 @@ passes-reports {B} bus composes (Then made Holds later) old new past it =
     (composes.joins old it.middle new it.before it.behind it.reports
     (passes-reports bus composes later it.middle new it.behind it.later))
 
--- What flows in a call, whatever its effect is.
+-- The flow of frames in a call with any effect.
 effect-flows : {B : Type 0} (bus : Ghosts B) → Composes bus.happened bus.lent_stays → (old new : HostMoment B) (received : List (List ℕ))
     (accepted : List (List ℕ)) (Does : Effect) → Maps Does → bus.honest new.bus
     → Does old.host new.host (OverBus bus true (map given_of received) accepted old new) (bus.world old.bus)
@@ -191,19 +191,19 @@ exchange-receives bus composes old new size into text text' number keeps layout 
       (recv-map 0 (Ok (take size into))) (keeps.honest is.honest) (receives true is);
 }
 
--- The rings and buffers still lie in memory.
+-- The rings and buffers are still inside memory.
 pub still-fits : {B : Type 0} (bus : Ghosts B) (accepted : List (List ℕ)) (a b : ExchangeMoment B) → Exchanges bus accepted a b
     → size_of a.host.driver.layout ≤ bus.extent a.bus → size_of b.host.driver.layout ≤ bus.extent b.bus
 still-fits bus accepted a b one fits = rw (one.layout, one.keeps.extent) fits
 
--- whether a driver is done with a frame that it was handed
+-- whether a driver accepted or refused a frame that was handed to it
 abbrev pub is_done : SendAnswer → Bool
 is_done (Ok u) = true
 is_done (Err TooShort) = true
 is_done (Err TooLong) = true
 is_done (Err RingFull) = false
 
--- By the answer, a frame is accepted exactly if it can be sent.
+-- A frame is accepted exactly if it can be sent.
 pub accepted-is : (result : SendAnswer) (frame : List ℕ) → (result ≡ Err TooShort ↔ (length frame < shortest_sent))
     → (result ≡ Err TooLong ↔ (longest_frame < length frame))
     → accepted_by result frame ≡ (if is_done result then accepted_of frame else [])

@@ -46,7 +46,7 @@ sends-then bus composes frames left sent illegal a b c so_far one = record {
       (exchanges-on bus composes a b c (accepted_of_all so_far.handed) [] so_far.exchanges one);
 }
 
--- How a count grows.
+-- A count grows by one frame.
 grown : (count old new : ℕ) (more : Bool) → old ≡ saturated count → new ≡ (if more then saturated (old + 1) else old)
     → new ≡ saturated (count + cond more 1 0)
 grown count old new true was is = omega (arith, was, is)

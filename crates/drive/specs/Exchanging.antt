@@ -1,26 +1,26 @@
--- What a host and an adapter exchange (our choice).
+-- The frames that a host and an adapter exchange (our choice).
 use Rattle.std.specs.Prelude.{◌≡◌, ◌++◌, ◌∷◌, ◌-◌, ◌^◌, [], ℕ, Bool, List, Option, count_by, map, min, not, true, if◌then◌else◌}
 use Rattle.std.specs.Io.KnownBytes.{Appends}
 use Rattle.descriptors.specs.Frames.{is_sendable, padded}
 use Rattle.bus.specs.declared.bus.Bus.{Ghosts}
 use Rattle.bus.specs.Keeping.{Keeps}
-use Rattle.bus.specs.PastOfStretch.{Past}
-use Rattle.packet_socket.specs.HostCalls.{Given, HostFlowsTo, HostMoment, IsReadyHost, did, in_world}
+use Rattle.bus.specs.Pasts.{Past}
+use Rattle.packet_socket.specs.HostCalls.{Given, HostFlowsTo, HostMoment, IsReadyHost, host_did, in_world}
 use Rattle.packet_socket.specs.HostState.{HostState}
 use Rattle.drive.specs.Numbering.{number_after, packets_of}
 
 -- Frames to be sent.
 
--- what is accepted of a frame that is handed to a driver: the padded frame if it has 14 to 1,518 bytes
+-- what a driver accepts if this frame is passed to it: the padded frame if it has 14 to 1,518 bytes, else no frame
 abbrev pub accepted_of : List ℕ → List (List ℕ)
 accepted_of frame = if is_sendable frame then padded frame ∷ [] else []
 
--- what is accepted of frames that are handed to a driver, in order
+-- the frames that a driver accepts if these frames are passed to it, in order
 abbrev pub accepted_of_all : List (List ℕ) → List (List ℕ)
 accepted_of_all [] = []
 accepted_of_all (frame ∷ later) = accepted_of frame ++ accepted_of_all later
 
--- a frame that isn't accepted
+-- whether a frame isn't accepted
 abbrev pub is_illegal : List ℕ → Bool
 is_illegal frame = not (is_sendable frame)
 
@@ -35,20 +35,20 @@ abbrev pub given_of : List ℕ → Given
 given_of frame = record { socket = 0; frame = frame }
 
 -- An interval of a host's run over a bus that obeys the law. The driver accepted the frames `accepted`, and the socket
--- returned the frames `received`. `flows` states which of these frames the adapter put on the wire and stored: none is
--- lost or duplicated, and each list is in order.
+-- returned the frames `received`. `flows` relates both lists to the frames that the adapter put on the wire and stored.
+-- No frame is lost, duplicated or reordered.
 pub record HostFlows {B : Type 0} (bus : Ghosts B) (accepted received : List (List ℕ)) (old new : HostMoment B) : Type 0 where
   pub honest : bus.honest new.bus
   -- the frames that the driver took off the receive ring
   pub taken : List (List ℕ)
-  -- what the bus reports of the interval
+  -- what happened in the interval
   pub past : Past
   pub reports : bus.happened old.bus new.bus past
   pub flows : HostFlowsTo true (in_world old.host (bus.world old.bus)) (in_world new.host (bus.world new.bus))
-      (did taken (map given_of received) accepted) past
+      (host_did taken (map given_of received) accepted) past
 
--- A moment of an exchange: the host on its bus, the bytes that were written to the sink and those that wait for it, and the number of the
--- next frame that is received.
+-- A moment of an exchange: the host on its bus, the bytes written to the sink or still buffered for it, and the number
+-- of the next received frame.
 pub record ExchangeMoment (B : Type 0) : Type 0 where
   pub bus : B
   pub host : HostState
@@ -71,8 +71,9 @@ pub record Exchanges {B : Type 0} (bus : Ghosts B) (accepted : List (List ℕ)) 
   pub count : new.number ≡ number_after old.number received
   pub flows : IsReadyHost bus true (host_moment old) → HostFlows bus accepted received (host_moment old) (host_moment new)
 
--- The first frames of a list were handed to the driver, in order, and counted: those that it accepted, and those that have fewer than 14 or
--- more than 1,518 bytes. A count saturates. The frames `left` are left.
+-- The first frames of a list were passed to the driver, in order. `sent` counts those that the driver accepted, and
+-- `illegal` those that have fewer than 14 or more than 1,518 bytes. A count saturates. The frames `left` weren't
+-- passed.
 pub record SendsUpTo {B : Type 0} (bus : Ghosts B) (frames left : List (List ℕ)) (sent illegal : ℕ) (old new : ExchangeMoment B) : Type 0
   where
     pub handed : List (List ℕ)
@@ -81,6 +82,6 @@ pub record SendsUpTo {B : Type 0} (bus : Ghosts B) (frames left : List (List ℕ
     pub illegal_is : illegal ≡ saturated (count_by is_illegal handed)
     pub exchanges : Exchanges bus (accepted_of_all handed) old new
 
--- The first frames of a list were handed to the driver, as in `SendsUpTo`, whatever is left.
+-- The first frames of a list were passed to the driver, as in `SendsUpTo`, whatever frames are left.
 abbrev pub SendsFront : {B : Type 0} → Ghosts B → (frames : List (List ℕ)) → (sent illegal : ℕ) → (old new : ExchangeMoment B) → Type 0
 SendsFront bus frames sent illegal old new = (left : List (List ℕ)) × SendsUpTo bus frames left sent illegal old new

@@ -1,4 +1,3 @@
 pub mod Drives
 pub mod Exchanging
 pub mod Numbering
-pub mod Statuses

@@ -4,7 +4,7 @@ use Rattle.std.specs.List.{flat_map}
 use Rattle.pcap_trace.specs.Format.{Timed, packet_of}
 use Rattle.pcap_trace.specs.declared.unit.Unit.TheVariants.{Micros}
 
--- Numbers of frames have 64 bits, and the greatest is kept.
+-- the number of the next frame, up to the greatest u64
 abbrev pub next_number : ℕ → ℕ
 next_number n = min (n + 1) (2 ^ 64 - 1)
 

@@ -1,4 +1,4 @@
-// The sizes of a driver's rings, when a drive ends, and what it did.
+// The sizes of a driver's rings, the limits of a drive, and its counts.
 
 ghost use Rattle.std.specs.Prelude.{◌↔◌, ◌≤◌, ◌+◌, IfSome, IsTrue};
 
@@ -16,11 +16,11 @@ pub struct DriveRings {
 /// When a drive ends.
 #[derive(Clone, Copy, Debug, PartialEq, Eq)]
 pub struct DriveLimits {
-    /// It ends when all frames are sent and at least this many were received; `None`: however many are received, it
-    /// goes on until it is idle.
+    /// The drive ends when all frames are sent and at least this number of frames was received. `None`: the drive goes
+    /// on until it is idle.
     pub expect: Option<u64>,
-    /// It ends after this many turns, one after the other, in which no frame was received and none was accepted for
-    /// sending. A turn is a call of the interrupt handler.
+    /// The drive ends after this number of turns in a row in which no frame was received or accepted for sending. A
+    /// turn calls the interrupt handler, and takes the received frames.
     pub idle: u64,
 }
 
@@ -34,23 +34,24 @@ impl DriveLimits {
     }
 }
 
-/// How many frames were sent and received. Each count saturates.
+/// The counts of a drive. Each count saturates.
 #[derive(Clone, Copy, Debug, PartialEq, Eq)]
 pub struct DriveCounts {
-    /// The frames that the driver accepted for sending.
+    /// The number of frames that the driver accepted for sending.
     pub sent: u64,
-    /// The frames before the last one accepted that have fewer than 14 or more than 1,518 bytes. They aren't sent.
+    /// The number of frames passed to the driver that have fewer than 14 or more than 1,518 bytes. The driver rejects
+    /// them.
     pub illegal: u64,
-    /// The frames that were received.
+    /// The number of frames that were received.
     pub received: u64,
-    /// The frames that the adapter missed, as the driver read it from MPC.
+    /// The number of frames that the adapter missed: the sum of the values that the driver read from MPC.
     pub missed: u64,
-    /// Whether the number of missed frames is exact. If it isn't, there may have been more.
+    /// Whether the number of missed frames is exact. If it isn't exact, more frames may have been missed.
     pub is_exact: bool,
 }
 
 impl DriveCounts {
-    /// Whether this many frames were handed to the driver, and at least as many were received as are expected.
+    /// Whether at least this number of frames was passed to the driver, and at least the expected number was received.
     pub fn is_all(&self, frames: u64, expect: Option<u64>) -> bool
         ensures { IsTrue result
             ↔ ((frames ≤ self.now.sent + self.now.illegal) × IfSome expect (λ n. n ≤ self.now.received)) }

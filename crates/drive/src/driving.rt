@@ -1,4 +1,4 @@
-// The frames of a list are sent, and frames are received.
+// Sends the frames of a list, and receives frames.
 
 ghost use Rattle.std.specs.Prelude.{◌≡◌, ◌<◌, ◌≤◌, [], IfOk, OnOk};
 ghost use Rattle.std.specs.Io.KnownBytes.{append_known};
@@ -18,7 +18,7 @@ use pcap_trace::{Frames, RecordWriter, Sink, Unit};
 use qtest_bus::BusFault;
 use std::alloc::Global;
 
-/// The configuration of a driver with these rings, which accepts each frame.
+/// The configuration of a promiscuous driver with these rings.
 fn config(rings: &DriveRings) -> Config
     ensures { configured_counts result ≡ counts_of rings.now }
 {
@@ -52,7 +52,7 @@ fn bring_up<B: WatchedBus>(
     }
 }
 
-/// Why an initialization failed: a bus that stopped answers zeros, so its fault comes first.
+/// Why an initialization failed. A bus that stopped reads zeros, so its fault is the reason.
 fn reason(fault: Option<BusFault>, error: InitError) -> DriveError {
     match (fault, error) {
         (Some(fault), _) => DriveError::Bus(fault),
@@ -62,8 +62,8 @@ fn reason(fault: Option<BusFault>, error: InitError) -> DriveError {
 }
 
 impl Exchange {
-    /// Calls the handler until enough frames were received, or until this many calls, one after the other, received
-    /// nothing.
+    /// Has turns until the limits are met: enough frames were received, or no frame was received in the maximum number
+    /// of turns in a row.
     fn wait<B: WatchedBus, S: Sink>(
         &mut self,
         bus: &mut B,
@@ -89,17 +89,18 @@ impl Exchange {
 }
 
 /// Initializes an adapter with these rings, sends the frames of a list, and receives frames until `limits` are met. The
-/// frames received are written to `sink`, as a trace in which each has its number, from 0 on, as its time in
+/// frames received are written to `sink`, as a trace in which each frame has its number, from 0 on, as its time in
 /// microseconds.
 ///
-/// The driver is handed the frames in order, each once. While its transmit ring is full, and after the last frame, the
-/// handler is called again and again; it reads ICR, so it finds its work even if no interrupt line is reported. While
-/// frames are sent it is also called whenever the interrupt line is asserted.
+/// The frames are passed to the driver in order, each once. While its transmit ring is full, and after the last frame,
+/// the handler is called repeatedly. It reads ICR, so it finds its work even if the bus reports no interrupt line.
+/// While frames are sent, the handler is also called after each frame if the interrupt line is asserted.
 ///
 /// # Errors
 ///
-/// E57 if memory was refused, E46 if the adapter wasn't initialized (E15 if these rings aren't allowed or don't fit),
-/// E67 if `sink` failed, and the fault of the bus if it stopped. At an error a part of the trace may have been written.
+/// [`Memory`](DriveError::Memory) if memory was refused, [`Init`](DriveError::Init) if the adapter wasn't initialized
+/// ([`Config`](InitError::Config) if these rings aren't allowed or don't fit), [`Write`](DriveError::Write) if `sink`
+/// failed, and [`Bus`](DriveError::Bus) if the bus stopped. After an error, a part of the trace may have been written.
 pub fn drive<B: WatchedBus, S: Sink>(
     alloc: Global,
     bus: &mut B,

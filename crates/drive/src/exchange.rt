@@ -21,14 +21,14 @@ const LONGEST: usize = 1518;
 pub(crate) struct Exchange {
     pub(crate) host: Host,
     pub(crate) writer: RecordWriter,
-    /// The number of frames received, which is the number of the next one.
+    /// The number of frames received, which is the number of the next frame.
     pub(crate) received: u64,
-    /// The number of turns, one after the other, in which no frame was received or accepted.
+    /// The number of turns in a row in which no frame was received or accepted.
     pub(crate) quiet: u64,
 }
 
 impl Exchange {
-    /// Takes the oldest frame that waits for the socket, and appends it to the trace. Returns whether there was one.
+    /// Takes the oldest frame that waits for the socket, and appends it to the trace. Returns whether a frame waited.
     fn take_frame<B: WatchedBus, S: Sink>(
         &mut self,
         bus: &mut B,
@@ -52,7 +52,7 @@ impl Exchange {
         Ok(true)
     }
 
-    /// Takes all frames that wait for the socket.
+    /// Takes all frames that wait for the socket, and appends them to the trace.
     fn take_all<B: WatchedBus, S: Sink>(
         &mut self,
         bus: &mut B,

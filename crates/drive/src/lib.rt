@@ -1,4 +1,5 @@
-//! A driver's program: sends the frames of a trace over a bus to an adapter in another program, and receives frames.
+//! The loop of `nicbench drive`: sends the frames of a trace over a bus to an adapter in another program, and receives
+//! frames.
 #![tactic(auto)]
 
 mod counts;

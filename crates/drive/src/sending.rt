@@ -18,17 +18,17 @@ const SHORTEST_SENDABLE: usize = 14;
 /// The size of the longest frame in bytes.
 const LONGEST: usize = 1518;
 
-/// The numbers of frames that were handed to the driver.
+/// The numbers of frames that were passed to the driver.
 #[derive(Clone, Copy)]
 pub(crate) struct Handed {
-    /// The frames that the driver accepted.
+    /// The number of frames that the driver accepted.
     pub(crate) sent: u64,
-    /// The frames that have fewer than 14 or more than 1,518 bytes.
+    /// The number of frames that have fewer than 14 or more than 1,518 bytes.
     pub(crate) illegal: u64,
 }
 
 impl Handed {
-    /// Counts a frame that was handed to the driver.
+    /// Counts a frame that was passed to the driver.
     fn count(&mut self, frame: &[u8])
         ensures sent { self.new.sent
             ≡ (if is_sendable frame.now then saturated (self.old.sent + 1) else self.old.sent) }
@@ -51,8 +51,8 @@ fn is_sendable(frame: &[u8]) -> bool
 }
 
 impl Exchange {
-    /// Hands a frame to the driver. Returns whether the driver accepted or refused the frame. Otherwise its transmit
-    /// ring is full.
+    /// Passes a frame to the driver. Returns `false` if its transmit ring is full, and `true` if the driver accepted or
+    /// rejected the frame.
     fn hand<B: WatchedBus>(&mut self, bus: &mut B, frame: &[u8]) -> bool
         requires { size_of self.old.host.driver.layout ≤ B.Bus.extent bus.old }
         ensures keeps { Keeps B.Bus bus.old bus.new }
@@ -67,8 +67,8 @@ impl Exchange {
         error != SendError::RingFull
     }
 
-    /// Hands a frame to the driver, with turns while its transmit ring is full. Returns whether it was handed; it isn't
-    /// if this many turns, one after the other, received and sent nothing.
+    /// Passes a frame to the driver, with turns while its transmit ring is full. Returns `false` if the ring is still
+    /// full after `idle` turns in a row in which no frame was received.
     fn send<B: WatchedBus, S: Sink>(
         &mut self,
         bus: &mut B,
@@ -117,8 +117,8 @@ impl Exchange {
         self.turn(bus, sink)
     }
 
-    /// Hands the frames of a list to the driver, in order, until one isn't handed. After each one it has a turn if the
-    /// interrupt line is asserted.
+    /// Passes the frames of a list to the driver, in order, until `send` returns `false`. After each frame, has a turn
+    /// if the interrupt line is asserted.
     pub(crate) fn send_all<B: WatchedBus, S: Sink>(
         &mut self,
         bus: &mut B,

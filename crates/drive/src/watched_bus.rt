@@ -1,10 +1,10 @@
-// A bus whose interrupt line can be asked for.
+// A bus that reports its interrupt line.
 
 use bus::Bus;
 use qtest_bus::{BusFault, QtestBus};
 use std::io::{BufRead, Write};
 
-/// A bus that reports the adapter's interrupt line, and that may stop. Nothing is known of its answers.
+/// A bus that reports the adapter's interrupt line, and that may stop. The contract states nothing of these reports.
 pub trait WatchedBus: Bus {
     /// Whether the interrupt line is asserted, as far as the bus knows.
     fn is_asserted(&self) -> bool;

@@ -1,4 +1,4 @@
--- The queue of a driver's buffers, as the state that it shows.
+-- The queue of a driver's buffers, and the state in contracts.
 use Rattle.std.proofs.Common.{refl, ◌≡◌, ◌≤◌, ◌<◌, ◌+◌, ◌-◌, ◌++◌, ◌∷◌, [], ℕ, List, length, take, drop, ◌%◌, sym, ap}
 use Rattle.std.proofs.Common.{◌∙◌, length-append, length-drop, arith}
 use Rattle.dma_memory.specs.Numbers.{Numbers}
@@ -15,19 +15,19 @@ use Rattle.descriptors.specs.RingLaws.{place}
 use Rattle.driver_law.proofs.Owners.{owners-count}
 use Rattle.driver_law.proofs.Places.{place-below, place-next}
 use Rattle.driver_law.specs.DriverState.{DriverState, next_receive, owners, with_owners}
-use Rattle.driver.specs.InsideDriver.{IsReceiving, state_of}
+use Rattle.driver.specs.InsideDriver.{HasReceiveSide, driver_state_of}
 use Rattle.driver.specs.declared.driver.Driver.TheInside.{Inside}
 
--- What is outstanding and what is staged is the whole queue.
+-- The queue consists of the buffers of outstanding slots and those of staged slots.
 pub record IsSplit (d : Inside) : Type 0 where
-  pub whole : (state_of d).buffers ++ (state_of d).staged ≡ d.buffers.items
-  pub outstanding : length (state_of d).buffers + d.staged ≡ length d.buffers.items
-  pub staged : length (state_of d).staged ≡ d.staged
-  pub next : d.next_receive ≡ next_receive (state_of d)
+  pub whole : (driver_state_of d).buffers ++ (driver_state_of d).staged ≡ d.buffers.items
+  pub outstanding : length (driver_state_of d).buffers + d.staged ≡ length d.buffers.items
+  pub staged : length (driver_state_of d).staged ≡ d.staged
+  pub next : d.next_receive ≡ next_receive (driver_state_of d)
   pub next_slot : d.next_receive < d.layout.rx
 
 abbrev pub Receives : Inside → Type 0
-Receives d = IsReceiving d.layout d.oldest_receive d.next_receive d.staged d.buffers d.pool
+Receives d = HasReceiveSide d.layout d.oldest_receive d.next_receive d.staged d.buffers d.pool
 
 pub queue-split : (d : Inside) → Receives d → IsSplit d
 queue-split d receives =
@@ -45,17 +45,18 @@ queue-split d receives =
           (arith, below, receives.next_slot);
     }
 
--- The owners of buffers.
+-- The owners of buffers
 
-pub owners-inside : (d : Inside) → Receives d → (k : ℕ) → copies k (owners (state_of d)) ≡ copies k d.pool.free + copies k d.buffers.items
+pub owners-inside : (d : Inside) → Receives d → (k : ℕ) → copies k (owners (driver_state_of d))
+    ≡ copies k d.pool.free + copies k d.buffers.items
 owners-inside d receives k =
-    let shown = state_of d in
+    let shown = driver_state_of d in
     omega (arith, owners-count k shown, copies-append k shown.buffers shown.staged, ap (copies k) (queue-split d receives).whole)
 
-pub no_second-inside : (d : Inside) → Receives d → HasNoSecondOwner d.layout.buffers (owners (state_of d))
+pub no_second-inside : (d : Inside) → Receives d → HasNoSecondOwner d.layout.buffers (owners (driver_state_of d))
 no_second-inside d receives k = omega (arith, receives.owners k, owners-inside d receives k, copies-append k d.pool.free d.buffers.items)
 
--- One more is staged.
+-- One more slot is staged
 
 record IsPushed (staged m : ℕ) (queue queue' : List ℕ) : Type 0 where
   front : take (length queue' - (staged + 1)) queue' ≡ take (length queue - staged) queue
@@ -72,10 +73,10 @@ queue-pushed staged m queue queue' some pushed =
     }
 
 pub record HasStaged (d : Inside) (next m : ℕ) (queue : Buffer ℕ) (pool : Numbers) : Type 0 where
-  pub receives : IsReceiving d.layout d.oldest_receive next (d.staged + 1) queue pool
+  pub receives : HasReceiveSide d.layout d.oldest_receive next (d.staged + 1) queue pool
   pub view :
-      state_of (record d { next_receive = next; buffers = queue; staged = d.staged + 1; pool = pool })
-      ≡ with_owners (state_of d) (state_of d).buffers ((state_of d).staged ++ m ∷ []) pool.free []
+      driver_state_of (record d { next_receive = next; buffers = queue; staged = d.staged + 1; pool = pool })
+      ≡ with_owners (driver_state_of d) (driver_state_of d).buffers ((driver_state_of d).staged ++ m ∷ []) pool.free []
 
 pub staged-inside : (d : Inside) (next m : ℕ) (queue : Buffer ℕ) (pool : Numbers) → Receives d → length d.buffers.items + 1 < d.layout.rx
     → next ≡ (d.next_receive + 1) % d.layout.rx
@@ -87,7 +88,7 @@ staged-inside d next m queue pool receives room moved pushed count moves =
     ∙ keep_last-room old d.buffers.capacity m (omega (arith, receives.capacity, room)) in
     let longer : length queue.items ≡ length old + 1 = ap length items ∙ length-append old (m ∷ []) in
     let parts = queue-pushed d.staged m old queue.items receives.some_staged items in
-    let view : List ℕ → List ℕ → DriverState = λ buffers staged. with_owners (state_of d) buffers staged pool.free [] in
+    let view : List ℕ → List ℕ → DriverState = λ buffers staged. with_owners (driver_state_of d) buffers staged pool.free [] in
     record {
       receives = record {
         oldest_slot = receives.oldest_slot;
@@ -114,10 +115,10 @@ staged-inside d next m queue pool receives room moved pushed count moves =
             );
       };
       view = ap (λ (list : List ℕ). view list (drop (length queue.items - (d.staged + 1)) queue.items)) parts.front
-          ∙ ap (view (state_of d).buffers) parts.back;
+          ∙ ap (view (driver_state_of d).buffers) parts.back;
     }
 
--- All that are staged are offered.
+-- All staged slots are offered.
 pub none-staged : (d : Inside) → Receives d → Receives (record d { staged = 0 })
 none-staged d receives = record {
   oldest_slot = receives.oldest_slot;
@@ -130,24 +131,26 @@ none-staged d receives = record {
 }
 
 pub offered-inside : (d : Inside) → Receives d
-    → state_of (record d { staged = 0 }) ≡ with_owners (state_of d) ((state_of d).buffers ++ (state_of d).staged) [] d.pool.free []
+    → driver_state_of (record d { staged = 0 }) ≡ with_owners (driver_state_of d)
+    ((driver_state_of d).buffers ++ (driver_state_of d).staged) [] d.pool.free []
 offered-inside d receives =
     let queue = d.buffers.items in
-    let view : List ℕ → List ℕ → DriverState = λ buffers staged. with_owners (state_of d) buffers staged d.pool.free [] in
+    let view : List ℕ → List ℕ → DriverState = λ buffers staged. with_owners (driver_state_of d) buffers staged d.pool.free [] in
     let all : length queue - 0 ≡ length queue = omega arith in
     ap (λ (i : ℕ). view (take i queue) (drop i queue)) all
     ∙ ap (λ (list : List ℕ). view list (drop (length queue) queue)) (take-length queue ∙ sym (queue-split d receives).whole)
-    ∙ ap (view ((state_of d).buffers ++ (state_of d).staged)) (drop-length queue)
+    ∙ ap (view ((driver_state_of d).buffers ++ (driver_state_of d).staged)) (drop-length queue)
 
-pub owners-offered : (d : Inside) → Receives d → HaveSameNumbers (owners (state_of d)) (owners (state_of (record d { staged = 0 })))
+pub owners-offered : (d : Inside) → Receives d → HaveSameNumbers (owners (driver_state_of d))
+    (owners (driver_state_of (record d { staged = 0 })))
 owners-offered d receives k =
-    let shown = state_of d in
+    let shown = driver_state_of d in
     let later = with_owners shown (shown.buffers ++ shown.staged) [] d.pool.free [] in
     omega (arith, owners-count k shown, owners-count k later, copies-append k shown.buffers shown.staged)
     ∙ ap (λ (s : DriverState). copies k (owners s)) (sym (offered-inside d receives))
 
--- A buffer comes back into the pool.
-pub given-inside : (d : Inside) (m : ℕ) (pool : Numbers) → Receives d → m < d.layout.buffers → copies m (owners (state_of d)) ≡ 0
+-- A buffer returns to the pool.
+pub given-inside : (d : Inside) (m : ℕ) (pool : Numbers) → Receives d → m < d.layout.buffers → copies m (owners (driver_state_of d)) ≡ 0
     → HaveSameNumbers (m ∷ d.pool.free) pool.free → pool.buffers ≡ d.pool.buffers
     → Receives (record d { pool = pool })
 given-inside d m pool receives known out given count = record {
@@ -163,7 +166,7 @@ given-inside d m pool receives known out given count = record {
       ∙ out) (taken-first m d.pool.free pool.free d.buffers.items given);
 }
 
--- RDT is written if any slot is staged.
+-- RDT is written if any slot is staged
 
 pub tail_write-none : (slot : ℕ) (staged : List ℕ) → length staged ≡ 0 → tail_write slot staged ≡ []
 tail_write-none slot [] none = refl

@@ -1,4 +1,4 @@
--- The buffers of a queue come back into the pool, one after the other.
+-- The buffers of a queue return to the pool, one by one.
 use Rattle.std.proofs.Common.{◌≡◌, ◌<◌, ◌+◌, ◌++◌, ◌∷◌, [], ℕ, List, Some, drop, slice_get, refl, sym, ap, subst, ◌∙◌, arith}
 use Rattle.dma_memory.specs.Owners.{HasNoSecondOwner, HaveSameNumbers, copies}
 use Rattle.dma_memory.specs.OwnersLaws.{below_from_if_below, copies-append, copies-cons, copies-itself, if_below-most}

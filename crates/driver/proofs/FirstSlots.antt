@@ -1,4 +1,4 @@
--- The receive slots are offered for the first time, and which is at the head then.
+-- The receive slots are offered for the first time, and the slot at the head after that.
 use Rattle.std.proofs.Common.{false, ◌≡◌, ◌≤◌, ◌<◌, ◌+◌, ◌-◌, ◌%◌, ◌++◌, ◌∷◌, [], ℕ, List, length, ◌⊎◌, ⊎_elim, refl, sym, ap, subst, ◌∙◌}
 use Rattle.std.proofs.Common.{length-append, arith}
 use Rattle.std.proofs.lemmas.List.{length-map}
@@ -16,11 +16,11 @@ use Rattle.bus.specs.Keeping.{Keeps}
 use Rattle.bus.proofs.WaitingRings.{all-offered, holds-none}
 use Rattle.driver_law.proofs.Accesses.{ran_by-join, ran_by-same}
 use Rattle.driver_law.proofs.Owners.{owners-count}
-use Rattle.driver_law.specs.Calls.{IsReady, Ran, at, only, tail_write}
+use Rattle.driver_law.specs.Calls.{IsReadyOver, Ran, at, only, tail_write}
 use Rattle.driver_law.specs.Beginnings.{new_driver}
 use Rattle.driver_law.specs.DriverState.{DriverSetup, DriverState, holding, next_receive, owners, receive_slot, with_owners}
 use Rattle.driver_law.specs.ReadyDrivers.{Ready}
-use Rattle.bring_up.proofs.Steps.{StretchesJoin}
+use Rattle.bring_up.proofs.Steps.{IntervalsJoin}
 use Rattle.bring_up.specs.ClearedDescriptors.{clears}
 use Rattle.driver.specs.Initialisation.{OffersFirst}
 use Rattle.driver.specs.RefillSteps.{Stages}
@@ -60,13 +60,13 @@ head-first d world ready first full none =
     distance-same n ring.head (omega (arith, full)) knows.head_slot
     (back ∙ distance-forward n 0 (n - 1) (omega (arith, full)) (omega arith) ∙ omega arith)
 
--- The receive slots are offered.
+-- The receive slots are offered
 
 tail-written : (slot : ℕ) (numbers : List ℕ) → 0 < length numbers → tail_write slot numbers ≡ Writes 0x2818 slot ∷ []
 tail-written slot [] some = absurd (omega (arith, some))
 tail-written slot (number ∷ later) some = refl
 
--- So many are staged as there are slots but one.
+-- All slots except one are staged.
 all-staged : (n buffers : ℕ) (pool numbers left : List ℕ) → HasOneOwner buffers pool → n ≤ buffers → HaveSameNumbers pool (numbers ++ left)
     → length numbers < n → (left ≡ []) ⊎ (0 + length numbers + 1 ≡ n) → length numbers + 1 ≡ n
 all-staged n buffers pool numbers left owner enough same room full =
@@ -77,22 +77,22 @@ all-staged n buffers pool numbers left owner enough same room full =
     (λ (all : 0 + length numbers + 1 ≡ n). omega (arith, all))
     full
 
--- with these slots staged, or offered
+-- the driver with these buffers staged or outstanding
 abbrev staging : Counts → DriverSetup → (groups : List (List ℕ)) → (pool numbers left : List ℕ) → DriverState
 staging counts setup groups pool numbers left = with_owners (new_driver counts setup groups pool) [] numbers left []
 
 abbrev pub offering : Counts → DriverSetup → (groups : List (List ℕ)) → (pool numbers left : List ℕ) → DriverState
 offering counts setup groups pool numbers left = with_owners (new_driver counts setup groups pool) numbers [] left []
 
-pub offers-first : {B : Type 0} (bus : Ghosts B) → StretchesJoin bus
+pub offers-first : {B : Type 0} (bus : Ghosts B) → IntervalsJoin bus
     → (b0 b1 b2 b3 : B) (counts : Counts) (setup : DriverSetup) (groups : List (List ℕ)) (pool numbers : List ℕ) (d2 d3 : DriverState)
     → HasOneOwner counts.buffers pool → counts.rx ≤ counts.buffers → 1 < counts.rx
     → Stages bus numbers (at b0 (new_driver counts setup groups pool)) (at b1 d2)
     → length d2.buffers + length d2.staged < d2.layout.rx → (d2.pool ≡ []) ⊎ (length d2.buffers + length d2.staged + 1 ≡ d2.layout.rx)
     → d3 ≡ with_owners d2 (d2.buffers ++ d2.staged) [] d2.pool [] → Keeps bus b0 b1 → Keeps bus b1 b2
-    → ((d : DriverState) → IsReady bus false (at b1 d) → d.oldest_receive ≡ 0 → counts.rx ≡ d.layout.rx
+    → ((d : DriverState) → IsReadyOver bus false (at b1 d) → d.oldest_receive ≡ 0 → counts.rx ≡ d.layout.rx
     → Ran bus false (only (clears (receive_slot (counts.rx - 1)) ∷ [])) (at b1 d) (at b2 d))
-    → (IsReady bus false (at b2 (holding [] d2))
+    → (IsReadyOver bus false (at b2 (holding [] d2))
     → Ran bus false (only (tail_write (next_receive d2) d2.staged)) (at b2 (holding [] d2)) (at b3 (holding [] d3)))
     → OffersFirst bus (at b0 (new_driver counts setup groups pool)) (at b3 d3)
 offers-first bus joins b0 b1 b2 b3 counts setup groups pool numbers d2 d3 owner enough some stages room full behind keeps1 keeps2 clearing
@@ -119,7 +119,7 @@ offers-first bus joins b0 b1 b2 b3 counts setup groups pool numbers d2 d3 owner 
       pool = λ k. stages.pool k ∙ ap (λ (rest : List ℕ). copies k (numbers ++ rest)) (sym left);
       ran = λ is.
           let first = stages.ran false [] is in
-          let is1 : IsReady bus false (at b1 (holding [] d2)) =
+          let is1 : IsReadyOver bus false (at b1 (holding [] d2)) =
           record { honest = keeps1.honest is.honest; ready = first.goes.flows.ready } in
           let second = clearing (holding [] d2) is1 (ap (λ (d : DriverState). d.oldest_receive) staged)
           (sym (ap (λ (d : DriverState). d.layout.rx) staged)) in
@@ -132,7 +132,7 @@ offers-first bus joins b0 b1 b2 b3 counts setup groups pool numbers d2 d3 owner 
           (ran_by-join bus joins _ _ b0 b1 b3 d1 (holding [] d2) (holding [] d3) [] [] [] [] first later);
     }
 
--- Each buffer has one owner then.
+-- Each buffer has one owner after that.
 pub owners-offered : (buffers : ℕ) (counts : Counts) (setup : DriverSetup) (groups : List (List ℕ)) (pool numbers left : List ℕ)
     → HasOneOwner buffers pool
     → HaveSameNumbers pool (numbers ++ left)

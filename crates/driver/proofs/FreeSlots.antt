@@ -1,4 +1,4 @@
--- A driver without slots offers as many as its pool and the ring allow.
+-- A driver without slots offers slots, until no buffer is free or all slots except one are outstanding.
 use Rattle.std.proofs.Common.{false, ◌≡◌, ◌<◌, ◌+◌, ◌-◌, ◌++◌, ◌∷◌, [], ℕ, List, length, ◌⊎◌, ⊎_elim, inl, inr}
 use Rattle.std.proofs.Common.{refl, sym, ap, subst, ◌∙◌, arith}
 use Rattle.dma_memory.specs.Owners.{copies}
@@ -7,9 +7,9 @@ use Rattle.bus.specs.Keeping.{Keeps}
 use Rattle.bus.specs.declared.bus.Bus.{Ghosts}
 use Rattle.bus.specs.declared.event.Access.TheVariants.{Writes}
 use Rattle.driver_law.proofs.Accesses.{ran_by-join, ran_by-same}
-use Rattle.driver_law.specs.Calls.{IsReady, Ran, Runs, at, only, stores_from}
+use Rattle.driver_law.specs.Calls.{IsReadyOver, Ran, Runs, at, only, stores_from}
 use Rattle.driver_law.specs.DriverState.{DriverState, holding, next_receive, receive_slot, with_owners}
-use Rattle.bring_up.proofs.Steps.{StretchesJoin}
+use Rattle.bring_up.proofs.Steps.{IntervalsJoin}
 use Rattle.bring_up.specs.ClearedDescriptors.{clears_from}
 use Rattle.driver.specs.RefillSteps.{Stages}
 use Rattle.driver.specs.Resetting.{OffersFree}
@@ -18,12 +18,12 @@ pub place-first : (n k : ℕ) → k < n → place n 0 k ≡ k
 place-first n k below =
     place-distance n k 0 k (omega (arith, below)) below (distance-forward n 0 k below (omega arith) ∙ omega arith)
 
-pub offers-free : {B : Type 0} (bus : Ghosts B) → StretchesJoin bus → (b0 b1 b2 b3 : B) (numbers : List ℕ) (d0 d1 d3 : DriverState)
+pub offers-free : {B : Type 0} (bus : Ghosts B) → IntervalsJoin bus → (b0 b1 b2 b3 : B) (numbers : List ℕ) (d0 d1 d3 : DriverState)
     → d0.oldest_receive ≡ 0 → d0.buffers ≡ [] → d0.staged ≡ []
     → Stages bus numbers (at b0 d0) (at b1 d1) → length d1.buffers + length d1.staged < d1.layout.rx
     → (d1.pool ≡ []) ⊎ (length d1.buffers + length d1.staged + 1 ≡ d1.layout.rx)
     → d3 ≡ with_owners d1 (d1.buffers ++ d1.staged) [] d1.pool [] → Keeps bus b0 b1 → Keeps bus b1 b2
-    → ((d : DriverState) → IsReady bus false (at b1 d) → d.oldest_receive ≡ 0 → length d.buffers + length d.staged ≡ length numbers
+    → ((d : DriverState) → IsReadyOver bus false (at b1 d) → d.oldest_receive ≡ 0 → length d.buffers + length d.staged ≡ length numbers
     → d.layout ≡ d0.layout
     → Ran bus false (only (clears_from (receive_slot (length numbers)) (d0.layout.rx - length numbers))) (at b1 d) (at b2 d))
     → Runs bus (only (Writes 0x2818 (next_receive d1) ∷ [])) (at b2 d1) (at b3 d3)
@@ -62,7 +62,7 @@ offers-free bus joins b0 b1 b2 b3 numbers d0 d1 d3 oldest none_out none_staged s
       ran = λ held is.
           let one = stages.ran false held is in
           let e1 = holding held d1 in
-          let is1 : IsReady bus false (at b1 e1) = record { honest = keeps1.honest is.honest; ready = one.goes.flows.ready } in
+          let is1 : IsReadyOver bus false (at b1 e1) = record { honest = keeps1.honest is.honest; ready = one.goes.flows.ready } in
           let two = clears e1 is1 (ap (λ (d : DriverState). d.oldest_receive) staged ∙ oldest)
           (ap (λ (d : DriverState). length d.buffers + length d.staged) staged ∙ omega arith)
           (ap (λ (d : DriverState). d.layout) staged) in

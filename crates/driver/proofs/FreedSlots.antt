@@ -1,4 +1,4 @@
--- Transmit slots are freed over a bus, one load each.
+-- Transmit slots are freed over a bus, by one load each.
 use Rattle.std.proofs.Common.{Bool, true, false, ◌≡◌, ◌≤◌, ◌<◌, ◌+◌, ◌-◌, ◌%◌, ◌++◌, ◌∷◌, [], ℕ, zero, suc, List, min, slice_index}
 use Rattle.std.proofs.Common.{map, refl}
 use Rattle.std.proofs.Common.{sym, ap, subst, ◌∙◌, arith}
@@ -10,7 +10,7 @@ use Rattle.descriptors.specs.Ring.{slots_from}
 use Rattle.descriptors.specs.RingLaws.{next-below, place}
 use Rattle.adapter.specs.Slots.{written_back}
 use Rattle.bus.specs.Law.{Acts}
-use Rattle.bus.specs.PastOfStretch.{Past, joined, nothing}
+use Rattle.bus.specs.Pasts.{Past, joined, nothing}
 use Rattle.bus.specs.Keeping.{Keeps, view_of}
 use Rattle.bus.specs.declared.bus.Bus.{Ghosts}
 use Rattle.bus.specs.declared.event.Access.{Access}
@@ -27,7 +27,7 @@ use Rattle.driver_law.specs.TransmitSteps.{with_freed}
 use Rattle.driver.specs.InsideDriver.{IsSending}
 use Rattle.driver.specs.SendSteps.{FreesOldest, LooksBack, Reclaims, oldest_loads, slots_looked_at, with_transmit_slots}
 
--- How many loads.
+-- The number of loads
 
 loads-none : (d : DriverState) → d.sending ≡ 0 → transmit_loads d.layout d.oldest_transmit (min d.sending 1) ≡ []
 loads-none d none = let zero_loads : min d.sending 1 ≡ 0 = omega (arith, none) in ap (transmit_loads d.layout d.oldest_transmit) zero_loads
@@ -43,7 +43,7 @@ slots-join n from (suc i) j =
     let more : suc i + j ≡ suc (i + j) = omega arith in
     ap (slots_from n from) more ∙ ap (λ (slots : List ℕ). from ∷ slots) (slots-join n ((from + 1) % n) i j)
 
--- Loads of some slots, and then of those after them.
+-- Loads of consecutive slots join.
 pub loads-join : (counts : Counts) (from i j : ℕ)
     → transmit_loads counts from i ++ transmit_loads counts (place counts.tx from i) j ≡ transmit_loads counts from (i + j)
 loads-join counts from i j =
@@ -51,9 +51,9 @@ loads-join counts from i j =
     sym (ap (map load) (slots-join counts.tx from i j)
     ∙ map-append load (slots_from counts.tx from i) (slots_from counts.tx (place counts.tx from i) j))
 
--- One slot.
+-- One slot
 
--- The place after the outstanding slots stays.
+-- The place after the outstanding slots doesn't change.
 pub tail-freed : (n oldest sending : ℕ) → 0 < sending → place n ((oldest + 1) % n) (sending - 1) ≡ place n oldest sending
 tail-freed n oldest sending some = let more : sending ≡ suc (sending - 1) = omega (arith, some) in sym (ap (place n oldest) more)
 
@@ -65,7 +65,7 @@ sending-freed counts oldest next sending some sends = record {
   next_slot = sends.next_slot ∙ sym (tail-freed counts.tx oldest sending some);
 }
 
--- None is outstanding,
+-- No slot is outstanding.
 pub frees-none : {B : Type 0} (bus : Ghosts B) → ((b : B) → bus.happened b b nothing)
     → (b : B) (d : DriverState) → d.sending ≡ 0 → Ready d (bus.world b)
     → Ran bus true (only (transmit_loads d.layout d.oldest_transmit (min d.sending 1))) (at b d) (at b d)
@@ -79,7 +79,7 @@ LoadsAt bus old new bytes address =
     Acts (view_of bus) old new (Loads address 16)
     (λ before after. (bytes ≡ bytes_at before.memory address 16) × (after ≡ before))
 
--- or the oldest is done and freed,
+-- The oldest slot is done and freed.
 pub frees-oldest : {B : Type 0} (bus : Ghosts B) (old new : B) (d : DriverState) (address : ℕ) (bytes : List ℕ)
     → address ≡ transmit_slot d.layout d.oldest_transmit → 0 < d.sending → is_set (slice_index bytes 12) 0 ≡ true
     → LoadsAt bus old new bytes address
@@ -89,7 +89,7 @@ frees-oldest bus old new d address bytes address_is some done acts ready =
     subst (λ (accesses : List Access). Ran bus true (only accesses) (at old d) (at new (with_freed d))) (sym (loads-one d some))
     (run-frees bus old new d bytes some done (subst (LoadsAt bus old new bytes) address_is acts) ready)
 
--- or it isn't done.
+-- The oldest slot isn't done.
 pub waits-oldest : {B : Type 0} (bus : Ghosts B) (old new : B) (d : DriverState) (address : ℕ) (bytes : List ℕ)
     → address ≡ transmit_slot d.layout d.oldest_transmit → 0 < d.sending → is_set (slice_index bytes 12) 0 ≡ false
     → LoadsAt bus old new bytes address
@@ -101,7 +101,7 @@ waits-oldest bus old new d address bytes address_is some clear acts ready =
     (λ after. written_back d.oldest_transmit after ≡ [])) (sym (loads-one d some))
     (run-waits bus old new d bytes clear (subst (LoadsAt bus old new bytes) address_is acts) ready)
 
--- Some slots, and then the oldest of those that are left.
+-- Some slots are freed, and then the oldest of the remaining slots.
 frees-more : {B : Type 0} (bus : Ghosts B)
     → ((a b c : B) (first later : Past) → bus.happened a b first → bus.happened b c later → bus.happened a c (joined first later))
     → (a b c : Moment B) (k total : ℕ) → b.driver.layout ≡ a.driver.layout
@@ -119,7 +119,8 @@ frees-more bus joins a b c k total counts walked sum one two =
     ∙ ap (oldest_loads d1) sum in
     subst (λ (accesses : List Access). Ran bus true (only accesses) a c) same (ran-on bus joins one two)
 
--- The driver's own state as slots are freed: some of its outstanding slots are left, and the place after them stays.
+-- The driver's state while slots are freed: some of its outstanding slots are left, and the place after them doesn't
+-- change.
 pub record IsFreeing (d d' : DriverState) : Type 0 where
   pub others : d' ≡ with_transmit_slots d d'.oldest_transmit d'.sending
   pub fewer : d'.sending ≤ d.sending
@@ -168,7 +169,7 @@ has_freed-none bus stays now =
           (ran_by-stays bus stays now.bus (holding held d) is.ready);
     }
 
--- One more turn, and how many loads there are then.
+-- One more iteration, with the number of loads.
 frees-turn : {B : Type 0} (bus : Ghosts B)
     → ((a b c : B) (first later : Past) → bus.happened a b first → bus.happened b c later → bus.happened a c (joined first later))
     → (a b c : Moment B) (total : ℕ) (freed : Bool) → Keeps bus a.bus b.bus → HasFreed bus a b → WhereUp bus b c (LooksBack bus freed)
@@ -192,7 +193,7 @@ has_freed-more bus joins a b c keeps freed turn frees =
           (omega (arith, freed.freeing.fewer, left, frees.some));
     }
 
--- The turn that frees none is the last.
+-- The iteration that frees no slot is the last one.
 pub has_freed-all : {B : Type 0} (bus : Ghosts B)
     → ((a b c : B) (first later : Past) → bus.happened a b first → bus.happened b c later → bus.happened a c (joined first later))
     → (a b c : Moment B) → Keeps bus a.bus b.bus → HasFreed bus a b → WhereUp bus b c (LooksBack bus false) → c.driver ≡ b.driver

@@ -1,4 +1,4 @@
--- An adapter is brought up, step by step.
+-- An adapter is initialized, part by part.
 use Rattle.std.proofs.Common.{Bool, IsTrue, Option, None, Some, is_some, true, false, ◌≡◌, ◌≤◌, ◌<◌, ◌+◌, ◌-◌, ◌*◌, ◌++◌, ◌∷◌, [], ℕ, List}
 use Rattle.std.proofs.Common.{length, map, inl, refl, sym, ap, subst, ◌∙◌, append_assoc, arith}
 use Rattle.std.specs.List.{All}
@@ -21,7 +21,7 @@ use Rattle.adapter.specs.declared.ring.RingRegisters.{RingRegisters}
 use Rattle.adapter.specs.declared.register.Register.TheVariants.{Rctl, Receive}
 use Rattle.adapter.specs.declared.register.RingRegister.TheVariants.{Tail}
 use Rattle.bus.specs.Link.{HasLink, KeepsLink, LeavesPhy}
-use Rattle.bus.specs.PastOfStretch.{Past, joined}
+use Rattle.bus.specs.Pasts.{Past, joined}
 use Rattle.bus.specs.AdaptersAtRest.{NoFrame}
 use Rattle.bus.specs.Settings.{AreSet, IsNotReceiveControl, WhileOff, LeavesReceiver, Settings, Write, settings_after_all, settings_of}
 use Rattle.bus.specs.Settings.{writes_in}
@@ -48,18 +48,18 @@ use Rattle.bring_up.specs.SettingSteps.{IsAside, RecordsNone, RecordsNoCause}
 use Rattle.bring_up.proofs.CausesLeft.{joined-causes, mask-causes, receive-causes, tail-causes, transmit-causes}
 use Rattle.bring_up.proofs.WritesOf.{link-first, rings-last}
 use Rattle.bring_up.proofs.ConfiguredSettings.{before-rings, writes-configure, writes_offering}
-use Rattle.bring_up.specs.RingRegisters.{receive_control, receive_writes, ring_writes, transmit_writes}
-use Rattle.bring_up.specs.WrittenRegisters.{allocation_writes, link_writes, mask_writes, reset_writes, write_at}
+use Rattle.bring_up.specs.RingRegisters.{receive_control, receive_writes, ring_setup_writes, transmit_writes}
+use Rattle.bring_up.specs.WrittenRegisters.{allocation_writes, enable_link_writes, mask_writes, reset_writes, write_at}
 use Rattle.bring_up.specs.declared.config.Config.{Config}
 use Rattle.bring_up.proofs.DriverAccesses.{asked-still}
-use Rattle.bring_up.proofs.Steps.{StretchesJoin}
+use Rattle.bring_up.proofs.Steps.{IntervalsJoin}
 use Rattle.bring_up.proofs.NoFrames.{clears-write_none, new_transmit_ring_stays, quiet_stays, stores-write_none}
 use Rattle.joined_groups.specs.Groups.{AreNamedOnce}
 use Rattle.joined_groups.proofs.Numbers.{same-numbers}
 use Rattle.driver.specs.Initialisation.{HasFoundRing, Initialises, first_accesses, transmit_accesses}
 use Rattle.driver.proofs.FirstSlots.{head-first, offering}
 
--- What the accesses of its steps write.
+-- The register writes of each part
 
 pub first-writes : (counts : Counts) (numbers : List ℕ) → writes_in (first_accesses counts numbers) ≡ write_at 0x2818 (counts.rx - 1) ∷ []
 first-writes counts numbers =
@@ -71,14 +71,14 @@ writes-of [] = refl
 writes-of (write ∷ later) = ap (λ (rest : List Write). write ∷ rest) (writes-of later)
 
 pub transmit-writes : (counts : Counts)
-    → writes_in (transmit_accesses counts) ≡ ring_writes 0x3800 (16 * counts.rx) (16 * counts.tx) ++ transmit_writes
+    → writes_in (transmit_accesses counts) ≡ ring_setup_writes 0x3800 (16 * counts.rx) (16 * counts.tx) ++ transmit_writes
 transmit-writes counts =
-    let writes = ring_writes 0x3800 (16 * counts.rx) (16 * counts.tx) ++ transmit_writes in
+    let writes = ring_setup_writes 0x3800 (16 * counts.rx) (16 * counts.tx) ++ transmit_writes in
     writes-append (clears_from (16 * counts.rx) counts.tx) (accesses_of writes)
     ∙ ap (λ (first : List Write). first ++ writes_in (accesses_of writes)) (clears-write_none (16 * counts.rx) counts.tx)
     ∙ writes-of writes
 
--- RDT is neither RCTL nor of the transmit ring, and RCTL isn't of that ring.
+-- RDT is neither RCTL nor a register of the transmit ring, and RCTL isn't a register of this ring
 
 leaves-one : (P : Write → Type 0) (write : Write) → P write → All P (write ∷ [])
 leaves-one P write leaves = All-cons P write [] leaves (all-none P)
@@ -95,19 +95,19 @@ pub control-leaves_transmits : (control : ℕ) → All LeavesTransmitRing (write
 control-leaves_transmits control =
     leaves-one LeavesTransmitRing (write_at 0x0100 control) (subst IsNotTransmitRing (sym (register_at-there Rctl tt)) tt)
 
--- The transmit side is set up.
+-- The transmit side is set up
 
 none-leaves_transmits : (accesses : List Access) (past : Past) → past.accesses ≡ accesses → writes_in accesses ≡ []
     → All LeavesTransmitRing (writes_in past.accesses)
 none-leaves_transmits accesses past only none = subst (All LeavesTransmitRing) (sym (ap writes_in only ∙ none))
     (all-none LeavesTransmitRing)
 
-pub sets-transmitter : {B : Type 0} (bus : Ghosts B) → StretchesJoin bus
+pub sets-transmitter : {B : Type 0} (bus : Ghosts B) → IntervalsJoin bus
     → (b0 b1 b2 b3 : B) (d : DriverState) (counts : Counts) → d.layout ≡ counts → d.oldest_transmit ≡ 0 → d.sending ≡ 0 → 0 < counts.tx
     → (bus.world b0).adapter.transmit_ring ≡ new_ring
     → Ran bus false (only (clears_from (16 * counts.rx) counts.tx)) (at b0 d) (at b1 d)
     → (ReadyWith false d (bus.world b1) → (bus.world b1).adapter.transmit_ring ≡ new_ring
-    → SetsTransmitRing bus (ring_writes 0x3800 (16 * counts.rx) (16 * counts.tx)) d b1 b2)
+    → SetsTransmitRing bus (ring_setup_writes 0x3800 (16 * counts.rx) (16 * counts.tx)) d b1 b2)
     → (ReadyWith false d (bus.world b2) → d.oldest_transmit < d.layout.tx
     → KnowsRing (transmit_ring (bus.world b2)) (16 * d.layout.rx) d.layout.tx (transmit_tail d)
     → LeavesDriver bus transmit_writes true d b2 b3)
@@ -125,7 +125,7 @@ sets-transmitter bus joins b0 b1 b2 b3 d counts is oldest none some new clearing
     ran_by-join bus joins (clears_from (16 * counts.rx) counts.tx) _ b0 b1 b3 d d d [] [] [] [] clearing
     (ran_by-join bus joins _ (accesses_of transmit_writes) b1 b2 b3 d d d [] [] [] [] sets.ran runs)
 
--- The device is found, and its receive ring set up.
+-- The device is found, and its receive ring is set up
 
 pub new-whole : (ring : RingRegisters) → record ring { head = 0 } ≡ new_ring → ring.head ≡ ring.tail → ring ≡ new_ring
 new-whole ring start idle =
@@ -133,29 +133,29 @@ new-whole ring start idle =
     ap (λ (registers : RingRegisters). let moved : RingRegisters = record registers { head = ring.head } in moved) start
     ∙ ap (λ (head : ℕ). let moved : RingRegisters = record new_ring { head = head } in moved) (idle ∙ tail)
 
--- what was written before the rings
+-- the filter after the writes before those of the rings
 filtered : (config : Config) (address groups vlans : List ℕ) (settings : Settings)
     → settings_after_all (table_writes 0x5200 groups ++ (table_writes 0x5600 vlans ++ address_writes address))
-    (settings_after_all (reset_writes ++ (allocation_writes config.rxa ++ link_writes)) settings)
+    (settings_after_all (reset_writes ++ (allocation_writes config.rxa ++ enable_link_writes)) settings)
     ≡ settings_after_all (writes_before_rings config address groups vlans) settings
 filtered config address groups vlans settings =
     let tables = table_writes 0x5200 groups ++ (table_writes 0x5600 vlans ++ address_writes address) in
-    let device = reset_writes ++ (allocation_writes config.rxa ++ link_writes) in
+    let device = reset_writes ++ (allocation_writes config.rxa ++ enable_link_writes) in
     sym (settings-append device tables settings)
     ∙ ap (λ (writes : List Write). settings_after_all writes settings)
-    (append_assoc reset_writes (allocation_writes config.rxa ++ link_writes) tables
-    ∙ ap (λ (writes : List Write). reset_writes ++ writes) (append_assoc (allocation_writes config.rxa) link_writes tables))
+    (append_assoc reset_writes (allocation_writes config.rxa ++ enable_link_writes) tables
+    ∙ ap (λ (writes : List Write). reset_writes ++ writes) (append_assoc (allocation_writes config.rxa) enable_link_writes tables))
 
--- what is written after the registers of the receive ring
+-- the writes after those of the receive ring
 abbrev behind-receive : Config → List Write
 behind-receive config =
     (write_at 0x2818 (config.rx - 1) ∷ []) ++ (receive_writes config.promiscuous (names_vlans config.vlans)
-    ++ (ring_writes 0x3800 (16 * config.rx) (16 * config.tx) ++ (transmit_writes ++ mask_writes)))
+    ++ (ring_setup_writes 0x3800 (16 * config.rx) (16 * config.tx) ++ (transmit_writes ++ mask_writes)))
 
 pub finds-ring : {B : Type 0} (bus : Ghosts B) (b0 b1 b2 b3 : B)
     (config : Config) (size : ℕ) (image : List ℕ) → CanBeHad config size → 16 * config.rx ≤ length (bus.world b2).memory
     → IsFound bus config.rxa b0 b1 image → SetsFilter bus config.groups.items (vlans_of config.vlans) (address_bytes image) b1 b2
-    → SetsAtRest bus (ring_writes 0x2800 0 (16 * config.rx)) (HasNewRings config.rx) (HasReceiveRing config.rx) b2 b3
+    → SetsAtRest bus (ring_setup_writes 0x2800 0 (16 * config.rx)) (HasNewRings config.rx) (HasReceiveRing config.rx) b2 b3
     → HasFoundRing bus config (address_bytes image) b0 b3
 finds-ring bus b0 b1 b2 b3 config size image had room found filter ring =
     let old = settings_of (bus.world b0).adapter in
@@ -164,7 +164,7 @@ finds-ring bus b0 b1 b2 b3 config size image had room found filter ring =
     let address = address_bytes image in
     let words = address_bytes (bus.world b0).adapter.image in
     let same : address ≡ words = ap address_bytes found.image_is in
-    let receive = ring_writes 0x2800 0 (16 * config.rx) in
+    let receive = ring_setup_writes 0x2800 0 (16 * config.rx) in
     let set : settings_of (bus.world b2).adapter ≡ settings_after_all (writes_before_rings config address groups vlans) old =
     filter.sets.settings
     ∙ ap (settings_after_all (table_writes 0x5200 groups ++ (table_writes 0x5600 vlans ++ address_writes address))) found.settings
@@ -173,8 +173,9 @@ finds-ring bus b0 b1 b2 b3 config size image had room found filter ring =
     filter.has_vlans.words filter.groups_are filter.vlans_are in
     let all = rings-last config address groups vlans filter.has_groups.words filter.has_vlans.words in
     let tables = table_writes 0x5200 groups ++ (table_writes 0x5600 vlans ++ address_writes address) in
-    let behind = all-right IsAside reset_writes (allocation_writes config.rxa ++ (link_writes ++ tables)) all in
-    let aside = all-right IsAside link_writes tables (all-right IsAside (allocation_writes config.rxa) (link_writes ++ tables) behind) in
+    let behind = all-right IsAside reset_writes (allocation_writes config.rxa ++ (enable_link_writes ++ tables)) all in
+    let aside = all-right IsAside enable_link_writes tables (all-right IsAside (allocation_writes config.rxa)
+    (enable_link_writes ++ tables) behind) in
     let rest = (filter.sets.rests aside found.rests).0 in
     let phy = link-first config address groups vlans filter.has_groups.words filter.has_vlans.words in
     let rings : HasNewRings config.rx (bus.world b2) = record {
@@ -205,22 +206,22 @@ finds-ring bus b0 b1 b2 b3 config size image had room found filter ring =
           ∙ ap (λ (bytes : List ℕ). settings_after_all (writes_before_rings config bytes groups vlans ++ receive) old) same;
     }
 
--- The whole.
+-- The whole initialization
 
 -- The mask is written after the transmit side is set up.
 pub settings-all : (config : Config) (slots : ℕ) (address groups vlans : List ℕ) (s0 s1 s2 s3 s4 s5 : Settings)
-    → s1 ≡ settings_after_all (writes_before_rings config address groups vlans ++ ring_writes 0x2800 0 (16 * config.rx)) s0
+    → s1 ≡ settings_after_all (writes_before_rings config address groups vlans ++ ring_setup_writes 0x2800 0 (16 * config.rx)) s0
     → s2 ≡ settings_after_all (write_at 0x2818 slots ∷ []) s1
     → s3 ≡ settings_after_all (receive_writes config.promiscuous (names_vlans config.vlans)) s2
-    → s4 ≡ settings_after_all (ring_writes 0x3800 (16 * config.rx) (16 * config.tx) ++ transmit_writes) s3
+    → s4 ≡ settings_after_all (ring_setup_writes 0x3800 (16 * config.rx) (16 * config.tx) ++ transmit_writes) s3
     → s5 ≡ settings_after_all mask_writes s4
     → s5 ≡ settings_after_all (writes_before_rings config address groups vlans ++ writes_offering config slots) s0
 settings-all config slots address groups vlans s0 s1 s2 s3 s4 s5 one two three four five =
     let before = writes_before_rings config address groups vlans in
-    let receive = ring_writes 0x2800 0 (16 * config.rx) in
+    let receive = ring_setup_writes 0x2800 0 (16 * config.rx) in
     let tail = write_at 0x2818 slots ∷ [] in
     let passing = receive_writes config.promiscuous (names_vlans config.vlans) in
-    let ring = ring_writes 0x3800 (16 * config.rx) (16 * config.tx) in
+    let ring = ring_setup_writes 0x3800 (16 * config.rx) (16 * config.tx) in
     let after : List Write → Settings → Settings = settings_after_all in
     five
     ∙ ap (after mask_writes) four
@@ -235,7 +236,7 @@ settings-all config slots address groups vlans s0 s1 s2 s3 s4 s5 one two three f
     (append_assoc before receive (tail ++ (passing ++ ((ring ++ transmit_writes) ++ mask_writes)))
     ∙ ap (λ (writes : List Write). before ++ (receive ++ (tail ++ (passing ++ writes)))) (append_assoc ring transmit_writes mask_writes))
 
--- The receive slots are offered, and all is quiet still, and the transmit ring new.
+-- The receive slots are offered, no frame has arrived, and the transmit ring has its reset values.
 pub stays-quiet : (counts : Counts) (numbers : List ℕ) (d d' : DriverState) (a b : World) (past : Past)
     → past.accesses ≡ first_accesses counts numbers
     → GoesTo false (driver_in d a) (driver_in d' b) (driver_did [] []) past → AreSet a b past → WhileOff a past → HasNoFrames d a
@@ -253,7 +254,7 @@ stays-quiet counts numbers d d' a b past only goes set off quiet new =
       ),
     )
 
--- The transmit ring is new when frames were let in, too.
+-- The transmit ring has its reset values after the receiver was enabled, too.
 pub new-still : (promiscuous by_vlan : Bool) (d : DriverState) (a b : World) (past : Past)
     → past.accesses ≡ accesses_of (receive_writes promiscuous by_vlan)
     → ReadyWith false d b → AreSet a b past → a.adapter.transmit_ring ≡ new_ring → b.adapter.transmit_ring ≡ new_ring
@@ -261,7 +262,7 @@ new-still promiscuous by_vlan d a b past only ready set new =
     new_transmit_ring_stays d a b past ready set
     (subst (All LeavesTransmitRing) (sym (ap writes_in only)) (control-leaves_transmits (receive_control promiscuous by_vlan))) new
 
--- From the write that lets frames in, up to the write of the mask.
+-- From the write of RCTL up to the write of IMS.
 record Counts-from (d : DriverState) (a b c : World) (first later : Past) : Type 0 where
   none_put : first.put ++ later.put ≡ []
   none_to_send : frames_to_send c ≡ []
@@ -296,20 +297,21 @@ none-finished d world ready none =
     (holds-none receive_buffer_bytes d.oldest_receive d.oldest_transmit world ready.law.sound (omega arith)
     ready.law.whole none).none_finished
 
--- The link stays up.
+-- The link remains up.
 link-up : (config : Config) (address groups vlans : List ℕ) → length groups ≡ 128 → length vlans ≡ 128
     → (w1 w2 w3 w4 w5 : World) (p2 p3 p4 p5 : Past)
     → writes_in p2.accesses ≡ write_at 0x2818 (config.rx - 1) ∷ []
     → writes_in p3.accesses ≡ receive_writes config.promiscuous (names_vlans config.vlans)
-    → writes_in p4.accesses ≡ ring_writes 0x3800 (16 * config.rx) (16 * config.tx) ++ transmit_writes → writes_in p5.accesses ≡ mask_writes
+    → writes_in p4.accesses ≡ ring_setup_writes 0x3800 (16 * config.rx) (16 * config.tx) ++ transmit_writes → writes_in p5.accesses
+    ≡ mask_writes
     → KeepsLink w1 w2 p2 → KeepsLink w2 w3 p3 → KeepsLink w3 w4 p4 → KeepsLink w4 w5 p5 → HasLink w1 → HasLink w5
 link-up config address groups vlans groups_whole vlans_whole w1 w2 w3 w4 w5 p2 p3 p4 p5 two three four five keeps2 keeps3 keeps4 keeps5 up =
     let tail = write_at 0x2818 (config.rx - 1) ∷ [] in
     let receives = receive_writes config.promiscuous (names_vlans config.vlans) in
-    let ring = ring_writes 0x3800 (16 * config.rx) (16 * config.tx) in
+    let ring = ring_setup_writes 0x3800 (16 * config.rx) (16 * config.tx) in
     let masked = transmit_writes ++ mask_writes in
     let all = (link-first config address groups vlans groups_whole vlans_whole).1 in
-    let from2 = all-right LeavesPhy (ring_writes 0x2800 0 (16 * config.rx)) (behind-receive config) all in
+    let from2 = all-right LeavesPhy (ring_setup_writes 0x2800 0 (16 * config.rx)) (behind-receive config) all in
     let from3 = all-right LeavesPhy tail (receives ++ (ring ++ masked)) from2 in
     let from4 = subst (All LeavesPhy) (sym (append_assoc ring transmit_writes mask_writes))
     (all-right LeavesPhy receives (ring ++ masked) from3) in
@@ -318,7 +320,7 @@ link-up config address groups vlans groups_whole vlans_whole w1 w2 w3 w4 w5 p2 p
     (keeps3 (subst (All LeavesPhy) (sym three) (all-left LeavesPhy receives (ring ++ masked) from3))
     (keeps2 (subst (All LeavesPhy) (sym two) (all-left LeavesPhy tail (receives ++ (ring ++ masked)) from2)) up)))
 
-pub initialises : {B : Type 0} (bus : Ghosts B) → StretchesJoin bus
+pub initialises : {B : Type 0} (bus : Ghosts B) → IntervalsJoin bus
     → (b0 b1 b2 b3 b4 b5 : B) (config : Config) (size : ℕ) (address : List ℕ) (groups : List (List ℕ)) (pool numbers : List ℕ)
     (d : DriverState) (past : Past) → CanBeHad config size
     → bus.happened b0 b1 past → HasFoundRing bus config address b0 b1 → RecordsNoCause past → length numbers + 1 ≡ config.rx
@@ -438,7 +440,7 @@ initialises bus joins b0 b1 b2 b3 b4 b5 config size address groups pool numbers 
       };
     }
 
--- Whether VLANs are named.
+-- Whether the configuration has a list of VLANs.
 pub vlans-named : (vlans : Option (ArrayVec ℕ 32 (Unit {0}))) → is_some vlans ≡ names_vlans vlans
 vlans-named None = refl
 vlans-named (Some list) = refl

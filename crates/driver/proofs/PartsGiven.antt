@@ -1,4 +1,4 @@
--- The buffers of pieces come back into the pool, one after the other.
+-- The buffers of pieces return to the pool, one by one.
 use Rattle.std.proofs.Common.{◌≡◌, ◌<◌, ◌+◌, ◌++◌, ◌∷◌, [], ℕ, List, refl, sym, ap, subst, ◌∙◌, arith}
 use Rattle.std.proofs.lemmas.List.{map-append}
 use Rattle.dma_memory.specs.Owners.{HasNoSecondOwner, HaveSameNumbers, copies}
@@ -6,13 +6,13 @@ use Rattle.dma_memory.specs.OwnersLaws.{below_from_if_below, copies-append, copi
 use Rattle.dma_memory.specs.Numbers.{Numbers}
 use Rattle.driver_law.proofs.Owners.{owners-count}
 use Rattle.driver_law.specs.DriverState.{owners}
-use Rattle.driver.specs.InsideDriver.{state_of}
+use Rattle.driver.specs.InsideDriver.{driver_state_of}
 use Rattle.driver.specs.Parts.{buffers_in}
 use Rattle.driver.specs.declared.driver.Driver.TheInside.{Inside}
 use Rattle.driver.proofs.BufferQueue.{Receives, queue-split}
 use Rattle.driver.specs.declared.parts.Part.{Part}
 
--- One more buffer goes back.
+-- One more buffer returns.
 buffers-count : (k : ℕ) (rest : List Part) (part : Part) (parts : List Part) (free : List ℕ) → parts ≡ rest ++ part ∷ []
     → copies k (buffers_in parts ++ free) ≡ copies k (buffers_in rest) + if_same k part.buffer + copies k free
 buffers-count k rest part parts free is =
@@ -43,15 +43,15 @@ part-given all rest part parts free free' is same given k =
       copies-cons k part.buffer free,
     )
 
--- Into the pool of a driver.
+-- Into the pool of a driver
 
-inside-count : (d : Inside) → Receives d → (k : ℕ) → copies k (owners (state_of d)) ≡ copies k d.pool.free + copies k d.buffers.items
+inside-count : (d : Inside) → Receives d → (k : ℕ) → copies k (owners (driver_state_of d)) ≡ copies k d.pool.free + copies k d.buffers.items
 inside-count d receives k =
-    let shown = state_of d in
+    let shown = driver_state_of d in
     omega (arith, owners-count k shown, copies-append k shown.buffers shown.staged, ap (copies k) (queue-split d receives).whole)
 
--- They are out, and have no second owner in the pool.
-pub parts-out : (d : Inside) (numbers : List ℕ) → Receives d → HasNoSecondOwner d.layout.buffers (numbers ++ owners (state_of d))
+-- The buffers aren't in the pool, and have no second owner.
+pub parts-out : (d : Inside) (numbers : List ℕ) → Receives d → HasNoSecondOwner d.layout.buffers (numbers ++ owners (driver_state_of d))
     → HasNoSecondOwner d.pool.buffers (numbers ++ d.pool.free)
 parts-out d numbers receives once =
     subst (λ (n : ℕ). HasNoSecondOwner n (numbers ++ d.pool.free)) (sym receives.buffers)
@@ -59,13 +59,13 @@ parts-out d numbers receives once =
     omega (
       arith,
       once k,
-      copies-append k numbers (owners (state_of d)),
+      copies-append k numbers (owners (driver_state_of d)),
       inside-count d receives k,
       copies-append k numbers d.pool.free,
     ))
 
 pub parts-inside : (d : Inside) (numbers : List ℕ) (pool : Numbers) → Receives d
-    → HasNoSecondOwner d.layout.buffers (numbers ++ owners (state_of d)) → HaveSameNumbers (numbers ++ d.pool.free) pool.free
+    → HasNoSecondOwner d.layout.buffers (numbers ++ owners (driver_state_of d)) → HaveSameNumbers (numbers ++ d.pool.free) pool.free
     → pool.buffers ≡ d.pool.buffers → Receives (record d { pool = pool })
 parts-inside d numbers pool receives once given count = record {
   oldest_slot = receives.oldest_slot;
@@ -79,7 +79,7 @@ parts-inside d numbers pool receives once given count = record {
         arith,
         once k,
         given k,
-        copies-append k numbers (owners (state_of d)),
+        copies-append k numbers (owners (driver_state_of d)),
         inside-count d receives k,
         copies-append k numbers d.pool.free,
         copies-append k pool.free d.buffers.items,

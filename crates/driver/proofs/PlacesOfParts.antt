@@ -1,4 +1,4 @@
--- The places of `Parts`: the pieces, and then empty places.
+-- The array of `Parts`: the pieces, and then empty places.
 use Rattle.std.proofs.Common.{true, false, ◌<◌, ◌≡◌, ◌≤◌, ◌+◌, ◌-◌, ◌++◌, ◌∷◌, [], ℕ, zero}
 use Rattle.std.proofs.Common.{suc, List, Option, Some, None, length, length-append, replicate, set, get_or, refl, sym, ap}
 use Rattle.std.proofs.Common.{◌∙◌, arith}
@@ -38,7 +38,7 @@ filled-last [] part (suc n) j d is = absurd (omega (arith, is))
 filled-last (first ∷ parts) part zero j d is = absurd (omega (arith, is))
 filled-last (first ∷ parts) part (suc n) j d is = filled-last parts part n j d (omega (arith, is))
 
--- All but the last, and the last.
+-- The pieces before the last, and the last piece.
 pub record HasLast (parts : List Part) (n : ℕ) : Type 0 where
   pub front : List Part
   pub last : Part
@@ -58,7 +58,7 @@ has_last (part ∷ second ∷ parts) (suc n) is =
       count = omega (arith, rest.count);
     }
 
--- The invariant, from the list that the places contain.
+-- The invariant, from the list of the pieces in the array.
 filled-is : (parts : List Part) (places : List (Option Part)) (count : ℕ) → places ≡ filled parts (6 - count) → length parts ≡ count
     → count ≤ 6 → IsFilled (record { places = places; count = count })
 filled-is parts places count is long most =
@@ -113,7 +113,7 @@ popped inside n filling some =
       parts = split.is ∙ ap (λ (list : List Part). list ++ split.last ∷ []) (sym (ap parts_in is ∙ parts_in-filled split.front (6 - n)));
     }
 
--- What a pop answers.
+-- The result of `pop`.
 pub pop-last : (inside : Inside) (n : ℕ) (entry : List Part) (result new d : Option Part) → IsFilled inside → inside.count ≡ n + 1
     → parts_in inside.places ≡ entry → result ≡ get_or inside.places n d → new ≡ None
     → IfSome result (λ part. entry ≡ parts_in (set inside.places n new) ++ part ∷ [])
@@ -129,7 +129,7 @@ pop-none inside n entry result d filling some value =
     let last : result ≡ Some gone.last = value ∙ gone.stood d in
     rw last tt
 
--- What `get` answers.
+-- The result of `get`.
 filled-some : (parts : List Part) (index k : ℕ) (d : Option Part) → index < length parts → is_some (get_or (filled parts k) index d) ≡ true
 filled-some [] index k d below = absurd (omega (arith, below))
 filled-some (part ∷ parts) zero k d below = refl

@@ -1,4 +1,4 @@
--- Slots are staged one after the other, and then offered.
+-- Slots are staged one by one, and then offered.
 use Rattle.std.proofs.Common.{◌≡◌, ◌+◌, ◌++◌, [], ℕ, List, length, refl, sym, ap, subst, ◌∙◌, append_assoc, length-append, arith}
 use Rattle.std.proofs.lemmas.List.{append-nil, map-append}
 use Rattle.std.specs.List.{All}
@@ -9,7 +9,7 @@ use Rattle.dma_memory.specs.Owners.{HaveSameNumbers, copies}
 use Rattle.dma_memory.specs.OwnersLaws.{copies-append}
 use Rattle.descriptors.specs.RingLaws.{place}
 use Rattle.bus.specs.Keeping.{Keeps}
-use Rattle.bus.specs.PastOfStretch.{Past, joined, nothing}
+use Rattle.bus.specs.Pasts.{Past, joined, nothing}
 use Rattle.bus.specs.declared.event.Access.{Access}
 use Rattle.driver_law.proofs.Accesses.{ran_by-itself, ran_by-same, ran_by-stays}
 use Rattle.driver_law.proofs.Calls.{ran-on, ready-on}
@@ -17,7 +17,7 @@ use Rattle.driver_law.proofs.Owners.{owners-count}
 use Rattle.driver_law.proofs.Places.{place-add}
 use Rattle.driver_law.proofs.ReceiveAccesses.{stores-append}
 use Rattle.driver_law.specs.Calls.{Moment, Ran, Runs, WhereReady, at, held_at, only, stores_from, tail_write}
-use Rattle.driver_law.specs.DriverState.{DriverState, HandedOut, holding, next_receive, numbers_of, owners, with_owners}
+use Rattle.driver_law.specs.DriverState.{DriverState, HandedOut, holding, next_receive, piece_numbers, owners, with_owners}
 use Rattle.driver_law.specs.ReadyDrivers.{Stands}
 use Rattle.bus.specs.declared.bus.Bus.{Ghosts}
 use Rattle.driver.specs.Parts.{buffers_in}
@@ -34,7 +34,7 @@ stages-none bus stays now =
       ran = λ up held is. ran_by-stays bus stays now.bus (holding held d) is.ready;
     }
 
--- The next place to store a descriptor, after slots were staged.
+-- The place of the next descriptor to store, after slots were staged.
 next-staged : {B : Type 0} (bus : Ghosts B) (a b : Moment B) (xs : List ℕ) → Stages bus xs a b
     → next_receive b.driver ≡ place a.driver.layout.rx (next_receive a.driver) (length xs)
 next-staged bus a b xs stages =
@@ -44,7 +44,7 @@ next-staged bus a b xs stages =
     ap next_receive stages.others ∙ ap (place d.layout.rx d.oldest_receive) count
     ∙ place-add d.layout.rx d.oldest_receive (length d.buffers + length d.staged) (length xs)
 
--- Some are, and then some.
+-- Some slots are staged, and then further slots.
 pub stages-join : {B : Type 0} (bus : Ghosts B)
     → ((a b c : B) (first later : Past) → bus.happened a b first → bus.happened b c later → bus.happened a c (joined first later))
     → (a b c : Moment B) (xs ys : List ℕ) → Keeps bus a.bus b.bus → Stages bus xs a b → Stages bus ys b c → Stages bus (xs ++ ys) a c
@@ -78,7 +78,7 @@ stages-join bus joins a b c xs ys keeps one two =
           subst (λ (list : List Access). Ran bus up (only list) (held_at held a) (held_at held c)) accesses (ran-on bus joins first second);
     }
 
--- And then they are offered.
+-- Staged slots are offered.
 pub refills : {B : Type 0} (bus : Ghosts B)
     → ((a b c : B) (first later : Past) → bus.happened a b first → bus.happened b c later → bus.happened a c (joined first later))
     → (a b c : Moment B) (xs : List ℕ) → Keeps bus a.bus b.bus → Stages bus xs a b
@@ -104,7 +104,7 @@ refills bus joins a b c xs keeps stages offered offers up held is =
           subst (λ (list : List Access). Ran bus up (only list) (held_at held a) (held_at held c)) accesses (ran-on bus joins first second);
     }
 
--- No buffer is lost or doubled.
+-- No buffer is lost or duplicated.
 pub owners-staged : {B : Type 0} (bus : Ghosts B) (a b : Moment B) (xs : List ℕ) → Stages bus xs a b
     → HaveSameNumbers (owners a.driver) (owners b.driver)
 owners-staged bus a b xs stages k =
@@ -114,7 +114,7 @@ owners-staged bus a b xs stages k =
     omega (arith, owners-count k d, owners-count k later, stages.pool k, copies-append k xs left, copies-append k d.staged xs)
     ∙ ap (λ (s : DriverState). copies k (owners s)) (sym stages.others)
 
--- Buffers come back, and then slots are offered.
+-- Buffers return to the pool, and then slots are offered.
 pub gives : {B : Type 0} (bus : Ghosts B) → ((b : B) → bus.happened b b nothing)
     → ((a b c : B) (first later : Past) → bus.happened a b first → bus.happened b c later → bus.happened a c (joined first later))
     → (a : B) (d1 d2 : DriverState) (c : Moment B) (parts : List Part) → d2 ≡ record d1 { pool = d2.pool }
@@ -127,17 +127,17 @@ gives {B} bus stays joins a d1 d2 c parts others back refilling up first pieces 
     let P = Stands d1.layout (bus.world a).memory in
     let stand : All P left = All-append P first later (all-left P first (pieces ++ later) is.ready.stand)
     (all-right P pieces later (all-right P first (pieces ++ later) is.ready.stand)) in
-    let moves : (k : ℕ) → copies k d2.pool + copies k (numbers_of left) ≡ copies k d1.pool + copies k (numbers_of before) = λ k.
+    let moves : (k : ℕ) → copies k d2.pool + copies k (piece_numbers left) ≡ copies k d1.pool + copies k (piece_numbers before) = λ k.
     omega (
       arith,
       back k,
       copies-append k (buffers_in parts) d1.pool,
       ap (copies k) (map-append number first later),
-      copies-append k (numbers_of first) (numbers_of later),
+      copies-append k (piece_numbers first) (piece_numbers later),
       ap (copies k) (map-append number first (pieces ++ later)),
-      copies-append k (numbers_of first) (numbers_of (pieces ++ later)),
+      copies-append k (piece_numbers first) (piece_numbers (pieces ++ later)),
       ap (copies k) (map-append number pieces later),
-      copies-append k (numbers_of pieces) (numbers_of later),
+      copies-append k (piece_numbers pieces) (piece_numbers later),
       ap (copies k) named,
     ) in
     let d2' : DriverState = record d1 { pool = d2.pool } in

@@ -1,9 +1,9 @@
--- A reset leaves each buffer its number of owners.
+-- A reset doesn't change the number of owners of a buffer.
 use Rattle.std.proofs.Common.{◌≡◌, ◌++◌, [], ℕ, List, ap, arith}
 use Rattle.dma_memory.specs.Owners.{HaveSameNumbers, copies}
 use Rattle.dma_memory.specs.OwnersLaws.{copies-append}
 use Rattle.driver_law.proofs.Owners.{owners-count}
-use Rattle.driver_law.specs.DriverState.{DriverState, HandedOut, numbers_of, owners, with_owners}
+use Rattle.driver_law.specs.DriverState.{DriverState, HandedOut, piece_numbers, owners, with_owners}
 
 pub reset-owners : (d0 d3 : DriverState) (pool numbers left : List ℕ) → d0.handed_out ≡ []
     → HaveSameNumbers (d0.pool ++ (d0.buffers ++ d0.staged)) pool → HaveSameNumbers pool (numbers ++ left)
@@ -12,7 +12,7 @@ reset-owners d0 d3 pool numbers left none free dealt k =
     omega (
       arith,
       owners-count k d0,
-      ap (λ (list : List HandedOut). copies k (numbers_of list)) none,
+      ap (λ (list : List HandedOut). copies k (piece_numbers list)) none,
       owners-count k (with_owners d3 numbers [] left []),
       copies-append k d0.pool (d0.buffers ++ d0.staged),
       copies-append k d0.buffers d0.staged,

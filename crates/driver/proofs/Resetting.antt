@@ -1,4 +1,4 @@
--- An adapter is reset in a run, step by step.
+-- A running adapter is reset, part by part.
 use Rattle.std.proofs.Common.{Bool, true, false, ◌≡◌, ◌≤◌, ◌<◌, ◌-◌, ◌*◌, ◌++◌, ◌∷◌, [], ℕ, List, length, map, inl}
 use Rattle.std.proofs.Common.{append_assoc, arith, refl, sym, ap, subst, ◌∙◌}
 use Rattle.std.specs.List.{All}
@@ -19,7 +19,7 @@ use Rattle.adapter.specs.declared.register.Register.TheVariants.{Ctrl, Pba, Rctl
 use Rattle.adapter.specs.declared.register.RingRegister.TheVariants.{Tail}
 use Rattle.bus.specs.AdaptersAtRest.{IsAtRest, NoFrame}
 use Rattle.bus.specs.Link.{HasLink, IsNotOfPhy, LeavesPhy}
-use Rattle.bus.specs.PastOfStretch.{Past, joined, nothing}
+use Rattle.bus.specs.Pasts.{Past, joined, nothing}
 use Rattle.bus.specs.Settings.{AreSet, IsNotReceiveControl, IsOff, LeavesReceiver, Settings, Write}
 use Rattle.bus.specs.Settings.{settings_after_all, settings_of, writes_in}
 use Rattle.bus.specs.declared.bus.Bus.{Ghosts}
@@ -28,7 +28,7 @@ use Rattle.bus.specs.declared.event.Access.TheVariants.{Writes}
 use Rattle.bus.proofs.Lists.{all-left, all-none, all-right, append-empty}
 use Rattle.bus.proofs.Settings.{settings-append, settings_join, writes-append}
 use Rattle.driver_law.proofs.Accesses.{follows-join}
-use Rattle.driver_law.proofs.Stretches.{misses-stay}
+use Rattle.driver_law.proofs.Intervals.{misses-stay}
 use Rattle.driver_law.specs.Calls.{IsRefilled, Ran, at, driver_in, only, stores_from, with_missed}
 use Rattle.driver_law.specs.DriverState.{DriverSetup, DriverState, receive_slot, with_owners}
 use Rattle.driver_law.specs.ReadyDrivers.{Ready, ReadyWith, Stands}
@@ -38,7 +38,7 @@ use Rattle.bring_up.proofs.DriverAccesses.{asked-still}
 use Rattle.bring_up.proofs.DriverResets.{rests-sets}
 use Rattle.bring_up.proofs.NoFrames.{clears-write_none, new_transmit_ring_stays, quiet_stays, stores-write_none}
 use Rattle.bring_up.proofs.RestingRings.{drivers_begin_again}
-use Rattle.bring_up.proofs.Steps.{StretchesJoin, no-frames}
+use Rattle.bring_up.proofs.Steps.{IntervalsJoin, no-frames}
 use Rattle.bring_up.proofs.WritesAtRest.{allocation-aside, link-aside}
 use Rattle.bring_up.proofs.WritesOf.{link-first, rings-last}
 use Rattle.bring_up.specs.ClearedDescriptors.{clears_from}
@@ -50,9 +50,9 @@ use Rattle.bring_up.specs.FilterSetting.{SetsFilter}
 use Rattle.bring_up.specs.FilterTables.{address_writes, table_writes}
 use Rattle.bring_up.specs.NoFrames.{LeavesTransmitRing}
 use Rattle.bring_up.specs.RestingRings.{HasNewRings, HasReceiveRing, SetsAtRest}
-use Rattle.bring_up.specs.RingRegisters.{receive_control, receive_writes, ring_writes, transmit_writes}
+use Rattle.bring_up.specs.RingRegisters.{receive_control, receive_writes, ring_setup_writes, transmit_writes}
 use Rattle.bring_up.specs.SettingSteps.{IsAside, Sets, SetsOnly}
-use Rattle.bring_up.specs.WrittenRegisters.{allocation_writes, link_writes, mask_writes, reset_writes, write_at}
+use Rattle.bring_up.specs.WrittenRegisters.{allocation_writes, enable_link_writes, mask_writes, reset_writes, write_at}
 use Rattle.bring_up.specs.declared.config.Config.{Config}
 use Rattle.driver.specs.Initialisation.{AreFilterTables, transmit_accesses}
 use Rattle.driver.specs.Resetting.{Resets, free_accesses, later_accesses, quiet_accesses, quiet_writes, stop_accesses}
@@ -65,7 +65,7 @@ joined-only : (first later : Past) (xs ys : List Access) → first.accesses ≡ 
 joined-only first later xs ys one two =
     ap (λ (list : List Access). list ++ later.accesses) one ∙ ap (λ (list : List Access). xs ++ list) two
 
--- What the accesses write.
+-- The register writes
 
 free-writes : (counts : Counts) (numbers : List ℕ) → writes_in (free_accesses counts numbers) ≡ write_at 0x2818 (length numbers) ∷ []
 free-writes counts numbers =
@@ -96,17 +96,17 @@ reset-leaves_receiver =
 tail-leaves_phy : (slot : ℕ) → All LeavesPhy (write_at 0x2818 slot ∷ [])
 tail-leaves_phy slot = phy-left (Receive Tail) slot tt (subst IsNotOfPhy (sym (register_at-there (Receive Tail) tt)) tt)
 
--- The filter's tables, with the address.
+-- The writes of the filter's tables and the address.
 abbrev tables_of : (address groups vlans : List ℕ) → List Write
 tables_of address groups vlans = table_writes 0x5200 groups ++ (table_writes 0x5600 vlans ++ address_writes address)
 
--- what initialization writes after the registers of the receive ring
+-- the writes of initialization after those of the receive ring
 abbrev behind_ring : Config → List Write
 behind_ring config =
     (write_at 0x2818 (config.rx - 1) ∷ []) ++ (receive_writes config.promiscuous (names_vlans config.vlans)
-    ++ (ring_writes 0x3800 (16 * config.rx) (16 * config.tx) ++ (transmit_writes ++ mask_writes)))
+    ++ (ring_setup_writes 0x3800 (16 * config.rx) (16 * config.tx) ++ (transmit_writes ++ mask_writes)))
 
--- From the reset to the receive ring's registers.
+-- From the reset to the writes of the receive ring
 
 record AgainAtRest {B : Type 0} (bus : Ghosts B) (config : Config) (again : DriverState) (address groups vlans : List ℕ) (start : Settings)
     (b3 b7 : B) (past : Past) : Type 0 where
@@ -117,10 +117,10 @@ record AgainAtRest {B : Type 0} (bus : Ghosts B) (config : Config) (again : Driv
   only : past.accesses ≡ quiet_writes (setup_of config address) (configured_counts config) groups vlans
   set : AreSet (bus.world b3) (bus.world b7) past
   behind : settings_of (bus.world b7).adapter ≡ settings_after_all
-      (writes_before_rings config address groups vlans ++ ring_writes 0x2800 0 (16 * config.rx)) start
+      (writes_before_rings config address groups vlans ++ ring_setup_writes 0x2800 0 (16 * config.rx)) start
   link : HasLink (bus.world b3) → HasLink (bus.world b7)
 
--- The driver stays without slots where memory is the same.
+-- A driver without slots remains so if memory is the same.
 rests-same : (d : DriverState) (a b : World) → b.memory ≡ a.memory → IsAtRest b → RestsWith d a → RestsWith d b
 rests-same d a b memory rest rests = record {
   rest = rest;
@@ -129,20 +129,20 @@ rests-same d a b memory rest rests = record {
   stand = subst (λ (bytes : List ℕ). All (Stands d.layout bytes) d.handed_out) (sym memory) rests.stand;
 }
 
--- what a step sets, by its accesses
+-- the settings after a call, by its accesses
 set-of : {B : Type 0} (bus : Ghosts B) (old new : B) (writes : List Write) (sets : Sets bus writes old new)
     → AreSet (bus.world old) (bus.world new) sets.past
 set-of bus old new writes sets =
     sets.settings ∙ ap (λ (list : List Write). settings_after_all list (settings_of (bus.world old).adapter)) (sym sets.writes_are)
 
-again-at-rest : {B : Type 0} (bus : Ghosts B) → StretchesJoin bus → (old b3 b4 b5 b6 b7 : B) (config : Config) (named : List (List ℕ))
+again-at-rest : {B : Type 0} (bus : Ghosts B) → IntervalsJoin bus → (old b3 b4 b5 b6 b7 : B) (config : Config) (named : List (List ℕ))
     (address : List ℕ) (size : ℕ) (again : DriverState) → CanBeHad config size → 16 * config.rx ≤ length (bus.world b3).memory
     → settings_of (bus.world b3).adapter ≡ settings_after_all reset_writes (settings_of (bus.world old).adapter)
     → RestsWith again (bus.world b3)
-    → (s4 : SetsOnly bus (allocation_writes config.rxa) b3 b4) → (s5 : SetsOnly bus link_writes b4 b5)
+    → (s4 : SetsOnly bus (allocation_writes config.rxa) b3 b4) → (s5 : SetsOnly bus enable_link_writes b4 b5)
     → (HasLink (bus.world b4) → HasLink (bus.world b5))
     → (s6 : SetsFilter bus named (vlans_of config.vlans) address b5 b6)
-    → (s7 : SetsAtRest bus (ring_writes 0x2800 0 (16 * config.rx)) (HasNewRings config.rx) (HasReceiveRing config.rx) b6 b7)
+    → (s7 : SetsAtRest bus (ring_setup_writes 0x2800 0 (16 * config.rx)) (HasNewRings config.rx) (HasReceiveRing config.rx) b6 b7)
     → AgainAtRest bus config again address s6.groups s6.vlans (settings_of (bus.world old).adapter) b3 b7
     (joined s4.sets.past (joined s5.sets.past (joined s6.sets.past s7.sets.past)))
 again-at-rest bus joins old b3 b4 b5 b6 b7 config named address size again had room set3 rests s4 s5 link5 s6 s7 =
@@ -153,14 +153,15 @@ again-at-rest bus joins old b3 b4 b5 b6 b7 config named address size again had r
     let tables = tables_of address groups vlans in
     let after : List Write → Settings → Settings = settings_after_all in
     let all = rings-last config address groups vlans s6.has_groups.words s6.has_vlans.words in
-    let behind = all-right IsAside reset_writes (allocation_writes config.rxa ++ (link_writes ++ tables)) all in
-    let aside = all-right IsAside link_writes tables (all-right IsAside (allocation_writes config.rxa) (link_writes ++ tables) behind) in
+    let behind = all-right IsAside reset_writes (allocation_writes config.rxa ++ (enable_link_writes ++ tables)) all in
+    let aside = all-right IsAside enable_link_writes tables (all-right IsAside (allocation_writes config.rxa)
+    (enable_link_writes ++ tables) behind) in
     let p4 = s4.sets.past in
     let p5 = s5.sets.past in
     let p6 = s6.sets.past in
     let p7 = s7.sets.past in
     let r4 = rests-sets bus b3 b4 (allocation_writes config.rxa) again s4.sets (allocation-aside config.rxa) rests in
-    let r5 = rests-sets bus b4 b5 link_writes again s5.sets link-aside r4 in
+    let r5 = rests-sets bus b4 b5 enable_link_writes again s5.sets link-aside r4 in
     let r6 = rests-sets bus b5 b6 tables again s6.sets aside r5 in
     let f4 = (s4.sets.rests (allocation-aside config.rxa) rests.rest).1 in
     let f5 = (s5.sets.rests link-aside r4.rest).1 in
@@ -168,14 +169,14 @@ again-at-rest bus joins old b3 b4 b5 b6 b7 config named address size again had r
     let memory6 : (world b6).memory ≡ (world b3).memory =
     s6.sets.memory aside r5.rest ∙ s5.sets.memory link-aside r4.rest ∙ s4.sets.memory (allocation-aside config.rxa) rests.rest in
     let set6 : settings_of (world b6).adapter
-    ≡ after tables (after link_writes (after (allocation_writes config.rxa) (after reset_writes start))) =
-    s6.sets.settings ∙ ap (after tables) (s5.sets.settings ∙ ap (after link_writes)
+    ≡ after tables (after enable_link_writes (after (allocation_writes config.rxa) (after reset_writes start))) =
+    s6.sets.settings ∙ ap (after tables) (s5.sets.settings ∙ ap (after enable_link_writes)
     (s4.sets.settings ∙ ap (after (allocation_writes config.rxa)) set3)) in
     let whole6 : settings_of (world b6).adapter ≡ after (writes_before_rings config address groups vlans) start =
     set6
-    ∙ sym (settings-append link_writes tables (after (allocation_writes config.rxa) (after reset_writes start)))
-    ∙ sym (settings-append (allocation_writes config.rxa) (link_writes ++ tables) (after reset_writes start))
-    ∙ sym (settings-append reset_writes (allocation_writes config.rxa ++ (link_writes ++ tables)) start) in
+    ∙ sym (settings-append enable_link_writes tables (after (allocation_writes config.rxa) (after reset_writes start)))
+    ∙ sym (settings-append (allocation_writes config.rxa) (enable_link_writes ++ tables) (after reset_writes start))
+    ∙ sym (settings-append reset_writes (allocation_writes config.rxa ++ (enable_link_writes ++ tables)) start) in
     let whole = whole6 ∙ before-rings config address groups vlans size start had s6.address_is s6.has_groups.words
     s6.has_vlans.words s6.groups_are s6.vlans_are in
     let rest6 = r6.rest in
@@ -197,19 +198,19 @@ again-at-rest bus joins old b3 b4 b5 b6 b7 config named address size again had r
           (joins b5 b6 b7 p6 p7 s6.sets.reports s7.sets.reports));
       only = rw (s4.only, s5.only, s6.only, s7.only) refl;
       set = settings_join (world b3) (world b4) (world b7) p4 (joined p5 last) (set-of bus b3 b4 (allocation_writes config.rxa) s4.sets)
-          (settings_join (world b4) (world b5) (world b7) p5 last (set-of bus b4 b5 link_writes s5.sets)
+          (settings_join (world b4) (world b5) (world b7) p5 last (set-of bus b4 b5 enable_link_writes s5.sets)
           (settings_join (world b5) (world b6) (world b7) p6 p7 (set-of bus b5 b6 tables s6.sets)
-          (set-of bus b6 b7 (ring_writes 0x2800 0 (16 * config.rx)) s7.sets)));
-      behind = s7.sets.settings ∙ ap (after (ring_writes 0x2800 0 (16 * config.rx))) whole6
-          ∙ sym (settings-append (writes_before_rings config address groups vlans) (ring_writes 0x2800 0 (16 * config.rx)) start);
+          (set-of bus b6 b7 (ring_setup_writes 0x2800 0 (16 * config.rx)) s7.sets)));
+      behind = s7.sets.settings ∙ ap (after (ring_setup_writes 0x2800 0 (16 * config.rx))) whole6
+          ∙ sym (settings-append (writes_before_rings config address groups vlans) (ring_setup_writes 0x2800 0 (16 * config.rx)) start);
       link = λ up.
-          s7.sets.link (all-left LeavesPhy (ring_writes 0x2800 0 (16 * config.rx)) (behind_ring config) phy.1)
+          s7.sets.link (all-left LeavesPhy (ring_setup_writes 0x2800 0 (16 * config.rx)) (behind_ring config) phy.1)
           (s6.sets.link phy.0 (link5 (s4.sets.link (allocation-leaves_phy config.rxa) up)));
     }
 
--- The whole.
+-- The whole reset
 
--- the filter when all is written
+-- the filter after all writes
 abbrev filter_set : Config → (address groups vlans : List ℕ) → FilterRegisters
 filter_set config address groups vlans = record (filter_written address groups vlans)
     { rctl = receive_control config.promiscuous (names_vlans config.vlans) }
@@ -218,7 +219,7 @@ set-by : (a b : World) (past : Past) (writes : List Write) → AreSet a b past �
     → settings_of b.adapter ≡ settings_after_all writes (settings_of a.adapter)
 set-by a b past writes set are = set ∙ ap (λ (list : List Write). settings_after_all list (settings_of a.adapter)) are
 
-pub resets-all : {B : Type 0} (bus : Ghosts B) → StretchesJoin bus → (up : Bool) (b0 b2 b3 b4 b5 b6 b7 b8 b9 b10 b11 : B)
+pub resets-all : {B : Type 0} (bus : Ghosts B) → IntervalsJoin bus → (up : Bool) (b0 b2 b3 b4 b5 b6 b7 b8 b9 b10 b11 : B)
     (config : Config) (address : List ℕ) (size v : ℕ) (e0 : DriverState) (pool numbers left : List ℕ)
     → (let e2 = with_missed v e0 in
     let again = reset_driver pool e2 in
@@ -229,10 +230,10 @@ pub resets-all : {B : Type 0} (bus : Ghosts B) → StretchesJoin bus → (up : B
     → IsOff (bus.world b2) → (bus.world b2).adapter.missed_packets ≡ 0
     → (resets : ResetsDriver bus up pool e2 b2 b3)
     → settings_of (bus.world b3).adapter ≡ settings_after_all reset_writes (settings_of (bus.world b2).adapter)
-    → SetsOnly bus (allocation_writes config.rxa) b3 b4 → SetsOnly bus link_writes b4 b5
+    → SetsOnly bus (allocation_writes config.rxa) b3 b4 → SetsOnly bus enable_link_writes b4 b5
     → (HasLink (bus.world b4) → HasLink (bus.world b5))
     → SetsFilter bus e0.groups (vlans_of config.vlans) address b5 b6
-    → SetsAtRest bus (ring_writes 0x2800 0 (16 * config.rx)) (HasNewRings config.rx) (HasReceiveRing config.rx) b6 b7
+    → SetsAtRest bus (ring_setup_writes 0x2800 0 (16 * config.rx)) (HasNewRings config.rx) (HasReceiveRing config.rx) b6 b7
     → HaveSameNumbers pool (numbers ++ left) → IsRefilled e8
     → (ReadyWith false again (bus.world b7)
     → Ran bus false (only (free_accesses (configured_counts config) numbers)) (at b7 again) (at b8 e8))
@@ -314,7 +315,8 @@ resets-all bus joins up b0 b2 b3 b4 b5 b6 b7 b8 b9 b10 b11 config address size v
     ready.behind (set-by (world b7) (world b8) first.past (write_at 0x2818 k ∷ []) first.follows.set writes8)
     (set-by (world b8) (world b9) lets.ran.past (receive_writes config.promiscuous (names_vlans config.vlans)) lets.ran.follows.set
     (ap writes_in lets.ran.only))
-    (set-by (world b9) (world b10) sends.past (ring_writes 0x3800 (16 * config.rx) (16 * config.tx) ++ transmit_writes) sends.follows.set
+    (set-by (world b9) (world b10) sends.past (ring_setup_writes 0x3800 (16 * config.rx) (16 * config.tx) ++ transmit_writes)
+    sends.follows.set
     (ap writes_in sends.only ∙ transmit-writes counts))
     (set-by (world b10) (world b11) masks.accessed.past mask_writes masks.accessed.follows.set (ap writes_in masks.accessed.only))
     ∙ all-set config address s6.groups s6.vlans size k (settings_of (world b2).adapter) had fits s6.address_is s6.has_groups.words
@@ -322,10 +324,10 @@ resets-all bus joins up b0 b2 b3 b4 b5 b6 b7 b8 b9 b10 b11 config address size v
     let filter : (world b11).adapter.filter ≡ filter_set config address s6.groups s6.vlans =
     ap (λ (settings : Settings). settings.filter) set11 in
     let phy = (link-first config address s6.groups s6.vlans s6.has_groups.words s6.has_vlans.words).1 in
-    let ring_first = ring_writes 0x2800 0 (16 * config.rx) in
+    let ring_first = ring_setup_writes 0x2800 0 (16 * config.rx) in
     let tail_first = write_at 0x2818 (config.rx - 1) ∷ [] in
     let receives = receive_writes config.promiscuous (names_vlans config.vlans) in
-    let ring_last = ring_writes 0x3800 (16 * config.rx) (16 * config.tx) in
+    let ring_last = ring_setup_writes 0x3800 (16 * config.rx) (16 * config.tx) in
     let masked = transmit_writes ++ mask_writes in
     let from2 = all-right LeavesPhy ring_first (tail_first ++ (receives ++ (ring_last ++ masked))) phy in
     let from3 = all-right LeavesPhy tail_first (receives ++ (ring_last ++ masked)) from2 in

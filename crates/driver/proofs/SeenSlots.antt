@@ -22,7 +22,7 @@ use Rattle.adapter.specs.HostFrames.{finished_pieces, piece_in, pieces_in_slots}
 use Rattle.adapter.specs.Slots.{finished, in_work as slot_in_work, offered}
 use Rattle.adapter.specs.World.{World, receive_ring}
 use Rattle.bus.proofs.Lists.{all-head, all-left, all-none, all-right, all-weaker}
-use Rattle.bus.specs.PastOfStretch.{Past, joined, nothing}
+use Rattle.bus.specs.Pasts.{Past, joined, nothing}
 use Rattle.bus.specs.declared.bus.Bus.{Ghosts}
 use Rattle.bus.specs.declared.event.Access.{Access}
 use Rattle.driver_law.proofs.Accesses.{ran_by-stays}
@@ -100,7 +100,7 @@ none-ends pieces run sees few =
     ap frames_of (sees.is ∙ ap (λ (later : List Piece). parts sees.seen ++ later) none ∙ append-nil (parts sees.seen))
     ∙ frames-parts [] sees.seen
 
--- The next slot is finished.
+-- The next slot is finished
 
 pub record NextSeen (pieces : List Piece) (seen : List (List ℕ)) (desc : RxDesc) : Type 0 where
   pub bytes : List ℕ
@@ -133,7 +133,7 @@ next-seen pieces run desc cut sees shown =
       sound = record { no_errors = shown.has_no_errors; size = part-size (ends desc) desc.length shown.bytes shown.size own };
     }
 
--- One more slot in a run.
+-- One more slot in a run
 
 pub record IsAdded (run run' : Run) (desc : RxDesc) : Type 0 where
   pub lengths : take run'.count run'.lengths ≡ take run.count run.lengths ++ desc.length ∷ []
@@ -155,7 +155,7 @@ sum-added run run' desc added is =
     added.length_is ∙ ap (λ (n : ℕ). n + desc.length) is
     ∙ sym (ap sum added.lengths ∙ sum_by_push (λ (n : ℕ). n) (take run.count run.lengths) desc.length)
 
--- Each slot of a whole frame before its last is full.
+-- Each slot of a whole frame before its last is full
 
 pub full-none : (run : Run) → run.count ≡ 0 → AreFull (take run.count run.lengths)
 full-none run none = subst (λ (n : ℕ). AreFull (take n run.lengths)) (sym none) (all-none (λ (size : ℕ). size ≡ receive_buffer_bytes))
@@ -178,7 +178,7 @@ fills-added run run' desc added last sound full = record {
   last_is = subst (λ (ends : Bool). IsPartSize ends desc.length) last sound.size;
 }
 
--- What fills its buffers fits into them.
+-- Pieces that fill their buffers fit into them.
 pub fills-fit : (sizes : List ℕ) → FillBuffers sizes → FitIntoBuffers sizes
 fills-fit sizes fills =
     let Fits : ℕ → Type 0 = λ size. size ≤ receive_buffer_bytes in
@@ -203,7 +203,7 @@ lengths-more seen run run' desc bytes lengths added is =
     added.lengths ∙ ap (λ (list : List ℕ). list ++ desc.length ∷ []) lengths
     ∙ ap (λ (n : ℕ). map length seen ++ n ∷ []) is ∙ sym (map-append length seen (bytes ∷ []))
 
--- Its frame goes on.
+-- No frame ends in the slot.
 pub sees-more : (pieces : List Piece) (run run' : Run) (desc : RxDesc) → (sees : Sees pieces run) → NextSeen pieces sees.seen desc
     → IsAdded run run' desc → ends desc ≡ false → IsTrue run'.whole → Sees pieces run'
 sees-more pieces run run' desc sees next added part whole =
@@ -226,7 +226,7 @@ sees-more pieces run run' desc sees next added part whole =
       whole = whole;
     }
 
--- It ends.
+-- A frame ends in the slot.
 pub sees-frame : (pieces : List Piece) (run run' : Run) (desc : RxDesc) → (sees : Sees pieces run) → NextSeen pieces sees.seen desc
     → IsAdded run run' desc → ends desc ≡ true → SeesFrame pieces run'
 sees-frame pieces run run' desc sees next added last =
@@ -242,9 +242,9 @@ sees-frame pieces run run' desc sees next added last =
       length_is = omega (arith, added.length_is, sees.length_is, next.size, length-append (concat seen) bytes);
     }
 
--- In a world in which the driver is ready.
+-- In a world in which the driver is ready
 
--- Finished pieces are cut to the size of the buffers.
+-- Finished pieces are split by the size of the buffers.
 pub finished-cut : {up : Bool} (d : DriverState) (world : World) → ReadyWith up d world
     → All (IsCut receive_buffer_bytes) (finished_pieces d.oldest_receive world)
 finished-cut d world ready =
@@ -286,7 +286,7 @@ frame-legal d world run ready sees =
     (subst (λ (list : List (List ℕ)). All IsLegal list) frames ready.law.whole.legal) in
     record { least = omega (arith, sees.length_is, legal.least); most = omega (arith, sees.length_is, legal.most) }
 
--- Over a bus.
+-- Over a bus
 
 -- The descriptors of the slots that were seen were loaded.
 pub record SeesSlots {B : Type 0} (bus : Ghosts B) (run : Run) (up : Bool) (d : DriverState) (old new : B) : Type 0 where
@@ -328,7 +328,7 @@ next-shown bus run desc d a c next done =
     next-seen pieces run desc (finished-cut d (bus.world c) next.ran.goes.flows.ready) next.sees
     (subst (λ (bit : Bool). ShowsSlot bit run.count pieces desc) done next.shows)
 
--- It isn't.
+-- The next slot isn't finished.
 pub finds-unfinished : {up : Bool} {B : Type 0} (bus : Ghosts B) (run : Run) (desc : RxDesc) (d : DriverState) (a c : B)
     → LoadsNext bus run desc up d a c → is_set (status_bits desc.status) dd ≡ false → run.count < length d.buffers
     → FindsNoFrame bus up (at a d) (at c d)
@@ -384,7 +384,7 @@ finds-frame {up} bus run run' desc d a c next shown added last whole =
       ran = subst (λ (n : ℕ). Ran bus up (only (receive_loads d.layout d.oldest_receive n)) (at a d) (at c d)) (sym added.count) next.ran;
     }
 
--- None ends in it.
+-- No frame ends in the next slot.
 pub sees_slots-more : {up : Bool} {B : Type 0} (bus : Ghosts B) (run run' : Run) (desc : RxDesc) (d : DriverState) (a c : B)
     → (next : LoadsNext bus run desc up d a c) → NextSeen (finished_pieces d.oldest_receive (bus.world c)) next.sees.seen desc
     → IsAdded run run' desc → ends desc ≡ false → IsTrue run'.whole → SeesSlots bus run' up d a c

@@ -3,19 +3,19 @@ use Rattle.std.proofs.Common.{true, ◌≡◌, ◌<◌, ◌+◌, ◌-◌, Err, O
 use Rattle.dma_memory.specs.Layout.{Counts}
 use Rattle.descriptors.specs.RingLaws.{place}
 use Rattle.adapter.specs.Slots.{written_back}
-use Rattle.bus.specs.PastOfStretch.{Past, joined}
+use Rattle.bus.specs.Pasts.{Past, joined}
 use Rattle.bus.specs.declared.bus.Bus.{Ghosts}
 use Rattle.bus.specs.declared.event.Access.{Access}
 use Rattle.bus.specs.declared.event.Access.TheVariants.{Stores, Writes}
 use Rattle.driver_law.proofs.Calls.{ran-on}
 use Rattle.driver_law.proofs.Places.{place-below, place-next, place-same}
 use Rattle.driver_law.specs.DriverState.{DriverState, transmit_slot, transmit_tail}
-use Rattle.driver_law.specs.Calls.{IsReady, Moment, Ran, send_accesses, transmit_buffer, whole_descriptor}
+use Rattle.driver_law.specs.Calls.{IsReadyOver, Moment, Ran, send_accesses, transmit_buffer, whole_descriptor}
 use Rattle.driver.specs.InsideDriver.{IsSending}
 use Rattle.driver.specs.SendSteps.{IsTransmitAnswer, Reclaims, Sends, accesses_by, loads_to_free, sent_now, with_transmit_slots}
 use Rattle.driver.specs.declared.transmit.SendError.TheVariants.{RingFull}
 
--- The place that is sent by.
+-- The slot of the frame
 
 pub next-slot : (counts : Counts) (oldest next sending : ℕ) → IsSending counts oldest next sending → next < counts.tx
 next-slot counts oldest next sending sends = let below = place-below counts.tx oldest sending sends.oldest_slot in omega
@@ -29,8 +29,8 @@ sending-more counts oldest next sending room sends = record {
   next_slot = ap (λ (slot : ℕ). (slot + 1) % counts.tx) sends.next_slot ∙ sym (place-next counts.tx oldest sending);
 }
 
--- A ring that is full after the freeing was full before it, with no slot written back. So no slot was freed.
-pub was-full : {B : Type 0} (bus : Ghosts B) (old new : Moment B) → IsReady bus true old → Reclaims bus old new
+-- If the ring is full after slots were freed, it was full before with no slot written back, and no slot was freed.
+pub was-full : {B : Type 0} (bus : Ghosts B) (old new : Moment B) → IsReadyOver bus true old → Reclaims bus old new
     → new.driver ≡ with_transmit_slots old.driver new.driver.oldest_transmit new.driver.sending
     → transmit_tail new.driver ≡ transmit_tail old.driver
     → new.driver.sending + 1 ≡ old.driver.layout.tx → IsTransmitAnswer bus (Err RingFull) old new
@@ -69,7 +69,7 @@ sends-same d d' frame counts tail =
     (whole_descriptor (transmit_buffer layout slot) (length frame)) ∷ Writes 0x3818 ((slot + 1) % layout.tx) ∷ [] in
     ap (λ (layout : Counts). at layout (transmit_tail d')) counts ∙ ap (at d.layout) tail
 
--- Slots are freed, and then it is sent.
+-- Slots are freed, and then the frame is sent.
 pub frees-and-sends : {B : Type 0} (bus : Ghosts B)
     → ((a b c : B) (first later : Past) → bus.happened a b first → bus.happened b c later → bus.happened a c (joined first later))
     → (a b c : Moment B) (frame : List ℕ) → b.driver ≡ with_transmit_slots a.driver b.driver.oldest_transmit b.driver.sending

@@ -1,4 +1,4 @@
--- Runs are passed on, one after the other: each is shown to the receiver, or its buffers go back to the pool.
+-- Runs are passed on, one by one: each is shown to the receiver, or its buffers return to the pool.
 use Rattle.std.proofs.Common.{Bool, true, false, not, cond, inl, inr, ◌≡◌, ◌≤◌, ◌<◌, ◌+◌, ◌⊎◌, ◌++◌, ◌∷◌, [], ℕ, List, length, map}
 use Rattle.std.proofs.Common.{IsTrue, refl, sym, ap, subst, ◌∙◌, append_assoc, length-append, arith}
 use Rattle.std.specs.List.{All, filter}
@@ -14,11 +14,22 @@ use Rattle.dma_memory.specs.OwnersLaws.{copies-append, copies-itself, known_from
 use Rattle.bus.proofs.Lists.{all-head, all-none, all-tail}
 use Rattle.driver_law.proofs.Owners.{all-copies, owners-count}
 use Rattle.driver_law.specs.Calls.{OffersAll, with_missed}
-use Rattle.driver_law.specs.DriverState.{DriverState, HandedOut, holding, numbers_of, owners, with_owners}
-use Rattle.driver.specs.Answers.{Answers}
-use Rattle.driver.specs.HandlerSteps.{GrowsBy, HandsOn, IsPart, IsRun, LeavesRing, RunOfSlots, Serves, ServesRing, Shows, ShowsAll}
+use Rattle.driver_law.specs.DriverState.{DriverState, HandedOut, holding, piece_numbers, owners, with_owners}
+use Rattle.driver.specs.Answers.{ReceiverAnswers}
+use Rattle.driver.specs.HandlerSteps.{
+  GrowsBy,
+  PassesOn,
+  IsSublist,
+  IsRun,
+  LeavesRing,
+  RunOfSlots,
+  ServesReceiver,
+  ServesRing,
+  Shows,
+  ShowsAll,
+}
 use Rattle.driver.specs.HandlerSteps.{ShowsRuns, TakesSlots}
-use Rattle.driver.specs.HandlerSteps.{bad_runs, part_none, part_with, part_without, run_buffers, run_of, whole_frames}
+use Rattle.driver.specs.HandlerSteps.{bad_runs, part_none, part_with, part_without, run_buffers, run_with, whole_frames}
 use Rattle.driver.specs.Parts.{FillBuffers, IsWholeFrame, buffers_in, buffers_of, lengths_in}
 use Rattle.driver.specs.RefillSteps.{OffersAfter}
 use Rattle.driver.specs.declared.look.Run.{Run}
@@ -26,11 +37,11 @@ use Rattle.driver.specs.declared.parts.Part.{Part}
 use Rattle.driver.specs.declared.receiver.Received.{Received}
 use Rattle.driver.specs.declared.receiver.Receiver.{Ghosts as OfReceiver}
 
--- What a receiver answers.
+-- The result of a receiver
 
--- No buffer that comes back has another owner.
+-- No buffer that is returned has another owner.
 pub answer-owners : {R : Type 0} (took : R → R → List Received → List Received → Type 0) (before after : R) (received : Received)
-    (back : List Part) (n : ℕ) (others : List ℕ) → Answers took before after received back
+    (back : List Part) (n : ℕ) (others : List ℕ) → ReceiverAnswers took before after received back
     → HasNoSecondOwner n (buffers_in received.parts ++ others) → HasNoSecondOwner n (buffers_in back ++ others)
 answer-owners took before after received back n others (inl kept) once = λ k.
     omega (
@@ -43,7 +54,8 @@ answer-owners took before after received back n others (inr returned) once =
     subst (λ (list : List Part). HasNoSecondOwner n (buffers_in list ++ others)) (sym returned.0) once
 
 pub answer-shown : {R : Type 0} (took : R → R → List Received → List Received → Type 0) (before after : R) (received : Received)
-    (back : List Part) (pool pool' : List ℕ) → Answers took before after received back → HaveSameNumbers (buffers_in back ++ pool) pool'
+    (back : List Part) (pool pool' : List ℕ) → ReceiverAnswers took before after received back
+    → HaveSameNumbers (buffers_in back ++ pool) pool'
     → Shows took before after received pool pool'
 answer-shown took before after received back pool pool' (inl kept) given = record {
   kept = received ∷ [];
@@ -67,16 +79,16 @@ answer-shown took before after received back pool pool' (inr returned) given = r
       ap (λ (list : List Part). copies k (buffers_in list ++ pool)) (sym returned.0) ∙ given k ∙ ap (copies k) (sym (append-nil pool'));
 }
 
--- A run is passed on.
+-- A run is passed on
 
--- A frame is kept, or it isn't.
-kept-part : (received : Received) (kept : List Received) → (kept ≡ []) ⊎ (kept ≡ received ∷ []) → IsPart kept (received ∷ [])
-kept-part received kept (inl none) = subst (λ (list : List Received). IsPart list (received ∷ [])) (sym none) (part_without part_none)
-kept-part received kept (inr one) = subst (λ (list : List Received). IsPart list (received ∷ [])) (sym one) (part_with part_none)
+-- A frame is kept or not.
+kept-part : (received : Received) (kept : List Received) → (kept ≡ []) ⊎ (kept ≡ received ∷ []) → IsSublist kept (received ∷ [])
+kept-part received kept (inl none) = subst (λ (list : List Received). IsSublist list (received ∷ [])) (sym none) (part_without part_none)
+kept-part received kept (inr one) = subst (λ (list : List Received). IsSublist list (received ∷ [])) (sym one) (part_with part_none)
 
 pub hands-shown : {R : Type 0} (took : R → R → List Received → List Received → Type 0) (before after : R) (received : Received)
     (d d' : DriverState) → IsWholeFrame received → Shows took before after received d.pool d'.pool → d'.bad ≡ d.bad
-    → HandsOn took before after (run_of received.parts true) d d'
+    → PassesOn took before after (run_with received.parts true) d d'
 hands-shown took before after received d d' whole shows bad = record {
   shows = record {
     receiver = record {
@@ -104,10 +116,10 @@ shows-no_frame took stays r runs none = record {
 
 pub hands-bad : {R : Type 0} (took : R → R → List Received → List Received → Type 0) → ((r : R) → took r r [] []) → (r : R)
     (parts : List Part) (d d' : DriverState) → GrowsBy d.bad d'.bad 1 → HaveSameNumbers (buffers_in parts ++ d.pool) d'.pool
-    → HandsOn took r r (run_of parts false) d d'
+    → PassesOn took r r (run_with parts false) d d'
 hands-bad took stays r parts d d' bad back = record {
   shows = record {
-    receiver = shows-no_frame took stays r (run_of parts false ∷ []) refl;
+    receiver = shows-no_frame took stays r (run_with parts false ∷ []) refl;
     buffers = λ k.
         ap (λ (list : List ℕ). copies k (list ++ d.pool)) (append-nil (buffers_in parts)) ∙ back k
         ∙ ap (copies k) (sym (append-nil d'.pool));
@@ -121,7 +133,7 @@ known-all n numbers others once =
     all-copies (λ (number : ℕ). number < n) numbers
     (λ m some. known_from_no_second n m (numbers ++ others) once (omega (arith, some, copies-append m numbers others)))
 
--- One run after the other.
+-- Several runs
 
 -- Two counts of bad runs.
 grows : (a b c m n : ℕ) → GrowsBy a b m → GrowsBy b c n → GrowsBy a c (m + n)
@@ -141,19 +153,20 @@ shows-none took stays r pool = record {
   buffers = λ k. ap (copies k) (sym (append-nil pool));
 }
 
--- The buffers of runs, one run after the other.
+-- The buffers of two lists of runs.
 run-buffers-append : (runs later : List RunOfSlots) → run_buffers (runs ++ later) ≡ run_buffers runs ++ run_buffers later
 run-buffers-append runs later = flat_map-append (λ (run : RunOfSlots). buffers_in run.parts) runs later
 
--- Their whole frames.
+-- The whole frames of two lists of runs.
 whole-frames-append : (runs later : List RunOfSlots) → whole_frames (runs ++ later) ≡ whole_frames runs ++ whole_frames later
 whole-frames-append runs later =
     let whole : RunOfSlots → Bool = λ run. run.whole in
     let parts : RunOfSlots → List Part = λ run. run.parts in
     ap (map parts) (filter-append whole runs later) ∙ map-append parts (filter whole runs) (filter whole later)
 
--- Parts of two lists, one after the other.
-pub part-append : {X : Type 0} {some all later more : List X} → IsPart some all → IsPart later more → IsPart (some ++ later) (all ++ more)
+-- `IsSublist` of two lists joins.
+pub part-append : {X : Type 0} {some all later more : List X} → IsSublist some all → IsSublist later more
+    → IsSublist (some ++ later) (all ++ more)
 part-append part_none behind = behind
 part-append (part_with first) behind = part_with (part-append first behind)
 part-append (part_without first) behind = part_without (part-append first behind)
@@ -200,7 +213,7 @@ shows-more took also r s t runs later pool1 pool2 pool3 one two =
           );
     }
 
--- Runs leave the ring.
+-- Runs leave the ring
 
 pub slots-none : {R : Type 0} (receivers : OfReceiver R) → ((r : R) → receivers.took r r [] []) → (r : R) (d : DriverState)
     → TakesSlots receivers 0 r r d d
@@ -220,14 +233,14 @@ pub slots-next : {R : Type 0} (receivers : OfReceiver R)
     → ((a b c : R) (shown kept later more : List Received) → receivers.took a b shown kept → receivers.took b c later more
     → receivers.took a c (shown ++ later) (kept ++ more))
     → (r s t : R) (d1 d2 d3 d4 : DriverState) (n m : ℕ) (run : Run) (parts : List Part) (whole : Bool)
-    → n + length (whole_frames (run_of parts whole ∷ [])) ≡ m → length (buffers_in parts) ≡ run.count → 1 ≤ run.count → run.count ≤ 6
+    → n + length (whole_frames (run_with parts whole ∷ [])) ≡ m → length (buffers_in parts) ≡ run.count → 1 ≤ run.count → run.count ≤ 6
     → (IsTrue whole → FillBuffers (lengths_in parts)) → TakesSlots receivers n r s d1 d2 → LeavesRing run parts d2 d3
     → d4 ≡ record d3 { pool = d4.pool; bad = d4.bad }
-    → HandsOn receivers.took s t (run_of parts whole) d3 d4 → TakesSlots receivers m r t d1 d4
+    → PassesOn receivers.took s t (run_with parts whole) d3 d4 → TakesSlots receivers m r t d1 d4
 slots-next receivers also r s t d1 d2 d3 d4 n m run parts whole more size some few full slots leaves given hands =
     let rx = d1.layout.rx in
     let o = d1.oldest_receive in
-    let one = run_of parts whole in
+    let one = run_with parts whole in
     let runs = slots.runs ++ one ∷ [] in
     let before = length (run_buffers slots.runs) in
     let shape : ℕ → List ℕ
@@ -286,7 +299,7 @@ slots-next receivers also r s t d1 d2 d3 d4 n m run parts whole more size some f
     long : length parts ≡ run.count
     long = omega (arith, size, length-map parts (λ (part : Part). part.buffer))
 
--- Each whole frame has a slot.
+-- Each run has at least one slot.
 runs-few : (runs : List RunOfSlots) → All IsRun runs → length runs ≤ length (run_buffers runs)
 runs-few [] all = omega arith
 runs-few (run ∷ later) all =
@@ -350,7 +363,7 @@ slots-owners receivers n before after d d' slots = λ k.
       copies-append k (owners d') kept,
     )
 
--- No buffer has a second owner then.
+-- No buffer has a second owner after that.
 pub slots-one_owner : {R : Type 0} (receivers : OfReceiver R) (n : ℕ) (before after : R) (d d' : DriverState)
     → TakesSlots receivers n before after d d' → HasNoSecondOwner d.layout.buffers (owners d)
     → HasNoSecondOwner d'.layout.buffers (owners d')
@@ -364,16 +377,16 @@ slots-one_owner receivers n before after d d' slots once =
       copies-append k (owners d') (buffers_of slots.shows.receiver.kept),
     ))
 
--- The ring is refilled after that.
+-- The ring is refilled after that
 
 -- Others hold no frame if they own no buffer.
-none-held : (held : List HandedOut) → ((k : ℕ) → copies k (numbers_of held) ≡ 0) → held ≡ []
+none-held : (held : List HandedOut) → ((k : ℕ) → copies k (piece_numbers held) ≡ 0) → held ≡ []
 none-held [] none = refl
-none-held (one ∷ later) none = absurd (omega (arith, none one.number, copies-itself one.number (numbers_of later)))
+none-held (one ∷ later) none = absurd (omega (arith, none one.number, copies-itself one.number (piece_numbers later)))
 
 pub served : {R : Type 0} (receivers : OfReceiver R) (n misses : ℕ) (before after : R) (d between d' : DriverState)
     → TakesSlots receivers n before after (with_missed misses d) between → OffersAll between d' → OffersAfter between d'
-    → HaveSameNumbers (owners between) (owners d') → Serves receivers before after d d' n
+    → HaveSameNumbers (owners between) (owners d') → ServesReceiver receivers before after d d' n
 served receivers n misses before after d between d' takes offers order same =
     let kept = buffers_of takes.shows.receiver.kept in
     let shape : DriverState → DriverState = λ s. record d
@@ -391,14 +404,14 @@ served receivers n misses before after d between d' takes offers order same =
       same k,
       owners-count k between,
       owners-count k d',
-      ap (λ (s : DriverState). copies k (numbers_of s.handed_out)) takes.others,
+      ap (λ (s : DriverState). copies k (piece_numbers s.handed_out)) takes.others,
       ap (copies k) order.newest,
       copies-append k between.buffers (between.staged ++ order.offered),
       copies-append k between.staged order.offered,
       order.pool k,
       copies-append k order.offered d'.pool,
       ap (copies k) staged,
-      ap (λ (list : List HandedOut). copies k (numbers_of list)) out,
+      ap (λ (list : List HandedOut). copies k (piece_numbers list)) out,
     )) in
     record {
       runs = takes.runs;

@@ -1,7 +1,7 @@
--- The count of misses over intervals, one after the other.
+-- The sum of missed frames in consecutive intervals.
 use Rattle.std.proofs.Common.{◌≡◌, ◌≤◌, ◌<◌, ◌^◌, ◌+◌, ⊎_elim, arith}
 use Rattle.std.proofs.lemmas.Bool.{cases_lt}
-use Rattle.bus.specs.PastOfStretch.{Past, joined}
+use Rattle.bus.specs.Pasts.{Past, joined}
 use Rattle.driver_law.specs.Calls.{DriverInWorld, SumsMisses}
 
 pub sums-join : (a b c : DriverInWorld) (first later : Past) → SumsMisses a b first → SumsMisses b c later
@@ -33,7 +33,7 @@ sums-join a b c first later one two = record {
   small = λ was. two.small (one.small was);
 }
 
--- The same, of an interval in which as many frames were missed.
+-- The same for an interval with the same number of missed frames.
 pub sums-as : (a b : DriverInWorld) (past other : Past) → other.missed ≡ past.missed → SumsMisses a b past → SumsMisses a b other
 sums-as a b past other same sums = record {
   sum = sums.sum;

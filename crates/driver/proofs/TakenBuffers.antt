@@ -11,14 +11,14 @@ use Rattle.descriptors.specs.RingLaws.{place}
 use Rattle.driver_law.proofs.Places.{place-add, place-below}
 use Rattle.driver_law.specs.DriverState.{DriverState, owners}
 use Rattle.driver_law.specs.ReceiveSteps.{after_slots}
-use Rattle.driver.specs.InsideDriver.{state_of}
+use Rattle.driver.specs.InsideDriver.{driver_state_of}
 use Rattle.driver.specs.Parts.{buffers_in, lengths_in}
 use Rattle.driver.specs.declared.driver.Driver.TheInside.{Inside}
 use Rattle.driver.specs.declared.parts.Part.{Part}
 use Rattle.driver.proofs.BufferQueue.{Receives, owners-inside, queue-split}
 use Rattle.driver_law.proofs.Places.{place-sum}
 
--- One buffer more leaves the queue.
+-- One more buffer leaves the queue.
 pub record OneMore (items lengths : List ℕ) (i : ℕ) (queue : Buffer ℕ) (capacity : ℕ) (parts : List Part) : Type 0 where
   pub left : queue ≡ buffer (drop (i + 1) items) capacity
   pub buffers : buffers_in parts ≡ take (i + 1) items
@@ -54,7 +54,7 @@ some-first items i queue capacity few before none =
     ∙ ap (λ (q : Buffer ℕ). slice_get q.items 0) (sym before) ∙ none in
     cc
 
--- A queue of which the last `staged` are staged, without its first n.
+-- A queue whose last `staged` buffers are staged, without its first n buffers.
 record IsCutOff (staged n : ℕ) (queue later : List ℕ) : Type 0 where
   front : take (length queue - staged) queue ≡ take n queue ++ take (length later - staged) later
   back : drop (length later - staged) later ≡ drop (length queue - staged) queue
@@ -72,14 +72,15 @@ queue-cut staged n queue later left enough =
 abbrev pub with_queue : Inside → ℕ → Buffer ℕ → Inside
 with_queue d next queue = record d { oldest_receive = next; buffers = queue }
 
--- The first n of the queue are left out.
+-- The first n buffers have left the queue.
 pub record HasTaken (d : Inside) (next n : ℕ) (queue : Buffer ℕ) : Type 0 where
   pub receives : Receives (with_queue d next queue)
-  pub first : (state_of d).buffers ≡ take n d.buffers.items ++ (state_of (with_queue d next queue)).buffers
-  pub view : state_of (with_queue d next queue) ≡ after_slots (state_of d) n (state_of (with_queue d next queue)).buffers []
-  pub one_owner : HasNoSecondOwner d.layout.buffers (take n d.buffers.items ++ owners (state_of (with_queue d next queue)))
+  pub first : (driver_state_of d).buffers ≡ take n d.buffers.items ++ (driver_state_of (with_queue d next queue)).buffers
+  pub view : driver_state_of (with_queue d next queue) ≡ after_slots (driver_state_of d) n
+      (driver_state_of (with_queue d next queue)).buffers []
+  pub one_owner : HasNoSecondOwner d.layout.buffers (take n d.buffers.items ++ owners (driver_state_of (with_queue d next queue)))
 
-pub taken-inside : (d : Inside) (next n : ℕ) (queue : Buffer ℕ) → Receives d → n ≤ length (state_of d).buffers
+pub taken-inside : (d : Inside) (next n : ℕ) (queue : Buffer ℕ) → Receives d → n ≤ length (driver_state_of d).buffers
     → next ≡ (d.oldest_receive + n) % d.layout.rx → queue ≡ buffer (drop n d.buffers.items) d.buffers.capacity → HasTaken d next n queue
 taken-inside d next n queue receives enough moved popped =
     let old = d.buffers.items in
@@ -94,8 +95,8 @@ taken-inside d next n queue receives enough moved popped =
     let halves : (k : ℕ) → copies k old ≡ copies k (take n old) + copies k later = λ k.
     sym (ap (copies k) (take-append-drop n old)) ∙ copies-append k (take n old) (drop n old)
     ∙ ap (λ (list : List ℕ). copies k (take n old) + copies k list) (sym left) in
-    let view : ℕ → List ℕ → DriverState = λ oldest staged. record (state_of d)
-    { oldest_receive = oldest; buffers = (state_of d').buffers; staged = staged } in
+    let view : ℕ → List ℕ → DriverState = λ oldest staged. record (driver_state_of d)
+    { oldest_receive = oldest; buffers = (driver_state_of d').buffers; staged = staged } in
     let later_receives : Receives d' = record {
       oldest_slot = let below = place-below rx d.oldest_receive n receives.oldest_slot in omega (arith, at, below);
       room = omega (arith, count, receives.room);
@@ -110,13 +111,13 @@ taken-inside d next n queue receives enough moved popped =
     record {
       receives = later_receives;
       first = cut.front;
-      view = ap (λ (oldest : ℕ). view oldest (state_of d').staged) at ∙ ap (view (place rx d.oldest_receive n)) cut.back;
+      view = ap (λ (oldest : ℕ). view oldest (driver_state_of d').staged) at ∙ ap (view (place rx d.oldest_receive n)) cut.back;
       one_owner = λ k.
           omega (
             arith,
             receives.owners k,
             owners-inside d' later_receives k,
-            copies-append k (take n old) (owners (state_of d')),
+            copies-append k (take n old) (owners (driver_state_of d')),
             copies-append k d.pool.free old,
             halves k,
           );

@@ -1,4 +1,4 @@
--- Frames are taken one after the other.
+-- Frames are taken one by one.
 use Rattle.std.proofs.Common.{◌≡◌, ◌+◌, ◌++◌, ◌∷◌, [], ◌∙◌}
 use Rattle.std.proofs.Common.{Bool, IsTrue, true, ℕ, List, length, map, refl, sym, ap, subst}
 use Rattle.std.proofs.Common.{append_assoc, length-append, length-take, sum, arith}
@@ -13,7 +13,7 @@ use Rattle.dma_memory.specs.Owners.{copies}
 use Rattle.dma_memory.specs.OwnersLaws.{copies-append}
 use Rattle.descriptors.specs.RingLaws.{place}
 use Rattle.bus.specs.Keeping.{Keeps}
-use Rattle.bus.specs.PastOfStretch.{Past, joined, nothing}
+use Rattle.bus.specs.Pasts.{Past, joined, nothing}
 use Rattle.bus.specs.declared.bus.Bus.{Ghosts}
 use Rattle.bus.specs.declared.event.Access.{Access}
 use Rattle.driver_law.proofs.Accesses.{ran_by-itself, ran_by-join, ran_by-same, ran_by-stays}
@@ -21,11 +21,11 @@ use Rattle.driver_law.proofs.Calls.{ready-on}
 use Rattle.driver_law.proofs.ReceiveAccesses.{takes-push}
 use Rattle.driver_law.proofs.TakenSlots.{buffers_can_come_back}
 use Rattle.driver_law.specs.Calls.{Ran, WhereReady, at, ether_type_load, only, receive_loads, takes_from}
-use Rattle.driver_law.specs.DriverState.{DriverState, HandedOut, frame_of, holding, numbers_of}
+use Rattle.driver_law.specs.DriverState.{DriverState, HandedOut, frame_of, holding, piece_numbers}
 use Rattle.driver_law.specs.ReadyDrivers.{ReadyWith, Stands}
 use Rattle.driver_law.specs.ReceiveSteps.{after_slots}
-use Rattle.driver.specs.HandlerSteps.{AreOfOneFrame, HandsOn, HandsOver, HasEtherType, IsTaken, LeavesRing, Scene, Takes, TakesSlots}
-use Rattle.driver.specs.HandlerSteps.{WhereReadyIn, WhereTaken, part_none, run_buffers, run_of, scene, whole_frames}
+use Rattle.driver.specs.HandlerSteps.{AreOfOneFrame, PassesOn, HandsOver, HasEtherType, IsTaken, LeavesRing, Scene, TakesFrames, TakesSlots}
+use Rattle.driver.specs.HandlerSteps.{WhereReadyIn, WhereTaken, part_none, run_buffers, run_with, scene, whole_frames}
 use Rattle.driver.specs.Looks.{FindsFrame, IsLookedRun}
 use Rattle.driver.specs.Parts.{AreFrames, FillBuffers, FitIntoBuffers, IsFrameSize, IsWholeFrame, buffers_in, buffers_of, joined_frames}
 use Rattle.driver.specs.Parts.{lengths_in, parts_of, pieces_of, received_of}
@@ -36,10 +36,10 @@ use Rattle.driver.specs.declared.receiver.Receiver.{Ghosts as OfReceiver}
 use Rattle.driver.proofs.ShownRuns.{part-append, slots-next, slots-none}
 use Rattle.driver.proofs.TakenRuns.{buffers-pieces, concat-numbers, is-kept, length-frame, takes-run}
 
--- So many frames were taken, and shown to the receiver.
+-- n frames were taken, and shown to the receiver.
 pub record Walks {B R : Type 0} (bus : Ghosts B) (receivers : OfReceiver R) (n : ℕ) (old new : Scene B R) : Type 0 where
   pub slots : TakesSlots receivers n old.receiver new.receiver old.driver new.driver
-  pub takes : WhereReadyIn bus old new (Takes bus receivers n)
+  pub takes : WhereReadyIn bus old new (TakesFrames bus receivers n)
 
 pub walks-none : {B R : Type 0} (bus : Ghosts B) (receivers : OfReceiver R)
     → ((b : B) → bus.happened b b nothing) → ((r : R) → receivers.took r r [] []) → (b : B) (r : R) (d : DriverState)
@@ -64,7 +64,7 @@ walks-none bus receivers stays waits b r d = record {
   };
 }
 
--- One frame more: the run that is found from b to c leaves the ring, from d2 to d3, and is passed on from c to e, from d3 to d4.
+-- One more frame: a run that was found leaves the ring and is passed on
 
 -- A whole run has the size of a frame, and its parts fill their buffers.
 record IsWholeRun (list : List Part) : Type 0 where
@@ -90,7 +90,7 @@ is-taken pieces run = record {
   fill = run.fill;
 }
 
--- Over a bus that obeys the law it is shown.
+-- Over a bus that obeys the law the frame is shown.
 takes-next : {up : Bool} {B R : Type 0} (bus : Ghosts B) (receivers : OfReceiver R)
     → ((b : B) → bus.happened b b nothing)
     → ((a b c : B) (first later : Past) → bus.happened a b first → bus.happened b c later → bus.happened a c (joined first later))
@@ -100,14 +100,14 @@ takes-next : {up : Bool} {B R : Type 0} (bus : Ghosts B) (receivers : OfReceiver
     → d2.oldest_receive ≡ place d1.layout.rx d1.oldest_receive slots → slots + length d2.buffers ≡ length d1.buffers
     → d2.layout ≡ d1.layout → length (buffers_in parts) ≡ run.count → LeavesRing run parts d2 d3
     → d4 ≡ record d3 { pool = d4.pool; bad = d4.bad } → IsWholeRun parts
-    → (before : Takes bus receivers n up (scene a (holding held d1) r) (scene b (holding held d2) s))
+    → (before : TakesFrames bus receivers n up (scene a (holding held d1) r) (scene b (holding held d2) s))
     → FindsFrame bus run up (at b (holding (held ++ pieces_of before.frames.kept) d2))
     (at c (holding (held ++ pieces_of before.frames.kept) d2))
     → ((pieces : List HandedOut) → ReadyWith up (holding ((held ++ pieces_of before.frames.kept) ++ pieces) d3) (bus.world c)
     → parts_of pieces ≡ parts → HasEtherType pieces
     → HandsOver bus receivers pieces up (scene c (holding ((held ++ pieces_of before.frames.kept) ++ pieces) d3) s)
     (scene e (holding ((held ++ pieces_of before.frames.kept) ++ pieces) d4) t))
-    → Takes bus receivers (n + 1) up (scene a (holding held d1) r) (scene e (holding held d4) t)
+    → TakesFrames bus receivers (n + 1) up (scene a (holding held d1) r) (scene e (holding held d4) t)
 takes-next {up} bus receivers stays joins also a b c e r s t d1 d2 d3 d4 n slots run parts held oldest_is outstanding known size leaves
     given legal before finds over =
     let held2 = held ++ pieces_of before.frames.kept in
@@ -123,7 +123,7 @@ takes-next {up} bus receivers stays joins also a b c e r s t d1 d2 d3 d4 n slots
     let more = pieces_of kept.entries in
     let held4 = held2 ++ more in
     let number_of : HandedOut → ℕ = λ x. x.number in
-    let moves : (k : ℕ) → copies k d4.pool + copies k (numbers_of held4) ≡ copies k d3.pool + copies k (numbers_of held3) = λ k.
+    let moves : (k : ℕ) → copies k d4.pool + copies k (piece_numbers held4) ≡ copies k d3.pool + copies k (piece_numbers held3) = λ k.
     omega (
       arith,
       hands.shows.buffers k,
@@ -132,9 +132,9 @@ takes-next {up} bus receivers stays joins also a b c e r s t d1 d2 d3 d4 n slots
       copies-append k d4.pool (buffers_of hands.shows.kept),
       ap (copies k) kept.numbers,
       ap (copies k) (map-append number_of held2 more),
-      copies-append k (numbers_of held2) (numbers_of more),
+      copies-append k (piece_numbers held2) (piece_numbers more),
       ap (copies k) (map-append number_of held2 pieces),
-      copies-append k (numbers_of held2) (numbers_of pieces),
+      copies-append k (piece_numbers held2) (piece_numbers pieces),
     ) in
     let comes = ran_by-itself bus stays e (holding held3 d3) _ [] []
     (buffers_can_come_back up (holding held3 d3) d4.pool held4 (bus.world e) looked.goes.flows.ready moves kept.stand) in
@@ -142,10 +142,10 @@ takes-next {up} bus receivers stays joins also a b c e r s t d1 d2 d3 d4 n slots
     let three = ran_by-join bus joins _ _ a c c (holding held d1) (holding held2 d2) (holding held3 d3) _ _ [] [] two taking in
     let four = ran_by-join bus joins _ _ a c e (holding held d1) (holding held3 d3) (holding held3 d3) _ _ [] [] three looked in
     let five = ran_by-join bus joins _ _ a e e (holding held d1) (holding held3 d3) _ _ _ [] [] four comes in
-    let lists = map numbers_of before.frames.taken in
-    let numbers = numbers_of (pieces_of before.frames.taken) in
-    let same : buffers_in parts ≡ numbers_of pieces = ap buffers_in (sym take.same) ∙ buffers-pieces pieces in
-    let first : d2.buffers ≡ numbers_of pieces ++ d3.buffers = leaves.first ∙ ap (λ (list : List ℕ). list ++ d3.buffers) same in
+    let lists = map piece_numbers before.frames.taken in
+    let numbers = piece_numbers (pieces_of before.frames.taken) in
+    let same : buffers_in parts ≡ piece_numbers pieces = ap buffers_in (sym take.same) ∙ buffers-pieces pieces in
+    let first : d2.buffers ≡ piece_numbers pieces ++ d3.buffers = leaves.first ∙ ap (λ (list : List ℕ). list ++ d3.buffers) same in
     let many : length (concat lists) ≡ slots = omega (
       arith,
       outstanding,
@@ -159,18 +159,18 @@ takes-next {up} bus receivers stays joins also a b c e r s t d1 d2 d3 d4 n slots
     let all = takes_from d1.layout d1.oldest_receive in
     let from = place d1.layout.rx d1.oldest_receive (length (concat lists)) in
     let loads = receive_loads d2.layout d2.oldest_receive run.count in
-    let load = ether_type_load d3.layout (numbers_of pieces) in
-    let accesses : ((((all lists ++ loads) ++ []) ++ load) ++ []) ≡ all (map numbers_of (before.frames.taken ++ pieces ∷ [])) =
+    let load = ether_type_load d3.layout (piece_numbers pieces) in
+    let accesses : ((((all lists ++ loads) ++ []) ++ load) ++ []) ≡ all (map piece_numbers (before.frames.taken ++ pieces ∷ [])) =
     append-nil (((all lists ++ loads) ++ []) ++ load)
     ∙ ap (λ (list : List Access). list ++ load) (append-nil (all lists ++ loads))
     ∙ append_assoc (all lists) loads load
     ∙ ap (λ (layout : Counts). all lists ++ (receive_loads layout d2.oldest_receive run.count ++ load)) known
     ∙ ap (λ (place : ℕ). all lists ++ (receive_loads d1.layout place run.count ++ load)) slot
     ∙ ap (λ (k : ℕ). all lists ++ (receive_loads d1.layout from k ++ load)) (sym size ∙ ap length same)
-    ∙ ap (λ (layout : Counts). all lists ++ (receive_loads d1.layout from (length (numbers_of pieces))
-    ++ ether_type_load layout (numbers_of pieces))) counts
-    ∙ sym (takes-push d1.layout d1.oldest_receive lists (numbers_of pieces))
-    ∙ ap all (sym (map-append numbers_of before.frames.taken (pieces ∷ []))) in
+    ∙ ap (λ (layout : Counts). all lists ++ (receive_loads d1.layout from (length (piece_numbers pieces))
+    ++ ether_type_load layout (piece_numbers pieces))) counts
+    ∙ sym (takes-push d1.layout d1.oldest_receive lists (piece_numbers pieces))
+    ∙ ap all (sym (map-append piece_numbers before.frames.taken (pieces ∷ []))) in
     let shape : ℕ → DriverState = λ bad. record d3 { pool = d4.pool; bad = bad } in
     let last : holding held4 (shape d3.bad) ≡ holding (held ++ pieces_of (before.frames.kept ++ kept.entries)) d4 =
     ap (λ (bad : ℕ). holding held4 (shape bad)) (sym hands.bad) ∙ ap (holding held4) (sym given)
@@ -201,19 +201,19 @@ takes-next {up} bus receivers stays joins also a b c e r s t d1 d2 d3 d4 n slots
             (received_of pieces ∷ []) hands.shows.kept before.frames.shown hands.shows.shown));
         part = part-append before.frames.part kept.part;
         count = omega (arith, length-append before.frames.taken (pieces ∷ []), before.frames.count);
-        groups = subst (All AreOfOneFrame) (sym (map-append numbers_of before.frames.taken (pieces ∷ [])))
-            (All-append AreOfOneFrame (map numbers_of before.frames.taken) (numbers_of pieces ∷ []) before.frames.groups
-            (All-cons AreOfOneFrame (numbers_of pieces) [] take.group (all-none AreOfOneFrame)));
+        groups = subst (All AreOfOneFrame) (sym (map-append piece_numbers before.frames.taken (pieces ∷ [])))
+            (All-append AreOfOneFrame (map piece_numbers before.frames.taken) (piece_numbers pieces ∷ []) before.frames.groups
+            (All-cons AreOfOneFrame (piece_numbers pieces) [] take.group (all-none AreOfOneFrame)));
         each =
             All-append IsTaken before.frames.taken (pieces ∷ []) before.frames.each
             (All-cons IsTaken pieces [] (is-taken pieces (subst IsWholeRun (sym take.same) legal)) (all-none IsTaken));
       };
       oldest =
           before.oldest
-          ∙ ap (λ (list : List ℕ). numbers ++ list) (first ∙ ap (λ (list : List ℕ). numbers_of pieces ++ list) left)
-          ∙ sym (append_assoc numbers (numbers_of pieces) d4.buffers)
+          ∙ ap (λ (list : List ℕ). numbers ++ list) (first ∙ ap (λ (list : List ℕ). piece_numbers pieces ++ list) left)
+          ∙ sym (append_assoc numbers (piece_numbers pieces) d4.buffers)
           ∙ ap (λ (list : List ℕ). list ++ d4.buffers)
-          (sym (map-append number_of (pieces_of before.frames.taken) pieces) ∙ ap numbers_of pushed);
+          (sym (map-append number_of (pieces_of before.frames.taken) pieces) ∙ ap piece_numbers pushed);
       bad = hands.bad ∙ ap (λ (d : DriverState). d.bad) leaves.others ∙ before.bad;
       ran = ran_by-same bus _ _ a e (holding held d1) (holding held4 (shape d3.bad)) _ _ _ [] accesses last frames five;
     }
@@ -224,11 +224,11 @@ pub walks-next : {B R : Type 0} (bus : Ghosts B) (receivers : OfReceiver R)
     → ((a b c : R) (shown kept later more : List Received) → receivers.took a b shown kept → receivers.took b c later more
     → receivers.took a c (shown ++ later) (kept ++ more))
     → (a b c e : B) (r s t : R) (d1 d2 d3 d4 : DriverState) (n m outstanding : ℕ) (run : Run) (parts : List Part) (whole : Bool)
-    → n + length (whole_frames (run_of parts whole ∷ [])) ≡ m → Keeps bus a b → Keeps bus b c
+    → n + length (whole_frames (run_with parts whole ∷ [])) ≡ m → Keeps bus a b → Keeps bus b c
     → Walks bus receivers n (scene a d1 r) (scene b d2 s)
     → IsLookedRun outstanding run
     → WhereReady bus (at b d2) (at c d2) (FindsFrame bus run) → LeavesRing run parts d2 d3
-    → d4 ≡ record d3 { pool = d4.pool; bad = d4.bad } → HandsOn receivers.took s t (run_of parts whole) d3 d4 → whole ≡ run.whole
+    → d4 ≡ record d3 { pool = d4.pool; bad = d4.bad } → PassesOn receivers.took s t (run_with parts whole) d3 d4 → whole ≡ run.whole
     → WhereTaken bus parts whole (scene c d3 s) (scene e d4 t) (HandsOver bus receivers)
     → Walks bus receivers m (scene a d1 r) (scene e d4 t)
 walks-next bus receivers stays joins also a b c e r s t d1 d2 d3 d4 n m outstanding run parts whole more keeps1 keeps2 walks looked finds
@@ -255,10 +255,10 @@ walks-next bus receivers stays joins also a b c e r s t d1 d2 d3 d4 n m outstand
           let shown : whole ≡ true = whole_is ∙ found.is_run.whole in
           let frames = hands.shows.receiver.frames in
           let sizes = whole-run hands.shows.receiver.received parts
-          (frames.parts ∙ ap (λ (b : Bool). whole_frames (run_of parts b ∷ [])) shown) frames.sizes
+          (frames.parts ∙ ap (λ (b : Bool). whole_frames (run_with parts b ∷ [])) shown) frames.sizes
           (subst FillBuffers (sym leaves.lengths) (looked.full (subst IsTrue (sym found.is_run.whole) refl))) in
-          subst (λ (k : ℕ). Takes bus receivers k up (scene a (holding held d1) r) (scene e (holding held d4) t))
-          (ap (λ (b : Bool). n + length (whole_frames (run_of parts b ∷ []))) (sym shown) ∙ more)
+          subst (λ (k : ℕ). TakesFrames bus receivers k up (scene a (holding held d1) r) (scene e (holding held d4) t))
+          (ap (λ (b : Bool). n + length (whole_frames (run_with parts b ∷ []))) (sym shown) ∙ more)
           (takes-next bus receivers stays joins also a b c e r s t d1 d2 d3 d4 n (length (run_buffers slots.runs)) run parts held
           slots.next (omega (arith, ap length slots.oldest, length-append (run_buffers slots.runs) d2.buffers))
           (ap (λ (d : DriverState). d.layout) others)

@@ -1,4 +1,4 @@
--- A run of slots that contains a frame is taken: others hold its pieces then.
+-- A run of slots that contains a frame is taken. After that, others hold its pieces.
 use Rattle.std.proofs.Common.{⊎_elim, ◌≡◌, ◌≤◌, ◌<◌, ◌*◌, ◌⊎◌, ◌++◌, ◌∷◌, [], ◌∙◌}
 use Rattle.std.proofs.Common.{Bool, ℕ, suc, List, length, map, take, drop, refl, sym, ap, subst}
 use Rattle.std.proofs.Common.{length-append, arith, slice_index, sum}
@@ -10,30 +10,30 @@ use Rattle.dma_memory.specs.Layout.{receive_buffer_bytes}
 use Rattle.rx_engine.specs.Addresses.{ether_type}
 use Rattle.rx_engine.specs.Pieces.{Piece, frames_from, parts}
 use Rattle.rx_engine.specs.Pieces.Piece.{Last, Part}
-use Rattle.bus.specs.PastOfStretch.{nothing}
+use Rattle.bus.specs.Pasts.{nothing}
 use Rattle.bus.specs.declared.bus.Bus.{Ghosts}
 use Rattle.bus.proofs.Lists.{all-head, all-left}
 use Rattle.driver_law.proofs.Accesses.{ran_by-same}
 use Rattle.driver_law.proofs.ReceiveAccesses.{ran_by-takes}
 use Rattle.driver_law.specs.Calls.{Ran, at, call_did}
-use Rattle.driver_law.specs.DriverState.{DriverState, HandedOut, frame_of, numbers_of}
+use Rattle.driver_law.specs.DriverState.{DriverState, HandedOut, frame_of, piece_numbers}
 use Rattle.driver_law.specs.ReadyDrivers.{ReadyWith}
 use Rattle.driver_law.specs.ReceiveSteps.{AreOfFrame, after_slots}
 use Rattle.descriptors.specs.Frames.{longest_frame}
-use Rattle.driver.specs.HandlerSteps.{AreOfOneFrame, HasEtherType, IsPart, LeavesRing, part_none, part_with, part_without}
+use Rattle.driver.specs.HandlerSteps.{AreOfOneFrame, HasEtherType, IsSublist, LeavesRing, part_none, part_with, part_without}
 use Rattle.driver.specs.Looks.{FindsFrame}
 use Rattle.driver.specs.Parts.{buffers_in, buffers_of, lengths_in, parts_of, pieces_of, received_of}
 use Rattle.driver.specs.declared.look.Run.{Run}
 use Rattle.driver.specs.declared.parts.Part as parts
 use Rattle.driver.specs.declared.receiver.Received.{Received}
 
--- Pieces that others hold, as parts.
+-- Pieces that others hold, as parts
 
-pub buffers-pieces : (pieces : List HandedOut) → buffers_in (parts_of pieces) ≡ numbers_of pieces
+pub buffers-pieces : (pieces : List HandedOut) → buffers_in (parts_of pieces) ≡ piece_numbers pieces
 buffers-pieces [] = refl
 buffers-pieces (one ∷ later) = ap (λ (list : List ℕ). one.number ∷ list) (buffers-pieces later)
 
--- the bytes of each
+-- the bytes of each piece
 abbrev bytes_of : List HandedOut → List (List ℕ)
 bytes_of pieces = map (λ (one : HandedOut). one.bytes) pieces
 
@@ -47,18 +47,18 @@ zipped-parts : (list : List parts.Part) → zipped (buffers_in list) (lengths_in
 zipped-parts [] = refl
 zipped-parts (part ∷ later) = ap (λ (rest : List parts.Part). part ∷ rest) (zipped-parts later)
 
-zipped-pieces : (pieces : List HandedOut) → zipped (numbers_of pieces) (map length (bytes_of pieces)) ≡ parts_of pieces
+zipped-pieces : (pieces : List HandedOut) → zipped (piece_numbers pieces) (map length (bytes_of pieces)) ≡ parts_of pieces
 zipped-pieces [] = refl
 zipped-pieces (one ∷ later) =
     ap (λ (rest : List parts.Part). record { buffer = one.number; length = length one.bytes } ∷ rest) (zipped-pieces later)
 
-parts-same : (pieces : List HandedOut) (list : List parts.Part) → numbers_of pieces ≡ buffers_in list
+parts-same : (pieces : List HandedOut) (list : List parts.Part) → piece_numbers pieces ≡ buffers_in list
     → map length (bytes_of pieces) ≡ lengths_in list → parts_of pieces ≡ list
 parts-same pieces list numbers sizes =
     sym (zipped-pieces pieces) ∙ ap (λ (xs : List ℕ). zipped xs (map length (bytes_of pieces))) numbers
     ∙ ap (zipped (buffers_in list)) sizes ∙ zipped-parts list
 
--- A frame is as long as its pieces together.
+-- The length of a frame is the sum of the lengths of its pieces.
 pub length-frame : (pieces : List HandedOut) → length (frame_of pieces) ≡ sum (lengths_in (parts_of pieces))
 length-frame [] = refl
 length-frame (one ∷ later) = omega (
@@ -75,7 +75,7 @@ type-first first rest long =
     sym (get_or_append_left first rest 0 i (omega (arith, long, below))) in
     omega (arith, at 12 (omega arith), at 13 (omega arith))
 
--- what a receiver is shown of a frame, by what was read
+-- the frame that a receiver is shown, by the values that were read
 pub received-same : (first : HandedOut) (later : List HandedOut) (list : List parts.Part) (size type : ℕ) → parts_of (first ∷ later) ≡ list
     → size ≡ sum (lengths_in list) → type ≡ ether_type first.bytes → 14 ≤ length first.bytes
     → received_of (first ∷ later) ≡ record { parts = list; length = size; ether_type = type }
@@ -99,9 +99,9 @@ first-type (one ∷ later) (bytes ∷ seen) last is frame =
     let same : one.bytes ≡ bytes = cc in
     omega (arith, ap length same, all-head (λ (xs : List ℕ). length xs ≡ receive_buffer_bytes) bytes seen frame.full)
 
--- Lists of pieces.
+-- Lists of pieces
 
--- If no frame ends in them, all are parts.
+-- If no frame ends in the pieces, all are parts.
 pub only-parts : (begun : List ℕ) (pieces : List Piece) → frames_from begun pieces ≡ [] → (seen : List (List ℕ)) × (pieces ≡ parts seen)
 only-parts begun [] none = ([], refl)
 only-parts begun (Part bytes ∷ later) none =
@@ -109,9 +109,9 @@ only-parts begun (Part bytes ∷ later) none =
     (bytes ∷ rest.0, ap (λ (list : List Piece). Part bytes ∷ list) rest.1)
 only-parts begun (Last bytes ∷ later) none = absurd (omega (arith, ap length none))
 
--- The run leaves the ring.
+-- The run leaves the ring
 
--- It has these buffers, and others have the remaining slots.
+-- The buffers of the run may be those of one frame.
 one-frame : (seen : ℕ) (numbers : List ℕ) → length numbers ≡ suc seen → receive_buffer_bytes * seen ≤ longest_frame → AreOfOneFrame numbers
 one-frame seen numbers many few = record { least = omega (arith, many); most = omega (arith, many, few) }
 
@@ -121,7 +121,7 @@ pub record TakesRun {B : Type 0} (bus : Ghosts B) (up : Bool) (run : Run) (list 
   pub pieces : List HandedOut
   pub same : parts_of pieces ≡ list
   pub type_is : HasEtherType pieces
-  pub group : AreOfOneFrame (numbers_of pieces)
+  pub group : AreOfOneFrame (piece_numbers pieces)
   pub ran : Ran bus up (call_did [] (frame_of pieces ∷ []) []) (at b d) (at b (after_slots d run.count others (d.handed_out ++ pieces)))
 
 pub takes-run : {up : Bool} {B : Type 0} (bus : Ghosts B) → ((b : B) → bus.happened b b nothing)
@@ -149,7 +149,7 @@ takes-run {up} bus stays b c d1 d2 d run list many leaves same finds ready =
       pieces = pieces;
       same = parts-same pieces list (taken.numbers ∙ front) sizes;
       type_is = first-type pieces seen last taken.bytes taken.is;
-      group = one-frame (length seen) (numbers_of pieces) (ap length taken.numbers ∙ taken.size) taken.few;
+      group = one-frame (length seen) (piece_numbers pieces) (ap length taken.numbers ∙ taken.size) taken.few;
       ran =
           ran_by-same bus [] [] c c d _ _ _ _ [] refl
           (ap (λ (rest : List ℕ). after_slots d k rest held) back
@@ -157,13 +157,13 @@ takes-run {up} bus stays b c d1 d2 d run list many leaves same finds ready =
           (ap (λ (bytes : List ℕ). bytes ∷ []) (sym taken.frame)) taken.ran;
     }
 
--- What the receiver kept, as what others hold.
+-- The frames that the receiver kept are pieces that others hold
 
 pub record IsKept (P : HandedOut → Type 0) (held pieces : List HandedOut) (kept : List Received) : Type 0 where
   pub entries : List (List HandedOut)
   pub same : map received_of entries ≡ kept
-  pub part : IsPart entries (pieces ∷ [])
-  pub numbers : numbers_of (pieces_of entries) ≡ buffers_of kept
+  pub part : IsSublist entries (pieces ∷ [])
+  pub numbers : piece_numbers (pieces_of entries) ≡ buffers_of kept
   pub stand : All P (held ++ pieces_of entries)
 
 pub is-kept : (P : HandedOut → Type 0) (held pieces : List HandedOut) (received : Received) (kept : List Received)
@@ -184,14 +184,14 @@ is-kept P held pieces received kept is whether stand =
       entries = pieces ∷ [];
       same = refl;
       part = part_with part_none;
-      numbers = ap numbers_of (append-nil pieces) ∙ sym (buffers-pieces pieces) ∙ sym (append-nil (buffers_in (parts_of pieces)));
+      numbers = ap piece_numbers (append-nil pieces) ∙ sym (buffers-pieces pieces) ∙ sym (append-nil (buffers_in (parts_of pieces)));
       stand = subst (λ (list : List HandedOut). All P (held ++ list)) (sym (append-nil pieces)) stand;
     }))
     whether
 
--- The buffers of all frames, one after the other.
-pub concat-numbers : (taken : List (List HandedOut)) → concat (map numbers_of taken) ≡ numbers_of (pieces_of taken)
+-- The buffers of all frames, in order.
+pub concat-numbers : (taken : List (List HandedOut)) → concat (map piece_numbers taken) ≡ piece_numbers (pieces_of taken)
 concat-numbers [] = refl
 concat-numbers (pieces ∷ later) =
-    ap (λ (rest : List ℕ). numbers_of pieces ++ rest) (concat-numbers later)
+    ap (λ (rest : List ℕ). piece_numbers pieces ++ rest) (concat-numbers later)
     ∙ sym (map-append (λ (one : HandedOut). one.number) pieces (pieces_of later))

@@ -1,5 +1,5 @@
--- How a driver keeps its state (our choice): the buffers of outstanding and staged receive slots are in one queue, and the places after the
--- last slots are kept, too.
+-- How `Driver` stores its state (our choice). One queue contains the buffers of the outstanding receive slots, and then
+-- those of the staged slots. The place after these slots is stored, too.
 use Rattle.std.specs.Prelude.{◌≡◌, ◌≤◌, ◌<◌, ◌-◌, ◌++◌, ℕ, IsTrue, [], length, take, drop}
 use Rattle.registers.specs.Counting.{greatest_count}
 use Rattle.dma_memory.specs.Layout.{Counts, IsAllowed}
@@ -16,8 +16,8 @@ use Rattle.driver.specs.declared.setup.Setup.{Setup}
 abbrev pub offered_count : Inside → ℕ
 offered_count driver = length driver.buffers.items - driver.staged
 
-abbrev pub state_of : Inside → DriverState
-state_of driver = record {
+abbrev pub driver_state_of : Inside → DriverState
+driver_state_of driver = record {
   layout = driver.layout;
   oldest_receive = driver.oldest_receive;
   buffers = take (offered_count driver) driver.buffers.items;
@@ -33,8 +33,8 @@ state_of driver = record {
   setup = setup_in driver.setup;
 }
 
--- The receive side.
-pub record IsReceiving (counts : Counts) (oldest next staged : ℕ) (queue : Buffer ℕ) (pool : Numbers) : Type 0 where
+-- What always holds of the receive side.
+pub record HasReceiveSide (counts : Counts) (oldest next staged : ℕ) (queue : Buffer ℕ) (pool : Numbers) : Type 0 where
   pub oldest_slot : oldest < counts.rx
   pub room : length queue.items < counts.rx
   pub next_slot : next ≡ place counts.rx oldest (length queue.items)
@@ -44,20 +44,20 @@ pub record IsReceiving (counts : Counts) (oldest next staged : ℕ) (queue : Buf
   -- no buffer has two owners
   pub owners : HasNoSecondOwner counts.buffers (pool.free ++ queue.items)
 
--- The transmit side.
+-- What always holds of the transmit side.
 pub record IsSending (counts : Counts) (oldest next sending : ℕ) : Type 0 where
   pub oldest_slot : oldest < counts.tx
   pub room : sending < counts.tx
   pub next_slot : next ≡ place counts.tx oldest sending
 
--- What a reset needs is valid.
+-- The sizes of the rings and the setup are valid.
 pub record CanReset (counts : Counts) (setup : Setup) : Type 0 where
   pub allowed : IsAllowed counts
   pub right : IsRightSetup setup
 
 pub record IsConsistentDriver (driver : Inside) : Type 0 where
-  pub receives : IsReceiving driver.layout driver.oldest_receive driver.next_receive driver.staged driver.buffers driver.pool
+  pub receives : HasReceiveSide driver.layout driver.oldest_receive driver.next_receive driver.staged driver.buffers driver.pool
   pub sends : IsSending driver.layout driver.oldest_transmit driver.next_transmit driver.sending
   pub resets : CanReset driver.layout driver.setup
-  -- the sum of misses is exact if it is below the greatest value of MPC
+  -- the sum of missed frames is exact if it is below MPC's greatest value
   pub sums : driver.missed < greatest_count → IsTrue driver.exact

@@ -1,4 +1,4 @@
--- What a driver keeps of its configuration, and its adapter's address (our choice).
+-- How `Setup` stores the setup of a driver (our choice).
 use Rattle.std.specs.Prelude.{◌<◌, All}
 use Rattle.rx_engine.specs.NumberTables.{table_numbers}
 use Rattle.adapter.specs.PacketBuffer.{IsAllocation}

@@ -1,4 +1,4 @@
--- What a driver finds in its oldest receive slots, by loads of their descriptors.
+-- What a driver finds in its oldest receive slots by loading their descriptors.
 use Rattle.std.specs.Prelude.{◌≡◌, ◌≤◌, ◌+◌, ◌++◌, ◌∷◌, []}
 use Rattle.std.specs.Prelude.{ℕ, Bool, true, false, IsTrue, List, None, Option, Some, length, map, min, replicate}
 use Rattle.std.specs.Prelude.{suc, sum, take}
@@ -17,7 +17,7 @@ use Rattle.driver.specs.Parts.{FillBuffers, IsFrameSize}
 use Rattle.driver.specs.declared.look.Run.{Run}
 use Rattle.driver.specs.declared.parts.TheConstants.{MOST_PARTS}
 
--- The length in a receive descriptor has 16 bits, so this is the greatest ("3.2.3 Receive Descriptor Format").
+-- The greatest length in a receive descriptor, which has 16 bits ("3.2.3 Receive Descriptor Format").
 abbrev pub greatest_length : ℕ
 greatest_length = 65535
 
@@ -25,7 +25,7 @@ greatest_length = 65535
 abbrev pub new_run : Run
 new_run = record { lengths = replicate MOST_PARTS 0; count = 0; length = 0; whole = true }
 
--- a piece of a whole frame may have this size, if its frame ends in it or not
+-- A piece of a whole frame may have this size: the last piece if `ends`, otherwise a piece before the last.
 abbrev pub IsPartSize : (ends : Bool) → ℕ → Type 0
 IsPartSize true n = IsLastSize receive_buffer_bytes n
 IsPartSize false n = n ≡ receive_buffer_bytes
@@ -34,13 +34,13 @@ IsPartSize false n = n ≡ receive_buffer_bytes
 abbrev pub ends : RxDesc → Bool
 ends descriptor = is_set (status_bits descriptor.status) eop
 
--- A descriptor may be that of a piece of a whole frame.
+-- A slot with this descriptor may contain a piece of a whole frame.
 pub record IsSoundPart (descriptor : RxDesc) : Type 0 where
   pub no_errors : descriptor.errors ≡ 0
   pub size : IsPartSize (ends descriptor) descriptor.length
 
--- A run of at most `outstanding` slots: one to six. If it is whole, it has the size of a frame, each slot before the
--- last is full, and the last isn't empty.
+-- The run has one to six slots, and at most `outstanding`. If the run is whole, it has the size of a frame, each slot
+-- before the last is full, and the last isn't empty.
 pub record IsLookedRun (outstanding : ℕ) (run : Run) : Type 0 where
   pub room : length run.lengths ≡ MOST_PARTS
   pub least : 1 ≤ run.count
@@ -50,27 +50,28 @@ pub record IsLookedRun (outstanding : ℕ) (run : Run) : Type 0 where
   pub size : IsTrue run.whole → IsFrameSize run.length
   pub full : IsTrue run.whole → FillBuffers (take run.count run.lengths)
 
--- Over a bus that obeys the law.
+-- Over a bus that obeys the law
 
--- The descriptor of the slot this many places after the oldest was loaded.
+-- The descriptor of the slot that is `places` places after the oldest was loaded.
 abbrev pub LooksAtPlace : {B : Type 0} → Ghosts B → (places : ℕ) → RxDesc → (up : Bool) → (old new : Moment B) → Type 0
 LooksAtPlace bus places descriptor up old new = LooksAtSlot bus up places descriptor old new.bus
 
--- No frame ends in finished slots. The descriptors of the finished slots, and of the next outstanding one if there is one, were loaded.
+-- No frame ends in finished slots. The descriptors of the finished slots were loaded, and that of the next outstanding
+-- slot if there is one.
 pub record FindsNoFrame {B : Type 0} (bus : Ghosts B) (up : Bool) (old new : Moment B) : Type 0 where
   pub none : frames_ended (in_world_of bus new) ≡ []
   pub loads : ℕ
   pub loads_are : loads ≡ min (suc (length (finished_pieces new.driver.oldest_receive (bus.world new.bus)))) (length new.driver.buffers)
   pub ran : Ran bus up (only (receive_loads old.driver.layout old.driver.oldest_receive loads)) old new
 
--- The run is that of a whole frame with these parts and this last piece.
+-- The run consists of the slots of a whole frame: the parts `seen`, and its last piece.
 pub record IsRunOf (run : Run) (seen : List (List ℕ)) (last : List ℕ) : Type 0 where
   pub count : run.count ≡ length seen + 1
   pub lengths : take run.count run.lengths ≡ map length (seen ++ last ∷ [])
   pub length_is : run.length ≡ length (concat seen ++ last)
   pub whole : IsTrue run.whole
 
--- The oldest finished slots contain a whole frame: parts, and then its last piece. Their descriptors were loaded.
+-- The oldest finished slots contain a whole frame, and `run` are its slots. Their descriptors were loaded.
 pub record FindsFrame {B : Type 0} (bus : Ghosts B) (run : Run) (up : Bool) (old new : Moment B) : Type 0 where
   pub seen : List (List ℕ)
   pub last : List ℕ

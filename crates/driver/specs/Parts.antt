@@ -12,7 +12,7 @@ use Rattle.driver.specs.declared.parts.Parts.TheInside.{Inside}
 use Rattle.driver.specs.declared.parts.TheConstants.{MOST_PARTS}
 use Rattle.driver.specs.declared.receiver.Received.{Received}
 
--- How `Parts` keeps them.
+-- How `Parts` stores pieces
 
 -- the parts in an array, in order, without its empty places
 abbrev pub parts_in : List (Option Part) → List Part
@@ -20,7 +20,7 @@ parts_in [] = []
 parts_in (Some part ∷ later) = part ∷ parts_in later
 parts_in (None ∷ later) = parts_in later
 
--- an array of these parts, followed by empty places
+-- an array of these parts, followed by `empty` empty places
 abbrev pub filled : List Part → (empty : ℕ) → List (Option Part)
 filled parts empty = map (λ (part : Part). Some part) parts ++ replicate empty None
 
@@ -29,7 +29,7 @@ pub record IsFilled (inside : Inside) : Type 0 where
   pub count : length (parts_in inside.places) ≡ inside.count
   pub most : inside.count ≤ MOST_PARTS
 
--- Buffers and sizes.
+-- Buffers and sizes
 
 -- the numbers of the buffers of these pieces
 abbrev pub buffers_in : List Part → List ℕ
@@ -39,7 +39,7 @@ buffers_in parts = map (λ (part : Part). part.buffer) parts
 abbrev pub lengths_in : List Part → List ℕ
 lengths_in parts = map (λ (part : Part). part.length) parts
 
--- the buffers of what was received, one frame after the other
+-- the buffers of these frames, in order
 abbrev pub buffers_of : List Received → List ℕ
 buffers_of list = flat_map (λ (received : Received). buffers_in received.parts) list
 
@@ -47,48 +47,48 @@ buffers_of list = flat_map (λ (received : Received). buffers_in received.parts)
 abbrev pub part_loads : Counts → List Part → List Access
 part_loads counts parts = map (λ (part : Part). Loads (buffer_at counts part.buffer) part.length) parts
 
--- A received frame may have this size.
+-- A received frame may have this size in bytes.
 pub record IsFrameSize (size : ℕ) : Type 0 where
   -- at least 60 bytes
   pub least : shortest_frame ≤ size
   -- at most 1,518 bytes
   pub most : size ≤ longest_frame
 
--- Each of these sizes is at most that of a receive buffer.
+-- Each of these sizes is at most the size of a receive buffer.
 abbrev pub FitIntoBuffers : List ℕ → Type 0
 FitIntoBuffers sizes = All (λ size. size ≤ receive_buffer_bytes) sizes
 
--- Each of these sizes is that of a full receive buffer.
+-- Each of these sizes is the size of a receive buffer.
 abbrev pub AreFull : List ℕ → Type 0
 AreFull sizes = All (λ size. size ≡ receive_buffer_bytes) sizes
 
--- The buffers before the last are full. The last has at least one byte, and at most as many as a receive buffer.
+-- The buffers before the last are full. The last contains at least one byte, and fits into a receive buffer.
 pub record FillBuffers (sizes : List ℕ) : Type 0 where
   -- the sizes before the last
   pub full : List ℕ
   -- the last size
   pub last : ℕ
-  -- both together are all sizes
+  -- all sizes are those before the last, and the last
   pub sizes_are : sizes ≡ full ++ last ∷ []
   -- each buffer before the last is full
   pub are_full : AreFull full
-  -- the last has 1 to 256 bytes
+  -- the last contains 1 to 256 bytes
   pub last_is : IsLastSize receive_buffer_bytes last
 
--- A frame that was received is as long as its pieces together, and has a legal size. Each piece fits into its buffer.
+-- The length of a received frame is the sum of the sizes of its pieces, and is legal. Each piece fits into a buffer.
 pub record IsWholeFrame (received : Received) : Type 0 where
-  -- it has a legal size
+  -- the length is legal
   pub size : IsFrameSize received.length
-  -- it is as long as its pieces together
+  -- the length is the sum of the sizes of the pieces
   pub sum : received.length ≡ sum (lengths_in received.parts)
-  -- each piece fits into its buffer
+  -- each piece fits into a buffer
   pub fits : FitIntoBuffers (lengths_in received.parts)
 
--- Each of these is a frame of legal size, in pieces that fit into their buffers.
+-- Each of these frames has a legal size, and pieces that fit into their buffers.
 abbrev pub AreFrames : List Received → Type 0
 AreFrames list = All IsWholeFrame list
 
--- Frames that others hold.
+-- Frames that others hold
 
 -- a piece that others hold, as a part of a received frame
 abbrev pub part_of : HandedOut → Part
@@ -98,14 +98,14 @@ part_of one = record { buffer = one.number; length = length one.bytes }
 abbrev pub parts_of : List HandedOut → List Part
 parts_of pieces = map part_of pieces
 
--- what a receiver is shown of the frame that these pieces make up
+-- the frame that these pieces make up, as a receiver is shown it
 abbrev pub received_of : List HandedOut → Received
 received_of pieces = record { parts = parts_of pieces; length = length (frame_of pieces); ether_type = ether_type (frame_of pieces) }
 
--- the frames of which each list has the pieces
+-- the frames that these lists of pieces make up
 abbrev pub joined_frames : List (List HandedOut) → List (List ℕ)
 joined_frames taken = map frame_of taken
 
--- all these pieces, in order
+-- all pieces of these lists, in order
 abbrev pub pieces_of : List (List HandedOut) → List HandedOut
 pieces_of taken = flat_map (λ (pieces : List HandedOut). pieces) taken

@@ -1,4 +1,4 @@
-// What a driver keeps.
+// The state of a driver.
 
 ghost use Rattle.std.specs.Prelude.{◌≡◌, ◌+◌, ◌<◌, IsTrue, length};
 ghost use Rattle.registers.specs.Counting.{greatest_count};
@@ -13,16 +13,16 @@ use std::marker::Model;
 
 /// A driver: where its rings and buffers are, which of its slots are outstanding, and which buffers they have.
 ///
-/// A slot of the receive ring is staged if its descriptor is stored and it isn't offered yet. At least one slot of
-/// each ring isn't outstanding.
+/// A slot of the receive ring is staged if its descriptor is stored, but the slot isn't offered yet. At least one slot
+/// of each ring isn't outstanding.
 #[derive(Drop)]
 pub struct Driver {
     pub(crate) layout: Layout,
     /// The place of the oldest outstanding receive slot.
     pub(crate) oldest_receive: u16,
-    /// The place whose descriptor is stored next.
+    /// The place of the receive slot whose descriptor is stored next.
     pub(crate) next_receive: u16,
-    /// The buffers of the outstanding receive slots, the oldest first, and of the staged ones after them.
+    /// The buffers of the outstanding receive slots, the oldest first, and then those of the staged slots.
     pub(crate) buffers: HeapCircularBuffer<BufId>,
     /// The number of staged slots.
     pub(crate) staged: u16,
@@ -33,13 +33,13 @@ pub struct Driver {
     pub(crate) next_transmit: u16,
     /// The number of outstanding transmit slots.
     pub(crate) sending: u16,
-    /// The sum of the values read from MPC, up to the greatest `u64`.
+    /// The sum of the values read from MPC; it saturates at the greatest `u64`.
     pub(crate) missed: u64,
-    /// Whether no miss was lost: MPC was never read as its greatest value, and the sum never saturated.
+    /// Whether the sum is exact: no value read from MPC was its greatest value, and the sum never saturated.
     pub(crate) exact: bool,
-    /// The number of runs of finished slots that weren't delivered, up to the greatest `u64`.
+    /// The number of runs of finished slots that weren't delivered; it saturates at the greatest `u64`.
     pub(crate) bad: u64,
-    /// The multicast groups that it has joined.
+    /// The multicast groups that the driver has joined.
     pub(crate) groups: Groups,
     pub(crate) setup: Setup,
 }
@@ -49,15 +49,15 @@ impl Model for Driver {
 
     ghost Value = { DriverState };
 
-    ghost use Rattle.driver.specs.InsideDriver.{IsConsistentDriver, state_of};
+    ghost use Rattle.driver.specs.InsideDriver.{IsConsistentDriver, driver_state_of};
 
-    ghost view = { state_of };
+    ghost view = { driver_state_of };
 
     ghost invariant = { IsConsistentDriver };
 }
 
 impl Driver {
-    /// Where its rings and buffers are, and the size of the memory that they need.
+    /// The places of the driver's rings and buffers, and the size of the memory that they need.
     pub fn layout(&self) -> Layout
         ensures { result ≡ self.now.layout }
     {
@@ -79,8 +79,8 @@ impl Driver {
         self.sending
     }
 
-    /// The number of frames that the adapter missed, as read from MPC, and whether it is exact. If it isn't, there may
-    /// have been more.
+    /// The number of missed frames (the sum of all values read from MPC), and whether this number is exact. If it isn't
+    /// exact, more frames may have been missed.
     pub fn missed(&self) -> (u64, bool)
         ensures sum { result.0 ≡ self.now.missed }
         ensures exact { result.1 ≡ self.now.exact }
@@ -89,8 +89,8 @@ impl Driver {
         (self.missed, self.exact)
     }
 
-    /// The number of runs of finished slots that weren't delivered, as they didn't contain a whole frame of 60 to 1,518
-    /// bytes. A bus that obeys the law never has such a run.
+    /// The number of runs of finished slots that weren't delivered, because they didn't contain a whole frame of 60 to
+    /// 1,518 bytes. Over a bus that obeys the law no such run occurs.
     pub fn bad(&self) -> u64
         ensures { result ≡ self.now.bad }
     {

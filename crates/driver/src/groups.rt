@@ -1,4 +1,4 @@
-// A driver joins and leaves multicast groups.
+// Joining and leaving multicast groups.
 
 ghost use Rattle.std.specs.Prelude.{◌≡◌, ◌≢◌, ◌<◌, ◌↔◌, ◌++◌, ◌∷◌, [], Err, length};
 ghost use Rattle.std.specs.Result.{OnErr, OnOk};
@@ -16,18 +16,18 @@ use bus::Bus;
 use joined_groups::GroupError;
 
 impl Driver {
-    /// Joins a group: from then on, frames to it pass the receive filter. If no joined group has the number of its
-    /// address, one word of the group table is written; otherwise there is no access.
+    /// Joins a group, so that frames to the group pass the receive filter. If no joined group has the same group
+    /// number, one word of the group table is written; otherwise there is no access.
     ///
     /// # Errors
     ///
     /// E23 [`NotGroup`](GroupError::NotGroup) if the low bit of the address's first byte is clear, else E26
     /// [`Joined`](GroupError::Joined) if the group is joined already, else E24 [`GroupsFull`](GroupError::GroupsFull)
-    /// if 32 groups are joined. Then nothing changes, and there is no access.
+    /// if 32 groups are joined. After an error, nothing has changed, and there was no access.
     pub fn join<B: Bus>(&mut self, bus: &mut B, group: [u8; 6]) -> Result<(), GroupError>
         ensures keeps { Keeps B.Bus bus.old bus.new }
 
-        // What it does over any bus.
+        // Over any bus.
         ensures not_group { (result ≡ Err NotGroup) ↔ (¬ (IsGroup group)) }
         ensures joined { (result ≡ Err Joined) ↔ (IsGroup group × Contains self.old.groups group) }
         ensures full { (result ≡ Err GroupsFull)
@@ -38,24 +38,25 @@ impl Driver {
         ensures room { OnOk result (length self.old.groups < MOST_GROUPS) }
         ensures quiet { HasNumber self.old.groups group → bus.new ≡ bus.old }
 
-        // What it does over a bus that obeys the law.
+        // Over a bus that obeys the law.
         ensures joins { WhereReady B.Bus (at bus.old self.old) (at bus.new self.new)
             (λ up old new. OnOk result (ChangesJoined B.Bus up self.old.groups group old new)) }
     {
         self.groups.join(bus, group)
     }
 
-    /// Leaves a group. If no group that stays joined has the number of its address, one word of the group table is
-    /// written; otherwise there is no access.
+    /// Leaves a group. If no other joined group has the same group number, one word of the group table is written;
+    /// otherwise there is no access.
     ///
     /// # Errors
     ///
     /// E23 [`NotGroup`](GroupError::NotGroup) if the low bit of the address's first byte is clear, else E25
-    /// [`NotJoined`](GroupError::NotJoined) if the group isn't joined. Then nothing changes, and there is no access.
+    /// [`NotJoined`](GroupError::NotJoined) if the group isn't joined. After an error, nothing has changed, and there
+    /// was no access.
     pub fn leave<B: Bus>(&mut self, bus: &mut B, group: [u8; 6]) -> Result<(), GroupError>
         ensures keeps { Keeps B.Bus bus.old bus.new }
 
-        // What it does over any bus.
+        // Over any bus.
         ensures not_group { (result ≡ Err NotGroup) ↔ (¬ (IsGroup group)) }
         ensures not_joined { (result ≡ Err NotJoined) ↔ (IsGroup group × (¬ (Contains self.old.groups group))) }
         ensures else_ok { (result ≢ Err Joined) × (result ≢ Err GroupsFull) }
@@ -64,7 +65,7 @@ impl Driver {
         ensures left { OnOk result (Removes group self.old.groups self.new.groups) }
         ensures quiet { HasNumber self.new.groups group → bus.new ≡ bus.old }
 
-        // What it does over a bus that obeys the law.
+        // Over a bus that obeys the law.
         ensures leaves { WhereReady B.Bus (at bus.old self.old) (at bus.new self.new)
             (λ up old new. OnOk result (ChangesJoined B.Bus up self.new.groups group old new)) }
     {

@@ -1,4 +1,4 @@
-// A driver initializes its adapter.
+// Initialization of an adapter.
 
 ghost use Rattle.std.specs.Prelude.{◌≡◌, ◌↔◌, ◌*◌, ◌≤◌, Err, IfErr, IfOk, false, true};
 ghost use Rattle.dma_memory.specs.Layout.{IsAllowed, descriptor_bytes, size_of};
@@ -9,11 +9,11 @@ ghost use Rattle.bring_up.specs.Device.{IsBeforeAccess};
 ghost use Rattle.bring_up.specs.declared.init_error.InitError.TheVariants as InitError;
 ghost use Rattle.bus.specs.Keeping.{Keeps};
 ghost use Rattle.driver_law.specs.Beginnings.{new_driver};
-ghost use Rattle.driver_law.specs.Calls.{IsReady, Ran, at, only};
+ghost use Rattle.driver_law.specs.Calls.{IsReadyOver, Ran, at, only};
 ghost use Rattle.driver_law.specs.DriverState.{DriverState};
 ghost use Rattle.driver.specs.InsideDriver.{CanReset};
 ghost use Rattle.driver.specs.InsideSetup.{setup_in};
-ghost use Rattle.driver.specs.Initialisation.{FindsRing, Initialises, IsFresh, OffersFirst, Refuses};
+ghost use Rattle.driver.specs.Initialisation.{FindsRing, Initialises, IsFresh, OffersFirst, RefusesInit};
 ghost use Rattle.driver.specs.Initialisation.{transmit_accesses};
 
 use crate::Driver;
@@ -30,7 +30,8 @@ use dma_memory::{DESCRIPTOR_BYTES, Layout, Pool};
 use joined_groups::Groups;
 use std::alloc::{AllocError, Global};
 
-/// Finds the device, and sets up its receive filter and its receive ring, with no slot offered. Returns its address.
+/// Finds the device, and sets up its receive filter and its receive ring, with no slot offered. Returns the device's
+/// Ethernet address.
 ///
 /// # Errors
 ///
@@ -64,12 +65,12 @@ pub(crate) fn place_of(base: u64, slots: u16) -> RingPlace
     }
 }
 
-/// Clears the descriptors of the transmit ring, sets it up with no slot offered, and enables the transmitter.
+/// Clears the descriptors of the transmit ring, sets up this ring with no slot offered, and enables the transmitter.
 pub(crate) fn set_up_transmitter<B: Bus>(bus: &mut B, layout: Layout)
     requires allowed { IsAllowed layout }
     requires memory { size_of layout ≤ B.extent bus.old }
     ensures keeps { Keeps B.Bus bus.old bus.new }
-    ensures ran { (d : DriverState) → IsReady B.Bus false (at bus.old d) → d.layout ≡ layout
+    ensures ran { (d : DriverState) → IsReadyOver B.Bus false (at bus.old d) → d.layout ≡ layout
         → d.oldest_transmit ≡ 0 → d.sending ≡ 0 → (B.world bus.old).adapter.transmit_ring ≡ new_ring
         → Ran B.Bus true (only (transmit_accesses layout)) (at bus.old d) (at bus.new d) }
 {
@@ -80,7 +81,7 @@ pub(crate) fn set_up_transmitter<B: Bus>(bus: &mut B, layout: Layout)
 }
 
 impl Driver {
-    /// A driver that has offered nothing, with all buffers in its pool. It has joined these groups.
+    /// A driver that has offered no slot, has joined these groups, and has all buffers in its pool.
     fn new(
         alloc: Global,
         layout: Layout,
@@ -109,14 +110,14 @@ impl Driver {
         })
     }
 
-    /// Keeps the adapter's address.
+    /// Sets the adapter's address in the setup.
     fn set_address(&mut self, address: [u8; 6])
         ensures { self.new ≡ record self.old { setup = record self.old.setup { address = address } } }
     {
         self.setup.address = address;
     }
 
-    /// Offers all receive slots but the last, whose descriptor it clears.
+    /// Offers all receive slots except the last one, whose descriptor is cleared.
     fn offer_first<B: Bus>(&mut self, bus: &mut B)
         requires memory { size_of self.old.layout ≤ B.extent bus.old }
         requires new { self.old ≡ new_driver self.old.layout self.old.setup self.old.groups self.old.pool }
@@ -134,8 +135,8 @@ impl Driver {
     /// both rings and its interrupts. Frames are received from the write of RCTL on. The driver has joined the groups
     /// of the configuration, each once.
     ///
-    /// All memory that the driver ever needs is allocated here. If that fails, or the configuration isn't valid in
-    /// this memory, there is no access. After each error the call may be made again.
+    /// This call allocates all memory that the driver needs. If an allocation fails, or the configuration isn't valid
+    /// in the memory of the bus, there is no access. After each error the call may be made again.
     ///
     /// # Errors
     ///
@@ -143,15 +144,15 @@ impl Driver {
     pub fn init<B: Bus>(alloc: Global, bus: &mut B, config: &Config) -> Result<Driver, InitError>
         ensures keeps { Keeps B.Bus bus.old bus.new }
 
-        // What it does over any bus.
+        // Over any bus.
         ensures config { (result ≡ Err InitError.Config) ↔ ¬ CanBeHad config.now (B.extent bus.old) }
         ensures unasked { IfErr result (λ error. IsBeforeAccess error → bus.new ≡ bus.old) }
         ensures fresh { IfOk result (IsFresh config.now) }
 
-        // What it does over a bus that obeys the law.
+        // Over a bus that obeys the law.
         ensures initialises { B.honest bus.old
             → IfOk result (Initialises B.Bus config.now bus.old bus.new) }
-        ensures refuses { B.honest bus.old → IfErr result (Refuses B.Bus bus.old bus.new) }
+        ensures refuses { B.honest bus.old → IfErr result (RefusesInit B.Bus bus.old bus.new) }
     {
         let layout = config.layout(bus.size())?;
         let groups = Groups::of(config.groups.as_slice());

@@ -1,4 +1,4 @@
-// A driver handles an interrupt.
+// The interrupt handler.
 
 ghost use Rattle.std.specs.Prelude.{◌≡◌, ◌↔◌, ◌<◌, ◌≤◌, ◌∷◌, [], IsTrue};
 ghost use Rattle.registers.specs.Bits.{Meet};
@@ -7,7 +7,8 @@ ghost use Rattle.bus.specs.declared.event.Access.TheVariants.{Reads};
 ghost use Rattle.bus.specs.Keeping.{Keeps};
 ghost use Rattle.driver_law.specs.Calls.{Runs, at, only, with_missed};
 ghost use Rattle.driver_law.specs.Calls as calls;
-ghost use Rattle.driver.specs.HandlerSteps.{Handles, IfHandled, IfNotMine, OnlyReceives, Serves, WhereReadyIn, scene};
+ghost use Rattle.driver.specs.HandlerSteps.{Handles, IfHandled, IfNotMine, OnlyReceives};
+ghost use Rattle.driver.specs.HandlerSteps.{ServesReceiver, WhereReadyIn, scene};
 ghost use Rattle.bring_up.specs.WrittenRegisters.{handled_causes};
 
 use crate::{Driver, Receiver};
@@ -20,11 +21,12 @@ use registers::Cause;
 /// The result of handling an interrupt.
 #[derive(Clone, Copy, Debug, PartialEq, Eq)]
 pub enum Handled {
-    /// ICR had none of TXDW, RXDMT0, RXO and RXT0.
+    /// The value of ICR had none of TXDW, RXDMT0, RXO and RXT0.
     NotMine,
-    /// ICR had at least one of TXDW, RXDMT0, RXO and RXT0.
+    /// The value of ICR had at least one of TXDW, RXDMT0, RXO and RXT0.
     Handled {
-        /// The number of frames that the receiver was shown. Runs of slots without a whole frame aren't counted here.
+        /// The number of frames that the receiver was shown. Runs of slots that don't contain a whole frame aren't
+        /// counted here.
         taken: u64,
     },
 }
@@ -36,7 +38,8 @@ fn is_mine(causes: u32) -> bool
     Cause(causes).intersects(interrupt_causes())
 }
 
-/// Whether a value read from MPC can be added to a sum without a loss.
+/// Whether adding a value read from MPC keeps the sum exact: the value is below MPC's greatest value, and the sum
+/// doesn't saturate.
 fn adds_exactly(missed: u64, value: u32) -> bool
     ensures { result ≡ calls.adds_exactly missed value }
 {
@@ -44,7 +47,7 @@ fn adds_exactly(missed: u64, value: u32) -> bool
 }
 
 impl Driver {
-    /// Reads MPC, adds its value to the sum of missed frames, and returns it.
+    /// Reads MPC, adds its value to the sum of missed frames, and returns this value.
     pub(crate) fn count_missed<B: Bus>(&mut self, bus: &mut B) -> u32
         ensures keeps { Keeps B.Bus bus.old bus.new }
         ensures others { self.new ≡ with_missed result self.old }
@@ -61,26 +64,27 @@ impl Driver {
 
     /// Handles an interrupt, and returns the number of frames taken, or `NotMine`.
     ///
-    /// The rest of this paragraph holds if the bus obeys the law and the driver is ready. The call reads ICR first. If
-    /// ICR has none of TXDW, RXDMT0, RXO and RXT0, it makes no other access, and the result is `NotMine`. Otherwise it
-    /// reads MPC, takes frames off finished receive slots, and refills the ring. The frames that it takes include all
-    /// that ended in finished slots at the beginning. Before it refills the ring, it looks until no frame ends in
-    /// finished slots. It reads ICR before it looks, so a frame that ends later records RXT0 again: if RXT0 is in IMS
-    /// and the result is `Handled`, no frame is forgotten. `NotMine` forgets no frame either, if none was forgotten
-    /// before.
+    /// If the bus obeys the law and the driver is ready, the call reads ICR first. If ICR has none of TXDW, RXDMT0, RXO
+    /// and RXT0, the call makes no other access, and the result is `NotMine`. Otherwise the call reads MPC, takes
+    /// frames off finished receive slots, and refills the ring. The frames that it takes include all frames that ended
+    /// in finished slots at the beginning. Before it refills the ring, it looks at slots until no frame ends in
+    /// finished slots. ICR is read before the slots are looked at, so a frame that ends later records RXT0 again. If
+    /// RXT0 is in IMS at the beginning and the result is `Handled`, no work is forgotten at the end. If the result is
+    /// `NotMine`, no work is forgotten at the end if none was forgotten at the beginning.
     ///
-    /// Over any other bus, the contract states no accesses, but only what becomes of the driver, its buffers and the
-    /// receiver. `bus` must have at least `layout().size()` bytes.
+    /// If the bus doesn't obey the law or the driver isn't ready, the contract states no accesses. It states only that
+    /// the bus keeps its size and the values lent to it, and what becomes of the driver, its buffers and the receiver.
+    /// `bus` must have at least `layout().size()` bytes.
     pub fn interrupt<B: Bus, R: Receiver>(&mut self, bus: &mut B, receiver: &mut R) -> Handled
         requires memory { size_of self.old.layout ≤ B.extent bus.old }
         ensures keeps { Keeps B.Bus bus.old bus.new }
 
-        // What it does over any bus.
+        // Over any bus.
         ensures not_mine { IfNotMine result ((self.new ≡ self.old) × (receiver.new ≡ receiver.old)) }
         ensures only_receives { OnlyReceives self.old self.new }
-        ensures serves { IfHandled result (Serves R.Receiver receiver.old receiver.new self.old self.new) }
+        ensures serves { IfHandled result (ServesReceiver R.Receiver receiver.old receiver.new self.old self.new) }
 
-        // What it does over a bus that obeys the law.
+        // Over a bus that obeys the law.
         ensures handles { WhereReadyIn B.Bus (scene bus.old self.old receiver.old) (scene bus.new self.new receiver.new)
             (Handles B.Bus R.Receiver result) }
     {

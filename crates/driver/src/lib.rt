@@ -1,4 +1,4 @@
-//! A driver of the 82540EM, generic over the bus by which it reaches its adapter and its memory.
+//! A driver of the 82540EM, generic over the bus through which it accesses its adapter and its host's memory.
 //!
 //! Section numbers are those of Intel's "PCI/PCI-X Family of Gigabit Ethernet Controllers Software
 //! Developer's Manual".

@@ -1,4 +1,4 @@
-// A driver looks at its oldest receive slots.
+// How a driver looks at its oldest receive slots.
 
 ghost use Rattle.std.specs.Prelude.{◌≡◌, ◌↔◌, ◌+◌, ◌*◌, ◌<◌, ◌≤◌, length};
 ghost use Rattle.std.specs.Prelude.{replicate, slice_set, IfNone, IfSome, IsTrue};
@@ -18,36 +18,36 @@ use bus::Bus;
 use descriptors::{LONGEST_LEGAL, RX_DESC_BYTES, RxDesc, RxStatus, SHORTEST_LEGAL};
 use dma_memory::RECEIVE_BUFFER_BYTES;
 
-/// The oldest finished slots, up to one with EOP, or six without EOP.
+/// A run: the oldest finished slots up to the first with EOP, or six slots without EOP.
 #[derive(Clone, Copy)]
 pub(crate) struct Run {
-    /// The length in each slot's descriptor.
+    /// The lengths in the slots' descriptors.
     pub lengths: [u16; MOST_PARTS],
     /// The number of slots.
     pub count: usize,
-    /// The sum of their lengths.
+    /// The sum of the slots' lengths.
     pub length: u32,
-    /// Whether they contain a whole frame: EOP in the last descriptor, no errors, each buffer full but the last, and a
-    /// legal length.
+    /// Whether the slots contain a whole frame: the last descriptor has EOP, no descriptor has errors, and each buffer
+    /// except the last is full. The sum of the lengths is 60 to 1,518 bytes.
     pub whole: bool,
 }
 
-/// Whether the adapter is done with a descriptor.
+/// Whether a descriptor has DD: the slot is finished.
 fn is_done(descriptor: &RxDesc) -> bool
     ensures { result ≡ is_set (status_bits descriptor.now.status) dd }
 {
     descriptor.status.contains(RxStatus::DD)
 }
 
-/// Whether a packet ends in a descriptor's buffer: EOP.
+/// Whether a descriptor has EOP: a frame ends in the slot.
 fn is_ended(descriptor: &RxDesc) -> bool
     ensures { result ≡ is_set (status_bits descriptor.now.status) eop }
 {
     descriptor.status.contains(RxStatus::EOP)
 }
 
-/// Whether a slot with this descriptor may contain a piece of a whole frame: it has no errors, and it is full, or the
-/// last and not empty.
+/// Whether a slot with this descriptor may contain a piece of a whole frame. The descriptor must have no errors. Its
+/// length must be 256 bytes, or 1 to 256 bytes with EOP.
 fn is_sound(descriptor: &RxDesc) -> bool
     ensures { IsTrue result ↔ IsSoundPart descriptor.now }
 {
@@ -62,7 +62,7 @@ fn is_sound(descriptor: &RxDesc) -> bool
 }
 
 impl Run {
-    /// No slots.
+    /// A run without slots.
     fn new() -> Run
         ensures { result ≡ new_run }
     {
@@ -74,7 +74,7 @@ impl Run {
         }
     }
 
-    /// Appends a slot.
+    /// Appends a slot with this descriptor.
     fn add(&mut self, descriptor: &RxDesc)
         requires room { self.old.count < MOST_PARTS }
         requires short { self.old.length ≤ greatest_length * self.old.count }
@@ -98,7 +98,7 @@ impl Run {
 }
 
 impl Driver {
-    /// Loads the descriptor of the slot that is this many places after the oldest.
+    /// Loads the descriptor of the slot that is `places` places after the oldest.
     fn descriptor_after<B: Bus>(&self, bus: &mut B, places: usize) -> RxDesc
         requires memory { size_of self.now.layout ≤ B.extent bus.old }
         requires outstanding { places < length self.now.buffers }
@@ -113,9 +113,9 @@ impl Driver {
         RxDesc::from_bytes(&bytes)
     }
 
-    /// Looks at the oldest outstanding slots, each by one load of its descriptor, up to one with EOP. Returns `None` if
-    /// a slot before that isn't finished or isn't outstanding; otherwise the slots up to the one with EOP, or six
-    /// without EOP. DD, EOP and the length of a slot are of the same load. No slot is taken.
+    /// Looks at the oldest outstanding slots, each by one load of its descriptor, up to the first slot with EOP.
+    /// Returns these slots, or six slots without EOP. Returns `None` if the call first reaches a slot that isn't
+    /// finished or isn't outstanding. DD, EOP and the length of a slot come from the same load. No slot is taken.
     pub(crate) fn look<B: Bus>(&self, bus: &mut B) -> Option<Run>
         requires memory { size_of self.now.layout ≤ B.extent bus.old }
         ensures keeps { Keeps B.Bus bus.old bus.new }

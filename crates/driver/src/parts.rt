@@ -5,11 +5,11 @@ ghost use Rattle.std.specs.Prelude.{◌≡◌, ◌<◌, ◌≤◌, ◌++◌, ◌
 use dma_memory::BufId;
 use std::marker::Model;
 
-/// The most receive buffers that a frame has: one of 1,518 bytes fills five buffers of 256 bytes, and a part of a sixth
-/// (our choice).
+/// The greatest number of receive buffers of a frame (our choice): a frame of 1,518 bytes fills five buffers of 256
+/// bytes and needs a sixth.
 pub const MOST_PARTS: usize = 6;
 
-/// A piece of a received frame: the buffer that it is in, and its size in bytes.
+/// A piece of a received frame: the buffer that contains it, and its size in bytes.
 #[derive(Drop)]
 pub struct Part {
     pub buffer: BufId,
@@ -37,7 +37,7 @@ impl Model for Parts {
 }
 
 impl Parts {
-    /// No pieces.
+    /// An empty list of pieces.
     pub fn new() -> Parts
         ensures { result ≡ [] }
     {

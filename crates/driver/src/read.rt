@@ -1,4 +1,4 @@
-// A driver reads a frame that was delivered.
+// Reading a frame that was delivered.
 
 ghost use Rattle.std.specs.Prelude.{◌≡◌, ◌≤◌, ◌<◌, All, take, drop};
 ghost use Rattle.dma_memory.specs.Layout.{size_of};
@@ -21,7 +21,7 @@ impl Driver {
         ensures length { result ≡ received.now.length }
         ensures rest { drop result into.new ≡ drop result into.old }
 
-        // What it does over a bus that obeys the law.
+        // Over a bus that obeys the law.
         ensures ran { Runs B.Bus (only (part_loads self.now.layout received.now.parts))
             (at bus.old self.now) (at bus.new self.now) }
         ensures frame { ReadsHeld B.Bus received.now (at bus.old self.now) (take result into.new) }

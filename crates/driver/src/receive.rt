@@ -1,4 +1,4 @@
-// A driver takes received frames off its ring.
+// How a driver takes received frames off its ring.
 
 ghost use Rattle.std.specs.Prelude.{◌≡◌, ◌+◌, ◌<◌, ◌≤◌, ◌++◌, ◌∷◌, [], drop, length, take, All};
 ghost use Rattle.circular_buffer.specs.Buffer.{buffer};
@@ -7,8 +7,8 @@ ghost use Rattle.dma_memory.specs.Owners.{HasNoSecondOwner, HaveSameNumbers};
 ghost use Rattle.bus.specs.Keeping.{Keeps};
 ghost use Rattle.driver_law.specs.Calls.{Runs, at, ether_type_load, only};
 ghost use Rattle.driver_law.specs.DriverState.{owners};
-ghost use Rattle.driver.specs.HandlerSteps.{HandsOn, HandsOver, HasParts, LeavesRing, ReadsEtherType, Shows, TakesAll};
-ghost use Rattle.driver.specs.HandlerSteps.{TakesSlots, WhereReadyIn, WhereTaken, run_of, scene};
+ghost use Rattle.driver.specs.HandlerSteps.{PassesOn, HandsOver, HasParts, LeavesRing, ReadsEtherType, Shows, TakesAll};
+ghost use Rattle.driver.specs.HandlerSteps.{TakesSlots, WhereReadyIn, WhereTaken, run_with, scene};
 ghost use Rattle.driver.specs.Parts.{buffers_in, lengths_in};
 
 use crate::look::Run;
@@ -20,7 +20,7 @@ use dma_memory::BufId;
 /// The offset of the EtherType in a frame, in bytes.
 const ETHER_TYPE: u64 = 12;
 
-/// Takes the oldest buffers of a queue, one for each length.
+/// Removes the oldest buffers from a queue, one for each length.
 fn take_parts(queue: &mut HeapCircularBuffer<BufId>, lengths: &[u16]) -> Parts
     requires few { length lengths.now ≤ MOST_PARTS }
     requires enough { length lengths.now ≤ length queue.old.items }
@@ -41,7 +41,7 @@ fn take_parts(queue: &mut HeapCircularBuffer<BufId>, lengths: &[u16]) -> Parts
 }
 
 impl Driver {
-    /// Takes the slots of a run off the ring, with their buffers.
+    /// Takes the slots of a run off the ring, and returns their buffers, each with the length of its data.
     fn take_run(&mut self, run: &Run) -> Parts
         requires size { length run.now.lengths ≡ MOST_PARTS }
         requires few { run.now.count ≤ MOST_PARTS }
@@ -54,7 +54,8 @@ impl Driver {
         parts
     }
 
-    /// Bytes 12 and 13 of the frame in these buffers, by one load from the first. 0 if there is no buffer.
+    /// Bytes 12 and 13 of the frame in these buffers, by one load from the first buffer. Returns 0 if there is no
+    /// buffer.
     fn ether_type<B: Bus>(&self, bus: &mut B, parts: &Parts) -> u16
         requires memory { size_of self.now.layout ≤ B.extent bus.old }
         requires known { All (λ number. number < self.now.layout.buffers) (buffers_in parts.now) }
@@ -74,7 +75,7 @@ impl Driver {
         u16::from_be_bytes(bytes)
     }
 
-    /// Shows a frame to the receiver, and puts its buffers into the pool if the receiver returns them.
+    /// Shows a frame to the receiver. If the receiver returns the frame's buffers, they are put into the pool.
     fn show<R: Receiver>(&mut self, received: Received, receiver: &mut R)
         requires one_owner { HasNoSecondOwner self.old.layout.buffers (buffers_in received.parts ++ owners self.old) }
         ensures others { self.new ≡ record self.old { pool = self.new.pool } }
@@ -84,9 +85,9 @@ impl Driver {
         self.put_back(back);
     }
 
-    /// Passes on a run that was taken, and returns whether it contains a whole frame. Then the receiver takes the
-    /// frame. Otherwise the run's buffers go back to the pool, and it is counted as bad.
-    fn hand_on<B: Bus, R: Receiver>(
+    /// Passes on a run that was taken, and returns whether it contains a whole frame. If it does, the frame is shown to
+    /// the receiver; otherwise the run's buffers return to the pool, and the run is counted as bad.
+    fn pass_on<B: Bus, R: Receiver>(
         &mut self,
         bus: &mut B,
         parts: Parts,
@@ -99,7 +100,7 @@ impl Driver {
         ensures keeps { Keeps B.Bus bus.old bus.new }
         ensures whole { result ≡ run.now.whole }
         ensures others { self.new ≡ record self.old { pool = self.new.pool; bad = self.new.bad } }
-        ensures hands { HandsOn R.took receiver.old receiver.new (run_of parts result) self.old self.new }
+        ensures hands { PassesOn R.took receiver.old receiver.new (run_with parts result) self.old self.new }
         ensures over { WhereTaken B.Bus parts result
             (scene bus.old self.old receiver.old) (scene bus.new self.new receiver.new)
             (HandsOver B.Bus R.Receiver) }
@@ -119,10 +120,10 @@ impl Driver {
         true
     }
 
-    /// Takes runs of finished receive slots, the oldest first, until a look finds neither EOP nor six finished slots.
-    /// It shows the frame of each whole run to the receiver, and returns their number. Finished slots that no end of a
-    /// frame follows remain in the ring. Over a bus that obeys the law, each descriptor is loaded once, and after those
-    /// of a frame bytes 12 and 13 of the frame.
+    /// Takes runs of finished receive slots, the oldest first, until [`look`](Driver::look) finds no run. Shows the
+    /// frame of each whole run to the receiver, and returns the number of these frames. Finished slots after the last
+    /// run remain in the ring. Over a bus that obeys the law, each descriptor is loaded once, and after the descriptors
+    /// of a frame its bytes 12 and 13 are loaded.
     pub fn take_finished<B: Bus, R: Receiver>(&mut self, bus: &mut B, receiver: &mut R) -> usize
         requires memory { size_of self.old.layout ≤ B.extent bus.old }
         ensures keeps { Keeps B.Bus bus.old bus.new }
@@ -135,7 +136,7 @@ impl Driver {
         let mut taken = 0;
         while let Some(run) = self.look(bus) {
             let parts = self.take_run(&run);
-            if self.hand_on(bus, parts, &run, receiver) {
+            if self.pass_on(bus, parts, &run, receiver) {
                 taken += 1;
             }
         }

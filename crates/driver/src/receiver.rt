@@ -1,7 +1,7 @@
-// What takes the frames that a driver receives.
+// Receivers, which take the frames that a driver receives.
 
 ghost use Rattle.std.specs.Prelude.{◌≡◌, ◌++◌, [], ◌∷◌, List};
-ghost use Rattle.driver.specs.Answers.{Answers};
+ghost use Rattle.driver.specs.Answers.{ReceiverAnswers};
 ghost use Rattle.driver.specs.declared.receiver.Received.{Received};
 
 use crate::Parts;
@@ -9,28 +9,28 @@ use crate::Parts;
 /// A received frame, in its buffers.
 #[derive(Drop)]
 pub struct Received {
-    /// The pieces of the frame, in order. Their buffers are owned by the one who holds this value.
+    /// The pieces of the frame, in order. The owner of this value owns their buffers.
     pub parts: Parts,
-    /// The size of the frame, 60 to 1,518 bytes: the sum of the sizes of its pieces.
+    /// The size of the frame in bytes, from 60 to 1,518: the sum of the sizes of its pieces.
     pub length: u16,
     /// Bytes 12 and 13 of the frame, the more significant one first.
     pub ether_type: u16,
 }
 
-/// Takes received frames: keeps a frame with its buffers, or returns them at once.
+/// A receiver takes received frames. It keeps a frame with its buffers, or returns the buffers at once.
 pub trait Receiver {
-    /// What the receiver reports of an interval, from one of its states to another: the frames that it was shown, and
-    /// those of them that it kept, both in order.
+    /// Between these two states, the receiver was shown the frames of the first list, and kept those of the second
+    /// list, both in order.
     ghost took: { Self → Self → List Received → List Received → Type 0 };
 
-    /// Takes a frame. Its buffers are the receiver's from now on, unless they are returned: all of them, or none.
+    /// Takes a frame. Returns all buffers of the frame, or no buffer; then the receiver owns all buffers of the frame.
     fn take(&mut self, received: Received) -> Parts
-        ensures { Answers took self.old self.new received result };
+        ensures { ReceiverAnswers took self.old self.new received result };
 
-    /// It took nothing from a state to itself.
+    /// In an empty interval, the receiver was shown no frame, and kept no frame.
     ghost stays: { (receiver : Self) → took receiver receiver [] [] };
 
-    /// What it took in two intervals, one after the other, it took in both together.
+    /// In two consecutive intervals together, the receiver was shown and kept the frames of both, in order.
     ghost joins: { (a b c : Self) (shown kept later more : List Received)
         → took a b shown kept → took b c later more → took a c (shown ++ later) (kept ++ more) };
 }

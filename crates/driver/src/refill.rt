@@ -1,4 +1,4 @@
-// A driver offers receive slots.
+// How a driver offers receive slots.
 
 ghost use Rattle.std.specs.Prelude.{◌≡◌, ◌⊎◌, ◌+◌, ◌*◌, ◌<◌, ◌≤◌, ◌++◌, ◌∷◌, ℕ, [], length};
 ghost use Rattle.std.specs.Bool.{OnFalse, OnTrue};
@@ -26,7 +26,7 @@ pub(crate) fn receive_slot(slot: u16) -> u64
     DESCRIPTOR_BYTES * u64::from(slot)
 }
 
-/// The descriptor that offers a buffer by its address.
+/// The receive descriptor with the address of a buffer. All its other fields are 0.
 fn descriptor_of(buffer: u64) -> RxDesc
     ensures { rx_desc_bytes result ≡ empty_descriptor buffer }
 {
@@ -40,7 +40,7 @@ fn descriptor_of(buffer: u64) -> RxDesc
     }
 }
 
-/// Puts buffers that are out back into the pool.
+/// Puts the buffers of these pieces back into the pool.
 fn give_all(pool: &mut Pool, parts: Parts)
     requires { HasNoSecondOwner pool.old.buffers (buffers_in parts ++ pool.old.free) }
     ensures given { HaveSameNumbers (buffers_in parts ++ pool.old.free) pool.new.free }
@@ -53,8 +53,8 @@ fn give_all(pool: &mut Pool, parts: Parts)
 }
 
 impl Driver {
-    /// Stores the descriptor of the next receive slot, with a free buffer, if there is one, and if one slot more is
-    /// left after that. Returns whether it did.
+    /// Stages the next receive slot: stores its descriptor, with a free buffer. Returns `false`, and does nothing, if
+    /// no buffer is free or only one slot is neither outstanding nor staged.
     fn stage<B: Bus>(&mut self, bus: &mut B) -> bool
         requires memory { size_of self.old.layout ≤ B.extent bus.old }
         ensures keeps { Keeps B.Bus bus.old bus.new }
@@ -81,7 +81,7 @@ impl Driver {
         true
     }
 
-    /// Stages slots until no buffer is free, or one slot is left, which stays the driver's.
+    /// Stages slots until no buffer is free, or only one slot is neither outstanding nor staged.
     pub(crate) fn stage_all<B: Bus>(&mut self, bus: &mut B)
         requires memory { size_of self.old.layout ≤ B.extent bus.old }
         ensures keeps { Keeps B.Bus bus.old bus.new }
@@ -93,7 +93,7 @@ impl Driver {
         while self.stage(bus) {}
     }
 
-    /// Offers all staged slots by one write of RDT, if there are any.
+    /// Offers all staged slots by one write of RDT. If no slot is staged, there is no access.
     pub(crate) fn offer<B: Bus>(&mut self, bus: &mut B)
         ensures keeps { Keeps B.Bus bus.old bus.new }
         ensures others { self.new ≡ with_owners self.old (self.old.buffers ++ self.old.staged) [] self.old.pool [] }
@@ -119,8 +119,8 @@ impl Driver {
         give_all(&mut self.pool, parts);
     }
 
-    /// Offers receive slots with free buffers, until no buffer is free, or one slot is left, which stays the driver's.
-    /// It stores their descriptors, and then writes RDT once, if any were stored.
+    /// Offers receive slots with free buffers, until no buffer is free, or all slots except one are outstanding. The
+    /// call stores the descriptors, and then writes RDT once if any slot is staged.
     pub fn refill<B: Bus>(&mut self, bus: &mut B)
         requires memory { size_of self.old.layout ≤ B.extent bus.old }
         ensures keeps { Keeps B.Bus bus.old bus.new }
@@ -133,7 +133,7 @@ impl Driver {
         self.offer(bus);
     }
 
-    /// Puts the buffers of a frame that a receiver kept back into the pool, and refills.
+    /// Puts the buffers of a frame that a receiver kept back into the pool, and refills the ring.
     pub fn give<B: Bus>(&mut self, bus: &mut B, parts: Parts)
         requires memory { size_of self.old.layout ≤ B.extent bus.old }
         requires one_owner { HasNoSecondOwner self.old.layout.buffers (buffers_in parts ++ owners self.old) }

@@ -1,4 +1,4 @@
-// A driver resets its adapter in a run.
+// Resetting an adapter that is running.
 
 ghost use Rattle.std.specs.Prelude.{◌≡◌, ◌≤◌, ◌<◌, ◌+◌, ◌++◌, ◌∷◌, [], length};
 ghost use Rattle.dma_memory.specs.Layout.{size_of};
@@ -22,7 +22,7 @@ use bus::Bus;
 use circular_buffer::HeapCircularBuffer;
 use dma_memory::{BufId, Pool};
 
-/// Puts buffers that are out back into the pool.
+/// Puts all buffers of the queue back into the pool.
 fn give_buffers(pool: &mut Pool, buffers: &mut HeapCircularBuffer<BufId>)
     requires { HasNoSecondOwner pool.old.buffers (pool.old.free ++ buffers.old.items) }
     ensures none { buffers.new.items ≡ [] }
@@ -43,7 +43,7 @@ impl Driver {
         self.oldest_receive
     }
 
-    /// Forgets all slots, as the adapter does at a reset. Their buffers are free then.
+    /// Forgets all slots, as the adapter does at a reset, and puts their buffers into the pool.
     fn forget_slots(&mut self)
         ensures others { self.new ≡ reset_driver self.new.pool self.old }
         ensures pool { HaveSameNumbers (self.old.pool ++ (self.old.buffers ++ self.old.staged)) self.new.pool }
@@ -57,7 +57,7 @@ impl Driver {
         self.sending = 0;
     }
 
-    /// Offers all staged slots by one write of RDT, even if there are none.
+    /// Offers all staged slots by one write of RDT. Writes RDT even if no slot is staged.
     fn offer_all<B: Bus>(&mut self, bus: &mut B)
         ensures keeps { Keeps B.Bus bus.old bus.new }
         ensures others { self.new ≡ with_owners self.old (self.old.buffers ++ self.old.staged) [] self.old.pool [] }
@@ -76,7 +76,8 @@ impl Driver {
         self.staged
     }
 
-    /// Offers as many receive slots as the pool and the ring allow, and clears the descriptors of the others.
+    /// Offers receive slots until no buffer is free, or all slots except one are outstanding. Clears the descriptors of
+    /// the other slots.
     fn offer_free<B: Bus>(&mut self, bus: &mut B)
         requires memory { size_of self.old.layout ≤ B.extent bus.old }
         requires first { self.old.oldest_receive ≡ 0 }
@@ -91,9 +92,9 @@ impl Driver {
         self.offer_all(bus);
     }
 
-    /// Resets the adapter and sets it up again as [`init`](Driver::init) did, with the groups joined now; the link
-    /// stays up. Frames that are to be sent, and frames that the driver hasn't taken, are given up, and their buffers
-    /// are offered again. Frames that a receiver kept are still in their buffers. It takes no memory, and has no error.
+    /// Resets the adapter and sets it up again as [`init`](Driver::init) did, with the groups joined now. A link that
+    /// is up remains up. Frames that are still to be sent, and frames that the driver hasn't taken, are lost. Frames
+    /// that a receiver kept are still in their buffers. The call allocates no memory, and can't fail.
     pub fn reset<B: Bus>(&mut self, bus: &mut B)
         requires memory { size_of self.old.layout ≤ B.extent bus.old }
         ensures keeps { Keeps B.Bus bus.old bus.new }

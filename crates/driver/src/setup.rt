@@ -1,4 +1,4 @@
-// What a driver keeps to set its adapter up again.
+// The setup with which a driver initializes its adapter again.
 
 ghost use Rattle.std.specs.Prelude.{◌≡◌, replicate};
 ghost use Rattle.bring_up.specs.Configuration.{HasRightNumbers};
@@ -8,7 +8,7 @@ ghost use Rattle.driver.specs.InsideSetup.{IsRightSetup, setup_in};
 use arrayvec::ArrayVec;
 use bring_up::{Config, MOST_VLANS};
 
-/// What a driver keeps of its configuration, and its adapter's address. A reset needs them.
+/// The parts of the configuration that a reset needs, and the adapter's address.
 #[derive(Drop)]
 pub(crate) struct Setup {
     pub(crate) rxa: u8,
@@ -18,7 +18,7 @@ pub(crate) struct Setup {
 }
 
 impl Setup {
-    /// The setup of a configuration, before the address is known.
+    /// The setup of a configuration, with an address of zeros until the adapter's address is known.
     pub(crate) fn of(config: &Config) -> Setup
         requires { HasRightNumbers config.now }
         ensures is { setup_in result ≡ setup_of config.now (replicate 6 0) }

@@ -1,4 +1,4 @@
-// A driver sends frames.
+// How a driver sends frames.
 
 ghost use Rattle.std.specs.Prelude.{◌≡◌, ◌↔◌, ◌+◌, ◌<◌, ◌≤◌, true, Err, length, slice_index};
 ghost use Rattle.std.specs.Bool.{OnFalse, OnTrue};
@@ -22,7 +22,7 @@ use descriptors::{
 use dma_memory::{DESCRIPTOR_BYTES, Layout};
 use thiserror::Error;
 
-/// Why a frame isn't sent.
+/// The reason why a frame isn't sent.
 #[derive(Clone, Copy, Debug, PartialEq, Eq, Error)]
 pub enum SendError {
     /// The frame has fewer than 14 bytes.
@@ -31,8 +31,9 @@ pub enum SendError {
     /// The frame has more than 1,518 bytes.
     #[error("E21 TooLong")]
     TooLong,
-    /// All slots but one are outstanding after the call has freed those whose descriptors have DD. If the bus obeys the
-    /// law, and the driver is ready with its transmit side up, none of them is written back.
+    /// All slots except one are outstanding, after the call has freed the oldest slots whose descriptors have DD. If
+    /// the bus obeys the law, and the driver is ready with its transmit side set up, no outstanding slot is written
+    /// back.
     #[error("E22 RingFull")]
     RingFull,
 }
@@ -46,15 +47,14 @@ fn descriptor_address(layout: Layout, slot: u16) -> u64
     layout.transmit_ring() + DESCRIPTOR_BYTES * u64::from(slot)
 }
 
-/// Whether the adapter is done with a transmit descriptor: DD is set.
+/// Whether a transmit descriptor has DD: it is written back.
 fn shows_done(bytes: &[u8; TX_DESC_BYTES]) -> bool
     ensures { result ≡ is_set (slice_index bytes.now sent_status_offset) tx_dd }
 {
     TxDesc::from_bytes(bytes).status.contains(TxStatus::DD)
 }
 
-/// The descriptor of a frame in one buffer: a whole packet (EOP), with a check sequence (IFCS), and with its
-/// write-back requested (RS).
+/// The descriptor of a frame in one buffer, with EOP, IFCS (insert the frame check sequence) and RS (report status).
 fn whole_packet(buffer: u64, size: u16) -> [u8; TX_DESC_BYTES]
     ensures { result ≡ whole_descriptor buffer size }
 {
@@ -71,7 +71,7 @@ fn whole_packet(buffer: u64, size: u16) -> [u8; TX_DESC_BYTES]
 }
 
 impl Driver {
-    /// Frees the oldest transmit slot if its descriptor has DD, and returns whether it did.
+    /// Frees the oldest outstanding transmit slot if its descriptor has DD. Returns whether a slot was freed.
     fn free_oldest<B: Bus>(&mut self, bus: &mut B) -> bool
         requires memory { size_of self.old.layout ≤ B.extent bus.old }
         ensures keeps { Keeps B.Bus bus.old bus.new }
@@ -95,8 +95,8 @@ impl Driver {
         true
     }
 
-    /// Frees the oldest transmit slots whose descriptors have DD, up to the first without it, or until none is
-    /// outstanding.
+    /// Frees the oldest outstanding transmit slots, one after the other, until the oldest slot's descriptor doesn't
+    /// have DD, or no slot is outstanding.
     pub(crate) fn reclaim<B: Bus>(&mut self, bus: &mut B)
         requires memory { size_of self.old.layout ≤ B.extent bus.old }
         ensures keeps { Keeps B.Bus bus.old bus.new }
@@ -107,7 +107,7 @@ impl Driver {
         while self.free_oldest(bus) {}
     }
 
-    /// Sends a frame in the slot after the outstanding ones: stores its bytes into the slot's buffer, then its
+    /// Sends a frame in the slot after the outstanding slots: stores its bytes into the slot's buffer, then its
     /// descriptor, and then writes TDT.
     fn send<B: Bus>(&mut self, bus: &mut B, frame: &[u8])
         requires memory { size_of self.old.layout ≤ B.extent bus.old }
@@ -131,29 +131,29 @@ impl Driver {
 
     /// Sends a frame of 14 to 1,518 bytes.
     ///
-    /// First it frees the oldest transmit slots whose descriptors have DD, by one load each; if slots are left, the
-    /// oldest one's descriptor is loaded, too. `bus` must have at least `layout().size()` bytes. Over a bus that
-    /// doesn't obey the law, only `others`, `nothing` and the clauses of the errors hold.
+    /// First the call frees the oldest transmit slots whose descriptors have DD, by one load each. If outstanding slots
+    /// remain, the descriptor of the oldest remaining slot is loaded, too. `bus` must have at least `layout().size()`
+    /// bytes. Over a bus that doesn't obey the law, all clauses but `transmits` hold.
     ///
     /// # Errors
     ///
-    /// E20 [`TooShort`](SendError::TooShort) if the frame has fewer than 14 bytes, E21
-    /// [`TooLong`](SendError::TooLong) if it has more than 1,518; both without an access. E22
-    /// [`RingFull`](SendError::RingFull) only if all slots of the transmit ring but one are still outstanding after the
-    /// call has freed those whose descriptors have DD. If the bus obeys the law and the driver is ready with its
-    /// transmit side up, E22 means exactly one load (a ring has at least 8 slots) and an unchanged driver.
+    /// E20 [`TooShort`](SendError::TooShort) if the frame has fewer than 14 bytes, E21 [`TooLong`](SendError::TooLong)
+    /// if the frame has more than 1,518 bytes; both without an access. E22 [`RingFull`](SendError::RingFull) only if
+    /// all slots of the transmit ring except one are still outstanding after the call has freed slots whose descriptors
+    /// have DD. If the bus obeys the law and the driver is ready with its transmit side set up, the call made exactly
+    /// one load before E22. In this case the driver is unchanged.
     pub fn transmit<B: Bus>(&mut self, bus: &mut B, frame: &[u8]) -> Result<(), SendError>
         requires memory { size_of self.old.layout ≤ B.extent bus.old }
         ensures keeps { Keeps B.Bus bus.old bus.new }
 
-        // What it does over any bus.
+        // Over any bus.
         ensures others { self.new ≡ with_transmit_slots self.old self.new.oldest_transmit self.new.sending }
         ensures too_short { (result ≡ Err SendError.TooShort) ↔ (length frame.now < shortest_sent) }
         ensures too_long { (result ≡ Err SendError.TooLong) ↔ (longest_frame < length frame.now) }
         ensures nothing { HasWrongLength result → (bus.new ≡ bus.old) × (self.new ≡ self.old) }
         ensures full { result ≡ Err SendError.RingFull → self.new.sending + 1 ≡ self.new.layout.tx }
 
-        // What it does over a bus that obeys the law.
+        // Over a bus that obeys the law.
         ensures transmits { Transmits B.Bus frame.now result (at bus.old self.old) (at bus.new self.new) }
     {
         if frame.len() < SHORTEST_SENDABLE {

@@ -5,20 +5,20 @@ use Rattle.adapter.specs.World.{World, world_after_read, world_after_store, worl
 use Rattle.bus.specs.Keeping.{view_of}
 use Rattle.bus.specs.Law.{Acts}
 use Rattle.bus.specs.Link.{HasLink, KeepsLink, LeavesPhy}
-use Rattle.bus.specs.PastOfStretch.{Past, joined, nothing}
+use Rattle.bus.specs.Pasts.{Past, joined, nothing}
 use Rattle.bus.specs.Settings.{AreSet, settings_after_all, settings_of, writes_in}
-use Rattle.bus.proofs.Links.{accesses_keep_link, happenings_keep_link, link_stretches_join}
+use Rattle.bus.proofs.Links.{accesses_keep_link, happenings_keep_link, link_intervals_join}
 use Rattle.bus.proofs.Settings.{happenings_leave_settings, happens-off, reads-leave, settings_join, while_off-joins, writes-set}
 use Rattle.bus.specs.declared.event.Access.TheVariants.{Loads, Reads, Stores, Writes}
 use Rattle.bus.specs.declared.event.Access.{Access}
 use Rattle.driver_law.proofs.Steps.{goes-happens, goes-stays}
-use Rattle.driver_law.proofs.Stretches.{goes_join, joined-nothing}
+use Rattle.driver_law.proofs.Intervals.{goes_join, joined-nothing}
 use Rattle.driver_law.specs.DriverState.{DriverState}
 use Rattle.driver_law.specs.Calls.{FollowsWrites, GoesTo, Ran, at, call_did, driver_did, driver_in, only}
 use Rattle.driver_law.specs.ReadyDrivers.{ReadyWith}
 use Rattle.bus.specs.declared.bus.Bus.{Ghosts}
 
--- The driver does something by itself, without an access.
+-- The driver changes its own state without an access.
 pub ran_by-itself : {up : Bool} {B : Type 0} (bus : Ghosts B) → ((b : B) → bus.happened b b nothing)
     → (b : B) (d d' : DriverState) (taken accepted : List (List ℕ))
     → GoesTo up (driver_in d (bus.world b)) (driver_in d' (bus.world b)) (driver_did taken accepted) nothing
@@ -35,12 +35,13 @@ ran_by-itself bus stays b d d' taken accepted goes = record {
   };
 }
 
--- It does nothing.
+-- The driver does nothing.
 pub ran_by-stays : {up : Bool} {B : Type 0} (bus : Ghosts B) → ((b : B) → bus.happened b b nothing)
     → (b : B) (d : DriverState) → ReadyWith up d (bus.world b) → Ran bus up (only []) (at b d) (at b d)
 ran_by-stays bus stays b d ready = ran_by-itself bus stays b d d [] [] (goes-stays d (bus.world b) ready)
 
--- The settings after an access, and that a link remains up if the access doesn't touch the PHY, from any world in which it begins.
+-- The settings after an access, and that the link remains up if the access doesn't write CTRL or MDIC, for any world
+-- before the access.
 pub record SetsBy (access : Access) (effect : World → World → Type 0) (new : World) : Type 0 where
   pub settings : (middle : World) → effect middle new
       → settings_of new.adapter ≡ settings_after_all (writes_in (access ∷ [])) (settings_of middle.adapter)
@@ -74,7 +75,7 @@ read-sets offset value shows new = record {
   link = λ middle read leaves link. subst HasLink (sym read.1) (accesses_keep_link (Reads offset value) middle leaves link);
 }
 
--- Whatever happened before it.
+-- The settings after an access, whatever happened before the access.
 access-set : {B : Type 0} (bus : Ghosts B) (old new : B) (access : Access) (effect : World → World → Type 0)
     → (acts : Acts (view_of bus) old new access effect) → SetsBy access effect (bus.world new)
     → AreSet (bus.world old) (bus.world new) acts.past
@@ -100,7 +101,7 @@ follows-acts bus old new access effect acts sets = record {
   link = access-link bus old new access effect acts sets;
 }
 
--- One access: something happens, and then what the access does, from any world in which the driver is ready.
+-- An interval with one access: anything may happen before the access, in any world in which the driver is ready.
 pub ran_by-acts : {up : Bool} {B : Type 0} (bus : Ghosts B) (old new : B) (access : Access) (effect : World → World → Type 0)
     (d d' : DriverState) (taken accepted : List (List ℕ)) → Acts (view_of bus) old new access effect
     → SetsBy access effect (bus.world new)
@@ -122,13 +123,13 @@ ran_by-acts {up} bus old new access effect d d' taken accepted acts sets ready s
       follows = follows-acts bus old new access effect acts sets;
     }
 
--- One interval, and then another.
+-- Two consecutive intervals join.
 pub follows-join : (a b c : World) (first later : Past) → FollowsWrites a b first → FollowsWrites b c later
     → FollowsWrites a c (joined first later)
 follows-join a b c first later one two = record {
   set = settings_join a b c first later one.set two.set;
   off = while_off-joins a b first later one.set one.off two.off;
-  link = link_stretches_join a b c first later one.link two.link;
+  link = link_intervals_join a b c first later one.link two.link;
 }
 
 unfoldable pub ran_by-join : {first_up up : Bool} {B : Type 0} (bus : Ghosts B)
@@ -144,7 +145,7 @@ ran_by-join bus joins xs ys a b c d1 d2 d3 t1 t2 g1 g2 one two = record {
   follows = follows-join (bus.world a) (bus.world b) (bus.world c) one.past two.past one.follows two.follows;
 }
 
--- The same accesses, state at the end, and frames, under other names.
+-- The accesses, the final state and the frames may be replaced by equal ones.
 pub ran_by-same : {up : Bool} {B : Type 0} (bus : Ghosts B) (xs ys : List Access) (old new : B) (d d1 d2 : DriverState)
     (t1 t2 accepted : List (List ℕ))
     → xs ≡ ys → d1 ≡ d2 → t1 ≡ t2 → Ran bus up (call_did xs t1 accepted) (at old d) (at new d1)

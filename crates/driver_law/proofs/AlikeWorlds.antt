@@ -1,4 +1,4 @@
--- Worlds that differ in nothing that a driver knows.
+-- Worlds that agree in everything that a driver knows.
 use Rattle.std.proofs.Common.{Bool, ◌≡◌, ◌≤◌, ℕ, List, length, map, sym, ap, subst, ◌∙◌}
 use Rattle.registers.specs.Places.{rctl_en}
 use Rattle.std.specs.List.{All}
@@ -39,7 +39,7 @@ transmit-left up driver a b same transmit =
     (subst (λ (control : ℕ). Is a.memory (transmit_ring a) control b.adapter.transmitter.buffer) (sym same.transmit_control)
     (subst (λ (buffer : List Queued). Is a.memory (transmit_ring a) a.adapter.transmit_control buffer) (sym same.buffer) transmit)))
 
--- A driver is ready in both worlds if frames and slots are the same.
+-- A driver that is ready in one world is ready in another if frames, slots and these parts are the same.
 pub ready-left : {up : Bool} (driver : DriverState) (a b : World) → ReadyWith up driver a
     → LeavesFrames driver.oldest_receive driver.oldest_transmit a b → SameParts a b → ReadyWith up driver b
 ready-left {up} driver a b ready leaves same =

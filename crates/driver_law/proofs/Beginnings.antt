@@ -1,4 +1,4 @@
--- A driver begins ready.
+-- A driver is ready in the state in which it begins.
 use Rattle.std.proofs.Common.{Bool, true, false, ◌≡◌, ◌≤◌, [], ℕ, List, Option, None, map, sym, ap, subst, arith}
 use Rattle.registers.specs.Places.{rctl_en}
 use Rattle.registers.specs.Bits.{HasBit}
@@ -23,7 +23,7 @@ tail-known : (up : Bool) (counts : Counts) (world : World)
 tail-known true counts world known = known.knows.last
 tail-known false counts world off = off.last
 
--- Nothing is finished or in progress.
+-- Receive buffers are large enough while no receive slot is finished or in progress.
 begun-fits : (size : ℕ) (world : World) → (HasBit world.adapter.filter.rctl rctl_en → buffer_size world ≡ size)
     → finished 0 world ≡ [] → world.adapter.receiver.work ≡ None → FitBuffers size 0 world
 begun-fits size world sized none idle = record {

@@ -1,4 +1,4 @@
--- A receive buffer that no outstanding slot has is nowhere in the adapter's way.
+-- The adapter doesn't use a receive buffer that no outstanding slot has.
 use Rattle.std.proofs.Common.{inl, true, false, Bool, ◌≡◌, ◌≢◌, ◌≤◌, ◌<◌, ◌+◌, ◌*◌, ◌∷◌, [], ℕ, zero, suc, List, length, take, drop, map}
 use Rattle.std.proofs.Common.{refl, sym, ap, subst, ◌∙◌, arith}
 use Rattle.std.specs.List.{All}
@@ -24,14 +24,14 @@ use Rattle.bus.proofs.Rings.{slots-below}
 use Rattle.bus.proofs.SpareMemory.{spare-apart, spare-foreign}
 use Rattle.driver_law.proofs.Owners.{all-copies, elsewhere-number, outstanding-number}
 use Rattle.driver_law.proofs.Places.{outstanding-known}
-use Rattle.driver_law.specs.DriverState.{DriverState, HandedOut, buffer_at, numbers_of, transmit_slot}
+use Rattle.driver_law.specs.DriverState.{DriverState, HandedOut, buffer_at, piece_numbers, transmit_slot}
 use Rattle.driver_law.specs.ReadyDrivers.{ReadyWith, Stands, TransmitIs, transmit_side}
 
 pub known-area : (ring : Ring) (base n tail : ℕ) → KnowsRing ring base n tail → ring_area ring ≡ area_at base (16 * n)
 known-area ring base n tail knows =
     ap (λ (address : ℕ). area_at address (16 * count_of ring)) knows.begins ∙ ap (λ (count : ℕ). area_at base (16 * count)) knows.slots
 
--- The transmit side keeps away from receive buffers, set up or off.
+-- The transmit ring and its data are apart from the receive buffers, whether the transmit side is set up or off.
 record IsAway (p : ℕ) (world : World) (area : Area) : Type 0 where
   ring : AreApart (ring_area (transmit_ring world)) area
   sources : All (λ slot. AreApart (data_of world.memory slot) area) (outstanding (transmit_ring world) p)
@@ -86,15 +86,14 @@ buffer-spare {up} d world number ready known free =
       sources = away.sources;
     }
 
--- Each buffer lies in memory.
+-- Memory contains each receive buffer.
 pub buffer-lies : {up : Bool} (d : DriverState) (world : World) (number : ℕ) → ReadyWith up d world → number < d.layout.buffers
     → LiesIn world.memory (buffer_at d.layout number) receive_buffer_bytes
 buffer-lies {up} d world number ready known = let ends = place-below_size d.layout (ReceiveBuffer number) known in omega
     (arith, ends, ready.lies)
 
--- It lies in memory, apart from all that the conditions of the law name, and isn't the adapter's to write. This ends what is said of areas:
--- from
--- here on numbers are counted.
+-- Memory contains this buffer, the buffer is apart from all areas in the conditions of the bus law, and the adapter
+-- doesn't write it.
 pub record IsAside (d : DriverState) (world : World) (number : ℕ) : Type 0 where
   pub lies : LiesIn world.memory (buffer_at d.layout number) receive_buffer_bytes
   pub apart : All (λ other. AreApart other (area_of d.layout (ReceiveBuffer number))) (areas d.oldest_receive world)
@@ -112,7 +111,7 @@ buffer-aside {up} d world number ready known free =
       foreign = spare-foreign receive_buffer_bytes o p world _ ready.law.sound ready.law.fit spare;
     }
 
--- The first bytes of an area are the same if all its bytes are.
+-- If all bytes of an area are the same, its first bytes are the same.
 pub front-same : (memory memory' : List ℕ) (address n size : ℕ) → n ≤ size → bytes_at memory' address size ≡ bytes_at memory address size
     → bytes_at memory' address n ≡ bytes_at memory address n
 front-same memory memory' address n size short same =
@@ -124,7 +123,8 @@ front-same memory memory' address n size short same =
     take-shorter (suc i) (suc j) [] below = refl
     take-shorter (suc i) (suc j) (x ∷ xs) below = ap (λ (list : List ℕ). x ∷ list) (take-shorter i j xs (omega (arith, below)))
 
--- Pieces of frames that others hold are still in their buffers, if the buffers without an outstanding slot are the same.
+-- Pieces of frames that others hold are still in their buffers if all buffers that no outstanding slot has are the
+-- same.
 pub stand-kept : {up : Bool} (d : DriverState) (a b : World) → ReadyWith up d a
     → ((number : ℕ) → number < d.layout.buffers → copies number d.buffers ≡ 0
     → bytes_in b.memory (area_of d.layout (ReceiveBuffer number)) ≡ bytes_in a.memory (area_of d.layout (ReceiveBuffer number)))
@@ -137,12 +137,12 @@ stand-kept {up} d a b ready same = each d.handed_out (λ k. omega arith) ready.s
     Behind : HandedOut → Type 0
     Behind = Stands d.layout b.memory
 
-    each : (list : List HandedOut) → ((k : ℕ) → copies k (numbers_of list) ≤ copies k (numbers_of d.handed_out)) → All Before list
+    each : (list : List HandedOut) → ((k : ℕ) → copies k (piece_numbers list) ≤ copies k (piece_numbers d.handed_out)) → All Before list
         → All Behind list
     each [] among stand = all-none Behind
     each (one ∷ list) among stand =
         let elsewhere = elsewhere-number d one.number ready.driver_is
-        (omega (arith, among one.number, copies-itself one.number (numbers_of list))) in
+        (omega (arith, among one.number, copies-itself one.number (piece_numbers list))) in
         let stands = all-head Before one list stand in
         All-cons Behind one list
         (record {
@@ -150,4 +150,4 @@ stand-kept {up} d a b ready same = each d.handed_out (λ k. omega arith) ready.s
               (same one.number elsewhere.known elsewhere.free) ∙ stands.bytes;
           short = stands.short;
         })
-        (each list (λ k. omega (arith, among k, copies-cons k one.number (numbers_of list))) (all-tail Before one list stand))
+        (each list (λ k. omega (arith, among k, copies-cons k one.number (piece_numbers list))) (all-tail Before one list stand))

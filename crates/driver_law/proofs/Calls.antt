@@ -1,12 +1,12 @@
 -- Calls of a driver over a bus, one after the other.
 use Rattle.std.proofs.Common.{Bool, ◌++◌}
 use Rattle.bus.specs.Keeping.{Keeps}
-use Rattle.bus.specs.PastOfStretch.{Past, joined}
+use Rattle.bus.specs.Pasts.{Past, joined}
 use Rattle.bus.specs.declared.bus.Bus.{Ghosts}
 use Rattle.driver_law.proofs.Accesses.{ran_by-join}
-use Rattle.driver_law.specs.Calls.{Did, IsReady, Moment, Ran, call_did}
+use Rattle.driver_law.specs.Calls.{Did, IsReadyOver, Moment, Ran, call_did}
 
--- what was done in both
+-- what was done in two consecutive calls
 abbrev pub both : Did → Did → Did
 both one two =
     call_did (one.accesses ++ two.accesses) (one.frames.taken ++ two.frames.taken) (one.frames.accepted ++ two.frames.accepted)
@@ -20,6 +20,6 @@ ran-on bus joins {first_up} {up} {one} {two} {a} {b} {c} ran later =
     two.frames.taken one.frames.accepted two.frames.accepted ran later
 
 -- The driver is ready for the next call.
-pub ready-on : {B : Type 0} (bus : Ghosts B) {up : Bool} {did : Did} (a b : Moment B) → Keeps bus a.bus b.bus → IsReady bus up a
-    → Ran bus up did a b → IsReady bus up b
+pub ready-on : {B : Type 0} (bus : Ghosts B) {up : Bool} {did : Did} (a b : Moment B) → Keeps bus a.bus b.bus → IsReadyOver bus up a
+    → Ran bus up did a b → IsReadyOver bus up b
 ready-on bus a b keeps is ran = record { honest = keeps.honest is.honest; ready = ran.goes.flows.ready }

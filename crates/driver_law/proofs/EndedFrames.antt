@@ -40,7 +40,8 @@ none-cut size o world sized none idle =
       short = subst (λ (list : List Piece). length (begun_of list) < longest_frame) (sym pieces) (omega arith);
     }
 
--- What is begun is no longer than the longest frame, as the frame that goes on with it isn't.
+-- The bytes of a frame that hasn't ended yet are no longer than the longest frame, because the frame isn't when it
+-- ends.
 begun-short : (begun : List ℕ) (pieces : List Piece) → All IsLegal (frames_from begun pieces)
     → length (begun_from begun pieces) < longest_frame
     → length begun ≤ longest_frame
@@ -50,7 +51,7 @@ begun-short begun (Part bytes ∷ later) legal short = omega
 begun-short begun (Last bytes ∷ later) legal short = omega
     (arith, (all-head IsLegal (begun ++ bytes) (frames_of later) legal).most, length-append begun bytes)
 
--- Parts fill their buffers.
+-- Each part fills its buffer.
 parts-size : (seen : List (List ℕ)) → All (IsCut receive_buffer_bytes) (parts seen)
     → length (concat seen) ≡ receive_buffer_bytes * length seen
 parts-size [] cut = omega arith
@@ -61,7 +62,7 @@ parts-size (bytes ∷ seen) cut = omega (
   parts-size seen (all-tail (IsCut receive_buffer_bytes) (Part bytes) (parts seen) cut),
 )
 
--- So parts without the end of their frame are no longer together than the longest frame.
+-- Parts without the end of their frame are together no longer than the longest frame.
 pub parts-few : (o : ℕ) (world : World) (seen : List (List ℕ)) (later : List Piece) → AreCut receive_buffer_bytes o world
     → finished_pieces o world ≡ parts seen ++ later
     → receive_buffer_bytes * length seen ≤ longest_frame

@@ -1,4 +1,4 @@
--- How many frames are to be sent.
+-- The number of frames to be sent.
 use Rattle.std.proofs.Common.{true, ◌≡◌, ◌+◌, ◌*◌, ◌++◌, ℕ, List, length, map, ap, ◌∙◌, length-append, arith}
 use Rattle.std.proofs.lemmas.List.{length-map}
 use Rattle.descriptors.specs.declared.ring.Ring.{Ring}

@@ -1,4 +1,5 @@
--- Stores of initialization: to the receive slot that stays the driver's, and to the transmit ring while its side is off.
+-- Stores of initialization: to receive slots that remain the driver's, and to the transmit ring while the transmit side
+-- is off.
 use Rattle.std.proofs.Common.{false, ◌≡◌, ◌<◌, ◌+◌, ◌*◌, [], ℕ, List, length, sym, ap, subst, ◌∙◌, arith}
 use Rattle.std.specs.List.{All}
 use Rattle.dma_memory.specs.Areas.{AreApart, Area, IsInside, area_at, descriptor_area}
@@ -13,7 +14,7 @@ use Rattle.adapter.specs.HostAreas.{ring_area}
 use Rattle.adapter.specs.World.{World, receive_ring, world_after_store}
 use Rattle.bus.proofs.Lists.{all-none}
 use Rattle.bus.proofs.Rings.{outstanding-inside}
-use Rattle.bus.specs.PastOfStretch.{nothing}
+use Rattle.bus.specs.Pasts.{nothing}
 use Rattle.bus.specs.WritableSlots.{CanBeWritten}
 use Rattle.bus.specs.DriversStores.{IsDriversArea}
 use Rattle.driver_law.specs.Beginnings.{LastSlotIsStored, SpareSlotIsStored, TransmitPlaceIsStored, spare_slot}
@@ -60,7 +61,7 @@ spare_slot_is_stored up driver e bytes world ready long room =
     apart-inside area (area_of driver.layout ReceiveRing) (area_of driver.layout (ReceiveBuffer number)) inside
     (places-apart driver.layout ReceiveRing (ReceiveBuffer number) tt known (λ same. absurd (cc))))
 
--- The last slot is the first of these.
+-- The slot after the outstanding and staged slots is the first of the spare slots.
 pub last_slot_is_stored : LastSlotIsStored
 last_slot_is_stored up driver bytes world ready long =
     let first : length driver.staged + 0 ≡ length driver.staged = omega arith in
@@ -71,7 +72,7 @@ last_slot_is_stored up driver bytes world ready long =
     (driver_did [] []) nothing) first
     (spare_slot_is_stored up driver 0 bytes world ready long (omega (arith, ready.driver_is.room)))
 
--- While the side is off, the place of the transmit ring is the driver's own.
+-- While the transmit side is off, the driver may store to the place of the transmit ring.
 place-own : (driver : DriverState) (area : Area) (world : World) → ReadyWith false driver world
     → IsInside area (area_of driver.layout TransmitRing) → IsDriversArea driver.oldest_receive driver.oldest_transmit world area
 place-own driver area world ready inside =

@@ -1,7 +1,7 @@
 pub mod Places
 pub mod Owners
 pub mod Buffers
-pub mod Stretches
+pub mod Intervals
 pub mod EndedFrames
 pub mod Readiness
 pub mod Steps

@@ -1,4 +1,4 @@
--- TDT is moved on by one, and the oldest slot is freed.
+-- TDT advances by one, and the oldest slot is freed.
 use Rattle.std.proofs.Common.{Bool, true, false, cond, ◌≡◌, ◌≤◌, ◌<◌, ◌+◌, ◌-◌, ◌*◌, ◌%◌, ◌^◌, ◌++◌, ◌∷◌, [], ℕ, suc, List, length}
 use Rattle.std.proofs.Common.{slice_index, map, inl, inr, ⊎_elim, refl, sym, ap, subst, ◌∙◌, arith}
 use Rattle.std.specs.List.{All, take_while}
@@ -38,10 +38,10 @@ use Rattle.driver_law.specs.Calls.{transmit_buffer, whole_descriptor}
 use Rattle.driver_law.specs.TransmitSteps.{FrameIsOffered, NoneIsWrittenBack, SlotIsFreed, with_freed}
 use Rattle.driver_law.proofs.Places.{outstanding-known, place-next, places-differ}
 use Rattle.driver_law.proofs.StepsWithoutFrames.{goes-rests}
-use Rattle.driver_law.proofs.Stretches.{misses-stay}
+use Rattle.driver_law.proofs.Intervals.{misses-stay}
 use Rattle.driver_law.proofs.TransmitSlots.{next_slot_belongs_to_driver, drivers-buffer}
 
--- The descriptor of a frame.
+-- The descriptor of a frame
 
 abbrev whole_desc : ℕ → ℕ → TxDesc
 whole_desc address size = record
@@ -68,7 +68,7 @@ pub status-byte : (bytes : List ℕ) → sent_bits (tx_desc_of bytes).status ≡
 unfolding tx_desc_of
 status-byte bytes = refl
 
--- What the adapter reads from it.
+-- What the adapter reads from a frame's descriptor.
 record Says (memory : List ℕ) (slot address size : ℕ) : Type 0 where
   clear : is_done memory slot ≡ false
   reports : (fetched true memory slot).report ≡ true
@@ -92,9 +92,9 @@ whole-says memory slot address size fits short bytes =
           (record { ends = refl; legacy = omega arith; least = omega (arith, least); most = short; lies = lies });
     }
 
--- It is offered.
+-- The slot is offered
 
--- the transmit slots whose data is in their own buffers
+-- the data of a transmit slot is in the slot's own buffer
 abbrev HasSource : DriverState → List ℕ → ℕ → Type 0
 HasSource driver memory slot = IsInside (data_of memory (transmit_slot driver.layout slot)) (area_of driver.layout (TransmitBuffer slot))
 
@@ -185,9 +185,9 @@ frame_is_offered driver frame world ready room least short stands =
       recorded = inl (omega (arith, ap length (ap frames_of done.received.pieces_same)));
     }
 
--- Written-back slots.
+-- Written-back slots
 
--- The outstanding slots begin with the oldest.
+-- The outstanding slots begin with the oldest slot.
 outstanding-first : (driver : DriverState) (world : World) → Ready driver world → 0 < driver.sending
     → outstanding (transmit_ring world) driver.oldest_transmit
     ≡ transmit_slot driver.layout driver.oldest_transmit ∷ map (transmit_slot driver.layout)
@@ -199,7 +199,7 @@ outstanding-first driver world ready some =
     up.oldest_slot up.room
     ∙ ap (λ (k : ℕ). map (transmit_slot driver.layout) (slots_from driver.layout.tx driver.oldest_transmit k)) more
 
--- So it is written back if it is done; otherwise none is.
+-- If the oldest slot is done, it is the first written-back slot; otherwise no slot is written back.
 written-first : (driver : DriverState) (world : World) (done : Bool) → Ready driver world → 0 < driver.sending
     → is_done world.memory (transmit_slot driver.layout driver.oldest_transmit) ≡ done
     → written_back driver.oldest_transmit world
@@ -232,7 +232,7 @@ none_is_written_back driver world ready (inr clear) =
     (λ (differ : ¬ (driver.sending ≡ 0)). written-first driver world false ready (omega (arith, differ)) clear)
     (cases_eq driver.sending 0)
 
--- It is freed.
+-- The slot is freed
 
 record FreedTo (driver : DriverState) (world : World) (later : List ℕ) (next : ℕ) : Type 0 where
   sound : Sound driver.oldest_receive next world

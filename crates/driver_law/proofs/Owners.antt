@@ -6,40 +6,41 @@ use Rattle.dma_memory.specs.Owners.{HasOneOwner, copies}
 use Rattle.dma_memory.specs.OwnersLaws.{copies-append, copies-cons, copies-itself, known_from_no_second, no_second_from_one}
 use Rattle.dma_memory.specs.OwnersLaws.{once_from_no_second}
 use Rattle.bus.proofs.Lists.{all-none}
-use Rattle.driver_law.specs.DriverState.{DriverState, numbers_of, owners}
+use Rattle.driver_law.specs.DriverState.{DriverState, piece_numbers, owners}
 use Rattle.driver_law.specs.ReadyDrivers.{IsDriver}
 
 pub owners-count : (k : ℕ) (d : DriverState)
-    → copies k (owners d) ≡ copies k d.pool + (copies k d.buffers + (copies k d.staged + copies k (numbers_of d.handed_out)))
+    → copies k (owners d) ≡ copies k d.pool + (copies k d.buffers + (copies k d.staged + copies k (piece_numbers d.handed_out)))
 owners-count k d =
-    let others = d.staged ++ numbers_of d.handed_out in
+    let others = d.staged ++ piece_numbers d.handed_out in
     omega (
       arith,
       copies-append k d.pool (d.buffers ++ others),
       copies-append k d.buffers others,
       copies-append k d.staged
-          (numbers_of d.handed_out),
+          (piece_numbers d.handed_out),
     )
 
--- If each number has as many owners as before, it has one.
+-- If each number has the same number of owners as before, each number has one owner.
 pub one_owner-dealt : (n : ℕ) (d d' : DriverState)
-    → ((k : ℕ) → copies k d'.pool + (copies k d'.buffers + (copies k d'.staged + copies k (numbers_of d'.handed_out)))
-    ≡ copies k d.pool + (copies k d.buffers + (copies k d.staged + copies k (numbers_of d.handed_out))))
+    → ((k : ℕ) → copies k d'.pool + (copies k d'.buffers + (copies k d'.staged + copies k (piece_numbers d'.handed_out)))
+    ≡ copies k d.pool + (copies k d.buffers + (copies k d.staged + copies k (piece_numbers d.handed_out))))
     → HasOneOwner n (owners d) → HasOneOwner n (owners d')
 one_owner-dealt n d d' same one k = owners-count k d' ∙ same k ∙ sym (owners-count k d) ∙ one k
 
--- What a slot of the ring has is a buffer.
+-- The number of an outstanding slot's buffer is the number of a receive buffer.
 pub outstanding-number : (d : DriverState) (m : ℕ) → IsDriver d → 0 < copies m d.buffers → m < d.layout.buffers
 outstanding-number d m driver some =
     known_from_no_second d.layout.buffers m (owners d) (no_second_from_one d.layout.buffers (owners d) driver.one_owner)
     (omega (arith, some, owners-count m d))
 
--- What is staged or handed out is a buffer too, and no outstanding slot has it.
+-- The number is that of a receive buffer, and no outstanding slot has this buffer.
 pub record IsElsewhere (d : DriverState) (m : ℕ) : Type 0 where
   pub known : m < d.layout.buffers
   pub free : copies m d.buffers ≡ 0
 
-pub elsewhere-number : (d : DriverState) (m : ℕ) → IsDriver d → 0 < copies m d.staged + copies m (numbers_of d.handed_out) → IsElsewhere d m
+pub elsewhere-number : (d : DriverState) (m : ℕ) → IsDriver d → 0 < copies m d.staged + copies m (piece_numbers d.handed_out)
+    → IsElsewhere d m
 elsewhere-number d m driver some =
     let none_twice = no_second_from_one d.layout.buffers (owners d) driver.one_owner in
     let sum = owners-count m d in

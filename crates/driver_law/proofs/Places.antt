@@ -12,7 +12,7 @@ use Rattle.bus.specs.DriversSlots.{IsDriversSlot}
 use Rattle.adapter.specs.KnownRing.{KnowsRing}
 use Rattle.bus.proofs.Rings.{slots-other}
 
--- One walk, and then another.
+-- Advancing by i and then by j is advancing by i + j.
 pub place-add : (n from i j : ℕ) → place n from (i + j) ≡ place n (place n from i) j
 place-add n from zero j = let none : 0 + j ≡ j = omega arith in ap (place n from) none
 place-add n from (suc i) j =
@@ -23,7 +23,7 @@ pub place-below : (n from i : ℕ) → from < n → place n from i < n
 place-below n from zero slot = slot
 place-below n from (suc i) slot = place-below n ((from + 1) % n) i (next-below n from slot)
 
--- One step more.
+-- Advancing by one more place.
 pub place-next : (n from i : ℕ) → place n from (i + 1) ≡ (place n from i + 1) % n
 place-next n from i = place-add n from i 1
 
@@ -35,11 +35,11 @@ place-sum n from (suc i) slot =
     let sum : from + 1 + i ≡ from + suc i = omega arith in
     place-sum n ((from + 1) % n) i (next-below n from slot) ∙ mod-add-mod (from + 1) n i ∙ ap (λ (index : ℕ). index % n) sum
 
--- One walk around the ring.
+-- Advancing by the size of the ring leads back to the same place.
 place-around : (n from : ℕ) → from < n → place n from n ≡ from
 place-around n from slot = place-sum n from n slot ∙ add-mod_right from n ∙ mod-eq_of_lt slot
 
--- Walks of one length that end at one place began at one place.
+-- If advancing by the same distance leads to the same place, it began at the same place.
 pub place-same : (n i from other : ℕ) → from < n → other < n → i ≤ n → place n from i ≡ place n other i → from ≡ other
 place-same n i from other slot other_slot short same =
     let whole : i + (n - i) ≡ n = omega (arith, short) in
@@ -47,7 +47,7 @@ place-same n i from other slot other_slot short same =
     sym (place-add n index i (n - i)) ∙ ap (place n index) whole ∙ place-around n index below in
     sym (back from slot) ∙ ap (λ (end : ℕ). place n end (n - i)) same ∙ back other other_slot
 
--- A place is as far away as was walked.
+-- The distance to the place after advancing by i is i.
 pub distance-place : (n from i : ℕ) → from < n → i < n → (place n from i + n - from) % n ≡ i
 distance-place n from i slot short =
     ⊎_elim
@@ -61,7 +61,7 @@ distance-place n from i slot short =
     ∙ omega (arith, around, slot))
     (cases_lt (from + i) n)
 
--- So different walks, within the ring, end at different places.
+-- Advancing by different distances, within the ring, leads to different places.
 pub places-differ : (n from i j : ℕ) → from < n → i < j → j < n → ¬ (place n from i ≡ place n from j)
 places-differ n from i j slot before short same =
     let near = distance-place n from i slot (omega (arith, before, short)) in
@@ -81,7 +81,7 @@ outstanding-known ring base n oldest i knows slot short =
     ∙ ap (λ (count : ℕ). map (address_of ring) (slots_from count oldest i)) knows.slots
     ∙ ap (λ (first : ℕ). map (λ (index : ℕ). first + 16 * index) (slots_from n oldest i)) knows.begins
 
--- A place after them is the driver's own.
+-- A slot after the outstanding slots is the driver's own.
 pub own-behind : (ring : Ring) (base n oldest i j : ℕ) → KnowsRing ring base n (place n oldest i) → oldest < n → i + j < n
     → IsDriversSlot ring oldest (place n (place n oldest i) j)
 own-behind ring base n oldest i j knows slot short = subst (IsDriversSlot ring oldest) (place-add n oldest i j) (record {

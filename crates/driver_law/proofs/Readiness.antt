@@ -1,4 +1,4 @@
--- A driver is still ready in another world if its slots name the same buffers there.
+-- A driver is still ready in another world if its slots have the same buffers in that world.
 use Rattle.std.proofs.Common.{true, false, Bool, ◌≡◌, ◌≤◌, ◌<◌, ◌+◌, ◌*◌, ◌%◌, ◌++◌, ◌∷◌, [], ℕ, suc, List, length, get_or, map, sym}
 use Rattle.std.proofs.Common.{ap, subst, ◌∙◌, arith}
 use Rattle.std.specs.List.{All}
@@ -22,7 +22,7 @@ use Rattle.adapter.specs.World.{World, receive_ring, transmit_ring}
 use Rattle.adapter.specs.declared.ring.RingRegisters.{RingRegisters}
 use Rattle.bus.specs.Law.{Happens, OnlyHeadMoves}
 use Rattle.bus.specs.DriversSlots.{IsDriversSlot}
-use Rattle.bus.specs.PastOfStretch.{Past}
+use Rattle.bus.specs.Pasts.{Past}
 use Rattle.bus.proofs.IdleRings.{still-idle}
 use Rattle.bus.proofs.Lists.{all-unmapped, append-empty, map-empty, map-same}
 use Rattle.bus.proofs.DriversSlots.{drivers_side_stays}
@@ -32,11 +32,11 @@ use Rattle.driver_law.proofs.Places.{outstanding-known, own-behind}
 use Rattle.driver_law.specs.DriverState.{DriverState, receive_slot, receive_tail, transmit_slot, with_owners}
 use Rattle.driver_law.specs.ReadyDrivers.{AreStored, IsDriver, MeetsLaw, ReadyWith, Stands, TransmitIs, TransmitIsOff, transmit_side}
 
--- the same driver, but for what is staged and what is free
+-- the driver with other staged and free buffers
 abbrev pub with_staged : DriverState → (staged pool : List ℕ) → DriverState
 with_staged d staged pool = with_owners d d.buffers staged pool d.handed_out
 
--- Staged slots.
+-- Staged slots
 
 pub stored-kept : (memory memory' : List ℕ) (counts : Counts) (slot : ℕ) (numbers : List ℕ)
     → ((i : ℕ) → i < length numbers
@@ -56,7 +56,8 @@ pub own-staged : {up : Bool} (d : DriverState) (world : World) (i : ℕ) → Rea
 own-staged {up} d world i ready below = own-behind (receive_ring world) 0 d.layout.rx d.oldest_receive
     (length d.buffers) i ready.receive ready.driver_is.oldest_slot below
 
--- What a driver relies on is the same in both worlds: the conditions, what outstanding slots name, and registers except the heads.
+-- What a driver relies on is the same in both worlds: the conditions of the bus law, the addresses in the descriptors
+-- of outstanding slots, and the registers of the rings except the heads.
 pub record Keeps (o p : ℕ) (a b : World) : Type 0 where
   pub law : MeetsLaw o p b
   pub size : length b.memory ≡ length a.memory
@@ -68,7 +69,7 @@ pub record Keeps (o p : ℕ) (a b : World) : Type 0 where
   pub sources : All (λ slot. data_of b.memory slot ≡ data_of a.memory slot) (outstanding (transmit_ring a) p)
   pub none_to_send : frames_to_send a ≡ [] → frames_to_send b ≡ []
 
--- The transmit side.
+-- The transmit side
 
 pub none-to_send : (memory : List ℕ) (ring : Ring) (buffer : List Queued) → buffer ≡ [] → ring.head ≡ ring.tail
     → to_send memory ring true buffer ≡ []
@@ -115,7 +116,7 @@ transmit-kept false o counts p sending a b keeps side =
     subst (λ (ring : RingRegisters). TransmitIsOff counts p sending (ring_of ring) b.adapter.transmitter.buffer) (sym same)
     (record { ends = side.ends; idle = side.idle; last = side.last; nothing = side.nothing; empty = none.0 })
 
--- All of it.
+-- The driver is still ready in another world.
 pub ready-kept : {up : Bool} (d : DriverState) (staged pool : List ℕ) (a b : World) → ReadyWith up d a
     → Keeps d.oldest_receive d.oldest_transmit a b
     → IsDriver (with_staged d staged pool) → AreStored b.memory d.layout (receive_tail d) staged
@@ -140,7 +141,7 @@ ready-kept {up} d staged pool a b ready keeps driver stored stand =
       stand = stand;
     }
 
--- Whatever happens, it is the same.
+-- What a driver relies on remains the same, whatever happens between two accesses.
 pub keeps-happening : {up : Bool} (d : DriverState) (a b : World) (past : Past) → ReadyWith up d a → Happens a b past
     → Keeps d.oldest_receive d.oldest_transmit a b
 keeps-happening {up} d a b past ready happens =

@@ -21,7 +21,7 @@ use Rattle.adapter.specs.World.{World, world_after_store, world_after_write}
 use Rattle.bus.specs.RegisterSetting.{with_tail}
 use Rattle.bus.specs.Keeping.{view_of}
 use Rattle.bus.specs.Law.{Acts}
-use Rattle.bus.specs.PastOfStretch.{nothing}
+use Rattle.bus.specs.Pasts.{nothing}
 use Rattle.bus.specs.declared.event.Access.{Access}
 use Rattle.bus.specs.declared.event.Access.TheVariants.{Loads, Stores, Writes}
 use Rattle.bus.proofs.Lists.{all-head, all-right}
@@ -35,13 +35,22 @@ use Rattle.driver_law.proofs.Stores.{slots_can_be_staged}
 use Rattle.driver_law.proofs.TakenSlots.{numbers-in, oldest-contain, parts_are_few, run_can_be_taken, run_is_of_frame}
 use Rattle.driver_law.specs.Calls.{GoesTo, Ran, at, call_did, driver_did, driver_in, ether_type_load, only, receive_loads, stores_from}
 use Rattle.driver_law.specs.Calls.{takes_from}
-use Rattle.driver_law.specs.DriverState.{DriverState, HandedOut, buffer_at, frame_of, next_receive, numbers_of, receive_slot, with_owners}
+use Rattle.driver_law.specs.DriverState.{
+  DriverState,
+  HandedOut,
+  buffer_at,
+  frame_of,
+  next_receive,
+  piece_numbers,
+  receive_slot,
+  with_owners,
+}
 use Rattle.driver_law.specs.OldestSlot.{LooksAtSlot, ShowsSlot, slot_after_oldest}
 use Rattle.driver_law.specs.ReadyDrivers.{ReadyWith, Stands, empty_descriptor}
 use Rattle.driver_law.specs.ReceiveSteps.{AreOfFrame, ContainFrame, after_slots, pieces_in}
 use Rattle.bus.specs.declared.bus.Bus.{Ghosts}
 
--- The lists of accesses grow at their ends.
+-- The lists of accesses grow at their ends
 
 pub stores-append : (counts : Counts) (slot : ℕ) (xs ys : List ℕ)
     → stores_from counts slot (xs ++ ys) ≡ stores_from counts slot xs ++ stores_from counts (place counts.rx slot (length xs)) ys
@@ -57,12 +66,12 @@ loads-append counts slot n m =
     ap (map load) (slots_from-append counts.rx slot n m)
     ∙ map-append load (slots_from counts.rx slot n) (slots_from counts.rx (place counts.rx slot n) m)
 
--- One load more.
+-- One more load.
 pub loads-push : (counts : Counts) (slot n : ℕ)
     → receive_loads counts slot (n + 1) ≡ receive_loads counts slot n ++ Loads (receive_slot (place counts.rx slot n)) 16 ∷ []
 loads-push counts slot n = loads-append counts slot n 1
 
--- One frame more.
+-- One more frame.
 pub takes-push : (counts : Counts) (slot : ℕ) (taken : List (List ℕ)) (numbers : List ℕ)
     → takes_from counts slot (taken ++ numbers ∷ [])
     ≡ takes_from counts slot taken
@@ -105,7 +114,7 @@ ran_by-stages {up} bus old new d m address pool bytes room known moves address_i
     subst (λ (w : World). GoesTo up (driver_in d middle) (driver_in d' w) (driver_did [] []) nothing) (sym done)
     (slots_can_be_staged up d m pool middle set room known moves)))
 
--- RDT is written, and offers all that are staged.
+-- RDT is written, which offers all staged slots.
 pub ran_by-offers : {up : Bool} {B : Type 0} (bus : Ghosts B) (old new : B) (d : DriverState) (value : ℕ) → value ≡ next_receive d
     → Acts (view_of bus) old new (Writes 0x2818 value) (λ before after. after ≡ world_after_write 0x2818 value before)
     → ReadyWith up d (bus.world old)
@@ -141,7 +150,7 @@ ran_by-reads {up} bus old new d address n bytes acts ready =
     (λ middle set shows. subst (λ (w : World). GoesTo up (driver_in d middle) (driver_in d w) (driver_did [] []) nothing) (sym shows.1)
     (goes-stays d middle set))
 
--- The descriptor of an outstanding slot is loaded.
+-- The descriptor of an outstanding slot is loaded
 
 -- the bytes loaded are those in memory, which the load doesn't change
 abbrev Shows : (address : ℕ) (bytes : List ℕ) → World → World → Type 0
@@ -170,7 +179,7 @@ ran_by-looks {up} bus old new d k address bytes below address_is acts ready =
           (rx_desc_of list)) (sym shown) (slot-shows d (bus.world new) k ran.goes.flows.ready below);
     }
 
--- A frame is taken off the ring, with its slots.
+-- A frame is taken off the ring
 
 pub ran_by-run : {up : Bool} {B : Type 0} (bus : Ghosts B) → ((b : B) → bus.happened b b nothing)
     → (b : B) (d : DriverState) (numbers run : List ℕ) (seen : List (List ℕ)) (last : List ℕ) → ReadyWith up d (bus.world b)
@@ -180,11 +189,11 @@ pub ran_by-run : {up : Bool} {B : Type 0} (bus : Ghosts B) → ((b : B) → bus.
 ran_by-run {up} bus stays b d numbers run seen last ready contain =
     ran_by-itself bus stays b d _ ((concat seen ++ last) ∷ []) [] (run_can_be_taken up d numbers run seen last (bus.world b) ready contain)
 
--- The oldest slots contain it, with the first of the driver's buffers.
+-- The oldest finished slots contain this frame.
 pub record TakesFrame {B : Type 0} (bus : Ghosts B) (up : Bool) (seen : List (List ℕ)) (last : List ℕ) (b : B) (d : DriverState)
     : Type 0 where
   pub pieces : List HandedOut
-  pub numbers : numbers_of pieces ≡ take (suc (length seen)) d.buffers
+  pub numbers : piece_numbers pieces ≡ take (suc (length seen)) d.buffers
   pub bytes : map (λ (one : HandedOut). one.bytes) pieces ≡ seen ++ last ∷ []
   pub frame : frame_of pieces ≡ concat seen ++ last
   pub is : AreOfFrame seen last
@@ -221,7 +230,7 @@ ran_by-takes {up} bus stays b d seen last later ready is =
           oldest.size ran);
     }
 
--- The bytes read from a piece that others hold are the piece's.
+-- Bytes that are read from a piece that others hold are bytes of this piece.
 pub frame-read : {up : Bool} {B : Type 0} (bus : Ghosts B) (old new : B) (d : DriverState) (first later : List HandedOut) (one : HandedOut)
     (address from n : ℕ) (bytes : List ℕ)
     → Acts (view_of bus) old new (Loads address n)

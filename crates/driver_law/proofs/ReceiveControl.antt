@@ -29,12 +29,12 @@ use Rattle.driver_law.proofs.Owners.{all-copies, outstanding-number, owners-coun
 use Rattle.driver_law.proofs.StepsWithoutFrames.{goes-rests}
 use Rattle.driver_law.proofs.EndedFrames.{none-cut}
 
--- The buffers that outstanding slots have.
+-- The buffers of outstanding slots
 
 abbrev buffers_of : Counts → List ℕ → List Area
 buffers_of counts numbers = map (λ number. area_of counts (ReceiveBuffer number)) numbers
 
--- They are apart if each number is in the list at most once.
+-- Buffers are apart if each number is in the list at most once.
 buffers-apart : (counts : Counts) (numbers : List ℕ) → ((number : ℕ) → copies number numbers ≤ 1)
     → ((number : ℕ) → 0 < copies number numbers → number < counts.buffers) → AllPairs AreApart (buffers_of counts numbers)
 buffers-apart counts [] once known = pairs-none AreApart
@@ -50,7 +50,7 @@ buffers-apart counts (first ∷ numbers) once known =
     (buffers-apart counts numbers (λ number. omega (arith, once number, copies-cons number first numbers))
     (λ number some. known number (omega (arith, some, copies-cons number first numbers))))
 
--- With both rings they are separate, while the transmit side is off.
+-- While the transmit side is off, both rings and the buffers of outstanding slots are separate.
 rings-and-buffers : (driver : DriverState) (world : World) → ReadyWith false driver world → (on : Bool)
     → AreSeparate world.memory (ring_area (receive_ring world) ∷ ring_area (transmit_ring world)
     ∷ (if on then buffers_of driver.layout driver.buffers else []))
@@ -91,7 +91,7 @@ rings-and-buffers driver world ready true =
           (AllPairs-cons AreApart t (map at numbers) from_t (buffers-apart counts numbers once known));
     }
 
--- What the slots name, as the driver's buffers.
+-- The areas at the addresses in the descriptors are the driver's buffers.
 named-buffers : (counts : Counts) (memory : List ℕ) (size : ℕ) (slots numbers : List ℕ) → size ≡ receive_buffer_bytes
     → map (named_address memory) slots ≡ map (buffer_at counts) numbers
     → map (λ slot. area_at (named_address memory slot) size) slots ≡ buffers_of counts numbers

@@ -9,18 +9,18 @@ use Rattle.adapter.specs.World.{World, world_after_read}
 use Rattle.bus.proofs.RegisterSetting.{reads_leave_frames}
 use Rattle.bus.specs.Keeping.{view_of}
 use Rattle.bus.specs.Law.{Acts}
-use Rattle.bus.specs.PastOfStretch.{nothing}
+use Rattle.bus.specs.Pasts.{nothing}
 use Rattle.bus.specs.declared.event.Access.TheVariants.{Reads}
 use Rattle.driver_law.proofs.Accesses.{follows-acts, ran_by-acts, read-sets}
 use Rattle.driver_law.proofs.RegisterReads.{causes_are_read, misses_are_read}
 use Rattle.driver_law.proofs.Steps.{goes-happens}
-use Rattle.driver_law.proofs.Stretches.{flows_join, joined-nothing, work_kept}
+use Rattle.driver_law.proofs.Intervals.{flows_join, joined-nothing, work_kept}
 use Rattle.driver_law.specs.DriverState.{DriverState}
 use Rattle.driver_law.specs.Calls.{FlowsTo, GoesTo, Ran, ReadsCauses, at, driver_did, driver_in, frames_ended, only, with_missed}
 use Rattle.driver_law.specs.ReadyDrivers.{ReadyWith}
 use Rattle.bus.specs.declared.bus.Bus.{Ghosts}
 
--- A register shows its value, and is read.
+-- A register is read with this value.
 abbrev IsRead : (offset value : ℕ) → World → World → Type 0
 IsRead offset value before after = (value ≡ answer_at offset before.adapter) × (after ≡ world_after_read offset before)
 

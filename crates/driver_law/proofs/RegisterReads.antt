@@ -1,4 +1,4 @@
--- A register is read.
+-- Reads of registers.
 use Rattle.std.proofs.Common.{◌&&◌, ◌≡◌, ◌≢◌, ◌<◌, ◌+◌, ◌-◌, ◌^◌, []}
 use Rattle.std.proofs.Common.{Bool, IsTrue, nat_lt, ℕ, Option, None, Some, length, min, inl}
 use Rattle.std.proofs.Common.{refl, sym, ap, subst, ◌∙◌, arith}
@@ -15,15 +15,15 @@ use Rattle.adapter.specs.World.{World, world_after_read}
 use Rattle.adapter.specs.declared.register.Register.{Register}
 use Rattle.adapter.specs.declared.register.Register.TheVariants.{Icr, Mpc, Gprc, Gptc, Rnbc}
 use Rattle.bus.proofs.RegisterSetting.{reads_leave_frames}
-use Rattle.bus.specs.PastOfStretch.{nothing}
+use Rattle.bus.specs.Pasts.{nothing}
 use Rattle.driver_law.specs.DriverState.{DriverState}
 use Rattle.driver_law.specs.Calls.{FlowsTo, SumsMisses, adds_exactly, driver_did, driver_in, frames_ended}
 use Rattle.driver_law.specs.RegisterReadings.{CausesAreRead, MissesAreRead, OthersAreRead}
 use Rattle.driver_law.specs.ReadyDrivers.{ReadyWith}
-use Rattle.driver_law.proofs.Stretches.{misses-stay}
+use Rattle.driver_law.proofs.Intervals.{misses-stay}
 use Rattle.driver_law.proofs.AlikeWorlds.{SameParts, ready-left}
 
--- What a read doesn't change, among it the mask.
+-- What a read doesn't change.
 record Read (a b : World) : Type 0 where
   parts : SameParts a b
   mask : b.adapter.causes.mask ≡ a.adapter.causes.mask
@@ -78,7 +78,7 @@ resummed driver missed exact world ready = record {
   stand = ready.stand;
 }
 
--- A read of any register, if the sum after it is known.
+-- A read of any register, if the driver's sum after the read is known.
 flows-read : {up : Bool} (driver : DriverState) (offset missed : ℕ) (exact : Bool) (a : World) → ReadyWith up driver a
     → SumsMisses (driver_in driver a) (driver_in (record driver { missed = missed; exact = exact }) (world_after_read offset a)) nothing
     → FlowsTo up (driver_in driver a) (driver_in (record driver { missed = missed; exact = exact }) (world_after_read offset a))
@@ -98,7 +98,7 @@ flows-read {up} driver offset missed exact a ready misses =
       misses = misses;
     }
 
--- If MPC and the sum are as before.
+-- A read that doesn't change MPC, while the driver's sum is unchanged.
 flows-same : {up : Bool} (driver : DriverState) (offset : ℕ) (a : World) → ReadyWith up driver a
     → (world_after_read offset a).adapter.missed_packets ≡ a.adapter.missed_packets
     → FlowsTo up (driver_in driver a) (driver_in driver (world_after_read offset a)) (driver_did [] []) nothing
@@ -115,7 +115,7 @@ causes_are_read up driver world ready =
 
 -- MPC
 
--- An exact sum stays exact if neither saturates.
+-- An exact sum remains exact if the value is below MPC's greatest value and the sum doesn't saturate.
 adds : (exact : Bool) (missed value : ℕ) → IsTrue exact → value < greatest_count → missed + value < 2 ^ 64
     → IsTrue (exact && adds_exactly missed value)
 adds exact missed value is below fits =
@@ -154,7 +154,7 @@ misses_are_read up driver world fits ready =
       recorded = inl (omega (arith, same));
     }
 
--- Any other.
+-- Any other register
 
 -- The recorded causes and MPC are the same.
 record SameButAdapter (a b : World) : Type 0 where

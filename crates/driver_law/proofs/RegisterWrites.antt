@@ -7,7 +7,7 @@ use Rattle.adapter.specs.declared.register.Register.{Register}
 use Rattle.adapter.specs.declared.register.Register.TheVariants.{Rctl, Tctl, Transmit}
 use Rattle.driver_law.specs.ControlWrites.{ReceiveControlWrites, TransmitControlWrites, TransmitRingWrites}
 
--- the world after a write, by the register at its offset
+-- the world after a write of the register that was found at the offset
 abbrev left : ℕ → World → Option Register → World
 left value world found = record world { adapter = left_by_write found value world.adapter }
 

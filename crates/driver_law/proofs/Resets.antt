@@ -1,4 +1,4 @@
--- A driver disables its receiver and resets its adapter.
+-- A driver disables the receiver and resets its adapter.
 use Rattle.std.proofs.Common.{◌≡◌, ◌≤◌, ◌/◌, ◌%◌, ◌^◌, ◌++◌, ◌∷◌, [], ℕ, Bool, false, List, length, map, take, if◌then◌else◌, inl, inr}
 use Rattle.std.proofs.Common.{refl, sym, ap, subst, ◌∙◌, append_assoc, arith}
 use Rattle.std.specs.List.{All, AllPairs}
@@ -28,14 +28,14 @@ use Rattle.bus.specs.AdaptersAtRest.{IsAtRest}
 use Rattle.bus.specs.RegisterSetting.{with_receive_control}
 use Rattle.driver_law.proofs.Owners.{owners-count}
 use Rattle.driver_law.proofs.StepsWithoutFrames.{goes-rests}
-use Rattle.driver_law.proofs.Stretches.{misses-stay}
+use Rattle.driver_law.proofs.Intervals.{misses-stay}
 use Rattle.driver_law.specs.ReadyDrivers.{Stands}
 use Rattle.driver_law.specs.Resets.{DriversRest, ReceiverIsDisabled, ResetForgetsSlots, ResetKeepsSum, RestKeepsMemory, reset_driver}
 use Rattle.driver_law.specs.Resets.{reset_world}
 
--- The receiver is disabled.
+-- The receiver is disabled
 
--- the first areas of a list
+-- pairs in the front of a list
 pairs-left : {X : Type 0} (R : X → X → Type 0) (xs ys : List X) → AllPairs R (xs ++ ys) → AllPairs R xs
 pairs-left R [] ys pairs = pairs-none R
 pairs-left R (x ∷ xs) ys pairs =
@@ -63,7 +63,7 @@ not-set control bit unset = elim (eqb_tells (control / 2 ^ bit % 2) 1) [
   | inr differ ↦ differ.0
 ]
 
--- no receive buffer counts while EN is 0
+-- while EN is 0, the conditions of the bus law contain no offered receive buffer
 no-buffers : (world : World) → ¬ (HasBit world.adapter.filter.rctl rctl_en) → offered_buffers world ≡ []
 no-buffers world off =
     ap (λ (on : Bool). if on then map (buffer_of world) (offered (receive_ring world)) else [])
@@ -111,7 +111,7 @@ receiver_is_disabled up driver control world ready off plain =
       missed_packets = refl;
     })
 
--- The reset.
+-- The reset
 
 pub reset_forgets_slots : ResetForgetsSlots
 reset_forgets_slots up driver pool world ready free = record {
@@ -131,9 +131,9 @@ pub reset_keeps_sum : ResetKeepsSum
 reset_keeps_sum driver pool world none =
     misses-stay driver (reset_driver pool driver) world (reset_world world) refl refl (sym none)
 
--- After the reset.
+-- After the reset
 
--- At rest the adapter may write nothing, so all of memory is foreign to it.
+-- An adapter at rest writes no memory, so each area is foreign.
 writes-nothing : (world : World) → IsAtRest world → (area : Area) → IsForeign world area
 writes-nothing world rest area = subst (λ (list : List Area). All (AreApart area) list) (sym nothing_there) (all-none (AreApart area))
   where

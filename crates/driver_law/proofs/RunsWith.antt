@@ -3,21 +3,21 @@ use Rattle.std.proofs.Common.{Bool, ◌∷◌, [], List, ℕ, subst}
 use Rattle.adapter.specs.World.{World}
 use Rattle.bus.specs.Keeping.{view_of}
 use Rattle.bus.specs.Law.{Acts, Happens}
-use Rattle.bus.specs.PastOfStretch.{Past, nothing}
+use Rattle.bus.specs.Pasts.{Past, nothing}
 use Rattle.bus.specs.declared.event.Access.{Access}
 use Rattle.driver_law.specs.DriverState.{DriverState}
 use Rattle.driver_law.specs.Calls.{Did, GoesTo, Moment, Ran, at, call_did, driver_did, driver_in}
 use Rattle.driver_law.specs.ReadyDrivers.{ReadyWith}
 use Rattle.driver_law.proofs.Accesses.{SetsBy, follows-acts}
 use Rattle.driver_law.proofs.Steps.{goes-happens}
-use Rattle.driver_law.proofs.Stretches.{goes_join, joined-nothing}
+use Rattle.driver_law.proofs.Intervals.{goes_join, joined-nothing}
 use Rattle.bus.specs.declared.bus.Bus.{Ghosts}
 
 pub record RanWith {B : Type 0} (bus : Ghosts B) (up : Bool) (did : Did) (old new : Moment B) (Behind : World → Type 0) : Type 0 where
   pub ran : Ran bus up did old new
   pub behind : Behind (bus.world new.bus)
 
--- One access. The transmit side may be set up by it.
+-- An interval with one access, which may set up the transmit side.
 pub run-with : {first up : Bool} {B : Type 0} (bus : Ghosts B) (old new : B)
     (access : Access) (effect : World → World → Type 0) (d d' : DriverState) (taken accepted : List (List ℕ))
     (Before Behind : World → Type 0)

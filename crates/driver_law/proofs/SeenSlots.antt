@@ -27,7 +27,7 @@ use Rattle.driver_law.specs.DriverState.{DriverState, receive_slot}
 use Rattle.driver_law.specs.OldestSlot.{ShowsSlot, slot_after_oldest}
 use Rattle.driver_law.specs.ReadyDrivers.{ReadyWith}
 
--- Lists up to the first element that fails a test.
+-- Lists up to the first element that fails a test
 
 pub cons-parts : (x y : ℕ) (xs ys : List ℕ) → x ∷ xs ≡ y ∷ ys → (x ≡ y) × (xs ≡ ys)
 cons-parts x y xs ys same = (cc, cc)
@@ -36,7 +36,7 @@ no-longer : (b : Bool) (y : ℕ) (ys : List ℕ) → length (cond b (y ∷ ys) [
 no-longer true y ys = omega arith
 no-longer false y ys = omega arith
 
--- An element that fails ends it.
+-- An element that fails the test ends the list.
 stops-before : (p : ℕ → Bool) (xs : List ℕ) (x : ℕ) (ys : List ℕ) → p x ≡ false → length (take_while p (xs ++ x ∷ ys)) ≤ length xs
 stops-before p [] x ys fails =
     let none : take_while p (x ∷ ys) ≡ [] = take_while-cons p x ys ∙ ap (λ (b : Bool). cond b (x ∷ take_while p ys) []) fails in
@@ -53,7 +53,7 @@ stops-before p (y ∷ xs) x ys fails = by_case (p y) refl (stops-before p xs x y
         take_while-cons p y rest ∙ ap (λ (b : Bool). cond b (y ∷ take_while p rest) []) is in
         omega (arith, ap length here, no-longer passes y (take_while p rest), short)
 
--- An element that passes is in it, if no element after its end passes.
+-- An element that passes the test is in the list, if no element after the end of the list passes.
 record GoesPast (p : ℕ → Bool) (xs : List ℕ) (x : ℕ) (ys : List ℕ) : Type 0 where
   later : List ℕ
   is : take_while p (xs ++ x ∷ ys) ≡ xs ++ x ∷ later
@@ -89,7 +89,7 @@ goes-past p (y ∷ xs) x ys rest passes parts fail = by_case (p y) refl (λ same
         let both : true ≡ false = sym passes ∙ here in
         absurd (cc)
 
--- Outstanding slots.
+-- Outstanding slots
 
 pub slots_from-append : (n from i j : ℕ) → slots_from n from (i + j) ≡ slots_from n from i ++ slots_from n (place n from i) j
 slots_from-append n from zero j = let none : 0 + j ≡ j = omega arith in ap (slots_from n from) none
@@ -97,7 +97,7 @@ slots_from-append n from (suc i) j =
     let more : suc i + j ≡ suc (i + j) = omega arith in
     ap (slots_from n from) more ∙ ap (λ (slots : List ℕ). from ∷ slots) (slots_from-append n ((from + 1) % n) i j)
 
--- They are as many as the driver has buffers for them.
+-- The number of outstanding slots is the number of the driver's buffers for them.
 pub outstanding-slots : {up : Bool} (d : DriverState) (world : World) → ReadyWith up d world
     → outstanding (receive_ring world) d.oldest_receive
     ≡ map receive_slot (slots_from d.layout.rx d.oldest_receive (length d.buffers))
@@ -110,7 +110,7 @@ outstanding-slots {up} d world ready =
     from-zero [] = refl
     from-zero (x ∷ xs) = let here : 0 + 16 * x ≡ 16 * x = omega arith in rw (here, from-zero xs) refl
 
--- If there are none, no slot is finished.
+-- If no slot is outstanding, no slot is finished.
 pub finished-empty : {up : Bool} (d : DriverState) (world : World) → d.buffers ≡ [] → ReadyWith up d world
     → finished d.oldest_receive world ≡ []
 finished-empty d world none ready =
@@ -122,7 +122,7 @@ pub pieces-empty : {up : Bool} (d : DriverState) (world : World) → d.buffers �
     → finished_pieces d.oldest_receive world ≡ []
 pieces-empty d world none ready = ap (map (piece_in world.memory)) (finished-empty d world none ready)
 
--- The slot this many places after the oldest, among the others.
+-- The list contains the k-th slot after the oldest at place k.
 record HasSlot (d : DriverState) (k : ℕ) (slots : List ℕ) : Type 0 where
   before : List ℕ
   count : length before ≡ k
@@ -157,7 +157,7 @@ finished-lie d world ready =
     (run-passed d.oldest_receive world (finished d.oldest_receive world) [] ready.law.sound.receive_slots ready.law.sound.separate
     (sym (append-nil (finished d.oldest_receive world)))).lie
 
--- What its descriptor shows.
+-- What the descriptor of the k-th slot after the oldest shows.
 pub slot-shows : {up : Bool} (d : DriverState) (world : World) (k : ℕ) → ReadyWith up d world → k < length d.buffers
     → (let descriptor = descriptor_at world.memory (receive_slot (slot_after_oldest d k)) in
     ShowsSlot (is_set (status_bits descriptor.status) dd) k (finished_pieces d.oldest_receive world) descriptor)

@@ -19,24 +19,24 @@ use Rattle.adapter.specs.Slots.{outstanding}
 use Rattle.adapter.specs.World.{World, receive_ring}
 use Rattle.bus.specs.RegisterSetting.{with_tail}
 use Rattle.bus.specs.SlotOffers.{CanOffer, offering}
-use Rattle.bus.specs.PastOfStretch.{nothing}
+use Rattle.bus.specs.Pasts.{nothing}
 use Rattle.bus.proofs.SlotOffers.{slots_can_be_offered}
 use Rattle.driver_law.proofs.Buffers.{buffer-aside}
 use Rattle.driver_law.proofs.Owners.{elsewhere-number, one_owner-dealt}
 use Rattle.driver_law.proofs.Places.{place-below, place-next, places-differ}
 use Rattle.driver_law.proofs.Steps.{goes-passes, goes-stays, passes-same}
 use Rattle.driver_law.proofs.Stores.{empty-stored}
-use Rattle.driver_law.proofs.Stretches.{goes_join}
+use Rattle.driver_law.proofs.Intervals.{goes_join}
 use Rattle.driver_law.specs.DriverState.{DriverState, buffer_at, next_receive, receive_slot, receive_tail, with_owners}
 use Rattle.driver_law.specs.Calls.{GoesTo, driver_did, driver_in}
 use Rattle.driver_law.specs.ReadyDrivers.{AreStored, ReadyWith}
 use Rattle.driver_law.specs.ReceiveSteps.{StagedCanBeOffered}
 
--- the driver with these buffers offered, and these still staged
+-- the driver after the slots with these buffers were offered, with the others still staged
 abbrev pub with_offered : DriverState → (numbers staged : List ℕ) → DriverState
 with_offered d numbers staged = with_owners d (d.buffers ++ numbers) staged d.pool d.handed_out
 
--- What is known of the slot at the tail, if its descriptor is staged.
+-- What is known of the slot at the tail if it is staged.
 record IsNext (d : DriverState) (a : World) (m : ℕ) : Type 0 where
   free : All (λ other. AreApart other (area_of d.layout (ReceiveBuffer m))) (areas d.oldest_receive a)
   names : named_address a.memory (address_of (receive_ring a) a.adapter.receive_ring.tail) ≡ buffer_at d.layout m

@@ -1,4 +1,4 @@
--- A step that takes no slot and accepts no frame is an interval of a driver's run.
+-- A change in which the driver takes and accepts no frame is an interval of its run.
 use Rattle.std.proofs.Common.{Bool, max, min, inl, inr, ⊎_elim, ◌≡◌, ◌≤◌, ◌<◌, ◌⊎◌, ◌+◌, ◌++◌, [], ℕ, List, length, refl, sym, ap, subst}
 use Rattle.std.proofs.Common.{◌∙◌, length-append, arith}
 use Rattle.std.specs.List.{All}
@@ -17,17 +17,18 @@ use Rattle.adapter.specs.Slots.{written_back}
 use Rattle.adapter.specs.World.{World, receive_ring}
 use Rattle.bus.specs.Law.{Happens}
 use Rattle.bus.specs.DriversStores.{SameFrames}
-use Rattle.bus.specs.PastOfStretch.{Past, nothing}
+use Rattle.bus.specs.Pasts.{Past, nothing}
 use Rattle.bus.proofs.DriversSlots.{drivers_side_stays}
 use Rattle.driver_law.proofs.Buffers.{buffer-aside, stand-kept}
 use Rattle.driver_law.proofs.Readiness.{keeps-happening, own-staged, ready-kept, stored-kept}
-use Rattle.driver_law.proofs.Stretches.{misses-counted}
+use Rattle.driver_law.proofs.Intervals.{misses-counted}
 use Rattle.driver_law.proofs.EndedFrames.{frames-none}
 use Rattle.driver_law.specs.DriverState.{DriverState, HandedOut, receive_slot, receive_tail, with_owners}
 use Rattle.driver_law.specs.Calls.{GoesTo, driver_did, driver_in}
 use Rattle.driver_law.specs.ReadyDrivers.{ReadyWith, Stands}
 
--- Frames only leave and come, frames only end in slots, slots only become written back, causes are only added, and MPC counts.
+-- What happens without the driver: frames leave and arrive, frames end in slots, slots become written back, causes are
+-- recorded, and MPC counts.
 pub record Passes (o p : ℕ) (a b : World) (past : Past) : Type 0 where
   pub sends : past.put ++ frames_to_send b ≡ frames_to_send a
   pub holds : frames_held o b ≡ frames_held o a ++ past.stored
@@ -89,7 +90,7 @@ passes-same o p a b same causes missed = record {
   missed_below_greatest = λ below_greatest. omega (arith, missed);
 }
 
--- Nothing is done.
+-- Nothing happens.
 pub goes-stays : {up : Bool} (d : DriverState) (a : World) → ReadyWith up d a
     → GoesTo up (driver_in d a) (driver_in d a) (driver_did [] []) nothing
 goes-stays {up} d a ready =
@@ -107,7 +108,7 @@ goes-stays {up} d a ready =
     }) refl refl)
     ready
 
--- Something happens.
+-- Anything may happen between two accesses.
 pub goes-happens : {up : Bool} (d : DriverState) (a b : World) (past : Past) → ReadyWith up d a → Happens a b past
     → GoesTo up (driver_in d a) (driver_in d b) (driver_did [] []) past
 goes-happens {up} d a b past ready happens =

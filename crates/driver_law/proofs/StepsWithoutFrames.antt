@@ -1,4 +1,4 @@
--- A step of a driver by which no frame comes or goes.
+-- An action of a driver by which no frame comes or leaves.
 use Rattle.std.proofs.Common.{Bool, ◌≡◌, ◌+◌, [], ℕ, length, inl, sym, ap, subst, ◌∙◌, arith}
 use Rattle.std.proofs.lemmas.List.{append-nil}
 use Rattle.registers.specs.Bits.{HasBit}
@@ -6,8 +6,8 @@ use Rattle.rx_engine.specs.Pieces.{frames_of}
 use Rattle.adapter.specs.HostFrames.{finished_pieces, frames_held, frames_to_send}
 use Rattle.adapter.specs.Slots.{written_back}
 use Rattle.adapter.specs.World.{World}
-use Rattle.bus.specs.PastOfStretch.{nothing}
-use Rattle.driver_law.proofs.Stretches.{misses-stay}
+use Rattle.bus.specs.Pasts.{nothing}
+use Rattle.driver_law.proofs.Intervals.{misses-stay}
 use Rattle.driver_law.specs.DriverState.{DriverState}
 use Rattle.driver_law.specs.Calls.{GoesTo, driver_did, driver_in}
 use Rattle.driver_law.specs.ReadyDrivers.{ReadyWith}

@@ -1,4 +1,4 @@
--- A driver stores to memory of its own, as the descriptor of its next slot.
+-- A driver stores to memory that the adapter doesn't use, such as the descriptor of its next slot.
 use Rattle.std.proofs.Common.{Bool, inl, ◌≡◌, ◌<◌, ◌+◌, ◌*◌, ◌%◌, ◌^◌, ◌++◌, ◌∷◌, [], false, ℕ, List, length, slice_index, refl, sym, ap}
 use Rattle.std.proofs.Common.{subst, ◌∙◌, length-append, arith}
 use Rattle.registers.specs.Bits.{is_set}
@@ -20,7 +20,7 @@ use Rattle.rx_engine.specs.Descriptors.{named_address}
 use Rattle.adapter.specs.Slots.{is_done, outstanding}
 use Rattle.adapter.specs.World.{World, receive_ring, transmit_ring, world_after_store}
 use Rattle.bus.specs.DriversStores.{IsDriversArea}
-use Rattle.bus.specs.PastOfStretch.{nothing}
+use Rattle.bus.specs.Pasts.{nothing}
 use Rattle.bus.proofs.WrittenAreas.{same-apart}
 use Rattle.bus.proofs.DriversStores.{drivers_stores_leave_frames}
 use Rattle.bus.proofs.Rings.{far-apart}
@@ -67,7 +67,7 @@ keeps-store {up} d a address bytes ready lies own =
       none_to_send = λ none. leaves.same.to_send ∙ none;
     }
 
--- A store to memory of its own that is no receive buffer.
+-- A store to memory of the driver's own that isn't a receive buffer.
 pub goes-stores : {up : Bool} (d : DriverState) (staged pool : List ℕ) (a : World) (address : ℕ) (bytes : List ℕ) → ReadyWith up d a
     → LiesIn a.memory address (length bytes)
     → IsDriversArea d.oldest_receive d.oldest_transmit a (area_at address (length bytes)) → IsDriver (with_staged d staged pool)
@@ -83,7 +83,7 @@ goes-stores {up} d staged pool a address bytes ready lies own driver stored away
     goes-passes d d.buffers staged pool d.handed_out a b nothing (passes-same d.oldest_receive d.oldest_transmit a b leaves.same refl refl)
     (ready-kept d staged pool a b ready (keeps-store d a address bytes ready lies own) driver stored stand)
 
--- A descriptor that names a buffer, and is otherwise 0.
+-- A descriptor with the address of a buffer, and otherwise 0
 
 abbrev empty_fields : ℕ → RxDesc
 empty_fields buffer = record { address = buffer; length = 0; checksum = 0; status = status_of 0; errors = 0; special = 0 }
@@ -91,12 +91,12 @@ empty_fields buffer = record { address = buffer; length = 0; checksum = 0; statu
 pub length-empty_descriptor : (buffer : ℕ) → length (empty_descriptor buffer) ≡ 16
 length-empty_descriptor buffer = length-rx_desc_bytes (empty_fields buffer)
 
--- What a descriptor of these bytes says of its done bit.
+-- The status of a descriptor with these bytes.
 pub status-bits : (bytes : List ℕ) → status_bits (rx_desc_of bytes).status ≡ slice_index bytes 12
 unfolding rx_desc_of
 status-bits bytes = refl
 
--- It isn't done, and names the buffer.
+-- The descriptor of this slot isn't done, and has the address of this buffer.
 pub record IsEmpty (memory : List ℕ) (slot buffer : ℕ) : Type 0 where
   pub clear : is_done memory slot ≡ false
   pub names : named_address memory slot ≡ buffer
@@ -121,7 +121,7 @@ empty-stored memory slot buffer fits bytes =
       names = ap (λ (desc : RxDesc). desc.address) fields;
     }
 
--- One more slot is staged.
+-- One more slot is staged
 
 stored-push : (memory : List ℕ) (counts : Counts) (slot : ℕ) (numbers : List ℕ) (m : ℕ) → AreStored memory counts slot numbers
     → bytes_at memory (receive_slot (place counts.rx slot (length numbers))) 16 ≡ empty_descriptor (buffer_at counts m)

@@ -1,4 +1,4 @@
--- The oldest finished receive slots are taken if they contain a whole frame, and buffers come back.
+-- The oldest finished receive slots are taken if they contain a whole frame, and buffers return to the pool.
 use Rattle.std.proofs.Common.{◌≡◌, ◌≤◌, ◌+◌, ◌++◌, ◌∷◌, [], ◌∙◌}
 use Rattle.dma_memory.specs.Layout.{receive_buffer_bytes}
 use Rattle.std.proofs.Common.{inl, Bool, ℕ, suc, List, length, map, take, drop, refl, sym, ap, subst}
@@ -20,7 +20,7 @@ use Rattle.adapter.specs.HostFrames.{finished_pieces, frames_held, frames_to_sen
 use Rattle.adapter.specs.Slots.{finished, in_work, offered, outstanding}
 use Rattle.adapter.specs.World.{World, receive_ring}
 use Rattle.bus.specs.DriversSlots.{frame_named}
-use Rattle.bus.specs.PastOfStretch.{nothing}
+use Rattle.bus.specs.Pasts.{nothing}
 use Rattle.bus.specs.RunsOfSlots.{RunTaken, after_run}
 use Rattle.bus.proofs.Lists.{all-head, all-left, all-none, all-tail}
 use Rattle.bus.proofs.RunsOfSlots.{runs_can_be_taken}
@@ -29,13 +29,13 @@ use Rattle.driver_law.proofs.Owners.{one_owner-dealt}
 use Rattle.driver_law.proofs.Places.{place-add, place-below}
 use Rattle.driver_law.proofs.SeenSlots.{cons-parts, finished-lie, outstanding-slots}
 use Rattle.driver_law.proofs.Steps.{goes-passes, passes-same}
-use Rattle.driver_law.proofs.Stretches.{misses-stay}
-use Rattle.driver_law.specs.DriverState.{DriverState, HandedOut, buffer_at, numbers_of, receive_slot, receive_tail, with_owners}
+use Rattle.driver_law.proofs.Intervals.{misses-stay}
+use Rattle.driver_law.specs.DriverState.{DriverState, HandedOut, buffer_at, piece_numbers, receive_slot, receive_tail, with_owners}
 use Rattle.driver_law.specs.ReadyDrivers.{AreStored, ReadyWith, Stands}
 use Rattle.driver_law.specs.ReceiveSteps.{BuffersCanComeBack, ContainFrame, PartsAreFew, RunCanBeTaken, RunIsOfFrame, after_slots}
 use Rattle.driver_law.specs.ReceiveSteps.{pieces_in}
 
--- Two lists in two parts, the first ones of one size.
+-- If two lists are equal, and their first parts have the same length, then the parts are equal.
 append-parts : (xs ys xs' ys' : List ℕ) → length xs ≡ length xs' → xs ++ ys ≡ xs' ++ ys' → (xs ≡ xs') × (ys ≡ ys')
 append-parts [] ys [] ys' count same = (refl, same)
 append-parts [] ys (x' ∷ xs') ys' count same = absurd (omega (arith, count))
@@ -45,9 +45,10 @@ append-parts (x ∷ xs) ys (x' ∷ xs') ys' count same =
     let later = append-parts xs ys xs' ys' (omega (arith, count)) first.1 in
     (rw (first.0, later.0) refl, later.1)
 
--- The pieces in slots, each in its buffer.
+-- The pieces in slots, with their buffers
 
-pub numbers-in : (world : World) (run numbers : List ℕ) → length numbers ≡ length run → numbers_of (pieces_in world run numbers) ≡ numbers
+pub numbers-in : (world : World) (run numbers : List ℕ) → length numbers ≡ length run → piece_numbers (pieces_in world run numbers)
+    ≡ numbers
 numbers-in world [] [] count = refl
 numbers-in world [] (number ∷ numbers) count = absurd (omega (arith, count))
 numbers-in world (slot ∷ run) [] count = absurd (omega (arith, count))
@@ -61,7 +62,7 @@ bytes-in world (slot ∷ run) [] count = absurd (omega (arith, count))
 bytes-in world (slot ∷ run) (number ∷ numbers) count =
     ap (λ (list : List (List ℕ)). frame_named world slot ∷ list) (bytes-in world run numbers (omega (arith, count)))
 
--- the bytes that a finished slot names are in memory, and they fit into a buffer
+-- memory contains the bytes of a finished slot
 abbrev Lies : World → ℕ → Type 0
 Lies world slot = LiesIn world.memory (named world.memory slot).address (named world.memory slot).size
 
@@ -88,7 +89,7 @@ pieces-stand d world ready (slot ∷ run) (number ∷ numbers) names lie fit =
     })
     (pieces-stand d world ready run numbers same.1 (all-tail (Lies world) slot run lie) (all-tail (Fits world) slot run fit))
 
--- What the law says of a run, with the next place in the driver's own words.
+-- The bus law's statement of a run of slots, with the place of the next oldest slot.
 record IsNextOldest (d : DriverState) (world : World) (run later : List ℕ) (frame : List ℕ) (next : ℕ) : Type 0 where
   sound : Sound next d.oldest_transmit world
   held : frames_held d.oldest_receive world ≡ frame ∷ frames_held next world
@@ -134,9 +135,9 @@ run_can_be_taken up d numbers run seen last a ready contain =
     ∙ ap (map buffer) contain.buffers ∙ map-append buffer numbers others in
     let same = append-parts (map address run) (map address (outstanding ring next)) (map buffer numbers) (map buffer others)
     (omega (arith, length-map run address, length-map numbers buffer, contain.count)) names in
-    let held_by : numbers_of (d.handed_out ++ pieces) ≡ numbers_of d.handed_out ++ numbers =
+    let held_by : piece_numbers (d.handed_out ++ pieces) ≡ piece_numbers d.handed_out ++ numbers =
     map-append (λ (entry : HandedOut). entry.number) d.handed_out pieces
-    ∙ ap (λ (list : List ℕ). numbers_of d.handed_out ++ list) (numbers-in a run numbers contain.count) in
+    ∙ ap (λ (list : List ℕ). piece_numbers d.handed_out ++ list) (numbers-in a run numbers contain.count) in
     let lie = all-left (Lies a) run contain.later
     (subst (λ (list : List ℕ). All (Lies a) list) contain.slots (finished-lie d a ready)) in
     let fit = all-left (Fits a) run contain.later
@@ -154,7 +155,7 @@ run_can_be_taken up d numbers run seen last a ready contain =
                   ap (copies k) contain.buffers,
                   copies-append k numbers others,
                   ap (copies k) held_by,
-                  copies-append k (numbers_of d.handed_out) numbers,
+                  copies-append k (piece_numbers d.handed_out) numbers,
                 ))
                 ready.driver_is.one_owner;
             addresses = ready.driver_is.addresses;
@@ -206,7 +207,7 @@ run_is_of_frame up d numbers run seen last a ready contain =
 pub parts_are_few : PartsAreFew
 parts_are_few up d seen later world ready is = parts-few d.oldest_receive world seen later ready.law.whole is
 
--- The pieces show which slots contain the frame: the first ones, with the first buffers.
+-- The pieces show which slots contain the frame: the first slots, with the first buffers
 
 length-parts : (seen : List (List ℕ)) (later : List Piece) → length (parts seen ++ later) ≡ length seen + length later
 length-parts [] later = omega arith

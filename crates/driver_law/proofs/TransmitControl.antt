@@ -1,4 +1,4 @@
--- TCTL and IMS are written.
+-- Writes of TCTL and IMS.
 use Rattle.std.proofs.Common.{◌≡◌, [], ℕ, inl, inr, ⊎_elim, refl, sym, ap, subst, ◌∙◌, arith}
 use Rattle.std.specs.List.{All}
 use Rattle.registers.specs.Bits.{HasBit}

@@ -1,4 +1,4 @@
--- The transmit ring's registers are written while the transmit side is off.
+-- Writes of the transmit ring's registers while the transmit side is off.
 use Rattle.std.proofs.Common.{Bool, false, ◌≡◌, ◌<◌, ◌++◌, ◌∷◌, [], ℕ, List, length, map, inl, inr, refl, sym, ap, subst, ◌∙◌, arith}
 use Rattle.std.specs.List.{All, take_while}
 use Rattle.std.proofs.lemmas.List.Elements.{All-cons, All-map}
@@ -30,9 +30,9 @@ use Rattle.driver_law.proofs.Owners.{all-copies, outstanding-number}
 use Rattle.driver_law.proofs.Readiness.{none-to_send}
 use Rattle.driver_law.proofs.StepsWithoutFrames.{goes-rests}
 
--- Areas.
+-- Areas
 
--- The second of some areas is replaced by another that is apart from the others.
+-- The second area of a list of separate areas is replaced by another area that is apart from the rest.
 separate-replaced : (memory : List ℕ) (first old area : Area) (rest : List Area) → AreSeparate memory (first ∷ old ∷ rest)
     → LiesIn memory area.address area.size
     → AreApart first area → All (AreApart area) rest → AreSeparate memory (first ∷ area ∷ rest)
@@ -50,7 +50,8 @@ separate-replaced memory first old area rest separate lies apart away =
           (AllPairs-cons AreApart area rest away rest_apart);
     }
 
--- The receive buffers that outstanding slots name are apart from an area if the layout keeps them apart from it.
+-- The receive buffers of outstanding slots are apart from an area if all receive buffers of the layout are apart from
+-- this area.
 pub outstanding-buffers : {up : Bool} (driver : DriverState) (world : World) (area : Area) → ReadyWith up driver world
     → ((number : ℕ) → number < driver.layout.buffers → AreApart (area_of driver.layout (ReceiveBuffer number)) area)
     → All (λ slot. AreApart (area_at (named_address world.memory slot) receive_buffer_bytes) area)
@@ -64,7 +65,7 @@ outstanding-buffers driver world area ready away =
     all-unmapped Away (named_address world.memory) (outstanding (receive_ring world) driver.oldest_receive)
     (subst (λ (list : List ℕ). All Away list) (sym ready.slots.names) each)
 
--- A transmit side that is off.
+-- A transmit side that is off
 
 pub none-outstanding : (driver : DriverState) (world : World) → ReadyWith false driver world
     → outstanding (transmit_ring world) driver.oldest_transmit ≡ []
@@ -76,13 +77,13 @@ abbrev pub received_areas : ℕ → World → List Area
 received_areas oldest world = map (named world.memory) (finished oldest world)
     ++ (work_areas world.memory world.adapter.receiver.work ++ offered_buffers world)
 
--- With its head at its tail the ring adds none.
+-- If TDH equals TDT, the transmit ring adds no areas.
 pub areas-idle : (oldest : ℕ) (world : World) → (transmit_ring world).head ≡ (transmit_ring world).tail
     → frame_areas oldest world ≡ received_areas oldest world
 areas-idle oldest world idle = ap (λ (slots : List ℕ). map (data_of world.memory) slots ++ received_areas oldest world)
     (offered-none (transmit_ring world) idle)
 
--- The ring may be any that is apart from the others, with its head at its tail.
+-- The transmit ring may be set to any area that is apart from the other areas, if TDH equals TDT.
 ring-set : (driver : DriverState) (ring : RingRegisters) (world : World) → ReadyWith false driver world → ring.head ≡ ring.tail
     → LiesIn world.memory (ring_area (ring_of ring)).address (ring_area (ring_of ring)).size
     → AreApart (ring_area (receive_ring world)) (ring_area (ring_of ring))
@@ -99,7 +100,8 @@ ring-set driver ring world ready idle lies apart away =
     (subst (λ (list : List Area). AreSeparate world.memory (r ∷ ring_area (ring_of ring) ∷ list))
     (sym (areas-idle o (with_transmit_ring ring world) idle)) after)
 
--- The place of the transmit ring is apart from all receive areas, also if the ring itself has no slots, as after a reset.
+-- The place of the transmit ring is apart from all areas of the receive side, also if the ring has no slots, as after a
+-- reset.
 pub place-away : (driver : DriverState) (world : World) → ReadyWith false driver world
     → All (λ other. AreApart other (area_of driver.layout TransmitRing)) (received_areas driver.oldest_receive world)
 place-away driver world ready =

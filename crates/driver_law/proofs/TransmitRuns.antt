@@ -1,4 +1,4 @@
--- The steps of the transmit side over a bus.
+-- The actions of the transmit side over a bus.
 use Rattle.std.proofs.Common.{true, false, ◌≡◌, ◌≤◌, ◌<◌, ◌+◌, ◌%◌, ◌++◌, ◌∷◌, [], ℕ, List, length, slice_index, inr, sym, ap, subst, ◌∙◌}
 use Rattle.std.proofs.Common.{append_assoc, arith}
 use Rattle.std.proofs.lemmas.List.Elements.{All-append, All-cons, All-map}
@@ -18,7 +18,7 @@ use Rattle.bus.proofs.Lists.{all-none}
 use Rattle.bus.proofs.KnownRings.{transmit_tail-written}
 use Rattle.bus.specs.Keeping.{view_of}
 use Rattle.bus.specs.Law.{Acts, Happens}
-use Rattle.bus.specs.PastOfStretch.{Past, joined, nothing}
+use Rattle.bus.specs.Pasts.{Past, joined, nothing}
 use Rattle.bus.specs.declared.event.Access.TheVariants.{Loads, Stores, Writes}
 use Rattle.driver_law.specs.DriverState.{DriverState, transmit_slot, transmit_tail}
 use Rattle.driver_law.specs.Calls.{Goes, Ran, at, call_did, driver_did, driver_in, only, send_accesses, tail_buffer, tail_slot}
@@ -35,7 +35,7 @@ use Rattle.driver_law.proofs.TransmitSlots.{own-descriptor}
 use Rattle.driver_law.proofs.TransmitSlots.{slots_keep_bytes}
 use Rattle.bus.specs.declared.bus.Bus.{Ghosts}
 
--- A frame is sent.
+-- A frame is sent
 
 abbrev HasBytes : DriverState → List ℕ → World → Type 0
 HasBytes d frame world = bytes_at world.memory (transmit_buffer d.layout (transmit_tail d)) (length frame) ≡ frame
@@ -162,14 +162,14 @@ run-sends {B} bus joins old one two new d frame room least short buffer slot nex
     (ran_by-join bus joins (Stores start frame ∷ [])
     (Stores place descriptor ∷ []) old one two d d d [] [] [] [] stored_data.ran named.ran) offered.ran
 
--- The oldest slot's descriptor is loaded.
+-- The oldest slot's descriptor is loaded
 
 abbrev pub LoadsOldest : {B : Type 0} (bus : Ghosts B) (old new : B) (d : DriverState) (bytes : List ℕ) → Type 0
 LoadsOldest bus old new d bytes =
     Acts (view_of bus) old new (Loads (transmit_slot d.layout d.oldest_transmit) 16)
     (λ before after. (bytes ≡ bytes_at before.memory (transmit_slot d.layout d.oldest_transmit) 16) × (after ≡ before))
 
--- It is done: the slot is freed.
+-- If the descriptor is done, the slot is freed.
 pub run-frees : {B : Type 0} (bus : Ghosts B) (old new : B) (d : DriverState) (bytes : List ℕ) → 0 < d.sending
     → is_set (slice_index bytes 12) 0 ≡ true
     → LoadsOldest bus old new d bytes → Ready d (bus.world old)
@@ -189,7 +189,7 @@ run-frees bus old new d bytes some done acts ready =
       tt,
     ))).ran
 
--- It isn't: none is written back.
+-- If the descriptor isn't done, no slot is written back.
 pub run-waits : {B : Type 0} (bus : Ghosts B) (old new : B) (d : DriverState) (bytes : List ℕ) → is_set (slice_index bytes 12) 0 ≡ false
     → LoadsOldest bus old new d bytes → Ready d (bus.world old)
     → RanWith bus true (only (Loads (transmit_slot d.layout d.oldest_transmit) 16 ∷ [])) (at old d) (at new d)
@@ -209,7 +209,7 @@ run-waits bus old new d bytes clear acts ready =
       subst (λ (after : World). written_back d.oldest_transmit after ≡ []) (sym loaded.1) (none_is_written_back d middle set (inr is)),
     ))
 
--- The accesses.
+-- The accesses
 
 pub sends_end_with_tail : SendsEndWithTail
 sends_end_with_tail d frame k =

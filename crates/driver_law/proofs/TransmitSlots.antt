@@ -1,4 +1,4 @@
--- A transmit slot of the driver's own: what it stores into its buffer and its descriptor.
+-- Stores to the buffer and the descriptor of a transmit slot that isn't outstanding.
 use Rattle.std.proofs.Common.{Bool, ◌≡◌, ◌≢◌, ◌≤◌, ◌<◌, ◌*◌, ◌∷◌, ℕ, List, length, get_or, sym, subst, arith}
 use Rattle.std.specs.List.{All}
 use Rattle.std.proofs.lemmas.List.Elements.{All-map}
@@ -39,7 +39,7 @@ next_slot_belongs_to_driver driver world ready =
     (16 * driver.layout.rx) driver.layout.tx driver.oldest_transmit driver.sending 0 up.knows up.oldest_slot
     (omega (arith, up.room))
 
--- Its descriptor.
+-- The slot's descriptor
 
 pub own-descriptor : (driver : DriverState) (slot : ℕ) (world : World) → Ready driver world
     → IsDriversSlot (transmit_ring world) driver.oldest_transmit slot
@@ -49,13 +49,13 @@ own-descriptor driver slot world ready own =
     subst (CanBeWritten driver.oldest_receive driver.oldest_transmit world) at
     (drivers_transmit_slots_can_be_written driver.oldest_receive driver.oldest_transmit slot world ready.law.sound own)
 
--- Its buffer.
+-- The slot's buffer
 
 below-count : (driver : DriverState) (slot : ℕ) (world : World) → Ready driver world
     → IsDriversSlot (transmit_ring world) driver.oldest_transmit slot → slot < driver.layout.tx
 below-count driver slot world ready own = omega (arith, own.below, ready.transmit.knows.slots)
 
--- It is apart from the data of each outstanding slot,
+-- The slot's buffer is apart from the data of each outstanding slot.
 sources-apart : (driver : DriverState) (slot : ℕ) (world : World) → Ready driver world
     → IsDriversSlot (transmit_ring world) driver.oldest_transmit slot
     → All (λ other. AreApart (data_of world.memory other) (area_of driver.layout (TransmitBuffer slot)))
@@ -83,7 +83,7 @@ sources-apart driver slot world ready own =
     number : (a b : ℕ) → TransmitBuffer a ≡ TransmitBuffer b → a ≡ b
     number a b same = cc
 
--- so no outstanding slot uses it.
+-- No outstanding slot uses the slot's buffer.
 buffer-spare : (driver : DriverState) (slot : ℕ) (world : World) → Ready driver world
     → IsDriversSlot (transmit_ring world) driver.oldest_transmit slot
     → IsSpare receive_buffer_bytes driver.oldest_receive driver.oldest_transmit world (area_of driver.layout (TransmitBuffer slot))
@@ -102,7 +102,8 @@ buffer-spare driver slot world ready own =
       sources = sources-apart driver slot world ready own;
     }
 
--- It lies in memory, a store to its first bytes leaves what the law speaks of, and the adapter doesn't write it.
+-- Memory contains the slot's buffer, a store to its first bytes keeps the conditions of the bus law, and the adapter
+-- doesn't write it.
 pub record DriversBuffer (driver : DriverState) (slot : ℕ) (world : World) : Type 0 where
   pub below : slot < driver.layout.tx
   pub lies : LiesIn world.memory (transmit_buffer driver.layout slot) transmit_buffer_bytes
@@ -148,7 +149,7 @@ buffer-own driver slot size world ready buffer short =
       frames = λ k d below. apart-inside area whole _ inside (apart-sym _ whole (all-tail Apart t (frame_areas o world) behind k d below));
     }
 
--- Stores.
+-- Stores
 
 -- If nothing is stored to the receive ring, the staged slots are the same.
 pub stored-elsewhere : {up : Bool} (d : DriverState) (a : World) (address : ℕ) (bytes : List ℕ) → ReadyWith up d a
@@ -201,7 +202,7 @@ descriptor_is_stored driver slot bytes world ready own long =
     (λ number known. apart-inside area (area_of counts TransmitRing) (area_of counts (ReceiveBuffer number)) inside
     (places-apart counts TransmitRing (ReceiveBuffer number) tt known (λ same. absurd (cc))))
 
--- Whatever happens.
+-- Whatever happens between two accesses
 
 pub slots_keep_bytes : SlotsKeepBytes
 slots_keep_bytes driver slot a b past ready own happens =

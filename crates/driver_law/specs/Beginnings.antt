@@ -1,4 +1,4 @@
--- The state in which a driver begins, and which registers it writes up to the end of its initialization (our choice).
+-- The state in which a driver begins, and the accesses of its initialization (our choice).
 use Rattle.std.specs.Prelude.{◌≡◌, ◌≤◌, ◌<◌, ◌⊎◌, ◌+◌, ◌*◌, ℕ, Bool, true, false, List, [], None, length}
 use Rattle.adapter.specs.declared.offsets.TheConstants.{IMS}
 use Rattle.registers.specs.Bits.{HasBit, union}
@@ -16,16 +16,16 @@ use Rattle.adapter.specs.declared.ring.RingRegisters.{RingRegisters}
 use Rattle.bus.specs.IdleRings.{IsIdle}
 use Rattle.bus.specs.RegisterSetting.{with_receive_control, with_transmit_control, with_transmit_ring}
 use Rattle.bus.specs.Law.{Happens}
-use Rattle.bus.specs.PastOfStretch.{Past, nothing}
+use Rattle.bus.specs.Pasts.{Past, nothing}
 use Rattle.adapter.specs.KnownRing.{KnowsRing}
 use Rattle.driver_law.specs.DriverState.{DriverSetup, DriverState, next_receive, receive_slot, transmit_tail}
 use Rattle.driver_law.specs.Calls.{Goes, GoesTo, HasNoForgottenWork, driver_did, driver_in, frames_ended}
 use Rattle.driver_law.specs.ReadyDrivers.{IsDriver, ReadyWith, TransmitIs, transmit_side}
 use Rattle.registers.specs.Places.{rctl_bsex, rctl_en, rxt0, tctl_psp}
 
--- The beginning.
+-- The state in which a driver begins
 
--- a driver with this setup that has offered nothing yet, and all of whose buffers are free; it has joined these groups
+-- A driver with this setup that has offered no slot, and has joined these groups. All its buffers are free.
 abbrev pub new_driver : Counts → DriverSetup → (groups : List (List ℕ)) → (pool : List ℕ) → DriverState
 new_driver counts setup groups pool = record {
   layout = counts;
@@ -43,28 +43,29 @@ new_driver counts setup groups pool = record {
   setup = setup;
 }
 
--- The receive ring is set up, the transmit ring is set up or off, and neither offers a slot.
-pub record HasBegun (up : Bool) (counts : Counts) (setup : DriverSetup) (groups : List (List ℕ)) (pool : List ℕ) (world : World) : Type 0
+-- The receive ring is set up, the transmit side is set up or off, and no slot of either ring is offered.
+pub record IsAtBeginning (up : Bool) (counts : Counts) (setup : DriverSetup) (groups : List (List ℕ)) (pool : List ℕ) (world : World) :
+    Type 0
   where
     pub driver_is : IsDriver (new_driver counts setup groups pool)
     pub idle : IsIdle world
     pub runs : CanRun world
     pub lies : size_of counts ≤ length world.memory
-    -- RCTL.BSIZE names the size of the layout's receive buffers while RCTL.EN is set.
+    -- RCTL.BSIZE selects the size of the layout's receive buffers while RCTL.EN is set.
     pub sized : HasBit world.adapter.filter.rctl rctl_en → buffer_size world ≡ receive_buffer_bytes
     pub receive : KnowsRing (receive_ring world) 0 counts.rx 0
     pub transmit : TransmitIs up counts 0 0 (transmit_side world)
 
--- A driver in the state in which it begins (`HasBegun`) is ready.
+-- A driver in the state in which it begins (`IsAtBeginning`) is ready.
 abbrev pub DriversBegin : Type 0
 DriversBegin =
     (up : Bool) (counts : Counts) (setup : DriverSetup) (groups : List (List ℕ)) (pool : List ℕ) (world : World)
-    → HasBegun up counts setup groups pool world → ReadyWith up (new_driver counts setup groups pool) world
+    → IsAtBeginning up counts setup groups pool world → ReadyWith up (new_driver counts setup groups pool) world
 
--- Writes of registers other than RDT, which offers staged slots. Functions of the bus law give the world after them.
+-- Register writes of the initialization, other than the write of RDT, which offers staged slots
 
--- A register of the transmit ring is written while the transmit side is off. The side stays off if after the write head equals tail and
--- the ring is inside its place. This applies to each of the writes of TDBAL, TDBAH, TDLEN, TDH and TDT, in this order.
+-- A register of the transmit ring is written while the transmit side is off. The side remains off if after the write
+-- TDH equals TDT and the ring is inside its place in the layout.
 abbrev pub TransmitRingIsWritten : Type 0
 TransmitRingIsWritten =
     (driver : DriverState) (ring : RingRegisters) (world : World) → ReadyWith false driver world → ring.head ≡ ring.tail
@@ -72,7 +73,8 @@ TransmitRingIsWritten =
     → GoesTo false (driver_in driver world) (driver_in (record driver { oldest_transmit = ring.tail }) (with_transmit_ring ring world))
     (driver_did [] []) nothing
 
--- TCTL is written with PSP, bit 3, after all registers of the transmit ring. Then the transmit side is set up.
+-- TCTL is written with PSP, bit 3. Before the write, TDBAL, TDBAH and TDLEN have the ring's base and size, and TDT is
+-- the driver's tail. After the write the transmit side is set up.
 abbrev pub TransmitterIsEnabled : Type 0
 TransmitterIsEnabled =
     (driver : DriverState) (control : ℕ) (world : World) → ReadyWith false driver world → driver.oldest_transmit < driver.layout.tx
@@ -80,8 +82,8 @@ TransmitterIsEnabled =
     → HasBit control tctl_psp
     → Goes (driver_in driver world) (driver_in driver (with_transmit_control control world)) (driver_did [] []) nothing
 
--- RCTL is written, with EN or without it, while no receive slot is finished or in progress and the transmit side is off. BSEX is 0, and
--- BSIZE names the size of the layout's receive buffers.
+-- RCTL is written, with or without EN, while no receive slot is finished or in progress and the transmit side is off. BSEX is 0, and BSIZE
+-- selects the size of the layout's receive buffers.
 abbrev pub ReceiverIsEnabled : Type 0
 ReceiverIsEnabled =
     (driver : DriverState) (control : ℕ) (world : World) → ReadyWith false driver world
@@ -89,7 +91,8 @@ ReceiverIsEnabled =
     → buffer_size (with_receive_control control world) ≡ receive_buffer_bytes
     → GoesTo false (driver_in driver world) (driver_in driver (with_receive_control control world)) (driver_did [] []) nothing
 
--- Frames, slots and pieces are the same.
+-- In both worlds, the frames to be sent, the received frames that are held, the finished and the written-back slots are
+-- the same.
 pub record FramesStay (driver : DriverState) (a b : World) : Type 0 where
   pub to_send : frames_to_send b ≡ frames_to_send a
   pub held : frames_held driver.oldest_receive b ≡ frames_held driver.oldest_receive a
@@ -97,7 +100,7 @@ pub record FramesStay (driver : DriverState) (a b : World) : Type 0 where
   pub pieces_same : finished_pieces driver.oldest_receive b ≡ finished_pieces driver.oldest_receive a
   pub written_same : written_back driver.oldest_transmit b ≡ written_back driver.oldest_transmit a
 
--- Causes were enabled, and nothing else happened.
+-- Causes were enabled in the mask, and nothing else that the driver knows has changed.
 pub record Enabled (up : Bool) (driver : DriverState) (causes : ℕ) (a b : World) : Type 0 where
   pub ready : ReadyWith up driver b
   pub frames : FramesStay driver a b
@@ -106,32 +109,32 @@ pub record Enabled (up : Bool) (driver : DriverState) (causes : ℕ) (a b : Worl
   pub recorded : b.adapter.causes.recorded ≡ a.adapter.causes.recorded
   pub mask : b.adapter.causes.mask ≡ union a.adapter.causes.mask (causes_of causes)
 
--- IMS is written.
+-- A write of IMS enables causes.
 abbrev pub CausesAreEnabled : Type 0
 CausesAreEnabled =
     (up : Bool) (driver : DriverState) (causes : ℕ) (world : World) → ReadyWith up driver world
     → Enabled up driver causes world (world_after_write IMS causes world)
 
--- After RXT0, bit 7, was enabled, no work is forgotten if before that no frame ended in finished slots or RXT0 was recorded.
+-- After RXT0, bit 7, is enabled, no work is forgotten if no frame ended in finished slots before, or RXT0 was recorded.
 abbrev pub EnabledForgetsNoWork : Type 0
 EnabledForgetsNoWork =
     (up : Bool) (driver : DriverState) (causes : ℕ) (a b : World) → Enabled up driver causes a b → HasBit (causes_of causes) rxt0
     → (frames_ended (driver_in driver a) ≡ []) ⊎ HasBit a.adapter.causes.recorded rxt0 → HasNoForgottenWork driver b
 
--- Stores other than those that stage slots.
+-- Stores of the initialization, other than those that stage slots
 
--- the place of the slot this many slots after the first that is neither outstanding nor staged
+-- The place of the i-th slot (from 0) after the outstanding and staged slots.
 abbrev pub spare_slot : DriverState → ℕ → ℕ
 spare_slot driver i = place driver.layout.rx driver.oldest_receive (length driver.buffers + (length driver.staged + i))
 
--- The descriptor of the slot after all staged ones is stored. That slot stays the driver's.
+-- Bytes are stored to the descriptor of the slot after the outstanding and staged slots. The slot remains the driver's.
 abbrev pub LastSlotIsStored : Type 0
 LastSlotIsStored =
     (up : Bool) (driver : DriverState) (bytes : List ℕ) (world : World) → ReadyWith up driver world → length bytes ≡ descriptor_bytes
     → GoesTo up (driver_in driver world) (driver_in driver (world_after_store (receive_slot (next_receive driver)) bytes world))
     (driver_did [] []) nothing
 
--- The descriptor of a slot that is neither outstanding nor staged is stored. The slot stays the driver's.
+-- Bytes are stored to the descriptor of a slot that is neither outstanding nor staged. The slot remains the driver's.
 abbrev pub SpareSlotIsStored : Type 0
 SpareSlotIsStored =
     (up : Bool) (driver : DriverState) (i : ℕ) (bytes : List ℕ) (world : World) → ReadyWith up driver world
@@ -146,26 +149,27 @@ TransmitPlaceIsStored =
     → IsInside (area_at address (length bytes)) (area_of driver.layout TransmitRing)
     → GoesTo false (driver_in driver world) (driver_in driver (world_after_store address bytes world)) (driver_did [] []) nothing
 
--- What doesn't change during initialization, whatever happens.
+-- What remains true during initialization, whatever happens between two accesses
 
--- RCTL.EN is 0, and no frame is held, as before the write of RCTL.
-pub record IsWaiting (driver : DriverState) (world : World) : Type 0 where
+-- RCTL.EN is 0, and no received frame is held, as before the write of RCTL in the initialization.
+pub record HoldsNoFrame (driver : DriverState) (world : World) : Type 0 where
   pub disabled : ¬ (HasBit world.adapter.filter.rctl rctl_en)
   pub none : frames_held driver.oldest_receive world ≡ []
 
--- While RCTL.EN is 0 and no frame is held, no frame arrives, whatever happens.
+-- RCTL.EN remains 0 and no received frame is held, whatever happens between two accesses.
 abbrev pub NoFrameComes : Type 0
 NoFrameComes =
     (up : Bool) (driver : DriverState) (a b : World) (past : Past) → ReadyWith up driver a → Happens a b past
-    → IsWaiting driver a → IsWaiting driver b
+    → HoldsNoFrame driver a → HoldsNoFrame driver b
 
--- If RCTL.EN is 0 and no frame is held, no receive slot is finished or in progress.
+-- If RCTL.EN is 0 and no received frame is held, no receive slot is finished or in progress.
 abbrev pub NothingIsHeld : Type 0
 NothingIsHeld =
-    (up : Bool) (driver : DriverState) (world : World) → ReadyWith up driver world → IsWaiting driver world
+    (up : Bool) (driver : DriverState) (world : World) → ReadyWith up driver world → HoldsNoFrame driver world
     → (finished driver.oldest_receive world ≡ []) × (world.adapter.receiver.work ≡ None)
 
--- The registers of the transmit ring, TDH among them, don't change while the transmit side is off.
+-- While the transmit side is off, the registers of the transmit ring don't change, whatever happens between two
+-- accesses.
 abbrev pub RingsThatAreOffStay : Type 0
 RingsThatAreOffStay =
     (driver : DriverState) (a b : World) (past : Past) → ReadyWith false driver a → Happens a b past

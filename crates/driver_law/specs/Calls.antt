@@ -1,5 +1,5 @@
--- A driver's calls: a driver in its world, what it did in an interval, and what changed (`Ran`). `WhereReady` states
--- this for a bus that obeys the law. The order of the accesses is our choice.
+-- Calls of a driver: the driver in its world, what it did in an interval, and what changed (`Ran`). `WhereReady` and
+-- `Runs` state this for a bus that obeys the law. The order of the accesses is our choice.
 use Rattle.std.specs.Prelude.{◌≡◌, ◌≤◌, ◌<◌, ◌⊎◌, ◌^◌, ◌+◌, ◌-◌, ◌%◌, ◌++◌, ◌∷◌, ◌&&◌, []}
 use Rattle.std.specs.Prelude.{ℕ, Bool, true, List, IsTrue, length, map}
 use Rattle.std.specs.Prelude.{min, nat_lt}
@@ -18,7 +18,7 @@ use Rattle.adapter.specs.HostFrames.{finished_pieces, frames_held, frames_to_sen
 use Rattle.adapter.specs.Slots.{written_back}
 use Rattle.adapter.specs.World.{World}
 use Rattle.bus.specs.Link.{KeepsLink}
-use Rattle.bus.specs.PastOfStretch.{Past}
+use Rattle.bus.specs.Pasts.{Past}
 use Rattle.bus.specs.Settings.{AreSet, WhileOff}
 use Rattle.bus.specs.declared.bus.Bus.{Ghosts}
 use Rattle.bus.specs.declared.event.Access.{Access}
@@ -27,13 +27,13 @@ use Rattle.driver_law.specs.DriverState.{DriverState, HandedOut, buffer_at, hold
 use Rattle.driver_law.specs.DriverState.{with_owners}
 use Rattle.driver_law.specs.ReadyDrivers.{ReadyWith, empty_descriptor}
 
--- A driver in its world.
+-- A driver in its world
 
--- a driver, and the world of its adapter and its memory, at a moment
+-- A driver with its world, at one point of a run.
 pub record DriverInWorld : Type 0 where
   -- the driver
   pub driver : DriverState
-  -- its adapter and its memory
+  -- the adapter and the memory of its host
   pub world : World
 
 -- this driver in this world
@@ -44,7 +44,7 @@ driver_in driver world = record { driver = driver; world = world }
 abbrev pub frames_ended : DriverInWorld → List (List ℕ)
 frames_ended now = frames_of (finished_pieces now.driver.oldest_receive now.world)
 
--- No work is forgotten: RXT0 is enabled, and it is recorded if a frame ends in the finished receive slots.
+-- No work is forgotten: RXT0 is enabled, and RXT0 is recorded if a frame ends in the finished receive slots.
 pub record HasNoForgottenWork (d : DriverState) (world : World) : Type 0 where
   -- RXT0 is in the mask
   pub enabled : HasBit world.adapter.causes.mask rxt0
@@ -55,7 +55,8 @@ pub record HasNoForgottenWork (d : DriverState) (world : World) : Type 0 where
 abbrev pub IsRefilled : DriverState → Type 0
 IsRefilled d = (d.pool ≡ []) ⊎ (length d.buffers + 1 ≡ d.layout.rx)
 
--- Over any bus: the ring is refilled, no slot is staged then, and nothing else changes.
+-- The receive ring was refilled: no slot is staged any more, and only the owners of buffers changed. This is stated for
+-- any bus, also for one that doesn't obey the bus law.
 pub record OffersAll (d d' : DriverState) : Type 0 where
   -- only the owners of buffers change, and no slot is staged
   pub others : d' ≡ with_owners d d'.buffers [] d'.pool []
@@ -64,102 +65,109 @@ pub record OffersAll (d d' : DriverState) : Type 0 where
   -- no buffer has two owners
   pub one_owner : HasNoSecondOwner d'.layout.buffers (owners d')
 
--- What a driver did in an interval.
+-- What a driver did in an interval
 
--- the frames that it took off the receive ring, and those that it accepted for sending, in order
+-- The frames that a driver took off the receive ring, and the frames that it accepted for sending.
 pub record DriverDid : Type 0 where
   -- the frames taken off the receive ring, in order
   pub taken : List (List ℕ)
   -- the frames accepted for sending, in order
   pub accepted : List (List ℕ)
 
--- a driver took these frames, and accepted those, in order
+-- The driver took the frames `taken`, and accepted the frames `accepted`.
 abbrev pub driver_did : (taken accepted : List (List ℕ)) → DriverDid
 driver_did taken accepted = record { taken = taken; accepted = accepted }
 
--- the accesses of a call in order, and the frames that it took and accepted
+-- The accesses of a call, and the frames that it took and accepted.
 pub record Did : Type 0 where
   -- the accesses, in order
   pub accesses : List Access
   -- the frames taken and accepted
   pub frames : DriverDid
 
--- a call made these accesses, and took and accepted these frames
+-- The call made these accesses, and took and accepted these frames.
 abbrev pub call_did : List Access → (taken accepted : List (List ℕ)) → Did
 call_did accesses taken accepted = record { accesses = accesses; frames = driver_did taken accepted }
 
--- a call made these accesses, and took and accepted no frame
+-- The call made these accesses, and took and accepted no frame.
 abbrev pub only : List Access → Did
 only accesses = call_did accesses [] []
 
--- How the driver counts the frames that the adapter missed.
+-- How the driver counts missed frames
 
 -- The driver's sum of missed frames has 64 bits, so it is below this number (our choice).
 abbrev pub sum_limit : ℕ
 sum_limit = 2 ^ 64
 
--- the number of frames missed up to a moment, as far as the driver knows: its sum plus MPC
+-- The driver's sum of missed frames plus MPC.
 abbrev pub misses_known : DriverInWorld → ℕ
 misses_known now = now.driver.missed + now.world.adapter.missed_packets
 
--- The driver's sum was exact at the beginning, and MPC was below its greatest value. The sum plus MPC grew by the frames missed.
+-- At the beginning the driver's sum was exact, and MPC was below its greatest value. The sum plus MPC grew by exactly
+-- the number of frames missed.
 pub record IsExactSum (old new : DriverInWorld) (past : Past) : Type 0 where
-  -- no miss was lost before
+  -- the sum was exact at the beginning
   pub exact : IsTrue old.driver.exact
-  -- MPC was below its greatest value, at which it stays
+  -- at the beginning MPC was below its greatest value, at which it sticks
   pub below_greatest : old.world.adapter.missed_packets < greatest_count
-  -- what is known grew by exactly the frames missed
+  -- the sum plus MPC grew by exactly the number of frames missed
   pub sum : misses_known new ≡ misses_known old + past.missed
 
--- What is known of missed frames, at the beginning and the end of an interval.
+-- How the driver's sum and MPC change in an interval, by the number of frames missed in it.
 pub record SumsMisses (old new : DriverInWorld) (past : Past) : Type 0 where
   -- The driver's sum doesn't fall.
   pub sum : old.driver.missed ≤ new.driver.missed
-  -- The sum plus MPC grows by the frames missed, if neither would pass its greatest value.
+  -- The sum plus MPC grows by exactly the number of frames missed, if MPC wouldn't pass its greatest value and the
+  -- total fits into a u64.
   pub counted :
       old.world.adapter.missed_packets + past.missed ≤ greatest_count → misses_known old + past.missed < sum_limit
       → misses_known new ≡ misses_known old + past.missed
-  -- If MPC wouldn't pass its greatest value, and the sum plus MPC would reach the greatest u64, it is at least that at the end.
+  -- If MPC wouldn't pass its greatest value, but the total would be at least the greatest u64, the sum plus MPC is at
+  -- least the greatest u64 at the end.
   pub sticks :
       old.world.adapter.missed_packets + past.missed ≤ greatest_count → sum_limit - 1 ≤ misses_known old + past.missed
       → sum_limit - 1 ≤ misses_known new
   -- The sum plus MPC grows by at most the number of frames missed.
   pub at_most : misses_known new ≤ misses_known old + past.missed
-  -- If the sum is exact and MPC is below its greatest value at the end, this was so at the beginning, and each frame missed was counted.
+  -- If at the end the sum is exact and MPC is below its greatest value, both conditions were true at the beginning. The
+  -- sum plus MPC then grew by exactly the number of frames missed.
   pub exactly : IsTrue new.driver.exact → new.world.adapter.missed_packets < greatest_count → IsExactSum old new past
-  -- An exact sum stays exact if MPC would stay below its greatest value, and the sum plus MPC would fit into a u64.
+  -- An exact sum remains exact if MPC would remain below its greatest value, and the total would fit into a u64.
   pub stays_exact :
       IsTrue old.driver.exact → old.world.adapter.missed_packets + past.missed < greatest_count
       → misses_known old + past.missed < sum_limit → IsTrue new.driver.exact
-  -- A sum below MPC's greatest value is exact at the end, if such a sum was exact at the beginning.
+  -- If the sum is exact, or not below MPC's greatest value, at the beginning, the same is true at the end.
   pub small :
       (old.driver.missed < greatest_count → IsTrue old.driver.exact) → new.driver.missed < greatest_count → IsTrue new.driver.exact
 
--- whether a value read from MPC can be added without a loss: it isn't MPC's greatest value, and the sum doesn't saturate
+-- Whether adding a value read from MPC keeps the sum exact: the value is below MPC's greatest value, and the sum
+-- doesn't saturate.
 abbrev pub adds_exactly : (missed value : ℕ) → Bool
 adds_exactly missed value = nat_lt value greatest_count && nat_lt (missed + value) sum_limit
 
--- the driver after a value read from MPC was added to its sum, which saturates at the greatest u64
+-- The driver after a value read from MPC was added to its sum, which saturates at the greatest u64.
 abbrev pub with_missed : ℕ → DriverState → DriverState
 with_missed value driver = record driver
     { missed = min (driver.missed + value) (sum_limit - 1); exact = driver.exact && adds_exactly driver.missed value }
 
--- What an interval changes.
+-- What changes in an interval
 
--- Frames were taken off the receive ring, and frames were accepted for sending. Any register may have been read.
+-- What changes in an interval in which the driver took and accepted frames, and may have read any register.
 pub record FlowsTo (up : Bool) (old new : DriverInWorld) (did : DriverDid) (past : Past) : Type 0 where
   -- The driver is ready again.
   pub ready : ReadyWith up new.driver new.world
   -- Rings and buffers have the same sizes.
   pub layout : new.driver.layout ≡ old.driver.layout
-  -- Frames are sent in order; none is lost or duplicated.
+  -- Frames are sent in order; no frame is lost or duplicated.
   pub sends : past.put ++ frames_to_send new.world ≡ frames_to_send old.world ++ did.accepted
-  -- Frames are received in order; none is lost or duplicated.
+  -- Frames are received in order; no frame is lost or duplicated.
   pub holds :
       did.taken ++ frames_held new.driver.oldest_receive new.world ≡ frames_held old.driver.oldest_receive old.world ++ past.stored
-  -- Each frame that ended in finished slots at the beginning was taken, or still does.
+  -- The number of frames taken, plus the number that end in finished slots at the end, is at least the number that
+  -- ended there at the beginning.
   pub least : length (frames_ended old) ≤ length did.taken + length (frames_ended new)
-  -- The number of outstanding transmit slots that aren't written back grows by the frames accepted, and falls by those put on the wire.
+  -- The number of outstanding transmit slots that aren't written back grows by one for each frame accepted, and falls
+  -- by one for each frame put on the wire.
   pub frees :
       length (written_back old.driver.oldest_transmit old.world) + length past.put + new.driver.sending
       ≡ old.driver.sending + length did.accepted + length (written_back new.driver.oldest_transmit new.world)
@@ -168,13 +176,14 @@ pub record FlowsTo (up : Bool) (old new : DriverInWorld) (did : DriverDid) (past
   -- Missed frames are counted.
   pub misses : SumsMisses old new past
 
--- `FlowsTo`, in an interval in which no recorded cause is cleared.
+-- What changes in an interval (`FlowsTo`) in which no recorded cause is cleared.
 pub record GoesTo (up : Bool) (old new : DriverInWorld) (did : DriverDid) (past : Past) : Type 0 where
-  -- Frames flow in order, and the driver is ready again.
+  -- frames were sent and received in order, and the driver is ready again
   pub flows : FlowsTo up old new did past
-  -- Causes are only added.
+  -- No recorded cause is cleared.
   pub causes : (place : ℕ) → HasBit old.world.adapter.causes.recorded place → HasBit new.world.adapter.causes.recorded place
-  -- RXT0 is recorded, unless the number of frames that end in finished slots fell by exactly those taken.
+  -- RXT0 is recorded at the end, unless the number of frames that end in finished slots fell by exactly the number of
+  -- frames taken.
   pub recorded :
       (length (frames_ended old) ≡ length did.taken + length (frames_ended new)) ⊎ HasBit new.world.adapter.causes.recorded rxt0
 
@@ -182,47 +191,47 @@ pub record GoesTo (up : Bool) (old new : DriverInWorld) (did : DriverDid) (past 
 abbrev pub Goes : (old new : DriverInWorld) → DriverDid → Past → Type 0
 Goes = GoesTo true
 
--- What the driver's writes decide.
+-- What the driver's writes determine in an interval.
 pub record FollowsWrites (old new : World) (past : Past) : Type 0 where
-  -- Only these writes change the settings.
+  -- The settings change only by these writes.
   pub set : AreSet old new past
   -- If RCTL.EN is 0 and RCTL isn't written, no frame is stored or missed.
   pub off : WhileOff old past
-  -- If the link is up, no MDIC command is pending, and neither CTRL nor MDIC is written, then the link stays up, and no MDIC command is
-  -- pending at the end.
+  -- If the link is up, no MDIC command is pending, and neither CTRL nor MDIC is written, the link remains up and no
+  -- MDIC command is pending.
   pub link : KeepsLink old new past
 
--- The accesses of the receive side.
+-- The accesses of the receive side
 
--- the descriptors of the receive slots from a place on are stored, with these buffers
+-- Stores of the descriptors of the receive slots from `slot` on, with these buffers.
 abbrev pub stores_from : Counts → ℕ → List ℕ → List Access
 stores_from counts slot [] = []
 stores_from counts slot (number ∷ later) =
     Stores (receive_slot slot) (empty_descriptor (buffer_at counts number)) ∷ stores_from counts ((slot + 1) % counts.rx) later
 
--- RDT is written with this place if any slots are to be offered
+-- A write of RDT with this place; no access if no slot is staged.
 abbrev pub tail_write : ℕ → (staged : List ℕ) → List Access
 tail_write slot [] = []
 tail_write slot (number ∷ later) = Writes RDT slot ∷ []
 
--- the descriptors of n receive slots are loaded, from a place on
+-- Loads of the descriptors of n receive slots, from `slot` on.
 abbrev pub receive_loads : Counts → (slot n : ℕ) → List Access
 receive_loads counts slot n = map (λ place. Loads (receive_slot place) descriptor_bytes) (slots_from counts.rx slot n)
 
--- bytes 12 and 13 of a frame in these buffers are loaded
+-- A load of bytes 12 and 13, the EtherType, of a frame in these buffers.
 abbrev pub ether_type_load : Counts → (numbers : List ℕ) → List Access
 ether_type_load counts [] = []
 ether_type_load counts (number ∷ later) = Loads (buffer_at counts number + 12) 2 ∷ []
 
--- Frames are taken off the slots from a place on, each in these buffers: the descriptors of its slots are loaded, and then its bytes 12 and
--- 13.
+-- The accesses by which frames are taken off the slots from `slot` on. Each item of the list contains the buffers of
+-- one frame: the descriptors of its slots are loaded, and then its bytes 12 and 13.
 abbrev pub takes_from : Counts → (slot : ℕ) → List (List ℕ) → List Access
 takes_from counts slot [] = []
 takes_from counts slot (numbers ∷ later) =
     receive_loads counts slot (length numbers)
     ++ (ether_type_load counts numbers ++ takes_from counts (place counts.rx slot (length numbers)) later)
 
--- The accesses of the transmit side.
+-- The accesses of the transmit side
 
 -- the address of the buffer of a transmit slot
 abbrev pub transmit_buffer : Counts → ℕ → ℕ
@@ -236,11 +245,12 @@ tail_slot driver = transmit_slot driver.layout (transmit_tail driver)
 abbrev pub tail_buffer : DriverState → ℕ
 tail_buffer driver = transmit_buffer driver.layout (transmit_tail driver)
 
--- the command of a whole packet (EOP), with a check sequence (IFCS), and with its write-back requested (RS)
+-- The command of a transmit descriptor with a whole packet: EOP, IFCS (insert the frame check sequence) and RS (report
+-- status).
 abbrev pub whole_packet_command : ℕ
 whole_packet_command = union (union (alone tx_eop) (alone tx_ifcs)) (alone tx_rs)
 
--- a transmit descriptor that names `size` bytes at an address, as a whole packet
+-- A transmit descriptor of a whole packet: `size` bytes at this address.
 abbrev pub whole_descriptor : (address size : ℕ) → List ℕ
 whole_descriptor address size = tx_desc_bytes (record {
   address = address;
@@ -252,87 +262,89 @@ whole_descriptor address size = tx_desc_bytes (record {
   special = 0;
 })
 
--- the descriptors of k slots are loaded, from a place on
+-- Loads of the descriptors of k transmit slots, from `oldest` on.
 abbrev pub transmit_loads : Counts → (oldest : ℕ) → ℕ → List Access
 transmit_loads counts oldest k = map (λ slot. Loads (transmit_slot counts slot) descriptor_bytes) (slots_from counts.tx oldest k)
 
--- a frame is sent in the slot at the tail: its bytes are stored, then the descriptor, and then TDT is written
+-- The accesses that send a frame in the slot at the tail: its bytes are stored, then the descriptor, and then TDT is
+-- written.
 abbrev pub send_accesses : DriverState → List ℕ → List Access
 send_accesses driver frame =
     Stores (tail_buffer driver) frame
     ∷ Stores (tail_slot driver) (whole_descriptor (tail_buffer driver) (length frame))
     ∷ Writes TDT ((transmit_tail driver + 1) % driver.layout.tx) ∷ []
 
--- Calls over a bus.
+-- Calls over a bus
 
--- the bus and the driver at a moment of a run
+-- The bus and the driver at one point of a run.
 pub record Moment (B : Type 0) : Type 0 where
   -- the bus
   pub bus : B
   -- the driver
   pub driver : DriverState
 
--- this bus and this driver
+-- the moment with this bus and this driver
 abbrev pub at : {B : Type 0} → B → DriverState → Moment B
 at bus driver = record { bus = bus; driver = driver }
 
--- this moment, with these pieces of frames handed out to others
+-- This moment while others hold these pieces of frames.
 abbrev pub held_at : {B : Type 0} → List HandedOut → Moment B → Moment B
 held_at held now = record now { driver = holding held now.driver }
 
--- the driver and its world at this moment
+-- The driver and its world at this moment.
 abbrev pub in_world_of : {B : Type 0} → Ghosts B → Moment B → DriverInWorld
 in_world_of bus now = driver_in now.driver (bus.world now.bus)
 
--- From one moment to another the driver did exactly `did`.
+-- Between two moments the driver did exactly `did`.
 pub record Ran {B : Type 0} (bus : Ghosts B) (up : Bool) (did : Did) (old new : Moment B) : Type 0 where
-  -- what the bus reports of the interval
+  -- what happened in the interval
   pub past : Past
-  -- the bus law has this interval
+  -- `past` happened on the bus in this interval
   pub reports : bus.happened old.bus new.bus past
-  -- There were no other accesses, and these came in this order.
+  -- The accesses in the interval are exactly those of `did`, in this order.
   pub only : past.accesses ≡ did.accesses
-  -- what changed, by the frames that the driver took and accepted
+  -- what changed
   pub goes : GoesTo up (in_world_of bus old) (in_world_of bus new) did.frames past
-  -- what the driver's writes decide
+  -- what the driver's writes determine
   pub follows : FollowsWrites (bus.world old.bus) (bus.world new.bus) past
 
--- ICR was read over a bus, with no other access.
+-- ICR was read over a bus, as the only access, with this value.
 pub record ReadsCauses {B : Type 0} (bus : Ghosts B) (up : Bool) (causes : ℕ) (old : Moment B) (after_read : B) : Type 0 where
-  -- what the bus reports of the read
+  -- what happened in the interval of the read
   pub past : Past
-  -- the bus law has this interval
+  -- `past` happened on the bus in this interval
   pub reports : bus.happened old.bus after_read past
-  -- ICR was read, with this answer
+  -- the only access is the read of ICR
   pub only : past.accesses ≡ Reads ICR causes ∷ []
   -- No frame was taken or accepted.
   pub flows : FlowsTo up (in_world_of bus old) (driver_in old.driver (bus.world after_read)) (driver_did [] []) past
-  -- Each cause that was recorded at the beginning was read.
+  -- Each cause that was recorded at the beginning is in the value that was read.
   pub seen : (place : ℕ) → HasBit (bus.world old.bus).adapter.causes.recorded place → HasBit causes place
   -- No cause is recorded after the read.
   pub cleared : (bus.world after_read).adapter.causes.recorded ≡ 0
-  -- No work is forgotten if RXT0, bit 7, wasn't read.
+  -- If RXT0, bit 7, isn't in the value, and no work was forgotten before the read, no work is forgotten after it.
   pub work :
       ¬ HasBit causes rxt0 → HasNoForgottenWork old.driver (bus.world old.bus) → HasNoForgottenWork old.driver (bus.world after_read)
   -- The read changes no setting.
   pub follows : FollowsWrites (bus.world old.bus) (bus.world after_read) past
 
--- The bus obeys the law, and the driver is ready. `up`: its transmit side is set up; otherwise it is off.
-pub record IsReady {B : Type 0} (bus : Ghosts B) (up : Bool) (now : Moment B) : Type 0 where
+-- The bus obeys the law, and the driver is ready. The transmit side is set up if `up` is true, and off otherwise.
+pub record IsReadyOver {B : Type 0} (bus : Ghosts B) (up : Bool) (now : Moment B) : Type 0 where
   -- the bus obeys the law
   pub honest : bus.honest now.bus
   -- the driver is ready
   pub ready : ReadyWith up now.driver (bus.world now.bus)
 
--- If the bus obeys the law and the driver is ready before a call, `Holds` relates the moments before and after it. It does so for each list
--- of pieces of frames that others hold, and with the transmit side set up or off.
+-- If the bus obeys the law and the driver is ready before a call, `Holds` relates the moments before and after the
+-- call. This is stated for each list of pieces of frames that others hold, and for a transmit side that is set up or
+-- off.
 abbrev pub WhereReady : {B : Type 0} → Ghosts B → (old new : Moment B) → (Bool → Moment B → Moment B → Type 0) → Type 0
 WhereReady bus old new Holds =
-    (up : Bool) (held : List HandedOut) → IsReady bus up (held_at held old) → Holds up (held_at held old) (held_at held new)
+    (up : Bool) (held : List HandedOut) → IsReadyOver bus up (held_at held old) → Holds up (held_at held old) (held_at held new)
 
--- `WhereReady`, only with the transmit side set up.
+-- `WhereReady` only for a transmit side that is set up.
 abbrev pub WhereUp : {B : Type 0} → Ghosts B → (old new : Moment B) → (Moment B → Moment B → Type 0) → Type 0
-WhereUp bus old new Holds = (held : List HandedOut) → IsReady bus true (held_at held old) → Holds (held_at held old) (held_at held new)
+WhereUp bus old new Holds = (held : List HandedOut) → IsReadyOver bus true (held_at held old) → Holds (held_at held old) (held_at held new)
 
 -- If the bus obeys the law and the driver is ready, the call did exactly `did`.
 abbrev pub Runs : {B : Type 0} → Ghosts B → Did → (old new : Moment B) → Type 0

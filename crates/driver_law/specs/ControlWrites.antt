@@ -7,19 +7,19 @@ use Rattle.adapter.specs.declared.register.RingRegister.{RingRegister}
 use Rattle.registers.specs.Kept.{receive_control_mask, transmit_control_mask}
 use Rattle.bus.specs.RegisterSetting.{with_receive_control, with_transmit_control, with_transmit_ring}
 
--- A register of the transmit ring is written.
+-- A write of a register of the transmit ring changes only the registers of this ring.
 abbrev pub TransmitRingWrites : Type 0
 TransmitRingWrites =
     (part : RingRegister) (value : ℕ) (world : World)
     → world_after_write (TDBAL + ring_distance part) value world ≡ with_transmit_ring
     (ring_written part value world.adapter.transmit_ring) world
 
--- RCTL is written, and keeps only the bits of its mask.
+-- A write of RCTL stores only the bits that RCTL implements.
 abbrev pub ReceiveControlWrites : Type 0
 ReceiveControlWrites = (value : ℕ) (world : World)
     → world_after_write RCTL value world ≡ with_receive_control (bit_and value receive_control_mask) world
 
--- TCTL is written, and keeps only the bits of its mask.
+-- A write of TCTL stores only the bits that TCTL implements.
 abbrev pub TransmitControlWrites : Type 0
 TransmitControlWrites = (value : ℕ) (world : World)
     → world_after_write TCTL value world ≡ with_transmit_control (bit_and value transmit_control_mask) world

@@ -4,9 +4,9 @@ use Rattle.dma_memory.specs.Layout.{Counts, ReceiveBuffer, descriptor_bytes, sta
 use Rattle.descriptors.specs.RingLaws.{place}
 use Rattle.std.specs.List.{concat}
 
--- A piece of a frame that others hold, and the number of its buffer.
+-- A piece of a frame that others hold, with the number of its buffer.
 pub record HandedOut : Type 0 where
-  -- the number of its buffer
+  -- the number of the buffer that contains the piece
   pub number : ℕ
   -- the bytes of the piece
   pub bytes : List ℕ
@@ -16,23 +16,23 @@ abbrev pub frame_of : List HandedOut → List ℕ
 frame_of pieces = concat (map (λ (one : HandedOut). one.bytes) pieces)
 
 -- the numbers of the buffers of these pieces
-abbrev pub numbers_of : List HandedOut → List ℕ
-numbers_of handed_out = map (λ (one : HandedOut). one.number) handed_out
+abbrev pub piece_numbers : List HandedOut → List ℕ
+piece_numbers handed_out = map (λ (one : HandedOut). one.number) handed_out
 
--- What the driver keeps to set its adapter up again after a reset. Nothing changes it.
+-- The setup with which the driver initializes its adapter again after a reset. Nothing changes it.
 pub record DriverSetup : Type 0 where
   -- the size in kilobytes of the packet buffer for received frames (PBA.RXA)
   pub rxa : ℕ
-  -- whether every frame passes the filter, whatever its destination (RCTL.UPE and RCTL.MPE)
+  -- whether frames to every destination pass the filter (RCTL.UPE and RCTL.MPE)
   pub promiscuous : Bool
-  -- whether VLANs are named (RCTL.VFE); tagged frames of other VLANs don't pass then
+  -- whether the VLAN filter is on (RCTL.VFE): tagged frames of VLANs that aren't in `vlans` don't pass
   pub by_vlan : Bool
-  -- the VLANs that are named
+  -- the VLANs whose tagged frames pass the VLAN filter
   pub vlans : List ℕ
   -- the Ethernet address
   pub address : List ℕ
 
--- a driver: its rings, the owners of its buffers, its counts, its groups and its setup
+-- The state of a driver: its rings, the owners of its buffers, its counts, its groups and its setup.
 pub record DriverState : Type 0 where
   -- the sizes of the rings, and the number of receive buffers
   pub layout : Counts
@@ -40,41 +40,42 @@ pub record DriverState : Type 0 where
   pub oldest_receive : ℕ
   -- the numbers of the buffers of the outstanding receive slots, the oldest first
   pub buffers : List ℕ
-  -- the numbers of the buffers of the slots after the outstanding ones, whose descriptors are stored and that aren't offered yet
+  -- the numbers of the buffers of the staged slots: the slots' descriptors are stored, but the slots aren't offered yet
   pub staged : List ℕ
   -- the numbers of the free buffers
   pub pool : List ℕ
-  -- the pieces of frames that others hold, and may still read
+  -- the pieces of frames that others hold and may read
   pub handed_out : List HandedOut
   -- the place of the oldest outstanding transmit slot
   pub oldest_transmit : ℕ
   -- the number of outstanding transmit slots
   pub sending : ℕ
-  -- the sum of all values read from MPC
+  -- the sum of all values read from MPC; it saturates at the greatest u64
   pub missed : ℕ
-  -- whether no miss was lost: MPC was never read as its greatest value, and the sum never saturated
+  -- whether the sum is exact: no value read from MPC was its greatest value, and the sum never saturated
   pub exact : Bool
-  -- the number of runs of finished slots that weren't delivered, as they didn't contain a whole frame
+  -- the number of runs of finished slots that weren't delivered because they didn't contain a whole frame
   pub bad : ℕ
-  -- the multicast groups that it has joined
+  -- the multicast groups that the driver has joined
   pub groups : List (List ℕ)
-  -- the setup that a reset needs
+  -- the setup that a reset uses
   pub setup : DriverSetup
 
--- the same driver with other owners of buffers
+-- The driver with other owners of its buffers.
 abbrev pub with_owners : DriverState → (buffers staged pool : List ℕ) → List HandedOut → DriverState
 with_owners driver buffers staged pool handed_out = record driver
     { buffers = buffers; staged = staged; pool = pool; handed_out = handed_out }
 
--- the same driver, while others hold these pieces of frames
+-- The driver while others hold these pieces of frames.
 abbrev pub holding : List HandedOut → DriverState → DriverState
 holding handed_out driver = record driver { handed_out = handed_out }
 
--- The numbers of the buffers of all owners, one after the other: of the pool, of the slots of the ring, and of those who hold frames.
+-- The numbers of all buffers by owner: the pool, the outstanding slots, the staged slots, and the pieces that others
+-- hold.
 abbrev pub owners : DriverState → List ℕ
-owners driver = driver.pool ++ (driver.buffers ++ (driver.staged ++ numbers_of driver.handed_out))
+owners driver = driver.pool ++ (driver.buffers ++ (driver.staged ++ piece_numbers driver.handed_out))
 
--- Places of rings, slots and buffers.
+-- Places of rings, slots and buffers
 
 -- Addresses in memory have 64 bits, so they are below this number ("3.2.3 Receive Descriptor Format", "3.3.3 Legacy Transmit Descriptor
 -- Format").
@@ -85,22 +86,22 @@ address_limit = 2 ^ 64
 abbrev pub buffer_at : Counts → ℕ → ℕ
 buffer_at counts number = start_of counts (ReceiveBuffer number)
 
--- the address of the descriptor of a receive slot, by the slot's place
+-- the address of the descriptor of the receive slot at this place
 abbrev pub receive_slot : ℕ → ℕ
 receive_slot slot = descriptor_bytes * slot
 
--- the address of the descriptor of a transmit slot, by the slot's place
+-- the address of the descriptor of the transmit slot at this place
 abbrev pub transmit_slot : Counts → ℕ → ℕ
 transmit_slot counts slot = descriptor_bytes * counts.rx + descriptor_bytes * slot
 
--- the place that RDT names: after the last outstanding receive slot
+-- the place after the last outstanding receive slot, to which RDT is set
 abbrev pub receive_tail : DriverState → ℕ
 receive_tail driver = place driver.layout.rx driver.oldest_receive (length driver.buffers)
 
--- the place after the last receive slot whose descriptor is stored
+-- the place after the outstanding and staged receive slots
 abbrev pub next_receive : DriverState → ℕ
 next_receive driver = place driver.layout.rx driver.oldest_receive (length driver.buffers + length driver.staged)
 
--- the place that TDT names
+-- the place after the last outstanding transmit slot, to which TDT is set
 abbrev pub transmit_tail : DriverState → ℕ
 transmit_tail driver = place driver.layout.tx driver.oldest_transmit driver.sending

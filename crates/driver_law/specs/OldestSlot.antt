@@ -1,4 +1,4 @@
--- A driver looks at one of its outstanding receive slots, by one load of its descriptor.
+-- A driver looks at one of its outstanding receive slots, by one load of the slot's descriptor.
 use Rattle.std.specs.Prelude.{◌≡◌, ◌≤◌, ◌++◌, ◌∷◌, ℕ, Bool, true, false, List, [], length}
 use Rattle.registers.specs.Bits.{is_set}
 use Rattle.dma_memory.specs.Layout.{descriptor_bytes}
@@ -17,8 +17,9 @@ use Rattle.driver_law.specs.DriverState.{DriverState, receive_slot}
 abbrev pub slot_after_oldest : DriverState → ℕ → ℕ
 slot_after_oldest d k = place d.layout.rx d.oldest_receive k
 
--- The k-th slot after the oldest is finished: these are the pieces in the slots before it, the bytes in its buffer, and the pieces in the
--- finished slots after it. Its descriptor, without errors, has the number of these bytes.
+-- The k-th slot after the oldest is finished. `pieces` are the pieces in the finished slots: `before`, in the k slots
+-- before this slot; the bytes in this slot's buffer; and `after`, in later slots. This slot's descriptor has no errors,
+-- and its length is the number of these bytes.
 pub record IsSeen (k : ℕ) (pieces : List Piece) (descriptor : RxDesc) : Type 0 where
   pub before : List Piece
   pub count : length before ≡ k
@@ -28,15 +29,15 @@ pub record IsSeen (k : ℕ) (pieces : List Piece) (descriptor : RxDesc) : Type 0
   pub size : descriptor.length ≡ length bytes
   pub has_no_errors : descriptor.errors ≡ 0
 
--- what the descriptor of the k-th slot after the oldest shows, by DD
+-- What the descriptor of the k-th slot after the oldest shows: with DD the slot is finished; without DD it isn't.
 abbrev pub ShowsSlot : (done : Bool) → (k : ℕ) → (pieces : List Piece) → RxDesc → Type 0
 ShowsSlot true k pieces descriptor = IsSeen k pieces descriptor
 ShowsSlot false k pieces descriptor = length pieces ≤ k
 
--- The descriptor of the k-th outstanding slot after the oldest was loaded.
+-- The descriptor of the k-th slot after the oldest was loaded, and shows whether this slot is finished.
 pub record LooksAtSlot {B : Type 0} (bus : Ghosts B) (up : Bool) (k : ℕ) (descriptor : RxDesc) (old : Moment B) (new : B) : Type 0 where
   pub ran : Ran bus up (only (Loads (receive_slot (slot_after_oldest old.driver k)) descriptor_bytes ∷ [])) old (at new old.driver)
-  -- The pieces in finished slots are those from before, and then these.
+  -- The pieces in slots that were finished in this interval. They follow the pieces that were in finished slots before.
   pub more : List Piece
   pub grows : finished_pieces old.driver.oldest_receive (bus.world new)
       ≡ finished_pieces old.driver.oldest_receive (bus.world old.bus) ++ more

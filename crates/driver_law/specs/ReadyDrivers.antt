@@ -22,7 +22,7 @@ use Rattle.adapter.specs.World.{World, receive_ring, transmit_ring}
 use Rattle.driver_law.specs.DriverState.{DriverState, HandedOut, address_limit, buffer_at, owners, receive_slot, receive_tail}
 use Rattle.driver_law.specs.DriverState.{transmit_slot}
 
--- What always holds of the driver's own state.
+-- What always holds of the driver's own state, whatever the adapter does.
 pub record IsDriver (driver : DriverState) : Type 0 where
   -- The oldest receive slot is a slot of the ring.
   pub oldest_slot : driver.oldest_receive < driver.layout.rx
@@ -33,14 +33,14 @@ pub record IsDriver (driver : DriverState) : Type 0 where
   -- Each address of the layout fits into 64 bits.
   pub addresses : size_of driver.layout < address_limit
 
--- The receive side.
+-- The receive side
 
--- a receive descriptor that names a buffer, and is otherwise 0
+-- The bytes of a receive descriptor with the address of a buffer. All its other fields are 0.
 abbrev pub empty_descriptor : ℕ → List ℕ
 empty_descriptor buffer = rx_desc_bytes
     (record { address = buffer; length = 0; checksum = 0; status = status_of 0; errors = 0; special = 0 })
 
--- The slots from a place on have empty descriptors with these buffers.
+-- The receive slots from `slot` on have empty descriptors with these buffers.
 abbrev pub AreStored : List ℕ → Counts → ℕ → List ℕ → Type 0
 AreStored memory counts slot [] = ⊤
 AreStored memory counts slot (number ∷ later) =
@@ -49,12 +49,13 @@ AreStored memory counts slot (number ∷ later) =
 
 -- A piece of a frame that others hold is in its buffer.
 pub record Stands (counts : Counts) (memory : List ℕ) (one : HandedOut) : Type 0 where
-  -- Memory has the piece's bytes at the start of its buffer.
+  -- Memory contains the piece's bytes at the start of the buffer.
   pub bytes : bytes_at memory (buffer_at counts one.number) (length one.bytes) ≡ one.bytes
   -- The piece isn't longer than a receive buffer.
   pub short : length one.bytes ≤ receive_buffer_bytes
 
--- The transmit side is set up: the driver knows its ring, and the data of each outstanding slot is in that slot's own buffer.
+-- The transmit side is set up: the registers of its ring agree with the driver. The data of each outstanding slot is in
+-- the slot's own buffer.
 pub record TransmitIsUp (counts : Counts) (oldest sending : ℕ) (memory : List ℕ) (ring : Ring) (control : ℕ) : Type 0 where
   -- the oldest transmit slot is a slot of the ring
   pub oldest_slot : oldest < counts.tx
@@ -62,14 +63,14 @@ pub record TransmitIsUp (counts : Counts) (oldest sending : ℕ) (memory : List 
   pub room : sending < counts.tx
   -- TCTL.PSP is set
   pub pads : HasBit control tctl_psp
-  -- the registers of the ring have its base and its size, and TDT is after the last outstanding slot
+  -- TDBAL, TDBAH and TDLEN have the ring's base and size, and TDT is the place after the last outstanding slot
   pub knows : KnowsRing ring (descriptor_bytes * counts.rx) counts.tx (place counts.tx oldest sending)
   -- the data of each outstanding slot is inside its own buffer
   pub sources : All (λ slot. IsInside (data_of memory (transmit_slot counts slot)) (area_of counts (TransmitBuffer slot)))
       (slots_from counts.tx oldest sending)
 
--- The transmit side isn't set up yet, as during initialization: its ring ends before the buffers, none of its slots is outstanding, and no
--- frame is in the packet buffer.
+-- The transmit side is off, as during initialization: its ring ends before the buffers, no slot is outstanding, and the
+-- transmit packet buffer is empty.
 pub record TransmitIsOff (counts : Counts) (oldest sending : ℕ) (ring : Ring) (buffer : List Queued) : Type 0 where
   -- the ring ends before the buffers
   pub ends : ring.base + descriptor_bytes * count_of ring ≤ descriptor_bytes * counts.rx + descriptor_bytes * counts.tx
@@ -79,10 +80,10 @@ pub record TransmitIsOff (counts : Counts) (oldest sending : ℕ) (ring : Ring) 
   pub last : ring.tail ≡ oldest
   -- no slot is outstanding
   pub nothing : sending ≡ 0
-  -- the packet buffer has no frame to send
+  -- the transmit packet buffer is empty
   pub empty : buffer ≡ []
 
--- what the transmit side consists of
+-- The parts of an adapter and its memory that the transmit side uses.
 pub record TransmitSide : Type 0 where
   -- the host's memory
   pub memory : List ℕ
@@ -90,7 +91,7 @@ pub record TransmitSide : Type 0 where
   pub ring : Ring
   -- the value of TCTL
   pub control : ℕ
-  -- the packet buffer
+  -- the transmit packet buffer
   pub buffer : List Queued
 
 -- the transmit side of this adapter and its memory
@@ -102,39 +103,40 @@ transmit_side world = record {
   buffer = world.adapter.transmitter.buffer;
 }
 
--- the transmit side is set up (`true`) or off (`false`)
+-- The transmit side is set up (`true`) or off (`false`).
 abbrev pub TransmitIs : Bool → Counts → (oldest sending : ℕ) → TransmitSide → Type 0
 TransmitIs true counts oldest sending side = TransmitIsUp counts oldest sending side.memory side.ring side.control
 TransmitIs false counts oldest sending side = TransmitIsOff counts oldest sending side.ring side.buffer
 
--- The conditions of the bus law hold of the adapter and its memory, and both engines can run.
+-- The adapter and its memory meet the conditions of the bus law, and no step of an engine is a fault.
 pub record MeetsLaw (oldest_receive oldest_transmit : ℕ) (world : World) : Type 0 where
-  -- the driver's oldest slots and the adapter's registers agree
+  -- the conditions of the bus law hold for the driver's oldest slots
   pub sound : Sound oldest_receive oldest_transmit world
   -- no step of an engine is a fault
   pub runs : CanRun world
-  -- A receive buffer is large enough for each finished piece of a frame, and for the one that is being stored.
+  -- A receive buffer is large enough for each finished piece of a frame, and for the piece in progress.
   pub fit : FitBuffers receive_buffer_bytes oldest_receive world
-  -- Frames are cut into receive buffers, whose size RCTL.BSIZE names while RCTL.EN is set, and finished descriptors have no errors.
+  -- Received frames are split by the size of the receive buffers, which RCTL.BSIZE selects while RCTL.EN is set. Finished descriptors have
+  -- no errors.
   pub whole : AreCut receive_buffer_bytes oldest_receive world
 
 -- The descriptors of receive slots in memory agree with the driver's state.
 pub record SlotsAreStored (driver : DriverState) (world : World) : Type 0 where
-  -- Each outstanding slot names the buffer that the driver has for it.
+  -- The descriptor of each outstanding slot has the address of the buffer that the driver has for this slot.
   pub names : map (named_address world.memory) (outstanding (receive_ring world) driver.oldest_receive) ≡ map
       (buffer_at driver.layout) driver.buffers
-  -- Each staged slot has an empty descriptor that names its buffer.
+  -- Each staged slot has an empty descriptor with the address of its buffer.
   pub stored : AreStored world.memory driver.layout (receive_tail driver) driver.staged
 
 -- The driver is ready, with its transmit side set up or off.
 pub record ReadyWith (up : Bool) (driver : DriverState) (world : World) : Type 0 where
   -- what always holds of the driver's own state
   pub driver_is : IsDriver driver
-  -- what the bus law requires
+  -- the conditions of the bus law
   pub law : MeetsLaw driver.oldest_receive driver.oldest_transmit world
   -- Memory contains the whole layout.
   pub lies : size_of driver.layout ≤ length world.memory
-  -- the registers of the receive ring have its base and its size, and RDT is the driver's tail
+  -- RDBAL, RDBAH and RDLEN have the ring's base and size, and RDT is the place after the last outstanding slot
   pub receive : KnowsRing (receive_ring world) 0 driver.layout.rx (receive_tail driver)
   -- the transmit side is set up or off
   pub transmit : TransmitIs up driver.layout driver.oldest_transmit driver.sending (transmit_side world)

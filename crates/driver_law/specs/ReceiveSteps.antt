@@ -1,4 +1,4 @@
--- What a driver does with its receive slots. Each step is an interval of its run.
+-- What a driver does with its receive slots. Each action is an interval of the driver's run.
 use Rattle.std.specs.Prelude.{◌≡◌, ◌≤◌, ◌<◌, ◌+◌, ◌*◌, ◌++◌, ◌∷◌, ℕ, Bool, List, [], All, length, map}
 use Rattle.dma_memory.specs.Owners.{HaveSameNumbers, copies}
 use Rattle.dma_memory.specs.Layout.{receive_buffer_bytes}
@@ -12,12 +12,13 @@ use Rattle.adapter.specs.Slots.{finished}
 use Rattle.adapter.specs.World.{World, world_after_store}
 use Rattle.bus.specs.RegisterSetting.{with_tail}
 use Rattle.bus.specs.DriversSlots.{frame_named}
-use Rattle.bus.specs.PastOfStretch.{nothing}
-use Rattle.driver_law.specs.DriverState.{DriverState, HandedOut, buffer_at, next_receive, numbers_of, receive_slot, with_owners}
+use Rattle.bus.specs.Pasts.{nothing}
+use Rattle.driver_law.specs.DriverState.{DriverState, HandedOut, buffer_at, next_receive, piece_numbers, receive_slot, with_owners}
 use Rattle.driver_law.specs.Calls.{GoesTo, driver_did, driver_in}
 use Rattle.driver_law.specs.ReadyDrivers.{ReadyWith, Stands, empty_descriptor}
 
--- A buffer leaves the pool, and the next slot's descriptor is stored with it, if one slot more is left after that.
+-- A buffer is taken from the pool, and the descriptor of the next slot is stored with this buffer. After that, at least
+-- one slot must remain that is neither outstanding nor staged.
 abbrev pub SlotsCanBeStaged : Type 0
 SlotsCanBeStaged =
     (up : Bool) (d : DriverState) (number : ℕ) (pool : List ℕ) (world : World) → ReadyWith up d world
@@ -35,19 +36,21 @@ StagedCanBeOffered =
     (driver_in (with_owners d (d.buffers ++ d.staged) [] d.pool d.handed_out) (with_tail (next_receive d) world))
     (driver_did [] []) nothing
 
--- the pieces in these slots, each in the buffer that the driver has for its slot
+-- The pieces in these slots, with the numbers of their buffers.
 abbrev pub pieces_in : World → (slots numbers : List ℕ) → List HandedOut
 pieces_in world [] numbers = []
 pieces_in world (slot ∷ slots) [] = []
 pieces_in world (slot ∷ slots) (number ∷ numbers) = record { number = number; bytes = frame_named world slot } ∷ pieces_in world slots
     numbers
 
--- the driver after its oldest slots, as many as `count`, left the ring; it has the other buffers for those that remain
+-- The driver after its `count` oldest receive slots left the ring. The remaining outstanding slots have the buffers
+-- `others`.
 abbrev pub after_slots : DriverState → (count : ℕ) → (others : List ℕ) → List HandedOut → DriverState
 after_slots d count others handed_out = record d
     { oldest_receive = place d.layout.rx d.oldest_receive count; buffers = others; handed_out = handed_out }
 
--- The oldest finished slots contain one whole frame: parts, and then its last piece. They have the first of the driver's buffers.
+-- The oldest finished slots, `run`, contain one whole frame: the parts `seen`, and then its last piece. Their buffers
+-- are `numbers`, the first of the driver's outstanding buffers.
 pub record ContainFrame (d : DriverState) (world : World) (numbers run : List ℕ) (seen : List (List ℕ)) (last : List ℕ) : Type 0 where
   pub others : List ℕ
   pub buffers : d.buffers ≡ numbers ++ others
@@ -56,7 +59,8 @@ pub record ContainFrame (d : DriverState) (world : World) (numbers run : List �
   pub count : length numbers ≡ length run
   pub pieces : map (piece_in world.memory) run ≡ parts seen ++ Last last ∷ []
 
--- If the oldest finished slots contain one whole frame, they can be taken. Others hold the pieces of the frame then.
+-- If the oldest finished slots contain one whole frame, the driver can take these slots. After that, others hold the
+-- pieces of the frame.
 abbrev pub RunCanBeTaken : Type 0
 RunCanBeTaken =
     (up : Bool) (d : DriverState) (numbers run : List ℕ) (seen : List (List ℕ)) (last : List ℕ) (world : World) → ReadyWith up d world
@@ -65,7 +69,8 @@ RunCanBeTaken =
     (driver_in (after_slots d (length numbers) contain.others (d.handed_out ++ pieces_in world run numbers)) world)
     (driver_did ((concat seen ++ last) ∷ []) []) nothing
 
--- The pieces of a legal frame are joined in the buffers: each fills its buffer but the last, which has at least one byte.
+-- These pieces make up a legal frame. Each piece except the last fills its buffer. The last has at least one byte, and
+-- fits into its buffer.
 pub record AreOfFrame (seen : List (List ℕ)) (last : List ℕ) : Type 0 where
   pub legal : IsLegal (concat seen ++ last)
   pub full : All (λ bytes. length bytes ≡ receive_buffer_bytes) seen
@@ -77,17 +82,17 @@ RunIsOfFrame =
     → (contain : ContainFrame d world numbers run seen last)
     → AreOfFrame seen last × (map (λ (one : HandedOut). one.bytes) (pieces_in world run numbers) ≡ seen ++ last ∷ [])
 
--- Parts that no last piece follows are full buffers, and no longer together than the longest frame. So with buffers of 256 bytes they are
--- at most five.
+-- The number of parts before the first last piece, times the size of a receive buffer, is at most the size of the
+-- longest frame. So there are at most five parts of 256 bytes.
 abbrev pub PartsAreFew : Type 0
 PartsAreFew =
     (up : Bool) (d : DriverState) (seen : List (List ℕ)) (later : List Piece) (world : World) → ReadyWith up d world
     → finished_pieces d.oldest_receive world ≡ parts seen ++ later → receive_buffer_bytes * length seen ≤ longest_frame
 
--- Buffers whose pieces others held come back into the pool.
+-- Buffers whose pieces others held return to the pool.
 abbrev pub BuffersCanComeBack : Type 0
 BuffersCanComeBack =
     (up : Bool) (d : DriverState) (pool : List ℕ) (handed_out : List HandedOut) (world : World) → ReadyWith up d world
-    → ((k : ℕ) → copies k pool + copies k (numbers_of handed_out) ≡ copies k d.pool + copies k (numbers_of d.handed_out))
+    → ((k : ℕ) → copies k pool + copies k (piece_numbers handed_out) ≡ copies k d.pool + copies k (piece_numbers d.handed_out))
     → All (Stands d.layout world.memory) handed_out
     → GoesTo up (driver_in d world) (driver_in (with_owners d d.buffers d.staged pool handed_out) world) (driver_did [] []) nothing

@@ -3,7 +3,7 @@ use Rattle.std.specs.Prelude.{◌≡◌, ◌≢◌, ◌<◌, ℕ, Bool, []}
 use Rattle.adapter.specs.declared.offsets.TheConstants.{ICR, MPC}
 use Rattle.adapter.specs.Registers.{answer_at}
 use Rattle.adapter.specs.World.{World, world_after_read}
-use Rattle.bus.specs.PastOfStretch.{nothing}
+use Rattle.bus.specs.Pasts.{nothing}
 use Rattle.driver_law.specs.Calls.{FlowsTo, GoesTo, driver_did, driver_in, sum_limit, with_missed}
 use Rattle.driver_law.specs.DriverState.{DriverState}
 use Rattle.driver_law.specs.ReadyDrivers.{ReadyWith}
@@ -15,7 +15,7 @@ MissesAreRead =
     → GoesTo up (driver_in driver world) (driver_in (with_missed (answer_at MPC world.adapter) driver) (world_after_read MPC world))
     (driver_did [] []) nothing
 
--- ICR was read: no cause is recorded after it, and nothing else has changed.
+-- ICR was read: no cause is recorded after the read, and nothing else that the driver knows has changed.
 pub record CausesRead (up : Bool) (driver : DriverState) (a b : World) : Type 0 where
   pub flows : FlowsTo up (driver_in driver a) (driver_in driver b) (driver_did [] []) nothing
   pub cleared : b.adapter.causes.recorded ≡ 0
@@ -25,7 +25,7 @@ CausesAreRead =
     (up : Bool) (driver : DriverState) (world : World) → ReadyWith up driver world
     → CausesRead up driver world (world_after_read ICR world)
 
--- Any other register is read, and nothing that a driver knows changes.
+-- A register other than ICR and MPC is read, and nothing that the driver knows changes.
 abbrev pub OthersAreRead : Type 0
 OthersAreRead =
     (up : Bool) (driver : DriverState) (offset : ℕ) (world : World) → offset ≢ ICR → offset ≢ MPC → ReadyWith up driver world

@@ -1,5 +1,5 @@
--- A driver that disables its receiver and resets its adapter: what it knows from the reset on, until its receive ring is set up (our
--- choice).
+-- How a driver disables the receiver and resets its adapter, and what it knows until its receive ring is set up again
+-- (our choice).
 use Rattle.std.specs.Prelude.{◌≡◌, ◌≤◌, ◌++◌, ℕ, Bool, List, [], All, length}
 use Rattle.registers.specs.Bits.{HasBit}
 use Rattle.registers.specs.Places.{rctl_bsex, rctl_en}
@@ -10,24 +10,25 @@ use Rattle.adapter.specs.State.{IsAdapter}
 use Rattle.adapter.specs.World.{World}
 use Rattle.bus.specs.AdaptersAtRest.{IsAtRest, NoFrame}
 use Rattle.bus.specs.Law.{Happens}
-use Rattle.bus.specs.PastOfStretch.{Past, nothing}
+use Rattle.bus.specs.Pasts.{Past, nothing}
 use Rattle.bus.specs.RegisterSetting.{with_receive_control}
 use Rattle.driver_law.specs.Calls.{GoesTo, SumsMisses, driver_did, driver_in}
 use Rattle.driver_law.specs.DriverState.{DriverState, owners}
 use Rattle.driver_law.specs.ReadyDrivers.{ReadyWith, Stands}
 
--- Before the reset.
+-- Before the reset
 
--- RCTL is written without EN and BSEX, even if receive slots are finished or in progress, or frames are to be sent. The driver stays ready.
+-- RCTL is written without EN and BSEX. The driver remains ready, even if receive slots are finished or in progress, or
+-- frames are to be sent.
 abbrev pub ReceiverIsDisabled : Type 0
 ReceiverIsDisabled =
     (up : Bool) (driver : DriverState) (control : ℕ) (world : World) → ReadyWith up driver world
     → ¬ (HasBit control rctl_en) → ¬ (HasBit control rctl_bsex)
     → GoesTo up (driver_in driver world) (driver_in driver (with_receive_control control world)) (driver_did [] []) nothing
 
--- The reset.
+-- The reset
 
--- the driver after a reset: it has no slot, and these buffers are free
+-- The driver after a reset: no slot is outstanding or staged, and these buffers are free.
 abbrev pub reset_driver : (pool : List ℕ) → DriverState → DriverState
 reset_driver pool driver = record driver {
   oldest_receive = 0;
@@ -42,7 +43,8 @@ reset_driver pool driver = record driver {
 abbrev pub reset_world : World → World
 reset_world world = record world { adapter = after_reset world.adapter }
 
--- A driver without slots, whose adapter is at rest. The pieces of frames that others hold are still in their buffers.
+-- The adapter is at rest, each buffer has one owner, and the pieces of frames that others hold are still in their
+-- buffers.
 pub record RestsWith (driver : DriverState) (world : World) : Type 0 where
   pub rest : IsAtRest world
   -- Memory contains the whole layout.
@@ -50,26 +52,26 @@ pub record RestsWith (driver : DriverState) (world : World) : Type 0 where
   pub one_owner : HasOneOwner driver.layout.buffers (owners driver)
   pub stand : All (Stands driver.layout world.memory) driver.handed_out
 
--- A driver that is ready resets its adapter. The buffers of its slots are free then.
+-- A driver that is ready resets its adapter. After that, the adapter is at rest, and the buffers of all slots are free.
 abbrev pub ResetForgetsSlots : Type 0
 ResetForgetsSlots =
     (up : Bool) (driver : DriverState) (pool : List ℕ) (world : World) → ReadyWith up driver world
     → HaveSameNumbers (driver.pool ++ (driver.buffers ++ driver.staged)) pool
     → RestsWith (reset_driver pool driver) (reset_world world)
 
--- If MPC is 0, a reset loses no count of missed frames.
+-- If MPC is 0 before a reset, the reset loses no count of missed frames.
 abbrev pub ResetKeepsSum : Type 0
 ResetKeepsSum =
     (driver : DriverState) (pool : List ℕ) (world : World) → world.adapter.missed_packets ≡ 0
     → SumsMisses (driver_in driver world) (driver_in (reset_driver pool driver) (reset_world world)) nothing
 
--- After the reset.
+-- After the reset
 
 -- An adapter at rest doesn't write memory, whatever happens between two accesses.
 abbrev pub RestKeepsMemory : Type 0
 RestKeepsMemory = (a b : World) (past : Past) → Happens a b past → IsAtRest a → b.memory ≡ a.memory
 
--- A driver without slots, whose adapter is at rest, stays so, and no frame comes or leaves.
+-- After a reset the adapter remains at rest, and no frame is stored or put on the wire, whatever happens between two accesses.
 abbrev pub DriversRest : Type 0
 DriversRest =
     (driver : DriverState) (a b : World) (past : Past) → Happens a b past → IsAdapter b.adapter → RestsWith driver a

@@ -11,7 +11,7 @@ use Rattle.adapter.specs.World.{World, transmit_ring, world_after_store, world_a
 use Rattle.bus.specs.Law.{Happens}
 use Rattle.bus.specs.SlotOffers.{offering_frame}
 use Rattle.bus.specs.DriversSlots.{IsDriversSlot}
-use Rattle.bus.specs.PastOfStretch.{Past, nothing}
+use Rattle.bus.specs.Pasts.{Past, nothing}
 use Rattle.bus.specs.declared.event.Access.{Access}
 use Rattle.bus.specs.declared.event.Access.TheVariants.{Loads, Stores, Writes}
 use Rattle.driver_law.specs.Calls.{Goes, driver_did, driver_in, send_accesses, tail_buffer, tail_slot, transmit_buffer, transmit_loads}
@@ -19,7 +19,7 @@ use Rattle.driver_law.specs.Calls.{whole_descriptor}
 use Rattle.driver_law.specs.DriverState.{DriverState, transmit_slot, transmit_tail}
 use Rattle.driver_law.specs.ReadyDrivers.{Ready}
 
--- the descriptor of the oldest outstanding slot
+-- the address of the descriptor of the oldest outstanding slot
 abbrev pub oldest_slot : DriverState → ℕ
 oldest_slot driver = transmit_slot driver.layout driver.oldest_transmit
 
@@ -33,7 +33,7 @@ abbrev pub NextSlotBelongsToDriver : Type 0
 NextSlotBelongsToDriver =
     (driver : DriverState) (world : World) → Ready driver world → IsDriversTransmitSlot driver (transmit_tail driver) world
 
--- Data is stored into the buffer of a slot that isn't outstanding.
+-- Bytes are stored to the buffer of a slot that isn't outstanding.
 abbrev pub DataIsStored : Type 0
 DataIsStored =
     (driver : DriverState) (slot : ℕ) (bytes : List ℕ) (world : World) → Ready driver world → IsDriversTransmitSlot driver slot world
@@ -41,7 +41,7 @@ DataIsStored =
     → Goes (driver_in driver world) (driver_in driver (world_after_store (transmit_buffer driver.layout slot) bytes world))
     (driver_did [] []) nothing
 
--- The descriptor of a slot that isn't outstanding is stored.
+-- Bytes are stored to the descriptor of a slot that isn't outstanding.
 abbrev pub DescriptorIsStored : Type 0
 DescriptorIsStored =
     (driver : DriverState) (slot : ℕ) (bytes : List ℕ) (world : World) → Ready driver world → IsDriversTransmitSlot driver slot world
@@ -55,15 +55,17 @@ pub record SameSlot (counts : Counts) (slot : ℕ) (a b : World) : Type 0 where
   pub descriptor_same : bytes_at b.memory (transmit_slot counts slot) descriptor_bytes
       ≡ bytes_at a.memory (transmit_slot counts slot) descriptor_bytes
 
--- The buffer and the descriptor of a transmit slot that is the driver's keep their bytes, whatever happens.
+-- The buffer and the descriptor of a transmit slot that isn't outstanding keep their bytes, whatever happens between
+-- two accesses.
 abbrev pub SlotsKeepBytes : Type 0
 SlotsKeepBytes =
     (driver : DriverState) (slot : ℕ) (a b : World) (past : Past) → Ready driver a → IsDriversTransmitSlot driver slot a → Happens a b past
     → SameSlot driver.layout slot a b
 
--- A frame is sent.
+-- A frame is sent
 
--- The slot at the tail has the frame: it is in the slot's buffer, which the slot's descriptor names.
+-- The frame is in the buffer of the slot at the tail. The slot's descriptor has the address of this buffer and the
+-- frame's length.
 pub record FrameStands (driver : DriverState) (frame : List ℕ) (world : World) : Type 0 where
   pub bytes : bytes_at world.memory (tail_buffer driver) (length frame) ≡ frame
   pub descriptor : bytes_at world.memory (tail_slot driver) descriptor_bytes ≡ whole_descriptor (tail_buffer driver) (length frame)
@@ -74,7 +76,8 @@ TailIsMoved =
     (driver : DriverState) (world : World) → Ready driver world
     → world_after_write TDT ((transmit_tail driver + 1) % driver.layout.tx) world ≡ offering_frame world
 
--- If the slot at the tail has a frame, and the tail advances by one, the frame, padded, is the last that is to be sent.
+-- If the slot at the tail contains a frame, and the tail advances by one, the frame, padded, is the last frame to be
+-- sent.
 abbrev pub FrameIsOffered : Type 0
 FrameIsOffered =
     (driver : DriverState) (frame : List ℕ) (world : World) → Ready driver world → driver.sending + 1 < driver.layout.tx
@@ -82,7 +85,7 @@ FrameIsOffered =
     → Goes (driver_in driver world) (driver_in (record driver { sending = driver.sending + 1 }) (offering_frame world))
     (driver_did [] (padded frame ∷ [])) nothing
 
--- A slot is freed.
+-- A slot is freed
 
 -- the driver after its oldest slot was freed
 abbrev pub with_freed : DriverState → DriverState
@@ -94,14 +97,14 @@ SlotIsFreed =
     (driver : DriverState) (world : World) → Ready driver world → 0 < driver.sending → is_done world.memory (oldest_slot driver) ≡ true
     → Goes (driver_in driver world) (driver_in (with_freed driver) world) (driver_did [] []) nothing
 
--- If the oldest outstanding slot isn't done, or no slot is outstanding, no slot is written back.
+-- If the oldest outstanding slot isn't written back, or no slot is outstanding, no slot is written back.
 abbrev pub NoneIsWrittenBack : Type 0
 NoneIsWrittenBack =
     (driver : DriverState) (world : World) → Ready driver world
     → (driver.sending ≡ 0) ⊎ (is_done world.memory (oldest_slot driver) ≡ false) → written_back driver.oldest_transmit world ≡ []
 
--- Each outstanding slot has a frame that is still to be sent, or is written back. At least one slot isn't outstanding, so the frames to be
--- sent are at most the number of slots less one.
+-- The number of outstanding slots is the number of frames to be sent plus the number of slots that are written back.
+-- There are fewer frames to be sent than slots.
 pub record HasFrames (driver : DriverState) (world : World) : Type 0 where
   pub count : length (frames_to_send world) + length (written_back driver.oldest_transmit world) ≡ driver.sending
   pub most : length (frames_to_send world) + 1 ≤ driver.layout.tx
@@ -109,9 +112,9 @@ pub record HasFrames (driver : DriverState) (world : World) : Type 0 where
 abbrev pub SlotsHaveFrames : Type 0
 SlotsHaveFrames = (driver : DriverState) (world : World) → Ready driver world → HasFrames driver world
 
--- The last access of a call that sends a frame is the write of TDT.
+-- The last access of a call that sends a frame is the write of TDT
 
--- loads and stores, which change no register
+-- The access is a load or a store, so it changes no register.
 abbrev pub IsLoadOrStore : Access → Type 0
 IsLoadOrStore (Loads address size) = ⊤
 IsLoadOrStore (Stores address bytes) = ⊤

@@ -1,4 +1,4 @@
-//! The layer below drivers: what a driver knows of its adapter and memory, and what an interval of its run does.
+//! The layer below drivers: what a driver knows of its adapter and memory, and what happens in an interval of its run.
 #![tactic(auto)]
 
 mod beginning_law;
@@ -8,7 +8,7 @@ mod reset_law;
 mod transmit_law;
 
 pub use beginning_law::{drivers_begin, registers_are_set, rings_are_stored, rings_stay};
-pub use law::{drivers_go_on, receive_slots_go_round, stretches_join};
+pub use law::{drivers_go_on, intervals_join, receive_slots_go_round};
 pub use register_law::{registers_are_read, registers_are_written};
 pub use reset_law::drivers_reset;
 pub use transmit_law::{frames_are_offered, slots_are_freed, transmit_slots_are_stored};

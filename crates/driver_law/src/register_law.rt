@@ -4,17 +4,17 @@ ghost use Rattle.driver_law.specs.ControlWrites.{ReceiveControlWrites, TransmitC
 ghost use Rattle.driver_law.specs.RegisterReadings.{CausesAreRead, MissesAreRead, OthersAreRead};
 
 /// What a driver knows after a read of a register.
-/// - `causes`: of ICR: frames, slots and counts are the same, and no cause is recorded.
-/// - `misses`: of MPC: the driver's sum grows by the value read, so the sum plus MPC is the same.
-/// - `others`: of any other register: nothing changes.
+/// - `causes`: after a read of ICR no cause is recorded; frames, slots and counts are the same.
+/// - `misses`: after a read of MPC the driver adds the value to its sum of missed frames.
+/// - `others`: after a read of any other register, nothing that the driver knows changes.
 pub fn registers_are_read()
     ensures causes { CausesAreRead }
     ensures misses { MissesAreRead }
     ensures others { OthersAreRead }
 {}
 
-/// What a write of a register changes, in the terms of the bus law: of one of the transmit ring's, of RCTL, and of
-/// TCTL.
+/// What a register write changes, in the terms of the bus law: a write of a register of the transmit ring, of RCTL, and
+/// of TCTL.
 pub fn registers_are_written()
     ensures transmit_ring { TransmitRingWrites }
     ensures receive_control { ReceiveControlWrites }

@@ -1,4 +1,4 @@
--- The runs that left the ring: each one is a frame that was shown, or counts as bad.
+-- Each run that left the ring is a frame that was shown, or a bad run.
 use Rattle.std.proofs.Common.{Bool, not, ◌≡◌, ◌≤◌, ◌+◌, ◌∷◌, [], ℕ, List, length, map, refl, sym, ap, subst, ◌∙◌, length-append, arith}
 use Rattle.std.specs.List.{All, filter}
 use Rattle.std.proofs.lemmas.List.{length-map}
@@ -7,7 +7,7 @@ use Rattle.std.proofs.lemmas.List.Recursion.{is_count_by}
 use Rattle.std.proofs.lemmas.List.Sums.{length-filter}
 use Rattle.bus.proofs.Lists.{all-head, all-tail}
 use Rattle.driver_law.specs.DriverState.{DriverState}
-use Rattle.driver.specs.HandlerSteps.{GrowsBy, IfHandled, IsRun, RunOfSlots, Serves, bad_runs, run_buffers, whole_frames}
+use Rattle.driver.specs.HandlerSteps.{GrowsBy, IfHandled, IsRun, RunOfSlots, ServesReceiver, bad_runs, run_buffers, whole_frames}
 use Rattle.driver.specs.declared.interrupt.Handled.{Handled}
 use Rattle.driver.specs.declared.interrupt.Handled.TheVariants.{NotMine}
 use Rattle.driver.specs.declared.interrupt.Handled.TheVariants as answers
@@ -19,12 +19,12 @@ use Rattle.packet_socket.specs.HostState.{HostState}
 use Rattle.packet_socket.specs.SocketKinds.{has_none}
 use Rattle.packet_socket.specs.declared.socket_kind.SocketKind.{SocketKind}
 
--- What holds if the handler did its work may be replaced by what follows from it.
+-- A statement about the result `Handled` may be replaced by a consequence.
 pub if-handled : {P Q : ℕ → Type 0} (result : Handled) → ((n : ℕ) → P n → Q n) → IfHandled result P → IfHandled result Q
 if-handled NotMine follows holds = tt
 if-handled (answers.Handled taken) follows holds = follows taken holds
 
--- Each run has a slot.
+-- Each run has at least one slot.
 runs-few : (runs : List RunOfSlots) → All IsRun runs → length runs ≤ length (run_buffers runs)
 runs-few [] all = omega arith
 runs-few (run ∷ later) all =
@@ -37,7 +37,7 @@ runs-few (run ∷ later) all =
       length-map run.parts (λ (part : Part). part.buffer),
     )
 
--- So there are no more frames and bad runs than slots.
+-- The number of frames and bad runs is at most the number of slots.
 runs-counted : (runs : List RunOfSlots) → All IsRun runs → length (whole_frames runs) + bad_runs runs ≤ length (run_buffers runs)
 runs-counted runs all =
     let whole : RunOfSlots → Bool = λ run. run.whole in
@@ -51,7 +51,7 @@ runs-counted runs all =
     )
 
 pub serves-counted : {R : Type 0} (receivers : OfReceiver R) (before after : R) (d d' : DriverState) (n : ℕ)
-    → Serves receivers before after d d' n → n + d'.bad ≤ d.bad + length d.buffers
+    → ServesReceiver receivers before after d d' n → n + d'.bad ≤ d.bad + length d.buffers
 serves-counted receivers before after d d' n serves =
     omega (
       arith,
@@ -62,7 +62,7 @@ serves-counted receivers before after d d' n serves =
       length-append (run_buffers serves.runs) serves.ring.leave.rest,
     )
 
--- Without sockets, no frame has one.
+-- Without sockets, no frame has a socket.
 all-unclaimed : (shown : List Received) → unclaimed_of [] shown ≡ length shown
 all-unclaimed shown =
     sym (is_count_by length (λ (received : Received). has_none [] received.ether_type) refl (λ one later. omega arith) shown)

@@ -1,4 +1,4 @@
--- A frame of an EtherType that has a socket goes to no socket for all frames.
+-- No frame of an EtherType that has a socket goes to a socket for all frames.
 use Rattle.std.proofs.Common.{◌≡◌, ◌≢◌, ◌++◌, ◌∷◌, [], ℕ, List, true, sym, ap, ◌∙◌}
 use Rattle.std.specs.List.{All}
 use Rattle.std.proofs.lemmas.Bool.{false≢true}
@@ -11,7 +11,7 @@ use Rattle.packet_socket.specs.SocketKinds.{goes_to}
 use Rattle.packet_socket.specs.declared.socket_kind.SocketKind.{SocketKind}
 use Rattle.packet_socket.specs.declared.socket_kind.SocketKind.TheVariants as kinds
 
--- The entries that came to the first queue are those that go to it.
+-- The entries that were added to the first queue are those of frames of other EtherTypes.
 pub ether-first : (h h' : HostState) (n : ℕ) → HostServes h h' n → h.kinds ≡ kinds.All ∷ kinds.Ether 0x0806 ∷ []
     → (more : List Received) × ((queue_at h'.queues 0 ≡ queue_at h.queues 0 ++ more) × All (λ received. received.ether_type ≢ 0x0806) more)
 ether-first h h' n serves are =

@@ -1,4 +1,4 @@
--- A device that can be found is found.
+-- A device with a right checksum and a link in time is found.
 use Rattle.std.specs.Prelude.{◌*◌, ℕ, List, Result, Ok, Err, IfErr, IsOk}
 use Rattle.std.proofs.Common.{refl}
 use Rattle.eeprom.specs.Image.{HasRightSum}
@@ -10,7 +10,7 @@ use Rattle.bring_up.specs.declared.init_error.InitError.{InitError}
 use Rattle.bring_up.specs.declared.init_error.InitError.TheVariants.{Checksum, EepromTimeout, Memory, NoLink, PhyTimeout}
 use Rattle.bring_up.specs.declared.init_error.InitError.TheVariants as errors
 
--- No error is left: each one has a reason that isn't there.
+-- No error is possible, because the condition of each error is false.
 pub found-if-sound : (before : World) (accesses : ℕ) (result : Result (List ℕ) InitError)
     → IfErr result (λ error. IsErrorOf error before.adapter.image accesses) → IfErr result (λ error. IsErrorOfLively error before)
     → HasRightSum before.adapter.image → ¬ (NeedsMoreThan (2 * most_reads) before.adapter.phy.link) → IsOk result

@@ -10,7 +10,7 @@ ghost use Rattle.bring_up.specs.EepromReading.{ReadsImage};
 ghost use Rattle.bring_up.specs.Link.{AwaitsLink};
 ghost use Rattle.bring_up.specs.RingRegisters.{receive_writes};
 ghost use Rattle.bring_up.specs.SettingSteps.{SetsOnly};
-ghost use Rattle.driver_law.specs.Calls.{IsReady, Ran, at, only};
+ghost use Rattle.driver_law.specs.Calls.{IsReadyOver, Ran, at, only};
 ghost use Rattle.driver_law.specs.DriverState.{DriverState, address_limit, receive_slot};
 
 use bring_up::{Config, InitError};
@@ -60,7 +60,7 @@ pub fn enable_receiver<B: Bus>(bus: &mut B, promiscuous: bool, by_vlan: bool)
 pub fn clear_descriptors<B: Bus>(bus: &mut B, first: u64, count: u16)
     requires memory { first + descriptor_bytes * count ≤ B.extent bus.old }
     requires addresses { first + descriptor_bytes * count < address_limit }
-    ensures spare { (up : Bool) (d : DriverState) (slot : ℕ) → IsReady B.Bus up (at bus.old d)
+    ensures spare { (up : Bool) (d : DriverState) (slot : ℕ) → IsReadyOver B.Bus up (at bus.old d)
         → d.oldest_receive ≡ 0 → length d.buffers + length d.staged ≤ slot → slot + count ≤ d.layout.rx
         → first ≡ receive_slot slot
         → Ran B.Bus up (only (clears_from first count)) (at bus.old d) (at bus.new d) }

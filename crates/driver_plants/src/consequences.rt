@@ -1,4 +1,4 @@
-//! What follows from the contract of a call. A body that breaks such a clause can't meet the contract.
+//! Consequences of the contract of a call. A body for which a consequence is false can't meet the contract.
 
 ghost use Rattle.std.specs.Prelude.{◌≡◌, ◌≢◌, ◌*◌, ◌+◌, ◌≤◌, ◌++◌, ◌∷◌, [], All, IsOk, List, length};
 ghost use Rattle.dma_memory.specs.Layout.{size_of};
@@ -24,7 +24,8 @@ pub fn sound_devices_are_found<B: Bus>(bus: &mut B, kilobytes: u8) -> Result<Ima
     bring_up::find_device(bus, kilobytes)
 }
 
-/// Over any bus, frames are taken and bad runs are counted at most once for each slot that was outstanding.
+/// Over any bus, the number of frames taken, plus the number of bad runs counted, is at most the number of slots that
+/// were outstanding.
 pub fn runs_have_slots<B: Bus, R: Receiver>(
     driver: &mut Driver,
     bus: &mut B,
@@ -36,7 +37,7 @@ pub fn runs_have_slots<B: Bus, R: Receiver>(
     driver.interrupt(bus, receiver)
 }
 
-/// Over any bus, a host without sockets counts each frame that it takes as unclaimed.
+/// Over any bus, a host without sockets counts each frame that it takes as unclaimed, up to the greatest u64.
 pub fn frames_without_sockets_are_counted<B: Bus>(host: &mut Host, bus: &mut B) -> Handled
     requires memory { size_of host.old.driver.layout ≤ B.extent bus.old }
     ensures counted { IfHandled result (λ taken. host.old.kinds ≡ []
@@ -45,8 +46,8 @@ pub fn frames_without_sockets_are_counted<B: Bus>(host: &mut Host, bus: &mut B) 
     host.interrupt(bus)
 }
 
-/// Over any bus, no frame of an EtherType that has a socket (here 0x0806, ARP) goes to a socket for all frames, even if
-/// this socket comes first.
+/// Over any bus, a frame of an EtherType that has a socket (here 0x0806, ARP) doesn't go to a socket for all frames.
+/// This is so even if the socket for all frames comes first.
 pub fn ether_sockets_come_first<B: Bus>(host: &mut Host, bus: &mut B) -> Handled
     requires memory { size_of host.old.driver.layout ≤ B.extent bus.old }
     ensures sorted { IfHandled result (λ taken. host.old.kinds ≡ kinds.All ∷ kinds.Ether 0x0806 ∷ []

@@ -1,5 +1,5 @@
-//! A control of the functions that make a call twice: if the contract of the call leaves the result open, the prover
-//! must refuse such a function, though the body of the call always gives the same result.
+//! A control for functions that make a call twice. If the contract of the call permits several results, the prover must
+//! reject the function. The body of the call doesn't matter.
 
 ghost use Rattle.std.specs.Prelude.{◌≡◌, ◌≤◌};
 ghost use Rattle.dma_memory.specs.Layout.{size_of};
@@ -13,7 +13,7 @@ fn bytes_of(driver: &Driver) -> u64
     driver.layout().size()
 }
 
-/// The same call twice, with equal drivers. An edit loosens the clause `exact` of this call, and nothing else.
+/// Makes the same call twice, with equal drivers. An edit loosens the clause `exact` of the call, and nothing else.
 pub fn bytes_twice(one: &Driver, other: &Driver) -> (u64, u64)
     requires { one.now ≡ other.now }
     ensures { result.0 ≡ result.1 }

@@ -6,7 +6,7 @@ ghost use Rattle.dma_memory.specs.Owners.{HasNoSecondOwner, HaveSameNumbers};
 ghost use Rattle.driver_law.specs.Calls.{OffersAll, Runs, WhereReady, at, only};
 ghost use Rattle.driver_law.specs.DriverState.{owners};
 ghost use Rattle.driver.specs.HandlerSteps.{Handles, ReadsHeld, WhereReadyIn, scene};
-ghost use Rattle.driver.specs.Initialisation.{Refuses};
+ghost use Rattle.driver.specs.Initialisation.{RefusesInit};
 ghost use Rattle.driver.specs.Parts.{IsWholeFrame, buffers_in, part_loads};
 ghost use Rattle.driver.specs.RefillSteps.{Refills, WhereHeld};
 ghost use Rattle.driver.specs.Resetting.{Resets};
@@ -19,7 +19,7 @@ use std::alloc::Global;
 
 /// A twin of [`Driver::init`].
 pub fn init<B: Bus>(alloc: Global, bus: &mut B, config: &Config) -> Result<Driver, InitError>
-    ensures refuses { B.honest bus.old → IfErr result (Refuses B.Bus bus.old bus.new) }
+    ensures refuses { B.honest bus.old → IfErr result (RefusesInit B.Bus bus.old bus.new) }
 {
     match Driver::init(alloc, bus, config) {
         Ok(driver) => Ok(driver),

@@ -1,4 +1,4 @@
-//! The calls of `Driver` that change the groups joined.
+//! The calls of `Driver` that change the joined groups.
 
 ghost use Rattle.std.specs.Prelude.{◌≡◌};
 ghost use Rattle.std.specs.Result.{OnOk};

@@ -3,7 +3,7 @@
 ghost use Rattle.std.specs.Prelude.{◌≡◌, ◌↔◌, ◌<◌, ◌≤◌, [], Err, IfOk, length};
 ghost use Rattle.dma_memory.specs.Layout.{size_of};
 ghost use Rattle.driver.specs.HandlerSteps.{IfHandled};
-ghost use Rattle.packet_socket.specs.CallEffects.{CallsBy, answer_in, request_of};
+ghost use Rattle.packet_socket.specs.CallEffects.{CallsBy, answer_in, call_request};
 ghost use Rattle.packet_socket.specs.HostCalls.{HostServes, Returns, host_at};
 ghost use Rattle.packet_socket.specs.HostState.{queue_at};
 ghost use Rattle.packet_socket.specs.declared.receive.RecvError.TheVariants as RecvError;
@@ -49,7 +49,7 @@ pub fn call<B: Bus>(
     into: &mut [u8; 1518],
 ) -> HostAnswer<usize>
     requires memory { size_of host.old.driver.layout ≤ B.extent bus.old }
-    ensures does { CallsBy B.Bus (request_of call.entry) (answer_in into.new result)
+    ensures does { CallsBy B.Bus (call_request call.entry) (answer_in into.new result)
         (host_at bus.old host.old) (host_at bus.new host.new) }
 {
     match host.call(bus, call, into) {

@@ -11,7 +11,7 @@ use std::test::Fail;
 
 #[test]
 fn the_code_of_the_readme_of_bring_up(rt: HostRuntime) -> Result<(), Fail> {
-    let mut bus = good_bus(rt.alloc())?; // a lively one with a new adapter
+    let mut bus = good_bus(rt.alloc())?; // a lively bus with a new adapter
     let found = find_device(&mut bus, 40)?;
     write_groups(&mut bus, &group_table(&[]));
     write_vlans(&mut bus, &vlan_table(&[]));

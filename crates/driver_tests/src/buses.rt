@@ -1,4 +1,4 @@
-//! A lively bus with a new adapter, and a host on it.
+//! A lively bus with a new adapter, and a host.
 
 use adapter::Adapter;
 use arrayvec::ArrayVec;
@@ -11,10 +11,10 @@ use packet_socket::{Host, SocketKind};
 use solo_bus::SoloBus;
 use std::alloc::{AllocError, Global};
 
-/// The bytes that rings of 8 slots and 16 receive buffers need.
+/// The size in bytes of the memory for rings of 8 slots and 16 receive buffers.
 const NEEDED: u64 = 22_528;
 
-/// Rings of 8 slots, 16 receive buffers, and no groups or VLANs.
+/// A configuration with rings of 8 slots, 16 receive buffers, and no groups or VLANs.
 pub(crate) fn config() -> Config {
     Config {
         rx: 8,
@@ -27,7 +27,7 @@ pub(crate) fn config() -> Config {
     }
 }
 
-/// A lively bus with as many bytes as rings and buffers need and a new adapter, which can be brought up.
+/// A lively bus with a new adapter, and with memory for the rings and buffers, so that the adapter can be initialized.
 pub(crate) fn good_bus(alloc: Global) -> Result<SoloBus, AllocError> {
     let image = Image::with_address([0x02, 0, 0, 0, 0, 0x01]);
     let adapter = Adapter::new(alloc, &image, Link::After(1))?;
@@ -35,7 +35,8 @@ pub(crate) fn good_bus(alloc: Global) -> Result<SoloBus, AllocError> {
     SoloBus::new(alloc, adapter, memory, true)
 }
 
-/// Makes a host with a socket for all frames. Generic, so that the proof of a test doesn't read what each access does.
+/// Makes a host with a socket for all frames. The function is generic, so that the proof of a test uses only the
+/// contract of a bus.
 pub(crate) fn new_host<B: Bus>(alloc: Global, bus: &mut B) -> Result<Host, InitError> {
     let mut table = ArrayVec::new();
     let _ = table.try_push(SocketKind::All);

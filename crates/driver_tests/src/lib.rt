@@ -1,4 +1,4 @@
-//! Tests of calls over a bus: the code of READMEs, and memory that is refused.
+//! Tests of calls over a bus: the code of READMEs, and failed allocations.
 #![tactic(auto)]
 
 #[cfg(test)]

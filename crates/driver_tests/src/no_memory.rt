@@ -1,5 +1,5 @@
-//! Calls of a host, its driver and its bus that take no memory, as what they need was made before. They succeed, even
-//! if every allocation after that fails.
+//! Calls of a host, its driver and its bus that allocate no memory. They succeed, even if every allocation after the
+//! initialization fails.
 
 use crate::buses::{good_bus, new_host};
 use adapter::StepKind;
@@ -9,14 +9,13 @@ use packet_socket::Host;
 use solo_bus::SoloTick;
 use std::process::Abort;
 
-/// A frame to all hosts.
+/// A broadcast frame.
 const FRAME: [u8; 60] = [0xFF; 60];
 
 /// A multicast group.
 const GROUP: [u8; 6] = [0x01, 0x00, 0x5E, 0x00, 0x00, 0x01];
 
-/// A host sends a frame, joins a group and leaves it, receives the frame that has come into its ring, and resets its
-/// adapter.
+/// A host sends a frame, joins and leaves a group, receives a frame that is in its ring, and resets its adapter.
 fn calls<B: Bus>(rt: &impl Abort, host: &mut Host, bus: &mut B) {
     let size = host.layout().size();
     assert!(rt; size <= bus.size());

@@ -14,7 +14,7 @@ fn the_code_of_the_readme_of_packet_socket(rt: HostRuntime) -> Result<(), Fail> 
     let mut table = ArrayVec::new();
     let _ = table.try_push(SocketKind::All);
     let mut host = Host::new(rt.alloc(), &mut bus, &config(), table)?;
-    let frame = [0xFF; 60]; // to all
+    let frame = [0xFF; 60]; // a broadcast frame
     assert!(rt; host.layout().size() <= bus.size());
     assert!(rt; host.send(&mut bus, &frame).is_ok());
     bus.arrive(&frame);

@@ -17,7 +17,7 @@ fn the_code_of_the_readme_of_driver(rt: HostRuntime) -> Result<(), Fail> {
     let image = Image::with_address([0x02, 0, 0, 0, 0, 0x01]);
     let adapter = Adapter::new(rt.alloc(), &image, Link::After(3))?;
     let memory = HostMemory::new(rt.alloc(), 22_528)?;
-    let mut bus = SoloBus::new(rt.alloc(), adapter, memory, true)?; // a lively one
+    let mut bus = SoloBus::new(rt.alloc(), adapter, memory, true)?; // a lively bus
     let config = Config {
         rx: 8, // receive slots
         tx: 8, // transmit slots
@@ -33,7 +33,7 @@ fn the_code_of_the_readme_of_driver(rt: HostRuntime) -> Result<(), Fail> {
     assert!(rt; driver.layout().size() <= bus.size());
     let refused = driver.transmit(&mut bus, &[0xFF; 13]);
     assert_eq!(rt; refused, Err(SendError::TooShort));
-    let sent = driver.transmit(&mut bus, &[0xFF; 60]); // to all
+    let sent = driver.transmit(&mut bus, &[0xFF; 60]); // a broadcast frame
     assert_eq!(rt; sent, Ok(()));
     assert_eq!(rt; driver.sending(), 1);
     Ok(())

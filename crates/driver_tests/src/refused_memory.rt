@@ -1,11 +1,11 @@
-//! Allocations of a new host that are refused.
+//! Failed allocations of a new host.
 
 use crate::buses::{good_bus, new_host};
 use bring_up::InitError;
 use bus::HonestBus;
 
-/// Want of memory is the one refusal that is allowed here, so that each allocation can be made to fail in turn. There
-/// was no access then, and the call can be made again.
+/// If an allocation fails, `Host::new` returns `Memory` without an access, and a second call succeeds.
+/// `tests/refused_allocations` makes each allocation fail in turn.
 #[test]
 fn a_refused_allocation_of_a_host_is_memory(rt: HostRuntime) {
     let Ok(mut bus) = good_bus(rt.alloc()) else {

@@ -1,4 +1,4 @@
--- The steps of its adapter in a drain.
+-- The steps of a host's adapter in a drain.
 use Rattle.std.proofs.Common.{◌≡◌, ◌≢◌, ◌≤◌, ◌<◌, ◌+◌, ◌-◌, ◌*◌, ◌⊎◌, ◌++◌, ◌∷◌, [], ℕ, Bool, true, false}
 use Rattle.std.proofs.Common.{Option, Some, None, List, drop, length}
 use Rattle.std.proofs.Common.{refl, sym, ap, subst, ◌∙◌, arith, if◌then◌else◌, inl, inr, replicate}
@@ -44,10 +44,10 @@ use Rattle.host_calls.specs.DrainSteps.{StepsOn, count_line, count_pending}
 use Rattle.host_calls.proofs.JoinedSteps.{nothing-stored}
 use Rattle.host_calls.proofs.SocketCounts.{held-flows}
 use Rattle.host_calls.proofs.PiecesLeft.{count_ending, ending-most, held-counted, left-last, left-part}
-use Rattle.packet_socket.specs.HostCalls.{did}
+use Rattle.packet_socket.specs.HostCalls.{host_did}
 use Rattle.host_calls.specs.ConnectedHosts.{connected}
 
--- One step that was taken.
+-- One step that was taken, with this outcome.
 pub record TakesStep (number : ℕ) (kind : StepKind) (answer : FrameOutcome) (a b : List StationState) : Type 0 where
   pub adapter : IsAdapter (world_at a number).adapter
   pub answers : Answers kind true (world_at a number).memory (world_at a number).adapter answer
@@ -83,19 +83,19 @@ elsewhere number k event other =
       | inr differ ↦ subst (λ (here : Bool). (if here then event ∷ [] else []) ++ [] ≡ []) (sym differ.0) refl
     ]
 
--- The host itself does nothing meanwhile.
+-- The host makes no access in the step.
 pub step-runs : (number : ℕ) (kind : StepKind) (answer : FrameOutcome) (a b : List StationState) (h : HostState)
     → CanBeDrained h (world_at a number) → TakesStep number kind answer a b
-    → HostRuns number (At number (Steps kind true answer) ∷ []) (did [] [] []) (connected h a) (connected h b)
+    → HostRuns number (At number (Steps kind true answer) ∷ []) (host_did [] [] []) (connected h a) (connected h b)
 step-runs number kind answer a b h stands takes =
     let steps = At number (Steps kind true answer) ∷ [] in
     runs-alone number steps a b h stands.ready
     (happens-alone number number steps a b (ticks number kind answer) takes.leads)
     (none-alone number steps (ticks number kind answer))
 
--- How many frames are finished, in work and buffered together stays.
+-- The number of frames that are finished, in progress or in the packet buffer doesn't change.
 held-stays : (number n : ℕ) (played : List AtomicStep) (a b : List StationState) (h : HostState) → LeadsTo number played a b
-    → happened_in played ≡ replicate n (Moved number) → HostRuns number played (did [] [] []) (connected h a) (connected h b)
+    → happened_in played ≡ replicate n (Moved number) → HostRuns number played (host_did [] [] []) (connected h a) (connected h b)
     → length (frames_held h.driver.oldest_receive (world_at b number)) ≡ length (frames_held h.driver.oldest_receive (world_at a number))
 held-stays number n played a b h leads moved runs =
     let holds = held-flows [] (frames_held h.driver.oldest_receive (world_at b number))
@@ -103,7 +103,7 @@ held-stays number n played a b h leads moved runs =
     (nothing-stored number number played a b n leads moved) in
     omega (arith, holds)
 
--- Work.
+-- No work is forgotten
 
 pub work-counted : (work : Option Work) → work ≢ None → (length (slot_of_work work) ≡ 1) × ((line : ℕ) → count_pending work line ≡ 3)
 work-counted None some = absurd (some refl)
@@ -113,7 +113,7 @@ pub work-none : (work : Option Work) → work ≡ None → (length (slot_of_work
 work-none None none = (refl, λ line. refl)
 work-none (Some work) none = absurd (cc none)
 
--- What an adapter has at hand.
+-- The pieces of an adapter
 
 abbrev count_buffered : World → ℕ
 count_buffered world = length world.adapter.receiver.buffer
@@ -121,15 +121,15 @@ count_buffered world = length world.adapter.receiver.buffer
 abbrev count_work : World → ℕ
 count_work world = length (slot_of_work world.adapter.receiver.work)
 
--- 1 if a frame ends in its piece in work
+-- 1 if a frame ends in the piece in progress, else 0
 abbrev count_ends : World → ℕ
 count_ends world = count_ending world.adapter.receiver.work
 
--- how many steps its piece in work asks for, or else its line
+-- the number of steps for the piece in progress, or else for the interrupt line
 abbrev count_asked : World → ℕ
 count_asked world = count_pending world.adapter.receiver.work (count_line world.adapter.causes)
 
--- A step of an adapter is one of the drain if it brings frames nearer to their end, and nothing else happens.
+-- A step of an adapter is a step of the drain if it reduces the measure, and nothing else happens.
 step-on : (steps moves number : ℕ) (kind : StepKind) (answer : FrameOutcome) (a b : List StationState) (h : HostState)
     → (kind ≡ RxData) ⊎ (kind ≡ RxDone) → CanBeDrained h (world_at a number) → TakesStep number kind answer a b
     → happened_in (At number (Steps kind true answer) ∷ []) ≡ replicate moves (Moved number)
@@ -167,7 +167,7 @@ step-on steps moves number kind answer a b h receives stands takes moved buffere
       };
     }
 
--- The piece in work is finished.
+-- The descriptor of the piece in progress is written back.
 done-steps : (number : ℕ) (a b : List StationState) (h : HostState) → CanBeDrained h (world_at a number)
     → TakesStep number RxDone outcome.Done a b → StepsOn 1 number [] (connected h a) (connected h b)
 done-steps number a b h stands takes =
@@ -183,7 +183,7 @@ done-steps number a b h stands takes =
     (ap (λ (w : World). w.adapter.filter) takes.world) (omega (arith, before.0, left, ends, pending, pending'))
     (omega (arith, before.0, behind.0, left))
 
--- There was none.
+-- No piece was in progress.
 idle-steps : (number : ℕ) (kind : StepKind) (a b : List StationState) (h : HostState) → (kind ≡ RxData) ⊎ (kind ≡ RxDone)
     → CanBeDrained h (world_at a number)
     → TakesStep number kind outcome.Nothing a b → (world_at b number).adapter ≡ (world_at a number).adapter
@@ -197,7 +197,7 @@ idle-steps number kind a b h receives stands takes same =
     step-on 0 0 number kind outcome.Nothing a b h receives stands takes refl (omega (arith, buffer))
     (ap (λ (s : AdapterState). s.filter) same) (omega (arith, left, ends, pending)) (omega (arith, left, work))
 
--- What a done step answers is that it finished a piece, or that there was none.
+-- The outcome of RxDone is Done, or Nothing if no piece was in progress.
 pub finishes-done : (number : ℕ) (a b : List StationState) (h : HostState) (result : Outcome (Unit {0})) → number < length a
     → Occurs (Steps RxDone true (framed result (world_at a number).adapter)) (world_at a number)
     → b ≡ stations_after number (Steps RxDone true (framed result (world_at a number).adapter)) a → result ≡ outcome.Done
@@ -216,7 +216,7 @@ finishes-none number a b h outcome.Nothing below occurs is other stands =
 finishes-none number a b h outcome.Done below occurs is other stands = absurd (other refl)
 finishes-none number a b h result below occurs is other stands = absurd occurs.1
 
--- After it no piece is in work.
+-- After RxDone no piece is in progress.
 pub finishes-free : (number : ℕ) (a b : List StationState) (result : Outcome (Unit {0})) → number < length a
     → Occurs (Steps RxDone true (framed result (world_at a number).adapter)) (world_at a number)
     → b ≡ stations_after number (Steps RxDone true (framed result (world_at a number).adapter)) a
@@ -229,7 +229,7 @@ finishes-free number a b outcome.Nothing below occurs is =
     ap (λ (w : World). w.adapter.receiver.work) takes.world ∙ occurs.1
 finishes-free number a b result below occurs is = absurd occurs.1
 
--- A piece is moved out of the packet buffer: the last one of its frame,
+-- The last piece of a frame is moved out of the packet buffer.
 
 some-buffered : (frames : List (List ℕ)) → frames ≢ [] → 0 < length frames
 some-buffered [] some = absurd (some refl)
@@ -261,7 +261,7 @@ moved-steps number a b h stands free takes =
     (omega (arith, left, one, ends, ap (λ (work : Option Work). count_ending work) free, pending, pending'))
     (omega (arith, before.0, behind.0, left, one))
 
--- or another.
+-- A piece that isn't the last is moved out of the packet buffer.
 part-steps : (number : ℕ) (a b : List StationState) (h : HostState) → CanBeDrained h (world_at a number)
     → (world_at a number).adapter.receiver.work ≡ None → TakesStep number RxData outcome.Part a b
     → StepsOn 1 number [] (connected h a) (connected h b)
@@ -304,7 +304,7 @@ moves-piece number a b h outcome.Moved below occurs is one stands free =
     moved-steps number a b h stands free (takes-step number RxData outcome.Moved a b below (λ e. absurd (cc e)) occurs is)
 moves-piece number a b h result below occurs is one stands free = elim one [ inl same ↦ absurd (cc same) | inr same ↦ absurd (cc same) ]
 
--- Nothing is moved: then there was no frame to move, as no fault stops an engine that goes on.
+-- No piece is moved: there was no frame to move, because no engine is stopped.
 pub record MovesNone (number : ℕ) (a b : List StationState) (h : HostState) : Type 0 where
   pub on : StepsOn 0 number [] (connected h a) (connected h b)
   pub takes : TakesStep number RxData outcome.Nothing a b

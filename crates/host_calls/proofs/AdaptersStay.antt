@@ -1,4 +1,4 @@
--- An adapter stays an adapter: what holds of every adapter before an event holds after it, too.
+-- `IsAdapter` remains true in each event.
 use Rattle.std.proofs.Common.{◌≡◌, ◌≢◌, ◌≤◌, ◌<◌, ◌-◌, ◌/◌, ◌^◌, ◌∷◌, ◌++◌, []}
 use Rattle.std.proofs.Common.{Bool, true, false, ℕ, zero, suc, List, Option}
 use Rattle.std.proofs.Common.{Some, None, All}
@@ -44,7 +44,7 @@ use Rattle.bus.specs.declared.event.Access.TheVariants.{Loads, Reads, Stores, Wr
 use Rattle.bus.specs.declared.event.Event.{Event}
 use Rattle.bus.specs.declared.event.Event.TheVariants.{Accesses, Arrives, Steps}
 
--- The receive engine, over accesses.
+-- The receive engine after accesses
 
 after-read : (register : Option Register) (state : AdapterState) → (left_by_read register state).receiver ≡ state.receiver
 after-read None state = refl
@@ -64,14 +64,14 @@ by-row : (kept : Option ℕ) (register : Register) (value : ℕ) (state : Adapte
 by-row None register value state = by-rule register value state
 by-row (Some kept) register value state = by-kept register (bit_and value kept) state
 
--- what is said of the piece in progress, if there is none, and if there is one
+-- a statement about the piece in progress, if there is no piece, and if there is one
 none-in_work : (P : Work → Type 0) → ForSome None P
 none-in_work P work is = absurd (cc)
 
 one-in_work : (P : Work → Type 0) (work : Work) → P work → ForSome (Some work) P
 one-in_work P work holds other is = let same : work ≡ other = cc in subst P same holds
 
--- an engine that holds nothing
+-- an empty engine
 is-empty : IsReceiver new_receiver
 is-empty = record {
   room = omega arith;
@@ -81,7 +81,7 @@ is-empty = record {
   most = none-in_work (λ (work : Work). work.length ≤ longest_frame);
 }
 
--- a reset empties it, and any other write leaves it
+-- a reset empties the engine, and any other write doesn't change it
 reset-or : (resets : Bool) (state other : AdapterState) → IsReceiver state.receiver → other.receiver ≡ state.receiver
     → IsReceiver (if resets then after_reset state else other).receiver
 reset-or true state other is same = is-empty
@@ -94,7 +94,7 @@ after-write (Some register) value state is =
     let kept = (row_of register).kept in
     reset-or (is_reset register value) state (by_row kept register value state) is (by-row kept register value state)
 
--- Over steps.
+-- The receive engine after steps
 
 after-taking : (answer : FrameOutcome) (memory : List ℕ) (state : AdapterState) → (after_take answer memory state).receiver ≡ state.receiver
 after-taking Took memory state = refl
@@ -121,7 +121,7 @@ some-sized (suc (suc (suc (suc code)))) small = absurd (omega (arith, small))
 some-bytes : (control : ℕ) → 1 ≤ buffer_bytes control
 some-bytes control = some-sized (field control 16 2) (mod_below (control / 2 ^ 16) 4 (omega arith))
 
--- so the next piece of a frame isn't either, and it isn't longer than the frame
+-- the next piece of a frame isn't empty, and isn't longer than the frame
 sized-piece : (control : ℕ) (engine : Receiver) → IsReceiver engine → engine.buffer ≢ []
     → (1 ≤ length (next_piece control engine)) × (length (next_piece control engine) ≤ longest_frame)
 sized-piece control engine is some =
@@ -183,9 +183,9 @@ after-stepping EepromTick wire_free answer memory state is answers = is
 after-stepping PhyTick wire_free answer memory state is answers =
     subst IsReceiver (sym (after-telling (told state.mdic state.phy) state)) is
 
--- Over arrivals: a frame is stored where there is room for it.
+-- The receive engine after arrivals: a frame is stored if there is room for it
 
--- it doesn't change how many bytes of the oldest frame are moved
+-- an arrival doesn't change the number of bytes of the oldest frame that have been moved
 still-begun : (frames : List (List ℕ)) (frame : List ℕ) (moved : ℕ) → moved ≤ length (oldest frames) - 1
     → moved ≤ length (oldest (frames ++ frame ∷ [])) - 1
 still-begun [] frame moved begun = omega (arith, begun)
@@ -210,7 +210,7 @@ after-arriving Stored frame state is fated =
 after-arriving Missed frame state is fated = is.receiver
 after-arriving _ frame state is fated = is.receiver
 
--- The whole adapter.
+-- The whole adapter
 
 of-event : (event : AdapterEvent) (state : AdapterState) → IsAdapter state → IsReceiver (after_event event state).receiver
     → IsAdapter (after_event event state)
@@ -228,7 +228,7 @@ after-access (Writes offset value) world is =
 after-access (Loads address size) world is = is
 after-access (Stores address bytes) world is = is
 
--- Over an event.
+-- After one event.
 pub adapter-after : (event : Event) (world : World) → IsAdapter world.adapter → Occurs event world
     → IsAdapter (world_after event world).adapter
 adapter-after (Steps kind wire_free answer) world is occurs =
@@ -238,12 +238,12 @@ adapter-after (Arrives frame fate) world is occurs =
     of-event (Arrive fate frame) world.adapter is (after-arriving fate frame world.adapter is occurs.1)
 adapter-after (Accesses access) world is occurs = after-access access world is
 
--- Over events.
+-- After several events.
 pub adapter-behind : (events : List Event) (a b : World) → Trail events a b → IsAdapter a.adapter → IsAdapter b.adapter
 adapter-behind [] a b trail is = subst (λ (world : World). IsAdapter world.adapter) (sym trail) is
 adapter-behind (event ∷ later) a b trail is = adapter-behind later (world_after event a) b trail.1 (adapter-after event a is trail.0)
 
--- If the EEPROM took a step among them, it was one of an adapter. So it is an adapter after them.
+-- If the EEPROM took a step among the events, `IsAdapter` held before this step, so it holds after the events.
 pub adapter-ticked : (events : List Event) (a b : World) → Trail events a b → 0 < (past_of events).eeprom_ticks → IsAdapter b.adapter
 adapter-ticked [] a b trail some = absurd (omega (arith, some))
 adapter-ticked (Steps kind wire_free answer ∷ later) a b trail some =

@@ -1,4 +1,4 @@
--- What an interrupt handler answers, put together.
+-- The laws of an interrupt handler's answer.
 use Rattle.std.proofs.Common.{◌≡◌, ◌++◌, ◌∷◌, [], ℕ, List, Option, inl, inr, refl, sym, ap, subst, ◌∙◌, append_assoc}
 use Rattle.std.specs.List.{All}
 use Rattle.registers.specs.Bits.{HasBit, Meet, union}
@@ -12,7 +12,7 @@ use Rattle.adapter.specs.declared.register.Register.TheVariants.{Icr}
 use Rattle.adapter.specs.declared.offsets.TheConstants.{ICR}
 use Rattle.bring_up.specs.WrittenRegisters.{handled_causes}
 use Rattle.bus.proofs.TrailCauses.{causes_are_those_of_steps}
-use Rattle.bus.specs.PastOfStretch.{Past}
+use Rattle.bus.specs.Pasts.{Past}
 use Rattle.bus.specs.TrailCauses.{causes_in}
 use Rattle.bus.specs.declared.event.Access.{Access}
 use Rattle.bus.specs.declared.event.Access.TheVariants.{Reads}
@@ -21,7 +21,7 @@ use Rattle.stations.specs.AtomicSteps.{At, AtomicStep}
 use Rattle.stations.specs.Stations.{StationState, world_at}
 use Rattle.stations.proofs.HostTrails.{steps-alone, trail-of}
 use Rattle.stations.specs.AtomicRuns.{IsTick, LeadsTo, events_at, past_at}
-use Rattle.stations.specs.Retelling.{Retells, world_here}
+use Rattle.stations.specs.LentBuses.{HappenedLent, world_here}
 use Rattle.stations.specs.declared.lent_bus.LentBus.{LentBus}
 use Rattle.stations.specs.declared.observer.Observer.{Ghosts as OfObserver}
 use Rattle.driver.specs.declared.interrupt.Handled.{Handled}
@@ -38,11 +38,11 @@ use Rattle.host_calls.specs.CausesLaws.{AnswerTells}
 use Rattle.host_calls.specs.ConnectedHosts.{ConnectedHost}
 use Rattle.host_calls.specs.InterruptCauses.{HadCause, ReadsIcrFirst, TellsCauses, WasQuiet}
 
--- A read of ICR answers the recorded causes.
+-- The value of ICR is the recorded causes.
 icr-answers : (adapter : AdapterState) → answer_at ICR adapter ≡ adapter.causes.recorded
 icr-answers adapter = ap (λ (found : Option Register). answer_of found adapter) (register_at-there Icr tt)
 
--- Early steps, at whose end the recorded causes are those that ICR answered.
+-- Early steps after which the recorded causes are the value read from ICR.
 pub record EarlyRun (caller : ℕ) (early : List AtomicStep) (a b : List StationState) (causes : ℕ) : Type 0 where
   pub ticks : All IsTick early
   pub leads : LeadsTo caller early a b
@@ -55,7 +55,7 @@ sums caller early a b causes run =
     ∙ causes_are_those_of_steps (events_at caller early) (world_at a caller) (world_at b caller)
     (leaves-alone (events_at caller early) (steps-alone caller early run.ticks)) (trail-of caller caller early a b run.leads)
 
--- No handled cause was read.
+-- No cause that a driver handles was read.
 pub quiet-answer : (caller : ℕ) (early : List AtomicStep) (a b : List StationState) (causes oldest_receive oldest_transmit : ℕ)
     → EarlyRun caller early a b causes → Sound oldest_receive oldest_transmit (world_at a caller)
     → ¬ (Meet causes handled_causes)
@@ -75,7 +75,7 @@ quiet-answer caller early a b causes r t run sound none =
           (trail-of caller caller early a b run.leads) sound at_end,
     )
 
--- One was.
+-- A cause that a driver handles was read.
 pub mine-answer : (caller : ℕ) (early : List AtomicStep) (a b : List StationState) (causes : ℕ) → EarlyRun caller early a b causes
     → Meet causes handled_causes
     → HadCause caller (world_at a caller).adapter early
@@ -95,7 +95,7 @@ mine-answer caller early a b causes run some =
       ]
     ]
 
--- Whatever the call is: if its first access reads ICR, its steps tell what the read showed.
+-- For any call whose first access reads ICR: what the value implies about the steps before the read.
 pub steps-tell_causes : (caller : ℕ) (steps : List AtomicStep) (a b : List StationState) (causes : ℕ) (more : List Access) (h : HostState)
     → HostReady h (world_at a caller) → LeadsTo caller steps a b → (past_at caller steps).accesses ≡ Reads ICR causes ∷ more
     → TellsCauses caller steps causes (world_at a caller).adapter
@@ -114,11 +114,11 @@ steps-tell_causes caller steps a b causes more h ready leads reads =
     }
 
 pub calls-tell_causes : {O : Type 0} {g : OfObserver O} (a b : LentBus O g) (h : HostState) (causes : ℕ) (past : Past)
-    (more : List Access) → HostReady h (world_here a) → (retells : Retells a b past) → past.accesses ≡ Reads ICR causes ∷ more
-    → TellsCauses a.host retells.steps causes (world_here a).adapter
-calls-tell_causes a b h causes past more ready retells reads =
-    steps-tell_causes a.host retells.steps a.stations.now b.stations.now causes more h ready retells.leads
-    (sym (ap (λ (p : Past). p.accesses) retells.past_is) ∙ reads)
+    (more : List Access) → HostReady h (world_here a) → (interval : HappenedLent a b past) → past.accesses ≡ Reads ICR causes ∷ more
+    → TellsCauses a.host interval.steps causes (world_here a).adapter
+calls-tell_causes a b h causes past more ready interval reads =
+    steps-tell_causes a.host interval.steps a.stations.now b.stations.now causes more h ready interval.leads
+    (sym (ap (λ (p : Past). p.accesses) interval.past_is) ∙ reads)
 
 pub answers-tell_causes : (caller : ℕ) (given : List Given) (steps : List AtomicStep) (result : Handled) (old new : ConnectedHost)
     → InterruptEffect result old.host new.host (InSteps caller given steps old new) (world_at old.stations caller)

@@ -1,4 +1,4 @@
--- The calls of the host in a drain.
+-- The calls of a host in a drain.
 use Rattle.std.proofs.Common.{◌≡◌, ◌≢◌, ◌≤◌, ◌<◌, ◌+◌, ◌++◌, ◌∷◌, [], ℕ, Bool, zero, suc, None, List, bit_and, length, map, min}
 use Rattle.std.proofs.Common.{refl, ap, subst, take, ◌∙◌, arith, if◌then◌else◌, ⊎_elim}
 use Rattle.std.specs.List.{All}
@@ -30,7 +30,7 @@ use Rattle.stations.proofs.HostTrails.{trail-of}
 use Rattle.stations.specs.AtomicRuns.{LeadsTo, events_at, events_by, is_go, past_at}
 use Rattle.delivery.specs.Happenings.{happened_in}
 use Rattle.packet_socket.specs.HostState.{HostState, all_of, queue_at}
-use Rattle.packet_socket.specs.HostCalls.{Given, HostReady, did, given_for}
+use Rattle.packet_socket.specs.HostCalls.{Given, HostReady, host_did, given_for}
 use Rattle.packet_socket.specs.declared.receive.RecvError.{RecvError}
 use Rattle.packet_socket.specs.declared.receive.RecvError.TheVariants.{Empty, NoSocket}
 use Rattle.host_calls.specs.CallsInSteps.{Calls, InSteps}
@@ -53,7 +53,7 @@ use Rattle.host_calls.proofs.QuietCalls.{nothing-happened, trail-clears, trail-l
 use Rattle.host_calls.proofs.SocketCounts.{given-sum, held-flows, queues-flow, sum_to}
 use Rattle.host_calls.proofs.PiecesLeft.{count_ending, held-counted}
 
--- What a call without ticks leaves.
+-- What a call without ticks doesn't change.
 record Quiet (number : ℕ) (played : List AtomicStep) (a b : List StationState) : Type 0 where
   happened : happened_in played ≡ []
   engine : LeavesEngine (world_at a number).adapter (world_at b number).adapter
@@ -86,7 +86,7 @@ line-stays a b leaves = ⊎_elim
     ap (λ (r : ℕ). bit_and r b.causes.mask) none ∙ and_zero_l b.causes.mask in
     omega (arith, e)) leaves.recorded
 
--- How many frames a call moves between ring, adapter, queues and whom it gives them to.
+-- The numbers of frames that a call moves between ring, queues and sink.
 record Flows (number : ℕ) (a b : List StationState) (h h' : HostState) (taken : List (List ℕ)) (given : List Given) : Type 0 where
   ring : length taken + length (frames_held h'.driver.oldest_receive (world_at b number)) ≡ length (frames_held h.driver.oldest_receive
       (world_at a number))
@@ -95,7 +95,7 @@ record Flows (number : ℕ) (a b : List StationState) (h h' : HostState) (taken 
 flows : (number n : ℕ) (played : List AtomicStep) (a b : List StationState) (h h' : HostState) (taken : List (List ℕ))
     (given : List Given)
     → LeadsTo number played a b → happened_in played ≡ []
-    → HostRuns number played (did taken given []) (connected h a) (connected h' b)
+    → HostRuns number played (host_did taken given []) (connected h a) (connected h' b)
     → length h.queues ≤ n → length h'.queues ≤ n → length given ≤ sum_to n (λ socket. length (given_for socket given))
     → Flows number a b h h' taken given
 flows number n played a b h h' taken given leads none runs fits fits' known =
@@ -109,11 +109,11 @@ flows number n played a b h h' taken given leads none runs fits fits' known =
       queues = omega (arith, all, known);
     }
 
--- One step that was a call.
+-- One step of the drain that is a call.
 one-call : (number n : ℕ) (played : List AtomicStep) (a b : List StationState) (h h' : HostState) (taken : List (List ℕ))
     (given : List Given)
     → HostReady h (world_at a number) → LeadsTo number played a b → without_go is_go (map tick_of played) ≡ []
-    → HostRuns number played (did taken given []) (connected h a) (connected h' b)
+    → HostRuns number played (host_did taken given []) (connected h a) (connected h' b)
     → GroupsStay number played (connected h a) (connected h' b)
     → length h.queues ≤ n → length h'.queues ≤ n → length given ≤ sum_to n (λ socket. length (given_for socket given))
     → (world_at a number).adapter.receiver.work ≡ None → length given ≤ 1
@@ -154,7 +154,7 @@ one-call number n played a b h h' taken given ready leads none runs stay fits fi
       };
     }
 
--- An interrupt.
+-- An interrupt
 
 first-event : (host : ℕ) (event : Event) (later : List AtomicStep) → events_at host (At host event ∷ later) ≡ event ∷ events_at host later
 first-event host event later =
@@ -175,7 +175,7 @@ clears number played early a b counts causes leads none own first =
     (subst (λ (list : List Event). All (IsOfDriver counts) (past_of list).accesses) is own)
     (subst (λ (list : List Event). Trail list (world_at a number) (world_at b number)) is trail)
 
--- It reads ICR first.
+-- The handler reads ICR first.
 reads-first : (result : Handled) (k : ℕ) (steps : List AtomicStep) (old new : ConnectedHost)
     → InterruptEffect result old.host new.host (InSteps k [] steps old new) (world_at old.stations k)
     → ((causes : ℕ) × TellsCauses k steps causes (world_at old.stations k).adapter)
@@ -202,7 +202,7 @@ handled-steps result number a b heard accesses h h' ready calls free meets =
     one-call number (length h.queues + length h'.queues) runs.steps a b h h' runs.taken [] ready of_call.leads
     of_call.played runs.runs stay (omega arith) (omega arith) (omega arith) free (omega arith) (omega (arith, none, meets))
 
--- A frame that is given.
+-- A frame that is returned
 
 queue-there : (queues : List (List Entry)) (socket : ℕ) → queue_at queues socket ≢ [] → socket < length queues
 queue-there [] socket some = absurd (some refl)
@@ -226,7 +226,7 @@ given-steps number socket frame a b heard accesses h h' ready calls free =
     one-call number n runs.steps a b h h' runs.taken (given_by socket (Ok frame)) ready of_call.leads of_call.played runs.runs
     stay (omega arith) (omega arith) (omega (arith, known)) free (omega arith) (omega (arith, line))
 
--- One was given, as one waited.
+-- A frame was returned, because one was queued.
 pub not-refused : (result : Result (List ℕ) RecvError) (error : RecvError) (socket : ℕ) (h h' : HostState) (Runs : HostAct → Type 0)
     (world : World) → RecvEffect socket result h h' Runs world → socket < length h.kinds → queue_at h.queues socket ≢ []
     → result ≡ Err error → ⊥
@@ -263,7 +263,7 @@ no-other socket into (Interrupted result) h h' Runs world not does = does
 no-other socket into (Joined result) h h' Runs world not does = does
 no-other socket into (Left result) h h' Runs world not does = does
 
--- There is room for it.
+-- The sink has room for the frame.
 pub room-left : (h : HostState) (world : World) (socket left : ℕ) → queue_at h.queues socket ≢ [] → count_frames h world ≤ left
     → 0 < left
 room-left h world socket left some room =

@@ -1,4 +1,4 @@
--- The outcomes that bear the number 0 are those of the steps before the first access.
+-- The outcomes with 0 accesses before them are those of the steps before the first access.
 use Rattle.std.proofs.Common.{◌≡◌, ◌==◌, ◌<◌, ◌+◌, ◌++◌, ◌∷◌, [], ℕ, Bool, false, List, if◌then◌else◌, filter, map, min}
 use Rattle.std.proofs.Common.{refl, ap, ◌∙◌, arith}
 use Rattle.std.specs.List.{All}
@@ -9,7 +9,7 @@ use Rattle.adapter.specs.declared.offsets.TheConstants.{ICR}
 use Rattle.bus.proofs.Lists.{all-head, all-tail}
 use Rattle.bus.specs.declared.event.Access.TheVariants.{Reads}
 use Rattle.bus.specs.declared.event.Event.TheVariants.{Accesses, Arrives, Steps}
-use Rattle.stations.specs.AtomicSteps.{At, AtomicStep, Idles, outcome_of}
+use Rattle.stations.specs.AtomicSteps.{At, AtomicStep, Idles, step_outcome}
 use Rattle.stations.specs.declared.outcomes.Numbered.{Numbered}
 use Rattle.adapter.specs.Outcomes.{FrameOutcome}
 use Rattle.stations.proofs.TickLoops.{counted-ticks}
@@ -22,7 +22,7 @@ use Rattle.host_calls.specs.InterruptCauses.{ReadsIcrFirst}
 abbrev bears_zero : Numbered → Bool
 bears_zero one = one.accesses == 0
 
--- After an access none does.
+-- After an access no outcome has the number 0.
 skipped : (n : ℕ) (outcome : FrameOutcome) (rest : List Numbered) → 0 < n
     → filter bears_zero ((let one : Numbered = record { accesses = n; outcome = outcome } in one) ∷ rest) ≡ filter bears_zero rest
 skipped n outcome rest some =
@@ -33,14 +33,14 @@ skipped n outcome rest some =
 late-bear_none : (n : ℕ) (steps : List AtomicStep) → 0 < n → filter bears_zero (noted_of n steps) ≡ []
 late-bear_none n [] some = refl
 late-bear_none n (At host (Steps kind wire_free answer) ∷ later) some =
-    skipped n (outcome_of (At host (Steps kind wire_free answer))) (noted_of n later) some ∙ late-bear_none n later some
+    skipped n (step_outcome (At host (Steps kind wire_free answer))) (noted_of n later) some ∙ late-bear_none n later some
 late-bear_none n (At host (Arrives frame fate) ∷ later) some =
-    skipped n (outcome_of (At host (Arrives frame fate))) (noted_of n later) some ∙ late-bear_none n later some
+    skipped n (step_outcome (At host (Arrives frame fate))) (noted_of n later) some ∙ late-bear_none n later some
 late-bear_none n (At host (Accesses access) ∷ later) some = late-bear_none (min (n + 1) most_accesses) later (omega arith)
 late-bear_none n (Idles tick ∷ later) some =
-    skipped n (outcome_of (Idles tick)) (noted_of n later) some ∙ late-bear_none n later some
+    skipped n (step_outcome (Idles tick)) (noted_of n later) some ∙ late-bear_none n later some
 
--- Before any access all do.
+-- Before any access all outcomes have the number 0.
 early-bear_zero : (early : List AtomicStep) → All IsTick early → filter bears_zero (noted_of 0 early) ≡ map noted_first early
 early-bear_zero [] are = refl
 early-bear_zero (At host (Steps kind wire_free answer) ∷ later) are =

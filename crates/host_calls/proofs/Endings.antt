@@ -25,7 +25,7 @@ use Rattle.bus.specs.Trails.{Trail}
 use Rattle.driver.specs.declared.receiver.Received.{Received}
 use Rattle.driver.specs.Parts.{buffers_of}
 use Rattle.driver_law.specs.Calls.{driver_in, frames_ended}
-use Rattle.driver_law.specs.DriverState.{DriverState, buffer_at, numbers_of, owners}
+use Rattle.driver_law.specs.DriverState.{DriverState, buffer_at, piece_numbers, owners}
 use Rattle.driver_law.specs.ReadyDrivers.{Ready}
 use Rattle.packet_socket.proofs.QueuedPieces.{entries-fit, waiting-numbers}
 use Rattle.packet_socket.specs.HostCalls.{Given, driver_of, given_for, held_for_socket, socket_frames, waiting_frame}
@@ -40,7 +40,7 @@ use Rattle.delivery.specs.Happenings.{Moved, missed, put, reached, toward}
 use Rattle.host_calls.specs.DrainedHosts.{CanBeDrained, Drains, DrainsInto, HoldsNothing, count_adapter_steps, count_frames, count_held}
 use Rattle.host_calls.specs.DrainedHosts.{count_pieces, pieces_left}
 use Rattle.host_calls.specs.ConnectedHosts.{connected}
-use Rattle.host_calls.specs.DrainSteps.{StepsInto, StepsOn, count_line, count_pending, count_steps, outlet}
+use Rattle.host_calls.specs.DrainSteps.{StepsInto, StepsOn, count_line, count_pending, count_steps, frame_sink}
 use Rattle.host_calls.proofs.AdapterSteps.{MovesNone, work-none}
 use Rattle.host_calls.proofs.JoinedSteps.{moves-missed, moves-put, moves-reached, moves-toward, nothing-stored}
 use Rattle.host_calls.proofs.PiecesLeft.{asked-most, count_ending, ending-most, finished-few, held-counted, pieces-append}
@@ -55,7 +55,7 @@ is-empty : {X : Type 0} (xs : List X) → (xs ≢ [] → ⊥) → xs ≡ []
 is-empty [] none = refl
 is-empty (x ∷ xs) none = absurd (none (λ same. absurd (cc same)))
 
--- Owners, counted.
+-- The number of owners
 
 -- each buffer is free, in an outstanding slot, or in a queue
 buffers-counted : (h : HostState) (world : World) → CanBeDrained h world
@@ -67,14 +67,14 @@ buffers-counted h world stands =
     omega (
       arith,
       all,
-      length-append d.pool (d.buffers ++ (d.staged ++ numbers_of d.handed_out)),
-      length-append d.buffers (d.staged ++ numbers_of d.handed_out),
-      length-append d.staged (numbers_of d.handed_out),
+      length-append d.pool (d.buffers ++ (d.staged ++ piece_numbers d.handed_out)),
+      length-append d.buffers (d.staged ++ piece_numbers d.handed_out),
+      length-append d.staged (piece_numbers d.handed_out),
       ap length stands.offered,
       handed,
     )
 
--- the outstanding slots are the finished ones, that in work, and those offered
+-- the outstanding slots are the finished ones, the one in progress, and the offered ones
 slots-counted : (h : HostState) (world : World) → CanBeDrained h world
     → length h.driver.buffers
     ≡ length (finished h.driver.oldest_receive world) + (length (in_work world) + length (offered (receive_ring world)))
@@ -93,7 +93,7 @@ slots-counted h world stands =
       length-map h.driver.buffers (buffer_at h.driver.layout),
     )
 
--- So a host holds at most as many frames as it has buffers, and those of the packet buffer.
+-- The number of frames that a host holds is at most the number of its buffers, plus the frames in the packet buffer.
 pub held-at_most : (h : HostState) (world : World) → CanBeDrained h world → IsAdapter world.adapter
     → count_frames h world ≤ h.driver.layout.buffers + MOST_FRAMES
 held-at_most h world stands adapter =
@@ -109,7 +109,7 @@ held-at_most h world stands adapter =
       count-fits world.adapter.receiver.buffer adapter.receiver.frames adapter.receiver.room,
     )
 
--- The end.
+-- The end of a drain
 
 positive : (n number : ℕ) → HasBit n number → 0 < n
 positive zero number set = absurd (HasBit-zero number set)
@@ -123,7 +123,7 @@ none-ended h world stands quiet = ⊎_elim
     let both = (HasBit-intersection world.adapter.causes.recorded world.adapter.causes.mask rxt0).1 (asked, stands.work.enabled) in
     absurd (quiet (positive (bit_and world.adapter.causes.recorded world.adapter.causes.mask) rxt0 both))) stands.work.asked
 
--- Parts of a frame are at most five then.
+-- If no frame ends in finished slots, there are at most five of them.
 finished-most : (h : HostState) (world : World) → CanBeDrained h world → frames_ended (driver_in h.driver world) ≡ []
     → length (finished h.driver.oldest_receive world) ≤ 5
 finished-most h world stands none =
@@ -133,7 +133,7 @@ finished-most h world stands none =
       length-map (finished h.driver.oldest_receive world) (piece_in world.memory),
     )
 
--- So while no frame ends in finished slots, no piece is in progress, and no frame is queued, a slot is offered.
+-- If no frame ends in finished slots, no piece is in progress, and no frame is queued, a slot is offered.
 some-offered : (h : HostState) (world : World) → CanBeDrained h world → frames_ended (driver_in h.driver world) ≡ []
     → world.adapter.receiver.work ≡ None → all_of h.queues ≡ [] → 8 ≤ h.driver.layout.rx → 8 ≤ h.driver.layout.buffers
     → world.adapter.receive_ring.head ≢ world.adapter.receive_ring.tail
@@ -178,7 +178,7 @@ nothing-left number a b h stands moves free quiet empty rings buffers =
     holds-none h (world_at b number)
     (omega (arith, moves.on.counts.held, held-counted o world, ap length none, ends, ap length buffer, ap length empty))
 
--- What a drain did.
+-- What a drain did
 
 line-few : (causes : Interrupts) → count_line causes ≤ 1
 line-few causes = omega arith
@@ -198,7 +198,7 @@ steps-most h world stands =
       queued-least (all_of h.queues) stands.ready.sizes,
     )
 
--- fewer than a u64 holds
+-- the number of steps fits into a u64
 pub steps-fit : (h : HostState) (world : World) → CanBeDrained h world → IsAdapter world.adapter → count_steps h world + 1 < 2 ^ 64
 steps-fit h world stands adapter =
     let engine = world.adapter.receiver in
@@ -311,7 +311,7 @@ drains steps number a b h h' given on none stands adapter =
     }
 
 pub drains-into : (steps number : ℕ) (a b : List StationState) (h h' : HostState) (before behind : List Given) (room left : ℕ)
-    → StepsInto steps number (outlet before room) (outlet behind left) (connected h a) (connected h' b)
+    → StepsInto steps number (frame_sink before room) (frame_sink behind left) (connected h a) (connected h' b)
     → HoldsNothing h' (world_at b number)
     → CanBeDrained h (world_at a number) → IsAdapter (world_at a number).adapter
     → DrainsInto steps number before behind (connected h a) (connected h' b)
@@ -321,7 +321,7 @@ drains-into steps number a b h h' before behind room left into none stands adapt
   drains = drains steps number a b h h' into.given into.on none stands adapter;
 }
 
--- If nothing waits for any socket, all queues are empty.
+-- If no frame is queued for any socket, all queues are empty.
 pub all-wait_for_none : (queues : List (List Received)) (n : ℕ) → length queues ≤ n
     → ((k : ℕ) → k < n → queue_at queues k ≡ []) → all_of queues ≡ []
 all-wait_for_none [] n fits none = refl

@@ -4,7 +4,7 @@ use Rattle.std.specs.List.{All}
 use Rattle.std.proofs.lemmas.Bool.{eq-eqb}
 use Rattle.std.proofs.lemmas.List.Elements.{All-cons}
 use Rattle.bus.proofs.Lists.{all-none}
-use Rattle.bus.specs.PastOfStretch.{Past}
+use Rattle.bus.specs.Pasts.{Past}
 use Rattle.bus.specs.Trails.{IsAnswered, past_of}
 use Rattle.bus.specs.declared.event.Access.{Access}
 use Rattle.bus.specs.declared.event.Event.TheVariants.{Accesses, Arrives, Steps}
@@ -15,7 +15,7 @@ use Rattle.stations.proofs.HostTrails.{steps-alone}
 use Rattle.stations.specs.AtomicRunLaws.{past_join}
 use Rattle.stations.specs.AtomicRuns.{IsOfCall, IsTick, LeadsTo, events_at, past_at}
 
--- The caller's first access among these steps is this, and here it begins.
+-- This is the caller's first access among these steps, with the state right before it.
 pub record FirstAccess (caller : ℕ) (steps : List AtomicStep) (a : List StationState) (access : Access) : Type 0 where
   pub early : List AtomicStep
   pub later : List AtomicStep
@@ -25,7 +25,7 @@ pub record FirstAccess (caller : ℕ) (steps : List AtomicStep) (a : List Statio
   pub leads : LeadsTo caller early a middle
   pub answered : IsAnswered access (world_at middle caller)
 
--- A tick may come before it.
+-- A tick may come before the first access.
 behind-tick : (caller : ℕ) (step : AtomicStep) (steps : List AtomicStep) (a : List StationState) (access : Access) → IsTick step
     → CanHappen step a → IsOfCall caller step → FirstAccess caller steps (after step a) access → FirstAccess caller (step ∷ steps) a access
 behind-tick caller step steps a access is happens of_call first = record {
@@ -38,7 +38,7 @@ behind-tick caller step steps a access is happens of_call first = record {
   answered = first.answered;
 }
 
--- A tick is no access.
+-- A tick isn't an access.
 pub tick-accesses : (k : ℕ) (step : AtomicStep) (later : List AtomicStep) → IsTick step
     → (past_at k (step ∷ later)).accesses ≡ (past_at k later).accesses
 tick-accesses k step later is =

@@ -4,7 +4,7 @@ use Rattle.std.specs.List.{All}
 use Rattle.std.proofs.lemmas.List.Elements.{All-append}
 use Rattle.adapter.specs.World.{World}
 use Rattle.bus.proofs.Lists.{all-none}
-use Rattle.bus.specs.PastOfStretch.{Past}
+use Rattle.bus.specs.Pasts.{Past}
 use Rattle.bus.specs.declared.event.Access.{Access}
 use Rattle.dma_memory.specs.Layout.{Counts}
 use Rattle.stations.specs.AtomicRunLaws.{past_join}
@@ -37,7 +37,7 @@ stay-alone k steps old new same none = record {
       (all-none (IsOfDriver old.host.driver.layout));
 }
 
--- one interval after the other
+-- two consecutive intervals
 pub stay-join : (k : ℕ) (first later : List AtomicStep) (a b c : ConnectedHost) → b.host.driver.layout ≡ a.host.driver.layout
     → GroupsStay k first a b → GroupsStay k later b c → GroupsStay k (first ++ later) a c
 stay-join k first later a b c counts one two = record {
@@ -49,7 +49,7 @@ stay-join k first later a b c counts one two = record {
       (subst (λ (own : Counts). All (IsOfDriver own) (past_at k later).accesses) counts two.accesses));
 }
 
--- Each call but those that join or leave a group.
+-- Each call except a join or a leave
 
 pub none-stay : (k : ℕ) (given : List Given) (steps : List AtomicStep) (old new : ConnectedHost)
     → MakesNoAccess old.host new.host (InSteps k given steps old new) → GroupsStay k steps old new
@@ -100,7 +100,7 @@ interrupt-stay NotMine k given steps old new world it =
 interrupt-stay (answers.Handled n) k given steps old new world it =
     record { groups = it.only_receives.groups; setup = it.only_receives.setup; accesses = it.runs.own }
 
--- A join or a leave that is refused.
+-- A join or a leave that returns an error
 
 pub join-refused : (group : List ℕ) (error : GroupError) (h h' : HostState) (Runs : HostAct → Type 0) (world : World)
     → JoinEffect group (Err error) h h' Runs world → MakesNoAccess h h' Runs

@@ -1,4 +1,4 @@
--- What atomic steps are at each host: the caller's own with its accesses, at any other steps and deliveries alone.
+-- The events at each host: accesses only at the caller, steps and deliveries at any host.
 use Rattle.std.proofs.Common.{◌≡◌, ◌≢◌, ◌==◌, ◌++◌, ◌∷◌, [], ℕ, Bool, true, false, List, inl, inr, if◌then◌else◌, sym, subst, ◌∙◌}
 use Rattle.std.specs.List.{All}
 use Rattle.std.proofs.lemmas.Bool.Decides.{eqb_tells}
@@ -42,14 +42,14 @@ steps-elsewhere caller k (At host event ∷ later) a b other leads =
     (steps-elsewhere caller k later (after (At host event) a) b other leads.2)
 steps-elsewhere caller k (Idles tick ∷ later) a b other leads = steps-elsewhere caller k later a b other leads.2
 
--- So the law says what happens there,
+-- The bus law holds for another host without accesses.
 pub happens-elsewhere : (caller k : ℕ) (steps : List AtomicStep) (a b : List StationState) → k ≢ caller → LeadsTo caller steps a b
     → Happens (world_at a k) (world_at b k) (past_at k steps)
 happens-elsewhere caller k steps a b other leads =
     trail_happens (events_at k steps) (world_at a k) (world_at b k) (steps-elsewhere caller k steps a b other leads)
     (trail-of caller k steps a b leads)
 
--- and at every host if only ticks are played.
+-- If only ticks are played, the bus law holds for every host without accesses.
 pub happens-alone : (caller k : ℕ) (steps : List AtomicStep) (a b : List StationState) → All IsTick steps → LeadsTo caller steps a b
     → Happens (world_at a k) (world_at b k) (past_at k steps)
 happens-alone caller k steps a b are leads =

@@ -13,11 +13,11 @@ use Rattle.host_calls.specs.CallsOfHosts.{CallRuns}
 use Rattle.host_calls.specs.ConnectedHosts.{ConnectedHost, PlayedCall, connected}
 use Rattle.host_calls.specs.Networks.{IsHost, NetworkState, OnlyHostChanges, connected_at, nth_host, host_or_empty}
 
--- the network that has these
+-- the network with these hosts and stations
 abbrev pub network : List HostState → List StationState → NetworkState
 network hosts stations = record { hosts = hosts; stations = stations }
 
--- The k-th host, as code has it by its number.
+-- The k-th host, found by its number.
 pub host-found : (hosts : List HostState) (stations : List StationState) (n : NetworkState) (k : ℕ) (h : HostState)
     → network hosts stations ≡ n → k < length n.hosts → h ≡ slice_index_or hosts k h → h ≡ nth_host n k
 host-found hosts stations n k h shown below found =
@@ -26,25 +26,25 @@ host-found hosts stations n k h shown below found =
     ∙ sym (ap host_or_empty (slice_get-get_or hosts k h (subst (λ (list : List HostState). k < length list) (sym same) below)))
     ∙ ap (λ (list : List HostState). host_or_empty (slice_get list k)) same
 
--- It is the k-th, if it is there.
+-- If there is a k-th host, `nth_host` is this host.
 pub host-there : (n : NetworkState) (k : ℕ) → k < length n.hosts → IsHost n k (nth_host n k)
 host-there n k below =
     let found = slice_get-get_or n.hosts k (nth_host n k) below in
     found ∙ ap (λ (host : HostState). Some host) (sym (ap host_or_empty found))
 
--- The k-th host, after it was set.
+-- The k-th host after it was replaced.
 pub host-behind : (hosts : List HostState) (stations : List StationState) (k : ℕ) (h : HostState) → k < length hosts
     → nth_host (network (slice_set hosts k h) stations) k ≡ h
 host-behind hosts stations k h below = ap host_or_empty (slice_get-set_same hosts k h below)
 
--- What code has of a network before a call of its k-th host.
+-- The host and the stations before a call of the k-th host.
 pub before-call : (hosts : List HostState) (stations : List StationState) (n : NetworkState) (k : ℕ) (h : HostState)
     → network hosts stations ≡ n → k < length n.hosts → h ≡ slice_index_or hosts k h → connected h stations ≡ connected_at n k
 before-call hosts stations n k h shown below found =
     ap (λ (one : HostState). connected one stations) (host-found hosts stations n k h shown below found)
     ∙ ap (λ (one : NetworkState). connected (nth_host n k) one.stations) shown
 
--- If the k-th host is ready, it is ready as code has it.
+-- If the k-th host is ready, the host that was found by its number is ready.
 pub ready-before : (hosts : List HostState) (stations : List StationState) (n : NetworkState) (k : ℕ) (h : HostState)
     → network hosts stations ≡ n → k < length n.hosts → h ≡ slice_index_or hosts k h → HostReady (nth_host n k) (world_at n.stations k)
     → HostReady h (world_at stations k)
@@ -56,8 +56,8 @@ inside : (hosts : List HostState) (stations : List StationState) (n : NetworkSta
     → k < length n.hosts → k < length hosts
 inside hosts stations n k shown below = subst (λ (one : NetworkState). k < length one.hosts) (sym shown) below
 
--- What holds of the host, of the stations and of the observer that a call leaves holds of the network and of the observer: the stations
--- and the observer were lent, and come back.
+-- What holds of the host, the stations and the observer after a call holds of the network and the observer, because the
+-- stations and the observer were lent to the call.
 pub after-call : {O : Type 0} (Holds : O → ConnectedHost → ConnectedHost → Type 0) (hosts : List HostState) (stations : List StationState)
     (n : NetworkState) (k : ℕ) (h h' : HostState) (left back : List StationState) (told told' : O) → network hosts stations ≡ n
     → k < length n.hosts → h ≡ slice_index_or hosts k h → back ≡ left → told' ≡ told → Holds told (connected h stations) (connected h' left)
@@ -78,7 +78,7 @@ others-stay hosts stations n k h' left shown below =
     ap (λ (one : NetworkState). slice_set one.hosts k h') shown
     ∙ ap (λ (one : HostState). slice_set n.hosts k one) (sym behind)
 
--- A call leaves as many stations as there are hosts. They come back.
+-- A call doesn't change the number of stations.
 pub same-stations : {given : List Given} {accepted : List (List ℕ)} (call : PlayedCall) (hosts : List HostState)
     (a left back : List StationState) (k : ℕ) (h h' : HostState) → CallRuns call given accepted (connected h a) (connected h' left)
     → back ≡ left → length a ≡ length hosts → length back ≡ length (slice_set hosts k h')
@@ -86,12 +86,12 @@ same-stations call hosts a left back k h h' runs returned same =
     ap (λ (list : List StationState). length list) returned
     ∙ length-stays call.caller runs.steps a left runs.of_call.leads ∙ same ∙ sym (length-set hosts k h')
 
--- So does a tick.
+-- A tick doesn't change the number of stations.
 pub length-played : (step : AtomicStep) (stations : List StationState) → length (after step stations) ≡ length stations
 length-played (At host event) stations = length-event host event stations
 length-played (Idles tick) stations = refl
 
--- What holds of the k-th host and of stations that changed by themselves holds of the network.
+-- What holds of the k-th host and the stations after a change of stations only holds of the network.
 pub stations-changed : (Holds : ConnectedHost → ConnectedHost → Type 0) (hosts : List HostState) (stations : List StationState)
     (n : NetworkState) (k : ℕ) (left : List StationState) → network hosts stations ≡ n
     → Holds (connected (nth_host n k) stations) (connected (nth_host n k) left)
@@ -100,7 +100,7 @@ stations-changed Holds hosts stations n k left shown =
     subst (λ (one : NetworkState). Holds (connected (nth_host one k) stations) (connected (nth_host one k) left)
     → Holds (connected_at one k) (connected_at (network hosts left) k)) shown (λ holds. holds)
 
--- The stations that code has are the network's.
+-- The stations are those of the network.
 pub stations-are : (hosts : List HostState) (stations : List StationState) (n : NetworkState) → network hosts stations ≡ n
     → n.stations ≡ stations
 stations-are hosts stations n shown = sym (ap (λ (one : NetworkState). one.stations) shown)
@@ -109,9 +109,9 @@ pub station-there : (hosts : List HostState) (stations : List StationState) (n :
     → length stations ≡ length hosts → k < length n.hosts → k < length stations
 station-there hosts stations n k shown same below = omega (arith, same, inside hosts stations n k shown below)
 
--- Of all hosts only one changed.
+-- Of all hosts only one changed
 
--- it didn't change either
+-- this host didn't change either
 pub only-same : (a b : NetworkState) (k : ℕ) → k < length a.hosts → b.hosts ≡ a.hosts → OnlyHostChanges k a b
 only-same a b k below same =
     let own = nth_host b k in
@@ -119,7 +119,7 @@ only-same a b k below same =
     ap (λ (list : List HostState). host_or_empty (slice_get list k)) same ∙ ap host_or_empty (slice_get-get_or a.hosts k own below) in
     same ∙ sym (ap (λ (host : HostState). slice_set a.hosts k host) found ∙ set-get_or a.hosts k own)
 
--- it changed twice
+-- this host changed twice
 pub only-join : (a b c : NetworkState) (k : ℕ) → OnlyHostChanges k a b → OnlyHostChanges k b c → OnlyHostChanges k a c
 only-join a b c k one two =
     two

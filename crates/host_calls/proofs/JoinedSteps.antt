@@ -1,4 +1,4 @@
--- Steps of a drain, one after the other.
+-- Consecutive steps of a drain.
 use Rattle.std.proofs.Common.{◌≡◌, ◌<◌, length, ◌+◌, ◌++◌, [], ℕ, zero, suc, Bool, false, List, replicate, refl, sym, ap, subst, ◌∙◌}
 use Rattle.std.proofs.Common.{arith, length-append}
 use Rattle.std.proofs.lemmas.List.{replicate-append-replicate}
@@ -22,7 +22,7 @@ use Rattle.host_calls.proofs.GroupsKept.{stay-alone, stay-join}
 use Rattle.host_calls.proofs.HostTrails.{happens-alone, none-alone}
 use Rattle.host_calls.specs.DrainedHosts.{CanBeDrained, IsDrainStep}
 use Rattle.host_calls.specs.ConnectedHosts.{connected}
-use Rattle.host_calls.specs.DrainSteps.{StepsInto, StepsOn, outlet, steps_of}
+use Rattle.host_calls.specs.DrainSteps.{StepsInto, StepsOn, frame_sink, steps_of}
 
 -- The host can still be drained.
 pub stands-on : (steps number : ℕ) (a b : List StationState) (h h' : HostState) (given : List Given)
@@ -36,7 +36,7 @@ stands-on steps number a b h h' given on stands = record {
   enabled = subst (λ (filter : FilterRegisters). HasBit filter.rctl rctl_en) (sym on.moves.filter) stands.enabled;
 }
 
--- None.
+-- No step.
 pub steps-none : (number : ℕ) (a : List StationState) (h : HostState) → CanBeDrained h (world_at a number)
     → StepsOn 0 number [] (connected h a) (connected h a)
 steps-none number a h stands = record {
@@ -51,7 +51,7 @@ steps-none number a h stands = record {
   counts = record { most = omega arith; least = omega arith; held = omega arith };
 }
 
--- Some, and then others.
+-- Some steps, and then further steps.
 pub steps-join : (m n number : ℕ) (a b c : List StationState) (h1 h2 h3 : HostState) (given more : List Given)
     → StepsOn m number given (connected h1 a) (connected h2 b) → StepsOn n number more (connected h2 b) (connected h3 c)
     → StepsOn (m + n) number (given ++ more) (connected h1 a) (connected h3 c)
@@ -124,11 +124,11 @@ pub nothing-stored : (number k : ℕ) (played : List AtomicStep) (a b : List Sta
 nothing-stored number k played a b n leads moved =
     sym (frames-move number k played a b leads).stored ∙ ap (stored k) moved ∙ moves-stored k n number
 
--- Into an outlet.
+-- Into an frame_sink.
 
 pub into-none : (number : ℕ) (a b : List StationState) (h h' : HostState) (had : List Given) (room steps : ℕ)
     → StepsOn steps number [] (connected h a) (connected h' b)
-    → StepsInto steps number (outlet had room) (outlet had room) (connected h a) (connected h' b)
+    → StepsInto steps number (frame_sink had room) (frame_sink had room) (connected h a) (connected h' b)
 into-none number a b h h' had room steps on = record {
   given = [];
   appended = sym (Rattle.std.proofs.lemmas.List.append-nil had);
@@ -137,9 +137,9 @@ into-none number a b h h' had room steps on = record {
 }
 
 pub into-join : (m n number : ℕ) (a b c : List StationState) (h1 h2 h3 : HostState) (x y z : List Given) (p q r : ℕ)
-    → StepsInto m number (outlet x p) (outlet y q) (connected h1 a) (connected h2 b)
-    → StepsInto n number (outlet y q) (outlet z r) (connected h2 b) (connected h3 c)
-    → StepsInto (m + n) number (outlet x p) (outlet z r) (connected h1 a) (connected h3 c)
+    → StepsInto m number (frame_sink x p) (frame_sink y q) (connected h1 a) (connected h2 b)
+    → StepsInto n number (frame_sink y q) (frame_sink z r) (connected h2 b) (connected h3 c)
+    → StepsInto (m + n) number (frame_sink x p) (frame_sink z r) (connected h1 a) (connected h3 c)
 into-join m n number a b c h1 h2 h3 x y z p q r one two = record {
   given = one.given ++ two.given;
   appended =

@@ -1,7 +1,7 @@
 pub mod HostTrails
 pub mod Calling
 pub mod GroupsKept
-pub mod Retellings
+pub mod LentIntervals
 pub mod Lifting
 pub mod FirstAccess
 pub mod PiecesLeft
@@ -20,7 +20,7 @@ pub mod AdaptersStay
 pub mod PendingFrames
 pub mod SplitSteps
 pub mod NotedSteps
-pub mod ResetStretches
+pub mod ResetIntervals
 pub mod ResetParts
 pub mod ResetLifting
 pub mod ResetGives

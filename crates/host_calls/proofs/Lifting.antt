@@ -5,18 +5,28 @@ use Rattle.std.proofs.lemmas.List.{append_cancel_right}
 use Rattle.std.proofs.lemmas.List.Elements.{filter-append}
 use Rattle.adapter.specs.HostFrames.{frames_held}
 use Rattle.rx_engine.specs.Addresses.{ether_type}
-use Rattle.bus.specs.PastOfStretch.{Past, nothing}
+use Rattle.bus.specs.Pasts.{Past, nothing}
 use Rattle.bus.specs.declared.event.Access.{Access}
 use Rattle.stations.specs.AtomicRuns.{past_at}
 use Rattle.stations.specs.AtomicSteps.{AtomicStep}
-use Rattle.stations.specs.Retelling.{Finished, Retells, world_here}
-use Rattle.stations.specs.RetellingLaws.{retells_none}
+use Rattle.stations.specs.LentBuses.{Finished, HappenedLent, world_here}
+use Rattle.stations.specs.LentBusLaws.{lent_happened_none}
 use Rattle.stations.specs.Stations.{StationState, world_at}
 use Rattle.stations.specs.ToldTicks.{ComposesTold}
 use Rattle.stations.specs.declared.lent_bus.LentBus.{LentBus}
 use Rattle.stations.specs.declared.observer.Observer.{Ghosts as OfObserver}
 use Rattle.packet_socket.specs.HostActs.{HostAct, OverBus, Effect, Ends, IsAccessOf, OnlyLastWrites, PassesStages, CallStages, Then}
-use Rattle.packet_socket.specs.HostCalls.{Given, HostFlowsTo, HostReady, did, given_for, host_at, in_world, socket_frames, waiting_frames}
+use Rattle.packet_socket.specs.HostCalls.{
+  Given,
+  HostFlowsTo,
+  HostReady,
+  host_did,
+  given_for,
+  host_at,
+  in_world,
+  socket_frames,
+  waiting_frames,
+}
 use Rattle.packet_socket.specs.HostState.{HostState}
 use Rattle.packet_socket.specs.SocketKinds.{goes_to}
 use Rattle.packet_socket.specs.declared.socket_kind.SocketKind.{SocketKind}
@@ -28,26 +38,26 @@ use Rattle.host_calls.specs.LentCalls.{lent}
 use Rattle.host_calls.proofs.Answering.{steps-tell_causes}
 use Rattle.host_calls.proofs.Calling.{call-runs_by, lent_call, whole-accesses}
 use Rattle.host_calls.proofs.HostTrails.{none-alone}
-use Rattle.host_calls.proofs.Retellings.{retelling-ends, retellings-join}
+use Rattle.host_calls.proofs.LentIntervals.{lent_interval-ends, lent_intervals-join}
 
 -- A report of a lent bus, whose steps and then the ticks that are left make these stages.
 abbrev pub Told : {O : Type 0} {g : OfObserver O} (stages : CallStages) (a m : LentBus O g) (last : List AtomicStep) → Past → Type 0
-Told stages a m last past = (retells : Retells a m past) × MakesStages a.host stages (retells.steps ++ last) a.stations.now
+Told stages a m last past = (interval : HappenedLent a m past) × MakesStages a.host stages (interval.steps ++ last) a.stations.now
 
 stages-told : {O : Type 0} {g : OfObserver O} → ComposesTold g.heard → (stages : CallStages) (a m : LentBus O g) (last : List AtomicStep)
     (past : Past) → ((k : ℕ) → (past_at k last).accesses ≡ []) → PassesStages lent stages a m past → Told stages a m last past
 stages-told {O} {g} composes Ends a m last past none it =
-    let retells = subst (λ (p : Past). Retells a m p) (sym it.1)
-    (subst (λ (bus : LentBus O g). Retells a bus nothing) (sym it.0) (retells_none composes a)) in (
-      retells,
-      whole-accesses a.host retells.steps last (none a.host)
-          ∙ ap (λ (p : Past). p.accesses) (sym retells.past_is) ∙ ap (λ (p : Past). p.accesses) it.1,
+    let interval = subst (λ (p : Past). HappenedLent a m p) (sym it.1)
+    (subst (λ (bus : LentBus O g). HappenedLent a bus nothing) (sym it.0) (lent_happened_none composes a)) in (
+      interval,
+      whole-accesses a.host interval.steps last (none a.host)
+          ∙ ap (λ (p : Past). p.accesses) (sym interval.past_is) ∙ ap (λ (p : Past). p.accesses) it.1,
     )
 stages-told {O} {g} composes (Then made Holds later) a m last past none it =
     let one = it.reports in
     let host = one.lent.host in
     let rest = stages-told composes later it.middle m last it.behind none it.later in
-    let both = retellings-join composes a it.middle m it.before it.behind one rest.0 in
+    let both = lent_intervals-join composes a it.middle m it.before it.behind one rest.0 in
     subst (Told (Then made Holds later) a m last) (sym it.whole) (
       both.0,
       record {
@@ -55,7 +65,7 @@ stages-told {O} {g} composes (Then made Holds later) a m last past none it =
         rest = rest.0.steps ++ last;
         split = ap (λ (list : List AtomicStep). list ++ last) both.1 ∙ append_assoc one.steps rest.0.steps last;
         made_are = ap (λ (p : Past). p.accesses) (sym one.past_is) ∙ it.made_are;
-        ends = retelling-ends a it.middle it.before one;
+        ends = lent_interval-ends a it.middle it.before one;
         middle = it.middle.stations.now;
         leads = one.leads;
         holds = subst (λ (k : ℕ). Holds (world_here a) (past_at a.host one.steps) (world_at it.middle.stations.now k)) host
@@ -85,7 +95,7 @@ queue-grows kinds socket waiting before taken now held stored left account =
     ∙ sym (append_assoc before (part taken) (part now)))
 
 queues-grow : (k socket : ℕ) (steps : List AtomicStep) (a b : List StationState) (h h' : HostState) (taken : List (List ℕ))
-    (given : List Given) (accepted : List (List ℕ)) → HostRuns k steps (did taken given accepted) (connected h a) (connected h' b)
+    (given : List Given) (accepted : List (List ℕ)) → HostRuns k steps (host_did taken given accepted) (connected h a) (connected h' b)
     → given_for socket given ++ waiting_frames h' socket (world_at b k)
     ≡ waiting_frames h socket (world_at a k) ++ socket_frames h.kinds socket taken
 queues-grow k socket steps a b h h' taken given accepted runs =
@@ -111,7 +121,8 @@ lift-act composes a m b h h' given accepted zero ready finished act it =
     let told = stages-told composes act.stages a m last it.past (λ k. none-alone k last finished.plays.are) it.stages in
     let only = passes-accesses lent act.stages a m it.past it.stages in
     let own = subst (λ (list : List Access). All (IsAccessOf act.kind h.driver.layout) list) (sym only) it.own in
-    let flows : HostFlowsTo true (in_world h (world_here a)) (in_world h' (world_here m)) (did act.taken given accepted) it.past = record {
+    let flows : HostFlowsTo true (in_world h (world_here a)) (in_world h' (world_here m)) (host_did act.taken given accepted) it.past
+    = record {
       sizes = it.changed.sizes;
       driver = flows-changed act.kind true _ _ _ _ it.changed.driver;
       accounts = it.changed.accounts;

@@ -16,19 +16,19 @@ use Rattle.stations.specs.AtomicRuns.{LeadsTo, past_at, steps_told}
 use Rattle.stations.specs.AtomicSteps.{At, AtomicStep, Idles, after}
 use Rattle.stations.specs.Stations.{StationState}
 use Rattle.stations.specs.ToldTicks.{TickTold, tick_told}
-use Rattle.delivery.specs.Happenings.{Happening, happened_in, put, put_by, stored, stored_by, told_of}
-use Rattle.host_calls.specs.Notes.{early_put, first_stored, frames_put, frames_stored, is_of}
+use Rattle.delivery.specs.Happenings.{Happening, happened_in, put, put_in_one, stored, stored_by, outcome_happenings}
+use Rattle.host_calls.specs.Notes.{early_put, first_stored, frames_put, frames_stored, is_of_host}
 use Rattle.host_calls.proofs.FirstAccess.{tick-accesses}
 use Rattle.host_calls.proofs.SplitSteps.{own-accesses}
 
 -- what is noted of a tick of a host whose number passes a test
 abbrev pub picked : (test : ℕ → Bool) → (frames : FrameOutcome → List (List ℕ)) → (k : ℕ) → TickTold → List (List ℕ)
-picked test frames k told = if is_of k told.tick && test told.accesses then frames told.outcome else []
+picked test frames k told = if is_of_host k told.tick && test told.accesses then frames told.outcome else []
 
 -- The frames of an outcome are those of what it tells of its host.
 pub record AreTold (frames : FrameOutcome → List (List ℕ)) (by : ℕ → Happening → List (List ℕ)) : Type 0 where
   pub at : (k host : ℕ) (outcome : FrameOutcome)
-      → flat_map (by k) (told_of host outcome) ≡ (if k == host then frames outcome else [])
+      → flat_map (by k) (outcome_happenings host outcome) ≡ (if k == host then frames outcome else [])
   pub none : frames Nothing ≡ []
 
 chosen-none : (b : Bool) → [] ≡ (let nothing : List (List ℕ) = [] in if b then nothing else nothing)
@@ -40,11 +40,13 @@ chosen-one true [] = refl
 chosen-one true (frame ∷ frames) = ap (λ (list : List (List ℕ)). frame ∷ list) (chosen-one true frames)
 chosen-one false frames = refl
 
-put-at : (k host : ℕ) (one : FrameOutcome) → flat_map (put_by k) (told_of host one) ≡ (if k == host then frames_put one else [])
+put-at : (k host : ℕ) (one : FrameOutcome) → flat_map (put_in_one k) (outcome_happenings host one)
+    ≡ (if k == host then frames_put one else [])
 put-at k host (outcome.Put frame) = chosen-one (k == host) (frame ∷ [])
 put-at k host _ = chosen-none (k == host)
 
-stored-at : (k host : ℕ) (one : FrameOutcome) → flat_map (stored_by k) (told_of host one) ≡ (if k == host then frames_stored one else [])
+stored-at : (k host : ℕ) (one : FrameOutcome) → flat_map (stored_by k) (outcome_happenings host one)
+    ≡ (if k == host then frames_stored one else [])
 stored-at k host (outcome.Delivered frame Stored) = chosen-one (k == host) (frame ∷ [])
 stored-at k host (outcome.Delivered frame Off) = chosen-one (k == host) []
 stored-at k host (outcome.Delivered frame Illegal) = chosen-one (k == host) []
@@ -52,7 +54,7 @@ stored-at k host (outcome.Delivered frame Filtered) = chosen-one (k == host) []
 stored-at k host (outcome.Delivered frame Missed) = chosen-one (k == host) []
 stored-at k host _ = chosen-none (k == host)
 
-put-told : AreTold frames_put put_by
+put-told : AreTold frames_put put_in_one
 put-told = record { at = put-at; none = refl }
 
 stored-told : AreTold frames_stored stored_by
@@ -78,7 +80,7 @@ fails false passed frames is = refl
 
 one-picked : (test : ℕ → Bool) (frames : FrameOutcome → List (List ℕ)) (by : ℕ → Happening → List (List ℕ)) → AreTold frames by
     → (k host n : ℕ) (one : FrameOutcome) → test n ≡ true
-    → (if (host == k) && test n then frames one else []) ≡ flat_map (by k) (told_of host one)
+    → (if (host == k) && test n then frames one else []) ≡ flat_map (by k) (outcome_happenings host one)
 one-picked test frames by are k host n one is =
     passes (host == k) (test n) (frames one) is
     ∙ ap (λ (b : Bool). if b then frames one else []) (same-either_way host k)
@@ -94,14 +96,14 @@ all-picked test frames by are k limit n (At host (Steps kind wire_free answer) �
     let count = ap length (tick-accesses k step steps tt) in
     let one = one-picked test frames by are k host n answer (passing n (omega arith)) in
     let rest = all-picked test frames by are k limit n steps (after step a) b leads.2 passing (omega (arith, count)) in
-    let append = flat_map-append (by k) (told_of host answer) (happened_in steps) in
+    let append = flat_map-append (by k) (outcome_happenings host answer) (happened_in steps) in
     cc
 all-picked test frames by are k limit n (At host (Arrives frame fate) ∷ steps) a b leads passing few =
     let step = At host (Arrives frame fate) in
     let count = ap length (tick-accesses k step steps tt) in
     let one = one-picked test frames by are k host n (Delivered frame fate) (passing n (omega arith)) in
     let rest = all-picked test frames by are k limit n steps (after step a) b leads.2 passing (omega (arith, count)) in
-    let append = flat_map-append (by k) (told_of host (Delivered frame fate)) (happened_in steps) in
+    let append = flat_map-append (by k) (outcome_happenings host (Delivered frame fate)) (happened_in steps) in
     cc
 all-picked test frames by are k limit n (At host (Accesses access) ∷ steps) a b leads passing few =
     let count = ap length (own-accesses k host access steps leads.1) in
@@ -109,7 +111,8 @@ all-picked test frames by are k limit n (At host (Accesses access) ∷ steps) a 
     (omega (arith, count))
 all-picked test frames by are k limit n (Idles tick ∷ steps) a b leads passing few =
     let none : picked test frames k (tick_told tick n Nothing) ≡ [] =
-    ap (λ (list : List (List ℕ)). if is_of k tick && test n then list else []) are.none ∙ sym (chosen-none (is_of k tick && test n)) in
+    ap (λ (list : List (List ℕ)). if is_of_host k tick && test n then list else []) are.none
+    ∙ sym (chosen-none (is_of_host k tick && test n)) in
     ap (λ (list : List (List ℕ)). list ++ flat_map (picked test frames k) (steps_told n steps)) none
     ∙ all-picked test frames by are k limit n steps a b leads.2 passing few
 
@@ -130,7 +133,7 @@ none-picked test frames k limit n (At host (Accesses access) ∷ steps) failing 
     none-picked test frames k limit (min (n + 1) most_accesses) steps failing (omega arith) small
 none-picked test frames k limit n (Idles tick ∷ steps) failing above small =
     ap (λ (list : List (List ℕ)). list ++ flat_map (picked test frames k) (steps_told n steps))
-    (fails (is_of k tick) (test n) (frames Nothing) (failing n above))
+    (fails (is_of_host k tick) (test n) (frames Nothing) (failing n above))
     ∙ none-picked test frames k limit n steps failing above small
 
 -- The two tests.
@@ -144,7 +147,7 @@ beyond m many = lt-leb m 2 many
 -- Put by outcomes numbered up to 2.
 pub early-puts : (k n : ℕ) (steps : List AtomicStep) (a b : List StationState) → LeadsTo k steps a b
     → n + length (past_at k steps).accesses ≤ 2 → flat_map (early_put k) (steps_told n steps) ≡ put k (happened_in steps)
-early-puts k n steps a b leads few = all-picked (λ m. nat_le m 2) frames_put put_by put-told k 2 n steps a b leads up-to few
+early-puts k n steps a b leads few = all-picked (λ m. nat_le m 2) frames_put put_in_one put-told k 2 n steps a b leads up-to few
 
 pub no-late_puts : (k n : ℕ) (steps : List AtomicStep) → 2 < n → flat_map (early_put k) (steps_told n steps) ≡ []
 no-late_puts k n steps late = none-picked (λ m. nat_le m 2) frames_put k 2 n steps beyond late (omega arith)

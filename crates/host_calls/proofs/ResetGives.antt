@@ -11,14 +11,14 @@ use Rattle.adapter.specs.HostFrames.{frames_held, frames_to_send}
 use Rattle.adapter.specs.State.{IsAdapter}
 use Rattle.adapter.specs.declared.offsets.TheConstants.{CTRL, MPC, MTA, RCTL, RDBAL, RDT, VFTA}
 use Rattle.bus.specs.LivelyBuses.{most_accesses}
-use Rattle.bus.specs.PastOfStretch.{Past, joined}
+use Rattle.bus.specs.Pasts.{Past, joined}
 use Rattle.bus.specs.Settings.{Write}
 use Rattle.bus.specs.declared.event.Access.{Access}
 use Rattle.bus.specs.declared.event.Access.TheVariants.{Reads, Writes}
 use Rattle.bring_up.specs.ClearedDescriptors.{clears, clears_from}
 use Rattle.bring_up.specs.DriverSteps.{accesses_of}
 use Rattle.bring_up.specs.FilterTables.{address_writes, table_writes}
-use Rattle.bring_up.specs.RingRegisters.{receive_control, ring_writes}
+use Rattle.bring_up.specs.RingRegisters.{receive_control, ring_setup_writes}
 use Rattle.driver_law.specs.Calls.{stores_from}
 use Rattle.driver_law.specs.DriverState.{DriverSetup, DriverState, receive_slot}
 use Rattle.stations.proofs.HostTrails.{trail-of}
@@ -32,7 +32,7 @@ use Rattle.host_calls.proofs.AdaptersStay.{adapter-behind}
 use Rattle.host_calls.proofs.NotedSteps.{early-puts, first-stores, no-late_puts, no-later_stores}
 use Rattle.host_calls.proofs.PendingFrames.{held-in_room}
 use Rattle.host_calls.proofs.ResetParts.{accesses-join}
-use Rattle.host_calls.proofs.ResetStretches.{own-past}
+use Rattle.host_calls.proofs.ResetIntervals.{own-past}
 use Rattle.host_calls.proofs.SplitSteps.{counted-accesses, own-accesses}
 use Rattle.host_calls.specs.ConnectedHosts.{ConnectedHost}
 use Rattle.host_calls.specs.Notes.{Notes, early_put, first_stored, noted_after}
@@ -203,7 +203,7 @@ quiet-length : (setup : DriverSetup) (counts : Counts) (groups vlans : List ℕ)
 quiet-length setup counts groups vlans groups_long vlans_long =
     let address = address_writes setup.address in
     let tables = table_writes MTA groups ++ (table_writes VFTA vlans ++ address) in
-    let ring = ring_writes RDBAL 0 (descriptor_bytes * counts.rx) in
+    let ring = ring_setup_writes RDBAL 0 (descriptor_bytes * counts.rx) in
     let own : length address ≡ 32 = refl in
     omega (
       arith,

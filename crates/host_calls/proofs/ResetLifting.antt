@@ -1,15 +1,15 @@
--- A reset over a lent bus, and the ticks that are left, in the steps of the network.
+-- A reset over a lent bus, and the remaining ticks, in the steps of the network.
 use Rattle.std.proofs.Common.{◌≡◌, ◌++◌, ◌∷◌, [], ℕ, true, List, refl, sym, ap, subst, ◌∙◌}
 use Rattle.registers.specs.Places.{alone, ctrl_rst}
 use Rattle.adapter.specs.HostFrames.{frames_held, frames_to_send}
 use Rattle.adapter.specs.World.{World}
 use Rattle.adapter.specs.declared.offsets.TheConstants.{CTRL}
 use Rattle.bus.specs.Link.{HasLink}
-use Rattle.bus.specs.PastOfStretch.{joined}
+use Rattle.bus.specs.Pasts.{joined}
 use Rattle.bus.specs.declared.event.Access.TheVariants.{Writes}
 use Rattle.stations.specs.AtomicRunLaws.{leads_join}
 use Rattle.stations.specs.AtomicSteps.{AtomicStep}
-use Rattle.stations.specs.Retelling.{Finished, world_here}
+use Rattle.stations.specs.LentBuses.{Finished, world_here}
 use Rattle.stations.specs.Stations.{world_at}
 use Rattle.stations.specs.ToldTicks.{ComposesTold}
 use Rattle.stations.specs.declared.lent_bus.LentBus.{LentBus}
@@ -27,12 +27,12 @@ use Rattle.delivery.proofs.Laws.{lent-calls, outcomes-tell}
 use Rattle.delivery.specs.TickNumbers.{numbers}
 use Rattle.host_calls.proofs.Calling.{lent_call, work-unheld}
 use Rattle.host_calls.proofs.ResetParts.{ResetRan, rest_accesses, steps_ran, sums-held}
-use Rattle.host_calls.proofs.ResetStretches.{stretch}
-use Rattle.host_calls.proofs.Retellings.{retellings-join}
+use Rattle.host_calls.proofs.ResetIntervals.{interval}
+use Rattle.host_calls.proofs.LentIntervals.{lent_intervals-join}
 use Rattle.host_calls.specs.CallsOfHosts.{StepsOfCall}
 use Rattle.host_calls.specs.LentCalls.{lent}
 
--- A reset over a lent bus of a host, from `a` to `m`. The ticks that are left lead to `b`.
+-- A reset over a lent bus, from `a` to `m`. The remaining ticks lead to `b`.
 pub record LentReset {O : Type 0} {g : OfObserver O} (a m b : LentBus O g) (h h' : HostState) : Type 0 where
   pub ready : HostReady h (world_here a)
   pub host : h' ≡ record h { driver = h'.driver }
@@ -41,7 +41,7 @@ pub record LentReset {O : Type 0} {g : OfObserver O} (a m b : LentBus O g) (h h'
   pub resets : HostResets lent true (host_at a h) (host_at m h')
   pub finished : Finished m b
 
--- Of the driver only its slots, its pool and its count of misses change.
+-- In the driver only the slots, the pool and the count of missed frames change.
 pub begins-again : (h h' : HostState) (a b : World) (d : DriverState) (pool list : List ℕ) (misses : ℕ)
     → d ≡ with_missed misses (driver_of h a)
     → driver_of h' b ≡ with_owners (reset_driver pool d) list [] (driver_of h' b).pool (driver_of h a).handed_out
@@ -80,12 +80,12 @@ reset-ran a m b h h' it =
       a3 = r.middle.stations.now;
       a4 = r.enabled.stations.now;
       a5 = m.stations.now;
-      s1 = stretch k a r.stopped.bus r.stops.ran.past (stop_accesses misses) refl one r.stops.ran.only;
-      s2 = stretch k r.stopped.bus r.resets.middle r.resets.first.past (Writes CTRL (alone ctrl_rst) ∷ []) k1 two r.resets.first.only;
-      s3 = stretch k r.resets.middle r.middle r.resets.later.past (rest_accesses r.resets.causes) k2 three r.resets.later.only;
-      s4 = stretch k r.middle r.enabled r.quiet.past (quiet_accesses h.driver.setup h.driver.layout r.groups r.vlans r.numbers) k3 four
+      s1 = interval k a r.stopped.bus r.stops.ran.past (stop_accesses misses) refl one r.stops.ran.only;
+      s2 = interval k r.stopped.bus r.resets.middle r.resets.first.past (Writes CTRL (alone ctrl_rst) ∷ []) k1 two r.resets.first.only;
+      s3 = interval k r.resets.middle r.middle r.resets.later.past (rest_accesses r.resets.causes) k2 three r.resets.later.only;
+      s4 = interval k r.middle r.enabled r.quiet.past (quiet_accesses h.driver.setup h.driver.layout r.groups r.vlans r.numbers) k3 four
           r.quiet.only;
-      s5 = stretch k r.enabled m r.later.past (later_accesses h.driver.layout) k4 five r.later.only;
+      s5 = interval k r.enabled m r.later.past (later_accesses h.driver.layout) k4 five r.later.only;
       s6 = it.finished.plays.steps;
       ticks = it.finished.plays.are;
       ends = it.finished.plays.leads k;
@@ -121,7 +121,7 @@ reset-ran a m b h h' it =
       link = λ link. subst HasLink at (r.link link);
     }
 
--- Its steps are those of a call.
+-- The steps of a reset are those of a call.
 pub reset-steps : {O : Type 0} {g : OfObserver O} → ComposesTold g.heard → (a m b : LentBus O g) (h h' : HostState) → a.accesses ≡ 0
     → (it : LentReset a m b h h')
     → StepsOfCall (lent_call a b) (steps_ran (reset-ran a m b h h' it)) a.stations.now b.stations.now
@@ -132,10 +132,10 @@ reset-steps {O} {g} composes a m b h h' zero it =
     let p3 = r.resets.later.past in
     let p4 = r.quiet.past in
     let p5 = r.later.past in
-    let four = retellings-join composes r.middle r.enabled m p4 p5 r.quiet.reports r.later.reports in
-    let three = retellings-join composes r.resets.middle r.middle m p3 (joined p4 p5) r.resets.later.reports four.0 in
-    let two = retellings-join composes r.stopped.bus r.resets.middle m p2 (joined p3 (joined p4 p5)) r.resets.first.reports three.0 in
-    let one = retellings-join composes a r.stopped.bus m p1 (joined p2 (joined p3 (joined p4 p5))) r.stops.ran.reports two.0 in
+    let four = lent_intervals-join composes r.middle r.enabled m p4 p5 r.quiet.reports r.later.reports in
+    let three = lent_intervals-join composes r.resets.middle r.middle m p3 (joined p4 p5) r.resets.later.reports four.0 in
+    let two = lent_intervals-join composes r.stopped.bus r.resets.middle m p2 (joined p3 (joined p4 p5)) r.resets.first.reports three.0 in
+    let one = lent_intervals-join composes a r.stopped.bus m p1 (joined p2 (joined p3 (joined p4 p5))) r.stops.ran.reports two.0 in
     let whole = joined p1 (joined p2 (joined p3 (joined p4 p5))) in
     let first = one.0.steps in
     let last = it.finished.plays.steps in

@@ -8,7 +8,7 @@ use Rattle.bus.specs.LivelyBuses.{most_accesses}
 use Rattle.stations.proofs.Lengths.{length-stays}
 use Rattle.stations.specs.AtomicRuns.{steps_told}
 use Rattle.stations.specs.AtomicSteps.{AtomicStep}
-use Rattle.stations.specs.Retelling.{Finished, world_here}
+use Rattle.stations.specs.LentBuses.{Finished, world_here}
 use Rattle.stations.specs.Stations.{StationState, world_at}
 use Rattle.stations.specs.ToldTicks.{ComposesTold, TickTold}
 use Rattle.stations.specs.declared.tick.Tick.{Tick}
@@ -29,7 +29,7 @@ use Rattle.host_calls.specs.BeforeReset.{IsBeforeReset}
 use Rattle.host_calls.specs.LentCalls.{lent}
 use Rattle.host_calls.specs.Networks.{NetworkState, connected_at, nth_host}
 use Rattle.host_calls.specs.declared.resetting.GivenUp.{GivenUp}
-use Rattle.host_calls.specs.Notes.{AreWithin, Notes, NotesTicks, noted_after}
+use Rattle.host_calls.specs.Notes.{NotesFit, Notes, NotesTicks, noted_after}
 use Rattle.host_calls.specs.ResetsInSteps.{GivesUp, MakesReset, RunsReset}
 
 pub runs-reset : {O : Type 0} {g : OfObserver O} → ComposesTold g.heard → (a m b : LentBus O g) (h h' : HostState) → a.accesses ≡ 0
@@ -51,7 +51,7 @@ runs-reset composes a m b h h' zero ready host setup groups resets finished =
       resets = resets-are a.host h h' a.stations.now b.stations.now (reset-ran a m b h h' it) ready;
     }
 
--- A reset leaves as many stations as there are hosts. They come back.
+-- A reset doesn't change the number of stations.
 pub stations-back : (call : PlayedCall) (hosts : List HostState) (a left back : List StationState) (k : ℕ) (h h' : HostState)
     → RunsReset call (connected h a) (connected h' left) → back ≡ left → length a ≡ length hosts
     → length back ≡ length (slice_set hosts k h')
@@ -59,7 +59,7 @@ stations-back call hosts a left back k h h' runs returned same =
     ap (λ (list : List StationState). length list) returned
     ∙ length-stays call.caller runs.steps a left runs.of_call.leads ∙ same ∙ sym (length-set hosts k h')
 
--- The observer's own part of what it was told.
+-- The part of what was told that the observer itself was told.
 with-heard : (call : PlayedCall) (heard : List TickTold → Type 0) (steps : List AtomicStep) (a b : List StationState)
     → StepsOfCall call steps a b → heard (steps_told 0 steps)
     → StepsOfCall (played_call call.caller call.ticks heard call.accesses) steps a b
@@ -72,7 +72,7 @@ with-heard call heard steps a b of_call told = record {
   counted = of_call.counted;
 }
 
--- The observer is told the same, if what it was told is told of another state of it.
+-- What the observer was told, for another state of the observer.
 pub runs-told : (k accesses : ℕ) (ticks : List Tick) (heard heard' : List TickTold → Type 0) (old new : ConnectedHost)
     → ((told : List TickTold) → heard told → heard' told) → RunsReset (played_call k ticks heard accesses) old new
     → RunsReset (played_call k ticks heard' accesses) old new
@@ -83,12 +83,12 @@ runs-told k accesses ticks heard heard' old new tells runs = record {
   resets = runs.resets;
 }
 
--- What code has when the steps of a reset were noted: the notes before and after, and what it returns.
+-- The notes before and after a reset, and its result.
 pub record Answered (k most : ℕ) (old : ConnectedHost) (before after : Notes) (sending holding : List (List ℕ)) (on_after : ℕ) : Type 0
   where
     pub adapter : IsAdapter (world_at old.stations k).adapter
     pub begins : before ≡ first_notes k most (frames_held old.host.driver.oldest_receive (world_at old.stations k))
-    pub within : AreWithin before
+    pub within : NotesFit before
     pub room : old.host.driver.layout.rx + MOST_FRAMES ≤ most
     pub few : length (frames_to_send (world_at old.stations k)) ≤ most_accesses
     pub sending_is : sending ≡ drop (min (length (frames_to_send (world_at old.stations k))) after.put)
@@ -127,12 +127,12 @@ makes-reset k most accesses on_after ticks heard old new before after sending ho
       enabled_after = is.on_after_is ∙ sym (enabled-after k runs.steps old new it is.small);
     }
 
--- The same, from what code has at hand.
+-- The same, for the values that were found.
 pub answered : (hosts : List HostState) (stations : List StationState) (n : NetworkState) (k : ℕ) (h : HostState) (rx most wide : ℕ)
     (found : GivenUp) (before after : Notes) (sending holding : List (List ℕ)) → network hosts stations ≡ n → k < length n.hosts
     → h ≡ slice_index_or hosts k h → HostReady (nth_host n k) (world_at n.stations k) → IsAdapter (world_at n.stations k).adapter
     → IsBeforeReset (nth_host n k) (world_at n.stations k) found → rx ≡ h.driver.layout.rx → most ≡ rx + MOST_FRAMES → wide ≡ rx
-    → before ≡ first_notes k most found.holding.items → AreWithin before
+    → before ≡ first_notes k most found.holding.items → NotesFit before
     → sending ≡ drop (min (length found.sending.items) after.put) found.sending.items → holding ≡ after.holding
     → Answered k most (connected_at n k) before after sending holding (302 + wide)
 answered hosts stations n k h rx most wide found before after sending holding shown below at ready adapter was rx_is most_is wide_is begins
@@ -154,6 +154,6 @@ answered hosts stations n k h rx most wide found before after sending holding sh
       small = omega (arith, addresses);
     }
 
--- A reference that was lent comes back.
+-- A value that was lent is the same after the call.
 pub told-back : {O : Type 0} (Holds : O → Type 0) (told told' : O) → told' ≡ told → Holds told → Holds told'
 told-back Holds told told' same holds = subst Holds (sym same) holds

@@ -1,4 +1,4 @@
--- A reset of a host in its network, put together from its stretches.
+-- A reset of a host in its network, from its parts.
 use Rattle.std.proofs.Common.{◌≡◌, ◌++◌, ◌∷◌, [], ℕ, true, IsTrue, List, refl, sym, ap, subst, ◌∙◌, append_assoc, arith}
 use Rattle.std.specs.List.{All}
 use Rattle.std.proofs.lemmas.List.{append-nil}
@@ -13,7 +13,7 @@ use Rattle.bus.proofs.Lists.{append-empty}
 use Rattle.bus.specs.AdaptersAtRest.{NoFrame}
 use Rattle.bus.specs.Law.{Happens}
 use Rattle.bus.specs.Link.{HasLink}
-use Rattle.bus.specs.PastOfStretch.{Past, joined}
+use Rattle.bus.specs.Pasts.{Past, joined}
 use Rattle.bus.specs.declared.event.Access.{Access}
 use Rattle.bus.specs.declared.event.Access.TheVariants.{Reads, Writes}
 use Rattle.bring_up.proofs.WritesAtRest.{reset-written}
@@ -25,21 +25,21 @@ use Rattle.stations.specs.AtomicRuns.{IsTick, LeadsTo, past_at}
 use Rattle.stations.specs.AtomicSteps.{AtomicStep, after}
 use Rattle.stations.specs.Stations.{StationState, world_at}
 use Rattle.driver_law.proofs.Steps.{goes-happens}
-use Rattle.driver_law.proofs.Stretches.{goes_join}
+use Rattle.driver_law.proofs.Intervals.{goes_join}
 use Rattle.driver_law.specs.Calls.{GoesTo, HasNoForgottenWork, SumsMisses, driver_did, driver_in, with_missed}
 use Rattle.driver_law.specs.DriverState.{DriverState, holding}
 use Rattle.driver_law.specs.ReadyDrivers.{Stands}
 use Rattle.driver.proofs.SummedMisses.{sums-as, sums-join}
 use Rattle.driver.specs.Initialisation.{AreFilterTables}
 use Rattle.driver.specs.Resetting.{free_accesses, later_accesses, quiet_accesses, quiet_writes, stop_accesses}
-use Rattle.packet_socket.proofs.Stretches.{accounts-stay, driver-stays, host-happens, host-join, queues-stand, with_driver}
+use Rattle.packet_socket.proofs.Intervals.{accounts-stay, driver-stays, host-happens, host-join, queues-stand, with_driver}
 use Rattle.packet_socket.proofs.WaitingFrames.{queue-frames-same}
 use Rattle.packet_socket.specs.HostCalls.{HostGoesTo, HostReady, did_nothing, driver_of, in_world, waiting_frames}
 use Rattle.packet_socket.specs.HostState.{HostState}
 use Rattle.host_calls.proofs.Calling.{work-goes}
 use Rattle.host_calls.proofs.HostTrails.{happens-alone, none-alone}
-use Rattle.host_calls.proofs.ResetStretches.{Stretch, arrivals-join, frames-join, off-read, off-ticks, off-written, own-past, own-world}
-use Rattle.host_calls.proofs.ResetStretches.{regroup}
+use Rattle.host_calls.proofs.ResetIntervals.{Interval, arrivals-join, frames-join, off-read, off-ticks, off-written, own-past, own-world}
+use Rattle.host_calls.proofs.ResetIntervals.{regroup}
 use Rattle.host_calls.proofs.SplitSteps.{SplitSteps, nothing-behind, split-steps, ticks-alone}
 use Rattle.host_calls.specs.ConnectedHosts.{connected}
 use Rattle.host_calls.specs.ResetSteps.{PartsAccess, ResetParts, ResetValues, at_rest, before_reset, disable_of, enable_of, reset_of}
@@ -47,11 +47,11 @@ use Rattle.host_calls.specs.ResetSteps.{whole_reset}
 use Rattle.host_calls.specs.ResetsInSteps.{HostBeginsAgain, KeepsInReset, ResetsInSteps, RestartsInSteps, RestsInSteps, StopsInSteps}
 use Rattle.host_calls.specs.ResetsInSteps.{stopped_host}
 
--- the driver's accesses in each stretch
+-- the driver's accesses in each part
 abbrev pub rest_accesses : (causes : ℕ) → List Access
 rest_accesses causes = Writes IMC 0xFFFFFFFF ∷ Reads ICR causes ∷ []
 
--- What the driver's reset says of its stretches, at the stations between them, and the ticks after its last access.
+-- The parts of a reset, with the stations between them, and the ticks after the last access.
 pub record ResetRan (k : ℕ) (h h' : HostState) (a0 a6 : List StationState) : Type 0 where
   pub values : ResetValues
   pub p1 : Past
@@ -64,11 +64,11 @@ pub record ResetRan (k : ℕ) (h h' : HostState) (a0 a6 : List StationState) : T
   pub a3 : List StationState
   pub a4 : List StationState
   pub a5 : List StationState
-  pub s1 : Stretch k (stop_accesses values.misses) p1 a0 a1
-  pub s2 : Stretch k (Writes CTRL (alone ctrl_rst) ∷ []) p2 a1 a2
-  pub s3 : Stretch k (rest_accesses values.causes) p3 a2 a3
-  pub s4 : Stretch k (quiet_accesses h.driver.setup h.driver.layout values.groups values.vlans values.numbers) p4 a3 a4
-  pub s5 : Stretch k (later_accesses h.driver.layout) p5 a4 a5
+  pub s1 : Interval k (stop_accesses values.misses) p1 a0 a1
+  pub s2 : Interval k (Writes CTRL (alone ctrl_rst) ∷ []) p2 a1 a2
+  pub s3 : Interval k (rest_accesses values.causes) p3 a2 a3
+  pub s4 : Interval k (quiet_accesses h.driver.setup h.driver.layout values.groups values.vlans values.numbers) p4 a3 a4
+  pub s5 : Interval k (later_accesses h.driver.layout) p5 a4 a5
   pub s6 : List AtomicStep
   pub ticks : All IsTick s6
   pub ends : LeadsTo k s6 a5 a6
@@ -94,7 +94,7 @@ pub record ResetRan (k : ℕ) (h h' : HostState) (a0 a6 : List StationState) : T
 abbrev pub steps_ran : {k : ℕ} {h h' : HostState} {a b : List StationState} → ResetRan k h h' a b → List AtomicStep
 steps_ran ran = (ran.s1.steps ++ (ran.s2.steps ++ (ran.s3.steps ++ (ran.s4.steps ++ ran.s5.steps)))) ++ ran.s6
 
--- Where the three writes split them.
+-- The steps split at the three writes.
 record Cuts (k : ℕ) (h h' : HostState) (a b : List StationState) (ran : ResetRan k h h' a b) : Type 0 where
   one : SplitSteps k (Writes RCTL 0) [] (Reads MPC ran.values.misses ∷ []) ran.s1.steps a ran.a1
   two : SplitSteps k (Writes CTRL (alone ctrl_rst)) [] [] ran.s2.steps ran.a1 ran.a2
@@ -130,7 +130,7 @@ parts-of k h h' a b ran cut = record {
   later = ran.s5.steps ++ ran.s6;
 }
 
--- The split.
+-- The split
 
 two-is : (k : ℕ) (h h' : HostState) (a b : List StationState) (ran : ResetRan k h h' a b) (cut : Cuts k h h' a b ran)
     → ran.s2.steps ≡ cut.two.before ++ reset_of k ∷ []
@@ -155,7 +155,7 @@ split-is k h h' a b ran cut =
     ∙ regroup cut.one.before cut.one.behind cut.two.before ran.s3.steps cut.four.before ran.s5.steps ran.s6 (disable_of k) (reset_of k)
     (enable_of k h.driver.setup)
 
--- The accesses.
+-- The accesses
 
 pub accesses-join : (k : ℕ) (first later : List AtomicStep)
     → (past_at k (first ++ later)).accesses ≡ (past_at k first).accesses ++ (past_at k later).accesses
@@ -178,9 +178,9 @@ accesses-are k h h' a b ran cut = record {
       ∙ append-nil (later_accesses h.driver.layout);
 }
 
--- Until CTRL.RST is written.
+-- Before CTRL.RST is written
 
--- The driver's interval is its host's, if the queues' frames stay.
+-- An interval of the driver is an interval of its host, if the frames in the queues don't change.
 driver-goes : (h : HostState) (d : DriverState) (a b : World) (past : Past) → HostReady h a
     → GoesTo true (driver_in (driver_of h a) a) (driver_in (holding (driver_of h a).handed_out d) b) (driver_did [] []) past
     → HostGoesTo true (in_world h a) (in_world (with_driver d h) b) did_nothing past
@@ -227,7 +227,7 @@ stops-are k h h' a b ran cut ready =
       none_missed = ap (λ (past : Past). past.missed) stopping_is ∙ none.none_missed;
     }
 
--- While the adapter is at rest.
+-- While the adapter is at rest
 
 rest-is : {X : Type 0} (r n : X) (s q : List X) → (r ∷ []) ++ (s ++ (q ++ n ∷ [])) ≡ r ∷ ((s ++ q) ++ n ∷ [])
 rest-is r n s q = ap (λ (list : List _). r ∷ list) (sym (append_assoc s q (n ∷ [])))
@@ -261,7 +261,7 @@ rests-are k h h' a b ran cut =
           (frames-join (past_at k reset) (joined ran.p3 ran.p4) still (frames-join ran.p3 ran.p4 ran.resting ran.quiet)));
     }
 
--- Then the host is ready again, and ticks follow its last access.
+-- The host is ready again, and ticks follow its last access
 
 restarts-are : (k : ℕ) (h h' : HostState) (a b : List StationState) (ran : ResetRan k h h' a b) (cut : Cuts k h h' a b ran)
     → RestartsInSteps k (parts-of k h h' a b ran cut) ran.a4 (connected h' b)
@@ -284,9 +284,9 @@ restarts-are k h h' a b ran cut =
       none_to_send = none.1;
     }
 
--- What is kept.
+-- What the reset doesn't change
 
--- Sums don't depend on who holds frames.
+-- Sums of missed frames don't depend on the pieces that others hold.
 pub sums-held : (d d' e e' : DriverState) (a b : World) (past : Past) → e.missed ≡ d.missed → e.exact ≡ d.exact → e'.missed ≡ d'.missed
     → e'.exact ≡ d'.exact → SumsMisses (driver_in d a) (driver_in d' b) past → SumsMisses (driver_in e a) (driver_in e' b) past
 sums-held d d' e e' a b past missed exact missed' exact' sums = record {
@@ -320,7 +320,7 @@ keeps-are k h h' a b ran =
     let first = ran.s1.steps ++ (ran.s2.steps ++ (ran.s3.steps ++ (ran.s4.steps ++ ran.s5.steps))) in
     let before = joined ran.p1 (joined ran.p2 (joined ran.p3 (joined ran.p4 ran.p5))) in
     let first_is : past_at k first ≡ before =
-    stretches-past k ran.s1.steps ran.s2.steps ran.s3.steps ran.s4.steps ran.s5.steps ran.p1 ran.p2
+    intervals-past k ran.s1.steps ran.s2.steps ran.s3.steps ran.s4.steps ran.s5.steps ran.p1 ran.p2
     ran.p3 ran.p4 ran.p5 ran.s1.past_is ran.s2.past_is ran.s3.past_is ran.s4.past_is ran.s5.past_is in
     let whole : past_at k (first ++ ran.s6) ≡ joined before past =
     past_join k first ran.s6 ∙ ap (λ (p : Past). joined p past) first_is in
@@ -341,10 +341,10 @@ keeps-are k h h' a b ran =
       link = λ link. happenings_keep_link w w' past happens (ran.link link);
     }
   where
-    stretches-past : (k : ℕ) (s1 s2 s3 s4 s5 : List AtomicStep) (p1 p2 p3 p4 p5 : Past) → past_at k s1 ≡ p1 → past_at k s2 ≡ p2
+    intervals-past : (k : ℕ) (s1 s2 s3 s4 s5 : List AtomicStep) (p1 p2 p3 p4 p5 : Past) → past_at k s1 ≡ p1 → past_at k s2 ≡ p2
         → past_at k s3 ≡ p3 → past_at k s4 ≡ p4 → past_at k s5 ≡ p5
         → past_at k (s1 ++ (s2 ++ (s3 ++ (s4 ++ s5)))) ≡ joined p1 (joined p2 (joined p3 (joined p4 p5)))
-    stretches-past k s1 s2 s3 s4 s5 p1 p2 p3 p4 p5 e1 e2 e3 e4 e5 =
+    intervals-past k s1 s2 s3 s4 s5 p1 p2 p3 p4 p5 e1 e2 e3 e4 e5 =
         let j1 = past_join k s1 (s2 ++ (s3 ++ (s4 ++ s5))) in
         let j2 = past_join k s2 (s3 ++ (s4 ++ s5)) in
         let j3 = past_join k s3 (s4 ++ s5) in
@@ -354,7 +354,7 @@ keeps-are k h h' a b ran =
         → All (Stands h.driver.layout b.memory) (driver_of h a).handed_out
     host-stands h a b past ready happens = (goes-happens (driver_of h a) a b past ready.ready happens).flows.ready.stand
 
--- The whole.
+-- The whole reset.
 pub resets-are : (k : ℕ) (h h' : HostState) (a b : List StationState) (ran : ResetRan k h h' a b) → HostReady h (world_at a k)
     → ResetsInSteps k (steps_ran ran) (connected h a) (connected h' b)
 resets-are k h h' a b ran ready =

@@ -1,4 +1,4 @@
--- Steps and deliveries of which nothing comes record no cause.
+-- Steps and deliveries with the outcome Nothing record no cause.
 use Rattle.std.proofs.Common.{◌≡◌, ◌≢◌, ◌==◌, ◌⊎◌, ◌++◌, ◌∷◌, [], ℕ, Bool, true, false, Some, None, List, inl, inr}
 use Rattle.std.proofs.Common.{if◌then◌else◌, refl, sym, ap, subst, ◌∙◌}
 use Rattle.std.specs.List.{All}
@@ -24,7 +24,7 @@ use Rattle.stations.specs.AtomicSteps.{At, AtomicStep, Idles, outcome_of_event}
 use Rattle.stations.specs.AtomicRuns.{events_at}
 use Rattle.host_calls.specs.InterruptCauses.{DidSomething}
 
--- nothing comes of the event
+-- the outcome of the event is Nothing
 abbrev pub IsSilent : Event → Type 0
 IsSilent event = outcome_of_event event ≡ Nothing
 
@@ -32,7 +32,7 @@ is-nothing : (outcome : FrameOutcome) → (outcome ≡ Nothing) ⊎ (outcome ≢
 is-nothing Nothing = inl refl
 is-nothing _ = inr (λ same. absurd (cc same))
 
--- A tick of the PHY without work tells nothing.
+-- A tick of the PHY that does nothing records no cause.
 silent-tick : (work : Bool) (tells : Ticked) → Nothing ≡ ticked work → causes_by_tick (if work then Some tells else None) ≡ 0
 silent-tick true tells same = absurd (cc same)
 silent-tick false tells same = refl
@@ -73,7 +73,7 @@ silent-events (event ∷ later) a b number trail silent set =
           silent-events later (world_after event a) b number trail.1 (all-tail IsSilent event later silent) behind
     ]
 
--- Either something came of one of these steps at a host, or nothing of each.
+-- One of the steps at a host has an outcome other than Nothing, or the outcome of each is Nothing
 
 did-before : (caller : ℕ) (step : AtomicStep) (later : List AtomicStep) → DidSomething caller later → DidSomething caller (step ∷ later)
 did-before caller step later did = record {

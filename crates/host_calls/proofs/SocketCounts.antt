@@ -1,4 +1,4 @@
--- Frames of all sockets, counted.
+-- The number of frames of all sockets.
 use Rattle.std.proofs.Common.{◌≡◌, ◌≢◌, ◌≤◌, ◌<◌, ◌+◌, ◌==◌, ◌++◌, ◌∷◌, [], ℕ, zero, suc, Bool, true, false, cond, Option, Some, None}
 use Rattle.std.proofs.Common.{List, length, map}
 use Rattle.std.proofs.Common.{inl, inr, refl, sym, ap, subst, ◌∙◌, arith, length-append}
@@ -15,12 +15,12 @@ use Rattle.adapter.specs.World.{World}
 use Rattle.driver.specs.declared.receiver.Received.{Received}
 use Rattle.packet_socket.specs.HostCalls.{Accounts, Given, given_for, socket_frames, waiting_frame, waiting_frames}
 use Rattle.packet_socket.specs.HostState.{HostState, all_of, queue_at}
-use Rattle.packet_socket.specs.SocketKinds.{goes_to, is_at, socket_of}
+use Rattle.packet_socket.specs.SocketKinds.{goes_to, is_position, socket_of}
 use Rattle.packet_socket.specs.declared.socket_kind.SocketKind.{SocketKind}
 
--- Sums over sockets.
+-- Sums over sockets
 
--- of so many sockets, from the first on
+-- the sum over the first n sockets
 abbrev pub sum_to : ℕ → (ℕ → ℕ) → ℕ
 sum_to zero count = 0
 sum_to (suc n) count = count 0 + sum_to n (λ k. count (suc k))
@@ -47,7 +47,7 @@ queues-sum (queue ∷ later) (suc n) fits =
     let rest = queues-sum later n (omega (arith, fits)) in
     omega (arith, rest, length-append queue (all_of later))
 
--- Places of numbers.
+-- Positions in lists
 
 differ : (a b : ℕ) → a ≢ b → (a == b) ≡ false
 differ a b other = elim (eqb_tells a b) [ inl same ↦ absurd (other same.1) | inr apart ↦ apart.0 ]
@@ -61,13 +61,13 @@ below-one a b = elim (eqb_tells a b) [
     itself : (n : ℕ) → (suc n == suc n) ≡ true
     itself n = eq-eqb (suc n) (suc n) refl
 
--- A frame goes to one socket at most.
+-- A frame goes to at most one socket
 one-most : (b : Bool) → cond b 1 0 ≤ 1
 one-most true = omega arith
 one-most false = omega arith
 
-held-sum : (n : ℕ) (number : Option ℕ) → sum_to n (λ socket. cond (is_at socket number) 1 0) ≤ 1
-held-sum n None = omega (arith, sum-none n (λ socket. cond (is_at socket None) 1 0) (λ socket. refl))
+held-sum : (n : ℕ) (number : Option ℕ) → sum_to n (λ socket. cond (is_position socket number) 1 0) ≤ 1
+held-sum n None = omega (arith, sum-none n (λ socket. cond (is_position socket None) 1 0) (λ socket. refl))
 held-sum zero (Some number) = omega arith
 held-sum (suc n) (Some zero) =
     let none = sum-none n (λ socket. cond (zero == suc socket) 1 0)
@@ -102,7 +102,7 @@ frames-sum n kinds (frame ∷ later) =
         length-filter goes (frame ∷ later) ∙ sum_by-cons (λ (f : List ℕ). cond (goes f) 1 0) frame later
         ∙ ap (λ (k : ℕ). cond (goes frame) 1 0 + k) (sym (length-filter goes later))
 
--- A frame that was given is one of its socket's.
+-- A frame that was returned is counted at one socket.
 socket-sum : (n socket : ℕ) → socket < n → sum_to n (λ k. cond (socket == k) 1 0) ≡ 1
 socket-sum zero socket below = absurd (omega (arith, below))
 socket-sum (suc n) zero below =
@@ -127,21 +127,21 @@ given-sum n one below =
     counted true = refl
     counted false = refl
 
--- Frames held.
+-- Frames held
 
--- Frames are at most as many as pieces.
+-- The number of frames is at most the number of pieces.
 pub ended-few : (begun : List ℕ) (pieces : List Piece) → length (frames_from begun pieces) ≤ length pieces
 ended-few begun [] = omega arith
 ended-few begun (Part bytes ∷ later) = omega (arith, ended-few (begun ++ bytes) later)
 ended-few begun (Last bytes ∷ later) = omega (arith, ended-few [] later)
 
--- If nothing is stored, frames leave the ring and the adapter only as they are taken,
+-- If no frame is stored, frames leave the ring and the adapter only when they are taken.
 pub held-flows : (taken now held stored : List (List ℕ)) → taken ++ now ≡ held ++ stored → stored ≡ []
     → length taken + length now ≡ length held
 held-flows taken now held stored holds none =
     omega (arith, ap length holds, length-append taken now, length-append held stored, ap length none)
 
--- and of each socket as many are given and wait then as waited and were taken.
+-- For each socket, the number of frames returned and queued after is the number of frames queued before and taken.
 socket-flows : (h : HostState) (a : World) (h' : HostState) (b : World) (taken : List (List ℕ)) (given : List Given)
     (stored : List (List ℕ))
     → Accounts h a h' b given stored
@@ -174,7 +174,7 @@ socket-flows h a h' b taken given stored accounts holds socket =
       length-map (queue_at h.queues socket) (waiting_frame h.driver.layout a.memory),
     )
 
--- So all queues together: with what was given they have at most what they had and what was taken.
+-- For all queues together, the frames returned and queued after are at most those queued before and taken.
 pub queues-flow : (n : ℕ) (h : HostState) (a : World) (h' : HostState) (b : World) (taken : List (List ℕ)) (given : List Given)
     (stored : List (List ℕ))
     → Accounts h a h' b given stored

@@ -20,7 +20,7 @@ pub record SplitSteps (k : ℕ) (access : Access) (first later : List Access) (s
   where
     pub before : List AtomicStep
     pub behind : List AtomicStep
-    -- when the access is made
+    -- the stations right before the access
     pub middle : List StationState
     pub split : steps ≡ before ++ At k (Accesses access) ∷ behind
     pub before_are : (past_at k before).accesses ≡ first
@@ -28,13 +28,13 @@ pub record SplitSteps (k : ℕ) (access : Access) (first later : List Access) (s
     pub leads : LeadsTo k before a middle
     pub rest : LeadsTo k (At k (Accesses access) ∷ behind) middle b
 
--- An access of the caller comes before those behind it.
+-- An access of the caller comes before the accesses after it.
 pub own-accesses : (k host : ℕ) (one : Access) (later : List AtomicStep) → host ≡ k
     → (past_at k (At host (Accesses one) ∷ later)).accesses ≡ one ∷ (past_at k later).accesses
 own-accesses k host one later is =
     ap (λ (here : Bool). (past_of ((if here then Accesses one ∷ [] else []) ++ events_at k later)).accesses) (eq-eqb k host (sym is))
 
--- A tick may come before.
+-- A tick may come before the access.
 tick-before : (k : ℕ) (step : AtomicStep) (steps : List AtomicStep) (a b : List StationState) (access : Access) (first later : List Access)
     → IsTick step → CanHappen step a → IsOfCall k step → SplitSteps k access first later steps (after step a) b
     → SplitSteps k access first later (step ∷ steps) a b
@@ -112,7 +112,7 @@ ticks-alone k (Idles tick ∷ steps) a b leads none =
 ticks-alone k (At host (Accesses one) ∷ steps) a b leads none =
     let some : one ∷ (past_at k steps).accesses ≡ [] = sym (own-accesses k host one steps leads.1) ∙ none in absurd (cc some)
 
--- If an access is the last step, no tick is behind it.
+-- If an access is the last step, no tick is after it.
 
 no-tick_last : (step : AtomicStep) → IsTick step → ¬ IsNoAccess step → ⊥
 no-tick_last (At host (Steps kind wire_free answer)) is last = last tt
@@ -141,7 +141,7 @@ nothing-behind k access first steps a b found ends =
     (ticks-alone k found.behind (after step found.middle) b found.rest.2 found.behind_are)
     (ends-behind found.before step found.behind (subst EndsWithAccess found.split ends))
 
--- The number of accesses after them.
+-- The number of accesses after steps.
 pub counted-accesses : (k n : ℕ) (steps : List AtomicStep) (a b : List StationState) → LeadsTo k steps a b
     → n + length (past_at k steps).accesses ≤ most_accesses → counted_of n steps ≡ n + length (past_at k steps).accesses
 counted-accesses k n [] a b leads few = omega arith

@@ -1,4 +1,4 @@
--- What a host would give up if its adapter were reset now (our choice).
+-- The frames that would be lost if a host's adapter were reset now (our choice).
 use Rattle.std.specs.Prelude.{◌≡◌, ◌≤◌, ◌+◌, vec_capacity}
 use Rattle.rx_engine.specs.declared.engine.TheConstants.{MOST_FRAMES}
 use Rattle.adapter.specs.HostFrames.{frames_held, frames_to_send}
@@ -6,8 +6,8 @@ use Rattle.adapter.specs.World.{World}
 use Rattle.packet_socket.specs.HostState.{HostState}
 use Rattle.host_calls.specs.declared.resetting.GivenUp.{GivenUp}
 
--- The frames that are to be sent, and those that are held, with room for as many as its receive ring has slots and its packet buffer has
--- room for.
+-- The frames that are to be sent and those that are held. The list of held frames has room for one frame in each slot
+-- of the receive ring, and for a full packet buffer.
 pub record IsBeforeReset (host : HostState) (world : World) (found : GivenUp) : Type 0 where
   pub sending : found.sending.items ≡ frames_to_send world
   pub holding : found.holding.items ≡ frames_held host.driver.oldest_receive world

@@ -1,10 +1,11 @@
--- What a call of a host does, in the atomic steps of its network (our choice). The effects of calls are in packet_socket/specs/HostEffects.
--- Here their parameter `Runs` is `InSteps`. An atomic step is an access of the host's driver, or a tick that isn't Go.
+-- What a call of a host does, in the atomic steps of its network (our choice). The effects of calls are in
+-- packet_socket/specs/HostEffects; here their argument `Runs` is `InSteps`. An atomic step of a call is an access of
+-- the host's driver, or a tick other than Go.
 use Rattle.std.specs.Prelude.{◌≡◌, ◌++◌, ◌∷◌, [], ℕ, All, List}
 use Rattle.adapter.specs.HostFrames.{frames_held}
 use Rattle.adapter.specs.World.{World}
 use Rattle.adapter.specs.declared.offsets.TheConstants.{ICR}
-use Rattle.bus.specs.PastOfStretch.{Past}
+use Rattle.bus.specs.Pasts.{Past}
 use Rattle.bus.specs.declared.event.Access.{Access}
 use Rattle.bus.specs.declared.event.Access.TheVariants.{Reads}
 use Rattle.stations.specs.AtomicRuns.{LeadsTo, past_at}
@@ -18,15 +19,16 @@ use Rattle.host_calls.specs.CallsOfHosts.{CallRuns, EndsWithAccess}
 use Rattle.host_calls.specs.ConnectedHosts.{ConnectedHost, PlayedCall}
 use Rattle.host_calls.specs.InterruptCauses.{TellsCauses}
 
--- A stage of a call of host k. Its accesses, and the ticks before each of them, are the first of these steps; the last of these first steps
--- is an access, or there are none, if it makes no access. `Later` holds of the rest of the steps.
+-- A stage of a call of host k. The first of these steps are the accesses of the stage and the ticks before each of
+-- them. The last of these first steps is an access; if the stage makes no access, there are no first steps. `Later`
+-- holds of the remaining steps.
 pub record MakesStage (k : ℕ) (made : List Access) (Holds : World → Past → World → Type 0) (steps : List AtomicStep)
     (old : List StationState) (Later : List AtomicStep → List StationState → Type 0) : Type 0 where
   -- the steps of this stage
   pub first : List AtomicStep
   -- the steps of later stages
   pub rest : List AtomicStep
-  -- both together are all steps
+  -- `first`, followed by `rest`, are all steps
   pub split : steps ≡ first ++ rest
   -- the host's accesses in this stage
   pub made_are : (past_at k first).accesses ≡ made
@@ -41,7 +43,7 @@ pub record MakesStage (k : ℕ) (made : List Access) (Holds : World → Past →
   -- what holds of the later stages
   pub later : Later rest middle
 
--- The stages of a call, one after the other. After the last of its accesses only ticks are played.
+-- The stages of a call, in order. After the last access of the call only ticks are played.
 abbrev pub MakesStages : (k : ℕ) → CallStages → List AtomicStep → (old : List StationState) → Type 0
 MakesStages k Ends steps old = (past_at k steps).accesses ≡ []
 MakesStages k (Then made Holds later) steps old =
@@ -51,22 +53,22 @@ MakesStages k (Then made Holds later) steps old =
 pub record InSteps (k : ℕ) (given : List Given) (steps : List AtomicStep) (old new : ConnectedHost) (act : HostAct) : Type 0 where
   -- the accesses, stage by stage
   pub stages : MakesStages k act.stages steps old.stations
-  -- each access is one of a call of this kind
+  -- each access may be one of a call of this kind
   pub own : All (IsAccessOf act.kind old.host.driver.layout) (past_at k steps).accesses
-  -- The frames that it took off the receive ring are the beginning of this list: the frames that the host held when the call began, then
-  -- those that were stored during the call.
+  -- The frames taken off the receive ring, followed by those held at the end, are those held when the call began,
+  -- followed by those stored during the call.
   pub left : act.taken ++ frames_held new.host.driver.oldest_receive (world_at new.stations k)
       ≡ frames_held old.host.driver.oldest_receive (world_at old.stations k) ++ (past_at k steps).stored
-  -- The taken frames that go to a socket are appended to its queue, in order. The frames that a socket returned were at its queue's front.
+  -- The taken frames that go to a socket are appended to the socket's queue, in order. The frames that a socket
+  -- returned were at the front of its queue.
   pub queues : (socket : ℕ) → given_for socket given ++ waiting_frames new.host socket (world_at new.stations k)
       ≡ waiting_frames old.host socket (world_at old.stations k) ++ socket_frames old.host.kinds socket act.taken
-  -- If the first access reads ICR: what a value with a cause that a driver handles implies of the adapter when the call
-  -- began and of the ticks before this read, and what a value without such a cause implies. (The value itself is that
-  -- of the register, by `LeadsTo`.)
+  -- If the first access reads ICR, the value that was read implies which causes were recorded when the call began, and
+  -- what happened before the read.
   pub icr : (causes : ℕ) (more : List Access) → accesses_in act.stages ≡ Reads ICR causes ∷ more
       → TellsCauses k steps causes (world_at old.stations k).adapter
 
--- A call with its ticks (`runs`), and its effect in the steps that they made (`does`).
+-- A call with its ticks (`runs`), and its effect in the atomic steps of the call (`does`).
 pub record Calls (call : PlayedCall) (given : List Given) (accepted : List (List ℕ)) (Does : Effect) (old new : ConnectedHost) : Type 0
   where
     pub runs : CallRuns call given accepted old new

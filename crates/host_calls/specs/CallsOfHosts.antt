@@ -1,4 +1,4 @@
--- A call of one host, with the ticks that are played inside it and after it (our choice).
+-- A call of one host, with the ticks that are played inside and after it (our choice).
 use Rattle.std.specs.Prelude.{⊤, ◌≡◌, ◌∷◌, [], ℕ, true, List, All, map}
 use Rattle.bus.specs.TickGroups.{without_go}
 use Rattle.stations.specs.AtomicSteps.{AtomicStep, IsNoAccess, tick_of}
@@ -6,60 +6,63 @@ use Rattle.stations.specs.Stations.{StationState, world_at}
 use Rattle.stations.specs.AtomicRuns.{LeadsTo, counted_of, is_go, noted_of, past_at, steps_told}
 use Rattle.driver_law.specs.Calls.{HasNoForgottenWork, IsRefilled}
 use Rattle.packet_socket.specs.HostActs.{IsOfDriver, IsOfHost, OnlyLastWrites}
-use Rattle.packet_socket.specs.HostCalls.{Given, HostDid, HostFlowsTo, did, in_world}
-use Rattle.delivery.specs.Happenings.{happened_in, told}
+use Rattle.packet_socket.specs.HostCalls.{Given, HostDid, HostFlowsTo, host_did, in_world}
+use Rattle.delivery.specs.Happenings.{happened_in, tick_happenings}
 use Rattle.delivery.specs.TickNumbers.{numbers, noted_numbers}
 use Rattle.host_calls.specs.ConnectedHosts.{ConnectedHost, PlayedCall}
 
--- the last step, if there is one, is an access
+-- The last step, if there is one, is an access.
 abbrev pub EndsWithAccess : List AtomicStep → Type 0
 EndsWithAccess [] = ⊤
 EndsWithAccess (step ∷ []) = ¬ IsNoAccess step
 EndsWithAccess (step ∷ next ∷ later) = EndsWithAccess (next ∷ later)
 
--- Atomic steps lead from one state of all stations to another: those of some ticks, and accesses of one host. The observer was told each
--- tick's outcome in order, with the number of accesses before it. So the list of what happened to frames follows from ticks and outcomes.
+-- The atomic steps of a call lead from one state of all stations to another. They are the ticks of the call and the
+-- accesses of its host. The observer was told each tick's outcome in order, with the number of accesses before the
+-- tick.
 pub record StepsOfCall (call : PlayedCall) (steps : List AtomicStep) (old new : List StationState) : Type 0 where
   pub leads : LeadsTo call.caller steps old new
-  -- the steps that aren't accesses are the ticks that aren't Go, in order
+  -- without accesses and Gos, the steps are the ticks of the call, in order
   pub played : without_go is_go (map tick_of steps) ≡ without_go is_go call.ticks
   -- what the observer was told
   pub heard : call.heard (steps_told 0 steps)
   -- The outcomes, with the ticks, determine what happened to frames.
-  pub said : told call.ticks (noted_of 0 steps) ≡ happened_in steps
-  -- Each outcome has the number of accesses before its tick's group, and at most that of all accesses.
+  pub said : tick_happenings call.ticks (noted_of 0 steps) ≡ happened_in steps
+  -- The number of accesses before each outcome is the number of Gos before its tick, but at most the number of all
+  -- accesses.
   pub numbered : noted_numbers (noted_of 0 steps) ≡ numbers call.ticks 0 call.accesses
   pub counted : call.accesses ≡ counted_of 0 steps
 
--- What the host with number k does during a call.
+-- What host k does during a call.
 pub record HostRuns (k : ℕ) (steps : List AtomicStep) (done : HostDid) (old new : ConnectedHost) : Type 0 where
-  -- the host's frames are sent, held and given in order
+  -- the host's frames are sent, held and returned in order
   pub flows : HostFlowsTo true (in_world old.host (world_at old.stations k)) (in_world new.host (world_at new.stations k)) done
       (past_at k steps)
-  -- each access of the host is one of a host
+  -- each access of the host may be one of a host's call
   pub accesses : All (IsOfHost old.host.driver.layout) (past_at k steps).accesses
-  -- if no work was forgotten before, none is afterwards
+  -- if no work was forgotten before the call, no work is forgotten after it
   pub work : HasNoForgottenWork old.host.driver (world_at old.stations k) → HasNoForgottenWork new.host.driver (world_at new.stations k)
-  -- if the ring was refilled before, it is afterwards
+  -- if the ring was refilled before the call, it is refilled after it
   pub refilled : IsRefilled old.host.driver → IsRefilled new.host.driver
   -- If no slot was staged before the call, no slot is staged after it.
   pub offered : old.host.driver.staged ≡ [] → new.host.driver.staged ≡ []
 
--- No group is joined or left: the groups joined and the driver's setup don't change, and no word of the group table is written.
+-- No group is joined or left: the joined groups and the driver's setup don't change, and no word of the group table is
+-- written.
 pub record GroupsStay (k : ℕ) (steps : List AtomicStep) (old new : ConnectedHost) : Type 0 where
-  -- the groups joined don't change
+  -- the joined groups don't change
   pub groups : new.host.driver.groups ≡ old.host.driver.groups
   -- the driver's setup doesn't change
   pub setup : new.host.driver.setup ≡ old.host.driver.setup
   -- each access is a load, a store, a read of ICR or MPC, or a write of TDT or RDT
   pub accesses : All (IsOfDriver old.host.driver.layout) (past_at k steps).accesses
 
--- A call of a host: the atomic steps that it and its ticks made, and what the host did. Its sockets returned the frames `given`, and it
+-- A call of a host: its atomic steps, and what the host did. The host's sockets returned the frames `given`, and it
 -- accepted the frames `accepted` for sending.
 pub record CallRuns (call : PlayedCall) (given : List Given) (accepted : List (List ℕ)) (old new : ConnectedHost) : Type 0 where
   pub steps : List AtomicStep
   pub of_call : StepsOfCall call steps old.stations new.stations
-  -- the frames that it took off the receive ring
+  -- the frames that the host took off the receive ring
   pub taken : List (List ℕ)
-  pub runs : HostRuns call.caller steps (did taken given accepted) old new
+  pub runs : HostRuns call.caller steps (host_did taken given accepted) old new
   pub last_writes : OnlyLastWrites (past_at call.caller steps).accesses

@@ -10,71 +10,71 @@ use Rattle.stations.specs.AtomicRuns.{LeadsTo, events_at}
 use Rattle.delivery.specs.Happenings.{Moved, happened_in}
 use Rattle.driver_law.specs.Calls.{driver_in, frames_ended}
 use Rattle.packet_socket.specs.HostState.{HostState, all_of}
-use Rattle.packet_socket.specs.HostCalls.{Given, did}
+use Rattle.packet_socket.specs.HostCalls.{Given, host_did}
 use Rattle.host_calls.specs.CallsOfHosts.{GroupsStay, HostRuns}
 use Rattle.host_calls.specs.ConnectedHosts.{ConnectedHost}
 use Rattle.host_calls.specs.DrainedHosts.{IsDrainStep, count_adapter_steps, count_frames, count_left}
 
--- The measure.
+-- The measure
 
 -- 1 if the interrupt line is asserted
 abbrev pub count_line : Interrupts → ℕ
 count_line causes = min 1 (bit_and causes.recorded causes.mask)
 
--- A piece in progress needs at most three more steps: the write-back of its descriptor, an interrupt, and a receive call. If there is none,
--- an asserted line needs one.
+-- The number of steps for a piece in progress, at most three: the write-back of its descriptor, an interrupt, and a
+-- call that returns a frame. If no piece is in progress, an asserted line needs one step.
 abbrev pub count_pending : Option Work → (line : ℕ) → ℕ
 count_pending None line = line
 count_pending (Some work) line = 3
 
--- The greatest number of steps that are left: four for each piece that is still to be moved, those of `count_pending`,
--- and one for each frame that ends in finished slots or is queued.
+-- The greatest number of steps that remain: four for each piece still to be moved, those of `count_pending`, and one
+-- for each frame that is queued or ends in finished slots.
 abbrev pub count_steps : HostState → World → ℕ
 count_steps host world =
     4 * count_left world + count_pending world.adapter.receiver.work (count_line world.adapter.causes)
     + length (frames_ended (driver_in host.driver world)) + length (all_of host.queues)
 
--- one step, or none
+-- 1 if a step was taken, else 0
 abbrev pub steps_of : Bool → ℕ
 steps_of stepped = if stepped then 1 else 0
 
--- Some frames were moved out of the packet buffer, and nothing else happened, at this host only.
+-- Only `count` frames were moved out of the packet buffer of this host, and nothing happened at other hosts.
 pub record DrainMovesFrames (number : ℕ) (played : List AtomicStep) (old new : List StationState) : Type 0 where
   pub count : ℕ
   pub moved : happened_in played ≡ replicate count (Moved number)
   pub buffered : length (world_at old number).adapter.receiver.buffer ≡ count + length (world_at new number).adapter.receiver.buffer
   pub alone : (k : ℕ) → k ≢ number → events_at k played ≡ []
-  -- the registers of the filter, RCTL among them, are unchanged
+  -- the registers of the filter, which include RCTL, are unchanged
   pub filter : (world_at new number).adapter.filter ≡ (world_at old number).adapter.filter
 
--- How the counts change over these steps, in which this number of frames was given.
+-- How the counts change in this number of steps, in which sockets returned `given` frames.
 pub record CountsSteps (steps number given : ℕ) (old new : ConnectedHost) : Type 0 where
-  -- each step makes the measure less by one
+  -- each step reduces the measure by at least one
   pub most : steps + count_steps new.host (world_at new.stations number) ≤ count_steps old.host (world_at old.stations number)
   pub least : given + count_adapter_steps (world_at old.stations number) ≤ steps + count_adapter_steps (world_at new.stations number)
   pub held : given + count_frames new.host (world_at new.stations number) ≤ count_frames old.host (world_at old.stations number)
 
--- These steps of the drain were made, and the host gave these frames.
+-- The first steps of a drain, in which the host's sockets returned these frames.
 pub record StepsOn (steps number : ℕ) (given : List Given) (old new : ConnectedHost) : Type 0 where
   pub played : List AtomicStep
   pub leads : LeadsTo number played old.stations new.stations
   pub only : All (IsDrainStep number) played
   pub taken : List (List ℕ)
-  pub runs : HostRuns number played (did taken given []) old new
+  pub runs : HostRuns number played (host_did taken given []) old new
   pub stay : GroupsStay number played old new
   pub moves : DrainMovesFrames number played old.stations new.stations
   pub counts : CountsSteps steps number (length given) old new
 
--- A sink of a drain: the frames that it has taken, and the number of further frames for which it has room.
-pub record OutletState : Type 0 where
+-- The state of a sink: the frames that it has taken, and the number of further frames for which it has room.
+pub record FrameSinkState : Type 0 where
   pub frames : List Given
   pub room : ℕ
 
-abbrev pub outlet : List Given → ℕ → OutletState
-outlet frames room = record { frames = frames; room = room }
+abbrev pub frame_sink : List Given → ℕ → FrameSinkState
+frame_sink frames room = record { frames = frames; room = room }
 
--- The frames that were returned were appended to a sink, which still has at least the room that they didn't need.
-pub record StepsInto (steps number : ℕ) (before after : OutletState) (old new : ConnectedHost) : Type 0 where
+-- The frames that sockets returned in these steps were appended to the sink, which lost room for at most these frames.
+pub record StepsInto (steps number : ℕ) (before after : FrameSinkState) (old new : ConnectedHost) : Type 0 where
   pub given : List Given
   pub appended : after.frames ≡ before.frames ++ given
   pub room : before.room ≤ after.room + length given

@@ -1,4 +1,4 @@
--- A drained host: its sockets gave all frames that it held for them (our choice).
+-- A drained host: its sockets returned all frames that it held for them (our choice).
 use Rattle.std.specs.Prelude.{◌≡◌, ◌≢◌, ◌≤◌, ◌+◌, ◌-◌, ◌*◌, ◌/◌, ◌<◌, ◌⊎◌, ◌++◌, ◌∷◌}
 use Rattle.std.specs.Prelude.{[]}
 use Rattle.std.specs.Prelude.{ℕ, All, IsTrue, List, length, replicate}
@@ -19,12 +19,12 @@ use Rattle.delivery.specs.Happenings.{Moved, happened_in}
 use Rattle.driver_law.specs.Calls.{HasNoForgottenWork, IsRefilled, sum_limit}
 use Rattle.driver.specs.HandlerSteps.{GrowsBy}
 use Rattle.driver.specs.declared.receiver.Received.{Received}
-use Rattle.packet_socket.specs.HostCalls.{Given, HostReady, did, given_for, held_for_socket, without_socket}
+use Rattle.packet_socket.specs.HostCalls.{Given, HostReady, host_did, given_for, held_for_socket, without_socket}
 use Rattle.packet_socket.specs.HostState.{HostState, all_of}
 use Rattle.host_calls.specs.CallsOfHosts.{GroupsStay, HostRuns}
 use Rattle.host_calls.specs.ConnectedHosts.{ConnectedHost}
 
--- What a drain requires of a host. It holds between any two calls.
+-- What a drain requires of a host.
 pub record CanBeDrained (host : HostState) (world : World) : Type 0 where
   pub ready : HostReady host world
   pub work : HasNoForgottenWork host.driver world
@@ -32,9 +32,9 @@ pub record CanBeDrained (host : HostState) (world : World) : Type 0 where
   pub offered : host.driver.staged ≡ []
   pub enabled : HasBit world.adapter.filter.rctl rctl_en
 
--- Counts.
+-- Counts
 
--- how many frames a host holds: on its receive ring, in its adapter, and in the queues of its sockets
+-- the number of frames that a host holds: in its receive ring, in its receive packet buffer, and in its sockets' queues
 abbrev pub count_frames : HostState → World → ℕ
 count_frames host world = length (frames_held host.driver.oldest_receive world) + length (all_of host.queues)
 
@@ -42,29 +42,28 @@ count_frames host world = length (frames_held host.driver.oldest_receive world) 
 abbrev pub buffers_for : (size : ℕ) → ℕ
 buffers_for size = (size + (receive_buffer_bytes - 1)) / receive_buffer_bytes
 
--- how many pieces these frames have
+-- the number of pieces of these frames
 abbrev pub count_pieces : List (List ℕ) → ℕ
 count_pieces frames = sum_by (λ (frame : List ℕ). buffers_for (length frame)) frames
 
--- how many pieces the frames of these queues have
+-- the number of pieces of the frames in these queues
 abbrev pub count_queued_pieces : List Received → ℕ
 count_queued_pieces list = sum_by (λ (received : Received). buffers_for received.length) list
 
--- how many pieces all frames that a host holds have
+-- the number of pieces of all frames that a host holds
 abbrev pub count_held : HostState → World → ℕ
 count_held host world = count_pieces (frames_held host.driver.oldest_receive world) + count_queued_pieces (all_of host.queues)
 
--- how many pieces of these frames are still to be moved, if this many bytes of the first have been moved
+-- the number of pieces of these frames that are still to be moved, if `moved` bytes of the first frame have been moved
 abbrev pub pieces_left : (moved : ℕ) → List (List ℕ) → ℕ
 pieces_left moved [] = 0
 pieces_left moved (frame ∷ later) = buffers_for (length frame - moved) + count_pieces later
 
--- how many pieces of the frames in the packet buffer are still to be moved
+-- the number of pieces of the frames in the packet buffer that are still to be moved
 abbrev pub count_left : World → ℕ
 count_left world = pieces_left world.adapter.receiver.moved world.adapter.receiver.buffer
 
--- how many adapter steps a host needs: two for each piece that is still to be moved, and one for a piece whose descriptor isn't written
--- back yet
+-- the number of adapter steps that a host needs: two for each piece still to be moved, and one for a piece in progress
 abbrev pub count_adapter_steps : World → ℕ
 count_adapter_steps world = 2 * count_left world + length (in_work world)
 
@@ -75,80 +74,79 @@ pub record HoldsNothing (host : HostState) (world : World) : Type 0 where
   -- no frame waits in a socket's queue
   pub queued : all_of host.queues ≡ []
 
--- The steps that a drain plays: accesses of the host, and RxData and RxDone of its adapter.
+-- The atomic step is an access of the host, or RxData or RxDone of its adapter.
 abbrev pub IsDrainStep : (number : ℕ) → AtomicStep → Type 0
 IsDrainStep number (At host (Accesses access)) = host ≡ number
 IsDrainStep number (At host (Steps kind wire_free answer)) = (host ≡ number) × ((kind ≡ RxData) ⊎ (kind ≡ RxDone))
 IsDrainStep number (At host (Arrives frame fate)) = ⊥
 IsDrainStep number (Idles tick) = ⊥
 
--- The count of misses is unchanged: the sum of those that the driver read and those in MPC, up to the greatest u64. An exact count stays
+-- The count of missed frames doesn't change: the driver's sum plus MPC, up to the greatest u64. An exact count remains
 -- exact.
 pub record KeepsMisses (h : HostState) (a : World) (h' : HostState) (b : World) : Type 0 where
   -- a count below the greatest u64 doesn't change
   pub sum : h.driver.missed + a.adapter.missed_packets < sum_limit
       → h'.driver.missed + b.adapter.missed_packets ≡ h.driver.missed + a.adapter.missed_packets
-  -- a count of at least the greatest u64 stays so
+  -- a count of at least the greatest u64 remains at least the greatest u64
   pub sticks : sum_limit - 1 ≤ h.driver.missed + a.adapter.missed_packets → sum_limit - 1 ≤ h'.driver.missed + b.adapter.missed_packets
-  -- The count is exact if the driver's sum is, MPC is below its greatest value, and the two together fit into a u64.
-  -- For a count that isn't exact, nothing more is stated.
+  -- Let the driver's sum be exact, MPC be below its greatest value, and both together fit into a u64. Then the sum
+  -- remains exact, and MPC remains below its greatest value.
   pub exact :
       IsTrue h.driver.exact → a.adapter.missed_packets < greatest_count → h.driver.missed + a.adapter.missed_packets < sum_limit
       → IsTrue h'.driver.exact × (b.adapter.missed_packets < greatest_count)
 
--- How many steps the drain took: at most four for each piece of the frames that the host held, and one; at least those that its adapter
--- needs, and one for each frame given.
+-- Bounds of the number of steps of a drain.
 pub record AreStepsOf (steps number given : ℕ) (old : ConnectedHost) : Type 0 where
-  -- at most four for each piece of the frames held, and one
+  -- at most four for each piece of the frames that the host held, plus one
   pub at_most : steps ≤ 4 * count_held old.host (world_at old.stations number) + 1
-  -- at least those of the adapter, and one for each frame given
+  -- at least the adapter's steps, plus one for each frame returned
   pub at_least : count_adapter_steps (world_at old.stations number) + given ≤ steps
 
--- These are unchanged: what is to be sent, what waits at each end of a wire, and every other host's adapter and memory.
+-- The frames to be sent, the frames that wait at ends of wires, and every other host's adapter and memory don't change.
 pub record KeepsOthers (number : ℕ) (old new : List StationState) : Type 0 where
-  -- the frames to be sent
+  -- the frames to be sent don't change
   pub to_send : frames_to_send (world_at new number) ≡ frames_to_send (world_at old number)
-  -- the frames that wait at the ends of wires
+  -- the frames that wait at the ends of wires don't change
   pub lines : (k : ℕ) → backlog_at new k ≡ backlog_at old k
-  -- every other host's adapter and memory
+  -- every other host's adapter and memory don't change
   pub others : (k : ℕ) → k ≢ number → world_at new k ≡ world_at old k
 
--- The atomic steps of a drain: each frame of the packet buffer was moved, and nothing else happened but what the host did.
+-- The atomic steps of a drain: what the host did, and that each frame in the packet buffer was moved.
 pub record GoesBy (number : ℕ) (given : List Given) (old new : ConnectedHost) : Type 0 where
   -- the atomic steps
   pub played : List AtomicStep
-  -- the steps lead from the stations before to those afterwards
+  -- the steps lead from the stations before the drain to those after it
   pub leads : LeadsTo number played old.stations new.stations
-  -- each is an access of the host, or an RxData or RxDone step of its adapter; steps that did nothing are among them
+  -- each step is an access of the host, or RxData or RxDone of its adapter
   pub only : All (IsDrainStep number) played
   -- the frames that the driver took
   pub taken : List (List ℕ)
-  -- what the host did meanwhile
-  pub runs : HostRuns number played (did taken given []) old new
+  -- what the host did
+  pub runs : HostRuns number played (host_did taken given []) old new
   -- no group is joined or left
   pub stay : GroupsStay number played old new
   -- each frame of the receive packet buffer was moved to the ring, and nothing else happened
   pub moved : happened_in played ≡ replicate (length (world_at old.stations number).adapter.receiver.buffer) (Moved number)
 
--- A drain of a host gave these frames, in this number of steps.
+-- A drain of a host: its sockets returned the frames `given`, in `steps` steps.
 pub record Drains (steps number : ℕ) (given : List Given) (old new : ConnectedHost) : Type 0 where
   -- the number of steps
   pub steps_are : AreStepsOf steps number (length given) old
-  -- Each socket gave exactly the frames that were held for it, in order, and no frame is held any more.
+  -- Each socket returned exactly the frames that were held for it, in order.
   pub all_given : (socket : ℕ) → given_for socket given ≡ held_for_socket old.host socket (world_at old.stations number)
   -- no frame is held, and every queue is empty
   pub nothing_left : HoldsNothing new.host (world_at new.stations number)
   -- The frames without a socket were counted, up to the greatest u64.
   pub unclaimed : GrowsBy old.host.unclaimed new.host.unclaimed
       (without_socket old.host.kinds (frames_held old.host.driver.oldest_receive (world_at old.stations number)))
-  -- what is to be sent, what waits at ends of wires, and other hosts don't change
+  -- the frames to be sent, the frames that wait at ends of wires, and other hosts don't change
   pub keeps : KeepsOthers number old.stations new.stations
-  -- the count of misses doesn't change
+  -- the count of missed frames doesn't change
   pub misses : KeepsMisses old.host (world_at old.stations number) new.host (world_at new.stations number)
   -- the atomic steps of the drain
   pub by : GoesBy number given old new
 
--- The frames that the drain gave were appended to those that the sink had.
+-- The frames that sockets returned in a drain were appended to the frames in the sink.
 pub record DrainsInto (steps number : ℕ) (before after : List Given) (old new : ConnectedHost) : Type 0 where
   pub given : List Given
   pub appended : after ≡ before ++ given

@@ -1,5 +1,5 @@
--- What the answer of an interrupt handler implies of its adapter (13.4.17 "Interrupt Cause Read Register"; that a
--- handler is called over a lent bus is our choice).
+-- What the answer of an interrupt handler implies about its adapter (13.4.17 "Interrupt Cause Read Register"). That a
+-- handler is called over a lent bus is our choice.
 use Rattle.std.specs.Prelude.{⊤, ◌≡◌, ◌≢◌, ◌⊎◌, ◌++◌, ◌∷◌, [], ℕ, Bool, true, false, List, All}
 use Rattle.registers.specs.Bits.{Meet}
 use Rattle.rx_engine.specs.declared.arrival.Fate.TheVariants.{Missed}
@@ -18,7 +18,8 @@ use Rattle.driver.specs.declared.interrupt.Handled.{Handled}
 use Rattle.driver.specs.declared.interrupt.Handled.TheVariants.{NotMine}
 use Rattle.driver.specs.declared.interrupt.Handled.TheVariants as answers
 
--- The first access among these steps is the caller's read of ICR, which answered these causes. The early steps are those before it.
+-- The first access among these steps is the caller's read of ICR, with the value `causes`. `early` are the steps before
+-- this read.
 pub record ReadsIcrFirst (caller : ℕ) (steps early : List AtomicStep) (causes : ℕ) : Type 0 where
   -- the steps after the read
   pub later : List AtomicStep
@@ -27,64 +28,65 @@ pub record ReadsIcrFirst (caller : ℕ) (steps early : List AtomicStep) (causes 
   -- the early steps are ticks
   pub ticks : All IsTick early
 
--- Whether the piece in progress at an adapter is the last of its frame (`ends`), after an event with this outcome: Moved is of a last
--- piece, Part of another, and after Done no piece is in progress.
+-- Whether the piece in progress is the last of its frame, after an event with this outcome. Moved is the outcome for a
+-- last piece, and Part for another piece. After Done no piece is in progress.
 abbrev pub ends_after : (ends : Bool) → FrameOutcome → Bool
 ends_after ends Moved = true
 ends_after ends Part = false
 ends_after ends Done = false
 ends_after ends outcome = ends
 
--- No frame was put or missed, and no frame's last piece was written back: nothing that sets TXDW, RXO or RXT0. (A piece that
--- was moved may set RXDMT0.)
+-- The outcome records none of TXDW, RXO and RXT0: no frame was put or missed, and no frame's last piece was written
+-- back. `ends` states whether the piece in progress is the last of its frame.
 abbrev pub IsQuietOutcome : (ends : Bool) → FrameOutcome → Type 0
 IsQuietOutcome ends (Put frame) = ⊥
 IsQuietOutcome ends Done = ends ≡ false
 IsQuietOutcome ends (Delivered frame Missed) = ⊥
 IsQuietOutcome ends outcome = ⊤
 
--- The outcomes of these events are quiet (`IsQuietOutcome`), one after the other.
+-- The outcomes of these events are quiet (`IsQuietOutcome`), in order.
 abbrev pub AreQuietEvents : (ends : Bool) → List Event → Type 0
 AreQuietEvents ends [] = ⊤
 AreQuietEvents ends (event ∷ later) =
     IsQuietOutcome ends (outcome_of_event event) × AreQuietEvents (ends_after ends (outcome_of_event event)) later
 
--- At the caller one of the early steps did something.
+-- One of the early steps is an event at the caller with an outcome other than Nothing.
 pub record DidSomething (caller : ℕ) (early : List AtomicStep) : Type 0 where
-  -- the steps before it
+  -- the steps before this event
   pub before : List AtomicStep
-  -- what happened
+  -- the event
   pub event : Event
-  -- the steps after it
+  -- the steps after this event
   pub behind : List AtomicStep
   -- this event is one of the early steps
   pub split : early ≡ before ++ At caller event ∷ behind
   -- the outcome of the event isn't Nothing
   pub something : outcome_of_event event ≢ Nothing
 
--- When the call began no cause was recorded that a driver handles, and no early step at the caller put a frame, missed one, or wrote back
--- the last piece of one.
+-- When the call began, no cause that a driver handles was recorded. No early step at the caller put a frame on the
+-- wire, missed a frame, or wrote back the last piece of a frame.
 abbrev pub WasQuiet : (caller : ℕ) → AdapterState → (early : List AtomicStep) → Type 0
 WasQuiet caller adapter early =
     (¬ (Meet adapter.causes.recorded handled_causes)) × AreQuietEvents (is_ending adapter.receiver.work) (events_at caller early)
 
--- When the call began a cause was recorded that a driver handles, or an early step at the caller did something.
+-- A cause that a driver handles was recorded when the call began, or an early step or delivery at the caller had an
+-- outcome other than Nothing.
 abbrev pub HadCause : (caller : ℕ) → AdapterState → (early : List AtomicStep) → Type 0
 HadCause caller adapter early = Meet adapter.causes.recorded handled_causes ⊎ DidSomething caller early
 
--- The first access reads ICR, with the value `causes`. `mine` and `quiet` state what this implies of the caller's
--- adapter when the call began, and of the steps before the read (`early`).
+-- The first access reads ICR, with the value `causes`. `mine` and `quiet` state what this value implies about the
+-- caller's adapter when the call began, and about the steps before the read (`early`).
 pub record TellsCauses (caller : ℕ) (steps : List AtomicStep) (causes : ℕ) (adapter : AdapterState) : Type 0 where
   -- the steps before the read
   pub early : List AtomicStep
-  -- ICR is read after them
+  -- ICR is read after these steps
   pub first : ReadsIcrFirst caller steps early causes
   -- if the value has no cause that a driver handles, `WasQuiet` holds
   pub quiet : ¬ (Meet causes handled_causes) → WasQuiet caller adapter early
   -- if the value has a cause that a driver handles, `HadCause` holds
   pub mine : Meet causes handled_causes → HadCause caller adapter early
 
--- what the result of an interrupt implies of the adapter and of the steps before the read of ICR
+-- What the result of an interrupt handler implies about the adapter and about the steps before the read of ICR.
 abbrev pub AnswersCauses : Handled → (caller : ℕ) → AdapterState → (early : List AtomicStep) → Type 0
 AnswersCauses NotMine = WasQuiet
 AnswersCauses (answers.Handled taken) = HadCause

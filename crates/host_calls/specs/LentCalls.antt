@@ -1,7 +1,7 @@
 -- Calls over a lent bus.
 use Rattle.std.specs.Prelude.{⊤}
 use Rattle.bus.specs.declared.bus.Bus.{Ghosts}
-use Rattle.stations.specs.Retelling.{Retells, SameLent, bytes_here, world_here}
+use Rattle.stations.specs.LentBuses.{HappenedLent, SameLent, bytes_here, world_here}
 use Rattle.stations.specs.declared.lent_bus.LentBus.{LentBus}
 use Rattle.stations.specs.declared.observer.Observer.{Ghosts as OfObserver}
 
@@ -12,6 +12,6 @@ lent = record {
   honest = λ bus. ⊤;
   lively = λ bus. ⊥;
   world = world_here;
-  happened = Retells;
+  happened = HappenedLent;
   lent_stays = SameLent;
 }

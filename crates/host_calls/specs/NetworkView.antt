@@ -1,4 +1,4 @@
--- How a `Network` keeps its hosts and their stations (our choice).
+-- How `Network` stores its hosts and their stations (our choice).
 use Rattle.std.specs.Prelude.{◌≡◌, length}
 use Rattle.host_calls.specs.Networks.{NetworkState}
 use Rattle.host_calls.specs.declared.network.Network.TheInside.{Inside}

@@ -5,18 +5,18 @@ use Rattle.packet_socket.specs.HostState.{HostState, new_host}
 use Rattle.stations.specs.Stations.{StationState}
 use Rattle.host_calls.specs.ConnectedHosts.{ConnectedHost, connected}
 
--- A host is a driver with its sockets. Hosts are numbered from 0; the k-th station is the k-th host's.
+-- The hosts of a network, numbered from 0, and their stations. The k-th station is that of the k-th host.
 pub record NetworkState : Type 0 where
   -- the hosts
   pub hosts : List HostState
-  -- their adapters and memories, with their ends of wires
+  -- the stations of the hosts
   pub stations : List StationState
 
 -- This host is the k-th.
 abbrev pub IsHost : NetworkState → (k : ℕ) → HostState → Type 0
 IsHost network k host = slice_get network.hosts k ≡ Some host
 
--- The driver of a host that isn't there: it has no slots, no buffers and no groups.
+-- The driver of a host that doesn't exist: it has no slots, no buffers and no groups
 
 abbrev pub no_driver : DriverState
 no_driver = record {
@@ -46,6 +46,6 @@ nth_host network k = host_or_empty (slice_get network.hosts k)
 abbrev pub connected_at : NetworkState → (k : ℕ) → ConnectedHost
 connected_at network k = connected (nth_host network k) network.stations
 
--- Of all hosts only the k-th changes: its driver and sockets. The other clauses of a call state what stations do.
+-- Of all drivers and sockets, only those of the k-th host change. Stations may change.
 abbrev pub OnlyHostChanges : (k : ℕ) → (old new : NetworkState) → Type 0
 OnlyHostChanges k old new = new.hosts ≡ slice_set old.hosts k (nth_host new k)

@@ -1,5 +1,5 @@
--- What is noted of the ticks of a reset: how many frames its host put by outcomes with numbers up to 2, and which it stored by outcomes
--- with number 0 (our choice).
+-- Notes of the ticks of a reset (our choice): the number of frames that the host put after at most 2 accesses, and the
+-- frames stored before the first access.
 use Rattle.std.specs.Prelude.{◌≡◌, ◌≤◌, ◌+◌, ◌++◌, ◌&&◌, ◌==◌, [], ◌∷◌, ℕ, Bool, false, List, length, min, nat_le, take, if◌then◌else◌}
 use Rattle.std.specs.List.{flat_map}
 use Rattle.rx_engine.specs.declared.arrival.Fate.TheVariants.{Stored}
@@ -10,38 +10,39 @@ use Rattle.stations.specs.declared.tick.Tick.{Tick}
 use Rattle.stations.specs.declared.tick.Tick.TheVariants.{Deliver, Go, Step}
 use Rattle.stations.specs.ToldTicks.{TickTold}
 
--- whether the tick is one of this host
-abbrev pub is_of : (host : ℕ) → Tick → Bool
-is_of host Go = false
-is_of host (Step other kind) = other == host
-is_of host (Deliver other) = other == host
+-- whether the tick is a step or a delivery at this host
+abbrev pub is_of_host : (host : ℕ) → Tick → Bool
+is_of_host host Go = false
+is_of_host host (Step other kind) = other == host
+is_of_host host (Deliver other) = other == host
 
--- the frame that was put, if one was
+-- the frame that was put, if any, as a list
 abbrev pub frames_put : FrameOutcome → List (List ℕ)
 frames_put (Put frame) = frame ∷ []
 frames_put outcome = []
 
--- the frame that was stored, if one was
+-- the frame that was stored, if any, as a list
 abbrev pub frames_stored : FrameOutcome → List (List ℕ)
 frames_stored (Delivered frame Stored) = frame ∷ []
 frames_stored outcome = []
 
--- the frame that a host put, if the outcome has a number up to 2
+-- the frame that the host put, if at most 2 accesses came before the tick
 abbrev pub early_put : (host : ℕ) → TickTold → List (List ℕ)
-early_put host told = if is_of host told.tick && nat_le told.accesses 2 then frames_put told.outcome else []
+early_put host told = if is_of_host host told.tick && nat_le told.accesses 2 then frames_put told.outcome else []
 
--- the frame that the host stored, if the outcome has number 0
+-- the frame that the host stored, if no access came before the tick
 abbrev pub first_stored : (host : ℕ) → TickTold → List (List ℕ)
-first_stored host told = if is_of host told.tick && told.accesses == 0 then frames_stored told.outcome else []
+first_stored host told = if is_of_host host told.tick && told.accesses == 0 then frames_stored told.outcome else []
 
--- The notes. The count saturates at the greatest u64, and the list has at most `most` frames.
+-- The notes of a host's ticks: the number of frames that the host put, up to the greatest u64, and a list of at most
+-- `most` frames that the host held.
 pub record Notes : Type 0 where
   pub host : ℕ
   pub most : ℕ
   pub put : ℕ
   pub holding : List (List ℕ)
 
-pub record AreWithin (notes : Notes) : Type 0 where
+pub record NotesFit (notes : Notes) : Type 0 where
   pub put : notes.put ≤ most_accesses
   pub holding : length notes.holding ≤ notes.most
 
@@ -56,8 +57,8 @@ noted_after told before = record {
 
 pub record Noting (before after : Notes) (told : List TickTold) : Type 0 where
   pub notes : after ≡ noted_after told before
-  pub within : AreWithin after
+  pub within : NotesFit after
 
 -- The ticks that were told were noted.
 abbrev pub NotesTicks : Notes → Notes → List TickTold → Type 0
-NotesTicks before after told = AreWithin before → Noting before after told
+NotesTicks before after told = NotesFit before → Noting before after told

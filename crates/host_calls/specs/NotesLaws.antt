@@ -29,9 +29,9 @@ notes_stay a within = record {
   within = within;
 }
 
-pub notes_join : (a b c : Notes) (first later : List TickTold) → NotesTicks a b first → NotesTicks b c later
+pub reset_notes_join : (a b c : Notes) (first later : List TickTold) → NotesTicks a b first → NotesTicks b c later
     → NotesTicks a c (first ++ later)
-notes_join a b c first later one two within =
+reset_notes_join a b c first later one two within =
     let here = one within in
     let there = two here.within in
     let puts = flat_map-append (early_put a.host) first later in

@@ -12,19 +12,19 @@ use Rattle.driver_law.specs.DriverState.{DriverSetup}
 use Rattle.bring_up.specs.RingRegisters.{receive_control}
 use Rattle.driver.specs.Resetting.{free_accesses, later_accesses, quiet_writes}
 
--- host k writes a register
+-- the atomic step in which host k writes a register
 abbrev pub writes_at : (k offset value : ℕ) → AtomicStep
 writes_at k offset value = At k (Accesses (Writes offset value))
 
--- The steps between the three writes.
+-- The atomic steps before, between and after the three writes.
 pub record ResetParts : Type 0 where
-  -- ticks, before RCTL is written: the outcomes with number 0
+  -- the ticks before RCTL is written with 0: no access comes before them
   pub early : List AtomicStep
-  -- the steps from there until CTRL.RST is written: the outcomes with numbers 1 and 2
+  -- the steps between the write of 0 to RCTL and the write of CTRL.RST: 1 or 2 accesses come before their ticks
   pub stopping : List AtomicStep
-  -- the steps from there until RCTL is written again: the outcomes with numbers from 3 on, less than the number of accesses then
+  -- the steps between the write of CTRL.RST and the second write of RCTL: at least 3 accesses come before their ticks
   pub resting : List AtomicStep
-  -- the steps after RCTL is written again
+  -- the steps after the second write of RCTL
   pub later : List AtomicStep
 
 -- the step in which RCTL is written with 0
@@ -39,7 +39,7 @@ before_reset k parts = parts.early ++ disable_of k ∷ parts.stopping
 abbrev pub reset_of : (k : ℕ) → AtomicStep
 reset_of k = writes_at k CTRL (alone ctrl_rst)
 
--- the step in which RCTL is written again
+-- the step in which RCTL is written the second time
 abbrev pub enable_of : (k : ℕ) → DriverSetup → AtomicStep
 enable_of k setup = writes_at k RCTL (receive_control setup.promiscuous setup.by_vlan)
 
@@ -51,8 +51,7 @@ at_rest k setup parts = reset_of k ∷ (parts.resting ++ enable_of k setup ∷ [
 abbrev pub whole_reset : (k : ℕ) → DriverSetup → ResetParts → List AtomicStep
 whole_reset k setup parts = before_reset k parts ++ (at_rest k setup parts ++ parts.later)
 
--- what a driver reads and stores in a reset, besides what its setup determines: the values of MPC and ICR, the words of
--- the group table and of the VLAN table, and the numbers of the buffers that it offers
+-- Values that a driver reads, writes and stores in a reset, besides those that its setup determines.
 pub record ResetValues : Type 0 where
   -- the value read from MPC
   pub misses : ℕ
@@ -65,14 +64,14 @@ pub record ResetValues : Type 0 where
   -- the buffers of the slots offered
   pub numbers : List ℕ
 
--- The accesses of each part, in order. With the three writes between the parts they are all accesses of the reset.
+-- The accesses of each part, in order. Together with the three writes they are all accesses of the reset.
 pub record PartsAccess (k : ℕ) (counts : Counts) (setup : DriverSetup) (values : ResetValues) (parts : ResetParts) : Type 0 where
-  -- before RCTL is 0, no other access
+  -- before RCTL is written with 0, there is no access
   pub early : (past_at k parts.early).accesses ≡ []
-  -- before CTRL.RST, MPC is read
+  -- before CTRL.RST is written, MPC is read
   pub stopping : (past_at k parts.stopping).accesses ≡ Reads MPC values.misses ∷ []
-  -- before RCTL is written again, the registers are set up, and slots are stored and offered
+  -- before RCTL is written again, the registers are set up, and receive slots are offered
   pub resting : (past_at k parts.resting).accesses ≡ Writes IMC 0xFFFFFFFF ∷ Reads ICR values.causes
       ∷ quiet_writes setup counts values.groups values.vlans ++ free_accesses counts values.numbers
-  -- afterwards, the registers of the transmit ring, TCTL and IMS are written
+  -- after that, the transmit side is set up and IMS is written
   pub later : (past_at k parts.later).accesses ≡ later_accesses counts

@@ -2,7 +2,7 @@
 
 ghost use Rattle.std.specs.Prelude.{◌≤◌, ◌<◌, length};
 ghost use Rattle.stations.specs.Stations.{world_at};
-ghost use Rattle.packet_socket.specs.CallEffects.{IsLegalAnswer, KeepsRest, answer_in, request_of};
+ghost use Rattle.packet_socket.specs.CallEffects.{IsLegalAnswer, KeepsRest, answer_in, call_request};
 ghost use Rattle.packet_socket.specs.HostCalls.{HostReady};
 ghost use Rattle.host_calls.specs.ConnectedHosts.{played_call};
 ghost use Rattle.host_calls.specs.CallsInSteps.{MakesCall};
@@ -15,16 +15,16 @@ use stations::{LentBus, Observer, Tick};
 /// The answer of a call, and the number of its accesses.
 #[derive(Debug, Drop)]
 pub struct Called {
-    /// The answer. If a socket returned a frame, it contains the frame's size in bytes.
+    /// The answer. If a socket returned a frame, the answer contains the frame's size in bytes.
     pub answer: HostAnswer<usize>,
-    /// The number of accesses, up to the greatest `u64`.
+    /// The number of accesses; it saturates at the greatest `u64`.
     pub accesses: u64,
 }
 
 impl Network {
     /// Makes a call of host `number`, while ticks are played on all stations. A frame that a socket returns is copied
     /// to the front of `into`. The bytes of `into` after the frame don't change; if no frame is returned, no byte
-    /// changes. The call has the effect of its answer, as over a bus (`does`). No other host changes; ticks may change
+    /// changes. The call has the effect of its answer. No driver or socket of another host changes; ticks may change
     /// all stations.
     #[inline(always)]
     pub fn call<O: Observer>(
@@ -40,7 +40,7 @@ impl Network {
         requires room { length ticks.now ≤ O.room_left observer.old }
         ensures does { MakesCall
             (played_call number ticks.now (O.heard observer.old observer.new) result.accesses)
-            (request_of call.entry) (answer_in into.new result.answer)
+            (call_request call.entry) (answer_in into.new result.answer)
             (connected_at self.old number) (connected_at self.new number) }
         ensures legal { IsLegalAnswer result.answer }
         ensures rest { KeepsRest result.answer into.old into.new }

@@ -5,13 +5,14 @@ ghost use Rattle.host_calls.specs.CausesLaws.{EarlyOutcomesBearZero, FirstReadsS
 
 use stations::Observer;
 
-/// An interrupt handler reads ICR by its first access.
-/// - `answers`: it answers `NotMine` only if no cause that a driver handles was recorded when it was called, and no
-///   step before that access put a frame of this host on the wire, missed one, or wrote back the last piece of one. It
-///   answers `Handled` only if such a cause was recorded, or a step of this host before that access did something.
-/// - `calls`: the same holds of the value of ICR, if a host that is ready reads it first over a lent bus.
-/// - `stay`: the first access is the first, whatever follows.
-/// - `zero`: the outcomes with number 0 are those of the steps before it.
+/// An interrupt handler reads ICR first. Its answer determines what happened before this read.
+/// - `answers`: if the handler answers `NotMine`, no cause that a driver handles was recorded when the handler was
+/// called. Before the read, no step or delivery at this host put a frame on the wire, missed a frame, or wrote back the
+/// last piece of a frame. If the handler answers `Handled`, such a cause was recorded then, or a step or a delivery at
+/// this host before the read had an outcome other than `Nothing`.
+/// - `calls`: the same holds for the value of ICR, if a host that is ready reads ICR first over a lent bus.
+/// - `stay`: the first read of ICR in some steps remains the first read if further steps follow.
+/// - `zero`: the outcomes with 0 accesses before them are those of the steps before the read.
 pub fn answers_tell_causes<O: Observer>()
     ensures answers { AnswersTellCauses }
     ensures calls { CallsTellCauses O.Observer }

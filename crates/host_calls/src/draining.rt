@@ -7,9 +7,9 @@ ghost use Rattle.packet_socket.specs.HostState.{all_of, queue_at};
 ghost use Rattle.stations.specs.Stations.{world_at};
 ghost use Rattle.host_calls.specs.DrainedHosts.{CanBeDrained, DrainsInto, HoldsNothing, count_frames};
 ghost use Rattle.host_calls.specs.Networks.{OnlyHostChanges, connected_at, nth_host};
-ghost use Rattle.host_calls.specs.DrainSteps.{StepsInto, StepsOn, outlet, steps_of};
+ghost use Rattle.host_calls.specs.DrainSteps.{StepsInto, StepsOn, frame_sink, steps_of};
 
-use crate::Outlet;
+use crate::FrameSink;
 use crate::network::Network;
 use adapter::{Outcome, StepKind};
 use descriptors::Frame;
@@ -32,14 +32,14 @@ fn first_waiting(host: &Host) -> Option<usize>
 }
 
 impl Network {
-    /// Drains a host: passes each frame that it holds for its sockets to `sink`, and returns the number of steps. No
-    /// tick is played in its calls. `sink` keeps the room that it doesn't need.
+    /// Drains a host: passes each frame that the host holds for its sockets to `sink`, and returns the number of steps.
+    /// No tick is played in the calls of the host.
     ///
     /// Each step is the first of these that applies. If a piece of a frame is in progress, the host's adapter writes
-    /// back its descriptor. If the interrupt line is asserted, the host handles an interrupt. If a frame waits for a
-    /// socket, the first such socket gives its oldest. If the receive packet buffer has a frame, the adapter moves the
-    /// next piece of its oldest to the ring.
-    pub fn drain<S: Outlet>(&mut self, number: usize, sink: &mut S) -> u64
+    /// back the descriptor of the piece. If the interrupt line is asserted, the host handles an interrupt. If a frame
+    /// is queued for a socket, the first such socket returns its oldest frame. If the receive packet buffer contains a
+    /// frame, the adapter moves the next piece of the oldest frame to memory.
+    pub fn drain<S: FrameSink>(&mut self, number: usize, sink: &mut S) -> u64
         requires there { number < length self.old.hosts }
         requires stands { CanBeDrained (nth_host self.old number) (world_at self.old.stations number) }
         requires room { (nth_host self.old number).driver.layout.buffers + MOST_FRAMES ≤ S.room_left sink.old }
@@ -57,16 +57,16 @@ impl Network {
         steps
     }
 
-    /// The next step of a drain, if one applies: else nothing is held. A frame that a socket returns is first copied to
-    /// `bytes`. Only this host and its station change, and no end of a wire.
-    fn step<S: Outlet>(&mut self, number: usize, bytes: &mut [u8; 1518], sink: &mut S) -> bool
+    /// Takes the next step of a drain. Returns `false` if no step applies: then the host holds no frame. A frame that a
+    /// socket returns is first copied to `bytes`. Only this host and its station change, and no end of a wire changes.
+    fn step<S: FrameSink>(&mut self, number: usize, bytes: &mut [u8; 1518], sink: &mut S) -> bool
         requires there { number < length self.old.hosts }
         requires stands { CanBeDrained (nth_host self.old number) (world_at self.old.stations number) }
         requires room { IsAdapter (world_at self.old.stations number).adapter
             → count_frames (nth_host self.old number) (world_at self.old.stations number) ≤ S.room_left sink.old }
         ensures adapter { IsAdapter (world_at self.old.stations number).adapter }
-        ensures steps { StepsInto (steps_of result) number (outlet (S.frames sink.old) (S.room_left sink.old))
-            (outlet (S.frames sink.new) (S.room_left sink.new))
+        ensures steps { StepsInto (steps_of result) number (frame_sink (S.frames sink.old) (S.room_left sink.old))
+            (frame_sink (S.frames sink.new) (S.room_left sink.new))
             (connected_at self.old number) (connected_at self.new number) }
         ensures ends { result ≡ false → HoldsNothing (nth_host self.new number) (world_at self.new.stations number) }
         ensures others { OnlyHostChanges number self.old self.new }
@@ -99,7 +99,7 @@ impl Network {
     }
 
     /// The second kind of step: the host handles an interrupt, without ticks. Only this host and its station change,
-    /// and no end of a wire.
+    /// and no end of a wire changes.
     fn handle(&mut self, number: usize, bytes: &mut [u8; 1518])
         requires there { number < length self.old.hosts }
         requires stands { CanBeDrained (nth_host self.old number) (world_at self.old.stations number) }
@@ -112,9 +112,9 @@ impl Network {
         self.call(number, HostCall::Interrupt, &[], &mut Nobody, bytes);
     }
 
-    /// The third kind of step: the host passes the oldest frame that waits for a socket to the sink, without ticks. The
-    /// frame is first copied to `bytes`.
-    fn give<S: Outlet>(
+    /// The third kind of step: a socket returns its oldest frame, without ticks, and the frame is passed to the sink.
+    /// The frame is first copied to `bytes`.
+    fn give<S: FrameSink>(
         &mut self,
         number: usize,
         socket: usize,
@@ -127,8 +127,8 @@ impl Network {
         requires known { socket < length (nth_host self.old number).kinds }
         requires waits { queue_at (nth_host self.old number).queues socket ≢ [] }
         requires room { 0 < S.room_left sink.old }
-        ensures steps { StepsInto 1 number (outlet (S.frames sink.old) (S.room_left sink.old))
-            (outlet (S.frames sink.new) (S.room_left sink.new))
+        ensures steps { StepsInto 1 number (frame_sink (S.frames sink.old) (S.room_left sink.old))
+            (frame_sink (S.frames sink.new) (S.room_left sink.new))
             (connected_at self.old number) (connected_at self.new number) }
         ensures others { OnlyHostChanges number self.old self.new }
     {
@@ -140,8 +140,8 @@ impl Network {
         }
     }
 
-    /// The last kind of step: the adapter moves the next piece of the oldest frame out of the packet buffer, if there
-    /// is one.
+    /// The last kind of step: the adapter moves the next piece of the oldest frame in the packet buffer to memory, if
+    /// there is a frame.
     fn move_piece(&mut self, number: usize) -> bool
         requires there { number < length self.old.hosts }
         requires stands { CanBeDrained (nth_host self.old number) (world_at self.old.stations number) }
@@ -154,7 +154,7 @@ impl Network {
         ensures ends { result ≡ false → HoldsNothing (nth_host self.new number) (world_at self.new.stations number) }
         ensures hosts { self.new.hosts ≡ self.old.hosts }
     {
-        // Calls of the layout, so that the clauses may rest on its sizes: at least one slot is offered.
+        // From these calls, the proof knows the layout's sizes. So it knows that at least one slot is offered.
         let layout = self.hosts[number].layout();
         let _sizes = (layout.rx(), layout.buffers());
         matches!(

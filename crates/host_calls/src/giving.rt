@@ -1,11 +1,11 @@
-// What is noted of the ticks of a reset.
+// Notes of the ticks of a reset.
 
 ghost use Rattle.std.specs.Prelude.{◌≡◌, ◌≤◌, ◌∷◌, [], length, vec_capacity};
 ghost use Rattle.adapter.specs.Outcomes.{with_frame};
 ghost use Rattle.descriptors.specs.Frames.{longest_frame};
 ghost use Rattle.stations.specs.ToldTicks.{tick_told};
 ghost use Rattle.host_calls.specs.Notes as notes;
-ghost use Rattle.host_calls.specs.Notes.{AreWithin, NotesTicks};
+ghost use Rattle.host_calls.specs.Notes.{NotesFit, NotesTicks};
 
 use adapter::Outcome;
 use descriptors::Frame;
@@ -13,12 +13,13 @@ use rx_engine::Fate;
 use stations::{Observer, Tick};
 use std::marker::Model;
 
-/// The number of accesses before CTRL.RST is written: outcomes with a greater number don't count as put.
+/// The number of accesses before the write of CTRL.RST. Frames that are put after more accesses aren't counted.
 const BEFORE_RESET: u64 = 2;
 
-/// How many frames a host put before CTRL.RST was written, and which it stored before its receiver was disabled.
+/// Notes of a reset: the number of frames that the host put before CTRL.RST was written, and a list of frames. The list
+/// contains the frames held at the beginning, and then those stored before the receiver was disabled.
 ///
-/// In contracts it is a `Notes`, plain data that `specs/Notes.antt` lists.
+/// In contracts, the value is a `Notes` (`specs/Notes.antt`).
 #[derive(Drop)]
 pub(crate) struct Noted {
     host: usize,
@@ -32,15 +33,15 @@ impl Model for Noted {
 
     ghost Value = { Notes };
 
-    ghost use Rattle.host_calls.specs.NotesView.{HasRoom, notes_of};
+    ghost use Rattle.host_calls.specs.NotesView.{NotesHaveRoom, notes_of};
 
     ghost view = { notes_of };
 
-    ghost invariant = { HasRoom };
+    ghost invariant = { NotesHaveRoom };
 }
 
 impl Noted {
-    /// No tick is noted yet. Frames are appended to `holding`, up to `most` in all.
+    /// Notes of no ticks. Stored frames are appended to `holding`, up to `most` frames in all.
     pub(crate) fn new(host: usize, most: usize, holding: Vec<Frame>) -> Noted
         requires room { most ≤ vec_capacity holding }
         requires fits { length holding.items ≤ most }
@@ -50,7 +51,7 @@ impl Noted {
           put = 0;
           holding = holding.items;
         } }
-        ensures within { AreWithin result }
+        ensures within { NotesFit result }
     {
         Noted {
             host,
@@ -78,7 +79,7 @@ impl Noted {
         }
     }
 
-    /// The number of frames put, and the list.
+    /// The number of frames put, and the list of frames held.
     pub(crate) fn into_parts(self) -> (u64, Vec<Frame>)
         ensures put { result.0 ≡ self.put }
         ensures holding { result.1.items ≡ self.holding }
@@ -87,9 +88,9 @@ impl Noted {
     }
 }
 
-/// Whether a tick is one of this host.
+/// Whether a tick is a step or a delivery at this host.
 fn is_of(host: usize, tick: Tick) -> bool
-    ensures { result ≡ notes.is_of host tick }
+    ensures { result ≡ notes.is_of_host host tick }
 {
     match tick {
         Tick::Go => false,
@@ -97,7 +98,7 @@ fn is_of(host: usize, tick: Tick) -> bool
     }
 }
 
-/// An observer of the ticks of a reset. It passes on what it is told, and also takes notes.
+/// An observer of the ticks of a reset. It passes what it is told to another observer, and also takes notes.
 #[derive(Drop)]
 pub(crate) struct Giving<'a, O: Observer> {
     pub(crate) observer: &'a mut O,

@@ -1,6 +1,7 @@
 // Hosts on wires, as one type.
 
-ghost use Rattle.std.specs.Prelude.{◌≡◌, ◌≤◌, ◌<◌, ◌↔◌, ◌++◌, ◌∷◌, [], length, IfOk, IfSome, IsNone, OnErr};
+ghost use Rattle.std.specs.Prelude.{◌≡◌, ◌≤◌, ◌<◌, ◌↔◌, ◌++◌, ◌∷◌, [], length, vec_capacity};
+ghost use Rattle.std.specs.Prelude.{IfOk, IfSome, IsNone, OnErr};
 ghost use Rattle.bus.specs.TickGroups.{without_go};
 ghost use Rattle.stations.specs.AtomicRuns.{is_go};
 ghost use Rattle.stations.specs.AtomicSteps.{PlaysNoted, watched};
@@ -14,9 +15,9 @@ use std::alloc::{AllocError, Global};
 use std::marker::Model;
 
 /// Hosts on wires. Each host is a driver with its sockets, and has a station: its machine, and its end of a wire. Hosts
-/// have numbers, in the order in which they were connected.
+/// are numbered in the order in which they were connected.
 ///
-/// In contracts it is a `NetworkState`, plain data that `specs/Networks.antt` lists.
+/// In contracts, the value is a `NetworkState` (`specs/Networks.antt`).
 #[derive(Drop)]
 pub struct Network {
     pub(crate) hosts: Vec<Host>,
@@ -33,6 +34,39 @@ impl Model for Network {
     ghost view = { network_in };
 
     ghost invariant = { HasStations };
+}
+
+/// Makes room for one more host, and appends a station with this machine on this wire.
+///
+/// # Errors
+///
+/// Only if memory can't be allocated. After this error, nothing has changed.
+fn connect_station(
+    hosts: &mut Vec<Host>,
+    stations: &mut Stations,
+    alloc: Global,
+    machine: Machine,
+    wire: usize,
+) -> Result<(), AllocError>
+    ensures room { IfOk result (λ done. length hosts.new.items < vec_capacity hosts.new) }
+    ensures hosts { hosts.new.items ≡ hosts.old.items }
+    ensures connected { IfOk result (λ done. stations.new ≡ stations.old ++ record {
+      world = machine.world;
+      wire = wire;
+      backlog = [];
+    } ∷ []) }
+    ensures err { OnErr result (stations.new ≡ stations.old) }
+{
+    hosts.reserve(1)?;
+    stations.connect(alloc, machine, wire)
+}
+
+/// Appends a host to a list that has room for it.
+fn append(hosts: &mut Vec<Host>, host: Host)
+    requires room { length hosts.old.items < vec_capacity hosts.old }
+    ensures { hosts.new.items ≡ hosts.old.items ++ host ∷ [] }
+{
+    let _ = hosts.push(host);
 }
 
 impl Network {
@@ -71,9 +105,8 @@ impl Network {
         }) }
         ensures err { OnErr result (self.new ≡ self.old) }
     {
-        self.hosts.reserve(1)?;
-        self.stations.connect(alloc, machine, wire)?;
-        let _ = self.hosts.push(host);
+        connect_station(&mut self.hosts, &mut self.stations, alloc, machine, wire)?;
+        append(&mut self.hosts, host);
         Ok(())
     }
 
@@ -84,7 +117,7 @@ impl Network {
         self.hosts.len()
     }
 
-    /// A host, if it is there.
+    /// The host with this number, if it exists.
     pub fn host(&self, number: usize) -> Option<&Host>
         ensures none { IsNone result ↔ (length self.now.hosts ≤ number) }
         ensures some { IfSome result (λ host. host.now ≡ nth_host self.now number) }
@@ -110,7 +143,8 @@ impl Network {
         self.stations.play(tick, accesses, observer);
     }
 
-    /// Plays all ticks but each `Go`, outside a call. The observer is told each outcome, with this number of accesses.
+    /// Plays all ticks except each `Go`, outside a call. The observer is told each outcome, with this number of
+    /// accesses.
     pub fn play_rest<O: Observer>(&mut self, ticks: &[Tick], accesses: u64, observer: &mut O)
         requires room { length ticks.now ≤ O.room_left observer.old }
         ensures plays { PlaysTicks O.Observer (without_go is_go ticks.now) accesses

@@ -18,31 +18,31 @@ use rx_engine::MOST_FRAMES;
 use stations::{LentBus, Observer, Tick};
 use std::alloc::{AllocError, Global};
 
-/// The number of accesses of a reset up to the write of RCTL that enables the receiver, that one counted, without the
-/// one for each descriptor of the receive ring.
+/// The number of accesses of a reset up to and including the write of RCTL that enables the receiver. The stores of
+/// receive descriptors aren't counted.
 const OTHER_ACCESSES: u64 = 302;
 
-/// The frames that a reset of a host gives up.
+/// The frames that are lost in a reset of a host.
 #[derive(Debug, Drop)]
 pub struct GivenUp {
-    /// The frames that were to be sent, oldest first.
+    /// The frames that were to be sent, the oldest first.
     pub sending: Vec<Frame>,
-    /// The frames that were held, oldest first.
+    /// The received frames that were held, the oldest first.
     pub holding: Vec<Frame>,
 }
 
 /// The result of a reset.
 #[derive(Debug, Drop)]
 pub struct WasReset {
-    /// The frames that the reset gave up.
+    /// The frames that were lost in the reset.
     pub given_up: GivenUp,
-    /// The number of accesses when RCTL was written again.
+    /// The number of accesses up to and including the write of RCTL that enabled the receiver.
     pub on_after: u64,
-    /// The number of all accesses, up to the greatest `u64`.
+    /// The number of all accesses; it saturates at the greatest `u64`.
     pub accesses: u64,
 }
 
-/// Removes `count` frames from the front of a list, or all if it has fewer.
+/// Removes `count` frames from the front of a list, or all frames if it has fewer.
 fn drop_first(frames: &mut Vec<Frame>, count: u64)
     ensures { frames.new.items ≡ drop (min (length frames.old.items) count) frames.old.items }
 {
@@ -51,8 +51,8 @@ fn drop_first(frames: &mut Vec<Frame>, count: u64)
 }
 
 impl Network {
-    /// The frames that a reset of host `number` would give up if it wrote CTRL.RST now, with room for those that may
-    /// come before its receiver is disabled. Nothing changes.
+    /// The frames that would be lost if a reset of host `number` wrote CTRL.RST now. The list of held frames has room
+    /// for those that may be stored before the receiver is disabled. Nothing changes.
     ///
     /// # Errors
     ///
@@ -73,14 +73,14 @@ impl Network {
         holding.reserve(most)?;
         self.stations
             .pending(number, host.oldest(), &mut sending, &mut holding);
-        // The list has this room already, but `pending` doesn't promise it.
+        // The list has this room already, but the contract of `pending` doesn't state this.
         holding.reserve(most - holding.len())?;
         Ok(GivenUp { sending, holding })
     }
 
-    /// Resets the adapter of host `number`, while ticks are played on all stations. `found` is from
-    /// [`before_reset`](Network::before_reset). No memory is allocated. No other host changes; ticks may change all
-    /// stations.
+    /// Resets the adapter of host `number`, while ticks are played on all stations. `found` is the result of
+    /// [`before_reset`](Network::before_reset). No memory is allocated. No driver or socket of another host changes;
+    /// ticks may change all stations.
     pub fn reset<O: Observer>(
         &mut self,
         number: usize,

@@ -1,4 +1,4 @@
--- Lists of groups, each once, of which one is added or taken away.
+-- Lists of groups, each once, to which a group is added or from which a group is removed.
 use Rattle.std.proofs.Common.{◌≡◌, ◌<◌, ◌++◌, ◌∷◌, [], ℕ, zero, suc, List, length, inl, inr, refl, sym, ap, subst, ◌∙◌, arith}
 use Rattle.std.specs.List.{Contains, remove}
 use Rattle.std.specs.Prelude.{Some, slice_get}
@@ -18,7 +18,7 @@ pub only-there : {X : Type 0} (x y : X) → Contains (x ∷ []) y → y ≡ x
 only-there x y (zero, below, same) = sym same
 only-there x y (suc k, below, same) = absurd (omega (arith, below))
 
--- A group more, in a list without it.
+-- A group is added to a list without it
 
 once-more : (groups : List (List ℕ)) (group : List ℕ) → EachOnce groups → ¬ (Contains groups group) → EachOnce (groups ++ group ∷ [])
 once-more [] group once none = ((λ has. absurd (omega (arith, has.1))), tt)
@@ -38,9 +38,9 @@ joined-more groups group joined room is none = record {
   once = once-more groups group joined.once none;
 }
 
--- A group less.
+-- A group is removed
 
--- the list without what stands at a place
+-- the list without the group at a place
 pub removed-at : (groups : List (List ℕ)) (place : ℕ) (group : List ℕ) → slice_get groups place ≡ Some group
     → Removes group groups (remove groups place)
 removed-at [] place group is = absurd (cc)
@@ -56,7 +56,7 @@ removed-at (first ∷ later) (suc place) group is =
       has = ap (λ (list : List (List ℕ)). first ∷ list) rest.has;
     }
 
--- A group that was removed was there.
+-- A group that was removed was in the list.
 pub removed-had : (groups fewer : List (List ℕ)) (group : List ℕ) → Removes group groups fewer → Contains groups group
 removed-had groups fewer group removes =
     subst (λ (list : List (List ℕ)). Contains list group) (sym removes.had)
@@ -83,7 +83,7 @@ joined-fewer groups fewer group joined removes =
       once = once-fewer first last group had.once;
     })
 
--- What a list contains stands somewhere.
+-- A group in a list has a place.
 pub record StandsAt (groups : List (List ℕ)) (group : List ℕ) : Type 0 where
   pub place : ℕ
   pub below : place < length groups
@@ -96,7 +96,7 @@ place-from groups group has = record {
   there = slice_get-get_or groups has.0 group has.1 ∙ ap (λ (x : List ℕ). Some x) has.2;
 }
 
--- The groups of a configuration. One more is named, which is new or not.
+-- The groups of a configuration: one more group, which is new or not
 
 pub named-new : (named groups : List (List ℕ)) (group : List ℕ) → AreNamedOnce named groups → ¬ (Contains groups group)
     → AreNamedOnce (named ++ group ∷ []) (groups ++ group ∷ [])

@@ -1,4 +1,4 @@
--- The numbers of a list of groups of which one is added or taken away, and the group table.
+-- The numbers of a list of groups to which a group is added or from which a group is removed, and the group table.
 use Rattle.std.proofs.Common.{◌≡◌, ◌⊎◌, ◌↔◌, ◌<◌, ◌+◌, ◌*◌, ◌/◌, ◌%◌, ◌++◌, ◌∷◌, [], ℕ, List, get_or, length, inl, inr, sym, ap, subst}
 use Rattle.std.proofs.Common.{◌∙◌, arith}
 use Rattle.std.specs.List.{Contains}
@@ -11,16 +11,16 @@ use Rattle.std.proofs.lemmas.Option.{slice_get-get_or}
 use Rattle.registers.specs.Bits.{HasBit}
 use Rattle.rx_engine.specs.GroupLists.{Removes}
 use Rattle.rx_engine.specs.NumberTables.{HasNumbers, numbers_of_groups}
-use Rattle.joined_groups.specs.Groups.{AreNamedOnce, IsWord, number_of}
+use Rattle.joined_groups.specs.Groups.{AreNamedOnce, IsWord, group_number_of}
 use Rattle.joined_groups.proofs.JoinedLists.{first-there, only-there}
 
--- The second list has one number more, which the first may have, too.
+-- The second list has one more number, which the first list may also have.
 pub record IsOneMore (added : ℕ) (small big : List ℕ) : Type 0 where
   pub out : (n : ℕ) → Contains big n → Contains small n ⊎ (n ≡ added)
   pub keeps : (n : ℕ) → Contains small n → Contains big n
   pub here : Contains big added
 
--- Between two lists of numbers.
+-- The number is added between two lists.
 pub added-between : (before after : List ℕ) (x : ℕ) → IsOneMore x (before ++ after) (before ++ x ∷ after)
 added-between before after x = record {
   out = λ n has. elim (Contains-append_cases before (x ∷ after) n has) [
@@ -38,29 +38,29 @@ added-between before after x = record {
 }
 
 pub group-added : (groups : List (List ℕ)) (group : List ℕ)
-    → IsOneMore (number_of group) (numbers_of_groups groups) (numbers_of_groups (groups ++ group ∷ []))
+    → IsOneMore (group_number_of group) (numbers_of_groups groups) (numbers_of_groups (groups ++ group ∷ []))
 group-added groups group =
-    let k = number_of group in
+    let k = group_number_of group in
     let all : numbers_of_groups groups ++ k ∷ [] ≡ numbers_of_groups (groups ++ group ∷ []) =
-    sym (map-append number_of groups (group ∷ [])) in
+    sym (map-append group_number_of groups (group ∷ [])) in
     subst (IsOneMore k (numbers_of_groups groups)) all
     (subst (λ (small : List ℕ). IsOneMore k small (numbers_of_groups groups ++ k ∷ [])) (append-nil (numbers_of_groups groups))
     (added-between (numbers_of_groups groups) [] k))
 
 pub group-removed : (groups fewer : List (List ℕ)) (group : List ℕ) → Removes group groups fewer
-    → IsOneMore (number_of group) (numbers_of_groups fewer) (numbers_of_groups groups)
+    → IsOneMore (group_number_of group) (numbers_of_groups fewer) (numbers_of_groups groups)
 group-removed groups fewer group removes =
-    let k = number_of group in
+    let k = group_number_of group in
     let first = numbers_of_groups removes.before in
     let last = numbers_of_groups removes.after in
     let big : first ++ k ∷ last ≡ numbers_of_groups groups =
-    sym (map-append number_of removes.before (group ∷ removes.after)) ∙ sym (ap numbers_of_groups removes.had) in
+    sym (map-append group_number_of removes.before (group ∷ removes.after)) ∙ sym (ap numbers_of_groups removes.had) in
     let small : first ++ last ≡ numbers_of_groups fewer =
-    sym (map-append number_of removes.before removes.after) ∙ sym (ap numbers_of_groups removes.has) in
+    sym (map-append group_number_of removes.before removes.after) ∙ sym (ap numbers_of_groups removes.has) in
     subst (IsOneMore k (numbers_of_groups fewer)) big
     (subst (λ (list : List ℕ). IsOneMore k list (first ++ k ∷ last)) small (added-between first last k))
 
--- If the number was there, the table of the one list is that of the other.
+-- If the number was in the list, the table of both lists is the same.
 pub shared-more : (table small big : List ℕ) (k : ℕ) → IsOneMore k small big → Contains small k → HasNumbers table small
     → HasNumbers table big
 shared-more table small big k more has holds = record {
@@ -87,7 +87,7 @@ shared-fewer table small big k more has holds = record {
   );
 }
 
--- In other words than that of the number, the lists agree.
+-- In the words without this number, the lists agree.
 pub elsewhere : (small big : List ℕ) (k n : ℕ) → IsOneMore k small big → (n / 32 ≡ k / 32 → ⊥) → Contains small n ↔ Contains big n
 elsewhere small big k n more apart = (
   (λ there. more.keeps n there),
@@ -106,7 +106,7 @@ word-of-table table numbers w within holds = λ place below.
     let both = holds.bits n (omega (arith, within, below)) in
     rw (q, r) at both
 
--- A table of which a word was written anew.
+-- A table after one word was written.
 pub word-written : (table old new : List ℕ) (w value : ℕ) → w < 128 → HasNumbers table old → IsWord w new value
     → ((n : ℕ) → (n / 32 ≡ w → ⊥) → Contains old n ↔ Contains new n) → HasNumbers (slice_set table w value) new
 word-written table old new w value within holds word same = record {
@@ -130,8 +130,8 @@ word-written table old new w value within holds word same = record {
   ];
 }
 
-pub word_below : (group : List ℕ) → number_of group / 32 < 128
-word_below group = let fits : number_of group < 4096 = mod_below _ 4096 (omega arith) in omega (arith, fits)
+pub word_below : (group : List ℕ) → group_number_of group / 32 < 128
+word_below group = let fits : group_number_of group < 4096 = mod_below _ 4096 (omega arith) in omega (arith, fits)
 
 pub turned : {P Q : Type 0} → P ↔ Q → Q ↔ P
 turned both = (both.1, both.0)
@@ -142,36 +142,37 @@ pub record HasNumberAt (groups : List (List ℕ)) (group : List ℕ) : Type 0 wh
   pub joined : List ℕ
   pub below : place < length groups
   pub there : slice_get groups place ≡ Some joined
-  pub same : number_of joined ≡ number_of group
+  pub same : group_number_of joined ≡ group_number_of group
 
-pub number-from : (groups : List (List ℕ)) (group : List ℕ) → Contains (numbers_of_groups groups) (number_of group)
+pub number-from : (groups : List (List ℕ)) (group : List ℕ) → Contains (numbers_of_groups groups) (group_number_of group)
     → HasNumberAt groups group
 number-from groups group has =
-    let inside : has.0 < length groups = omega (arith, has.1, length-map groups number_of) in
+    let inside : has.0 < length groups = omega (arith, has.1, length-map groups group_number_of) in
     let joined = get_or groups has.0 [] in
     record {
       place = has.0;
       joined = joined;
       below = inside;
       there = slice_get-get_or groups has.0 [] inside;
-      same = sym (get_or-map number_of groups has.0 [] (number_of group) inside) ∙ has.2;
+      same = sym (get_or-map group_number_of groups has.0 [] (group_number_of group) inside) ∙ has.2;
     }
 
--- The groups of a configuration have the same numbers, if each stands once.
+-- The groups of a configuration, each once, have the same numbers
 
-mapped-there : (groups : List (List ℕ)) (group : List ℕ) → Contains groups group → Contains (numbers_of_groups groups) (number_of group)
+mapped-there : (groups : List (List ℕ)) (group : List ℕ) → Contains groups group
+    → Contains (numbers_of_groups groups) (group_number_of group)
 mapped-there groups group has = (
   has.0,
-  omega (arith, has.1, length-map groups number_of),
-  get_or-map number_of groups has.0 group (number_of group) has.1 ∙ ap number_of has.2,
+  omega (arith, has.1, length-map groups group_number_of),
+  get_or-map group_number_of groups has.0 group (group_number_of group) has.1 ∙ ap group_number_of has.2,
 )
 
 mapped-from : (groups : List (List ℕ)) (n : ℕ) → Contains (numbers_of_groups groups) n
-    → ((group : List ℕ) × (Contains groups group × (number_of group ≡ n)))
+    → ((group : List ℕ) × (Contains groups group × (group_number_of group ≡ n)))
 mapped-from groups n has =
-    let below : has.0 < length groups = omega (arith, has.1, length-map groups number_of) in (
+    let below : has.0 < length groups = omega (arith, has.1, length-map groups group_number_of) in (
       get_or groups has.0 [],
-      (Contains-get_or groups has.0 [] below, sym (get_or-map number_of groups has.0 [] n below) ∙ has.2),
+      (Contains-get_or groups has.0 [] below, sym (get_or-map group_number_of groups has.0 [] n below) ∙ has.2),
     )
 
 numbers-there : (xs ys : List (List ℕ)) → ((x : List ℕ) → Contains xs x → Contains ys x) → (n : ℕ) → Contains (numbers_of_groups xs) n

@@ -13,7 +13,7 @@ use Rattle.adapter.specs.declared.register.Register.{Register}
 use Rattle.adapter.specs.declared.register.Register.TheVariants.{Mta}
 use Rattle.bus.proofs.RegisterSetting.{other_writes_leave_frames}
 use Rattle.bus.specs.DriversStores.{LeavesFrames}
-use Rattle.bus.specs.PastOfStretch.{Past, nothing}
+use Rattle.bus.specs.Pasts.{Past, nothing}
 use Rattle.bus.specs.declared.bus.Bus.{Ghosts}
 use Rattle.bus.specs.declared.event.Access.{Access}
 use Rattle.bus.specs.declared.event.Access.TheVariants.{Writes}
@@ -36,7 +36,7 @@ written-word word value a within =
     ap (λ (found : Option Register). let w : World = record a { adapter = left_by_write found value a.adapter } in w)
     (register_at-mta word within)
 
--- A driver that is ready stays so, and nothing of frames changes.
+-- A driver that is ready remains ready, and its frames don't change.
 pub word-rests : {up : Bool} (word value : ℕ) (d : DriverState) (a : World) → word < 128 → ReadyWith up d a
     → GoesTo up (driver_in d a) (driver_in d (world_after_write (0x5200 + 4 * word) value a)) (driver_did [] []) nothing
 word-rests {up} word value d a within ready =
@@ -67,7 +67,7 @@ word-ran {up} bus old new word value d within acts ready =
     (λ there. subst (λ (w : World). GoesTo up (driver_in d acts.middle) (driver_in d w) (driver_did [] []) nothing) (sym acts.effect_is)
     (word-rests word value d acts.middle within there))
 
--- Whatever happens before it, MTA is then the old one with this word.
+-- After the write, MTA is the old one with this word, whatever happened before.
 pub table-after : {B : Type 0} (bus : Ghosts B) (old new : B) (word value : ℕ) → word < 128 → value < 2 ^ 32
     → WriteActs bus old new (0x5200 + 4 * word) value
     → (bus.world new).adapter.filter.mta ≡ slice_set (bus.world old).adapter.filter.mta word value
@@ -78,7 +78,7 @@ table-after bus old new word value within fits acts =
     ∙ ap (λ (v : ℕ). slice_set middle.adapter.filter.mta word v) (word-kept value fits)
     ∙ ap (λ (f : FilterRegisters). slice_set f.mta word value) kept
 
--- A driver's groups don't matter to what it knows, or to what an interval of its run does.
+-- The joined groups don't matter for an interval of a driver's run
 
 regrouped-ready : {up : Bool} (d : DriverState) (groups : List (List ℕ)) (a : World) → ReadyWith up d a
     → ReadyWith up (with_groups groups d) a
@@ -137,9 +137,9 @@ regrouped bus accesses b c d groups groups' ran = record {
   follows = ran.follows;
 }
 
--- A group is joined or left.
+-- A group is joined or left
 
--- There is no access, as a group that stays joined has the number.
+-- There is no access, because another joined group has the number.
 pub changes-shared : {up : Bool} {B : Type 0} (bus : Ghosts B) → ((b : B) → bus.happened b b nothing) → (b : B) (d : DriverState)
     (kept groups groups' : List (List ℕ)) (group : List ℕ) → ReadyWith up d (bus.world b) → HasNumber kept group
     → (HasTable groups (bus.world b) → HasTable groups' (bus.world b))
@@ -151,7 +151,7 @@ changes-shared bus stays b d kept groups groups' group ready shared table = reco
   table = table;
 }
 
--- The word of the number is written, as no group that stays joined has it.
+-- The word of the number is written, because no other joined group has the number.
 pub changes-written : {up : Bool} {B : Type 0} (bus : Ghosts B) (b c : B) (d : DriverState) (kept groups groups' : List (List ℕ))
     (group : List ℕ) → ¬ (HasNumber kept group)
     → ((n : ℕ) → (n / 32 ≡ word_of group → ⊥) → Contains (numbers_of_groups groups) n ↔ Contains (numbers_of_groups groups') n)

@@ -1,4 +1,4 @@
-// Groups, joined and left.
+// The joined groups, and how groups are joined and left.
 
 ghost use Rattle.std.specs.Prelude.{◌≡◌, ◌≢◌, ◌≤◌, ◌<◌, ◌↔◌, ◌+◌, ◌*◌, [], ◌∷◌, ◌++◌, length, slice_set, All, Bool};
 ghost use Rattle.std.specs.Prelude.{Err, IfNone, IfSome, IsTrue, Some, slice_get};
@@ -9,7 +9,7 @@ ghost use Rattle.rx_engine.specs.GroupLists.{Removes};
 ghost use Rattle.bus.specs.Keeping.{Keeps};
 ghost use Rattle.bring_up.specs.WrittenRegisters.{register_limit};
 ghost use Rattle.bus.specs.declared.event.Access.TheVariants.{Writes};
-ghost use Rattle.driver_law.specs.Calls.{IsReady, Ran, at, only};
+ghost use Rattle.driver_law.specs.Calls.{IsReadyOver, Ran, at, only};
 ghost use Rattle.driver_law.specs.DriverState.{DriverState};
 ghost use Rattle.joined_groups.specs.Groups.{AreNamedOnce, ChangesJoined, HasNumber, RewritesWord, with_groups};
 ghost use Rattle.joined_groups.specs.declared.groups.GroupError.TheVariants.{GroupsFull, Joined, NotGroup, NotJoined};
@@ -23,10 +23,10 @@ use rx_engine::{TABLE_WORDS, TableBit, hash_of};
 use std::marker::Model;
 use thiserror::Error;
 
-/// Why a group isn't joined or left.
+/// The reason why a group isn't joined or left.
 #[derive(Clone, Copy, Debug, PartialEq, Eq, Error)]
 pub enum GroupError {
-    /// The low bit of the address's first byte is clear: the address isn't one of a group.
+    /// The low bit of the address's first byte is clear: this isn't the address of a group.
     #[error("E23 NotGroup")]
     NotGroup,
     /// 32 groups are joined.
@@ -60,7 +60,7 @@ impl Model for Groups {
 impl Groups {
     ghost use Rattle.joined_groups.specs.Groups.{AreJoined};
 
-    /// The groups that a configuration names, each once.
+    /// The groups of a configuration, each once.
     pub fn of(named: &[[u8; 6]]) -> Groups
         requires most { length named.now ≤ MOST_GROUPS }
         requires groups { All IsGroup named.now }
@@ -106,7 +106,7 @@ impl Groups {
         None
     }
 
-    /// Whether a joined group has the same number as an address.
+    /// Whether a joined group has the same number as this group.
     fn has_number(&self, group: &[u8; 6]) -> bool
         ensures { IsTrue result ↔ HasNumber self.now group.now }
     {
@@ -119,18 +119,18 @@ impl Groups {
         false
     }
 
-    /// Joins a group. If no joined group has its number, one word of the group table is written; otherwise there is no
-    /// access.
+    /// Joins a group. If no joined group has the same number, one word of the group table is written; otherwise there
+    /// is no access.
     ///
     /// # Errors
     ///
-    /// E23 [`NotGroup`](GroupError::NotGroup) if the address isn't a group's, else E26 [`Joined`](GroupError::Joined)
-    /// if the group is joined already, else E24 [`GroupsFull`](GroupError::GroupsFull) if 32 groups are joined. Then
-    /// nothing changes, and there is no access.
+    /// E23 [`NotGroup`](GroupError::NotGroup) if this isn't the address of a group, else E26
+    /// [`Joined`](GroupError::Joined) if the group is joined already, else E24 [`GroupsFull`](GroupError::GroupsFull)
+    /// if 32 groups are joined. After an error, nothing has changed, and there was no access.
     pub fn join<B: Bus>(&mut self, bus: &mut B, group: [u8; 6]) -> Result<(), GroupError>
         ensures keeps { Keeps B.Bus bus.old bus.new }
 
-        // What it does over any bus.
+        // Over any bus.
         ensures not_group { (result ≡ Err NotGroup) ↔ (¬ (IsGroup group)) }
         ensures joined { (result ≡ Err Joined) ↔ (IsGroup group × Contains self.old group) }
         ensures full { (result ≡ Err GroupsFull)
@@ -141,8 +141,8 @@ impl Groups {
         ensures room { OnOk result (length self.old < MOST_GROUPS) }
         ensures quiet { HasNumber self.old group → bus.new ≡ bus.old }
 
-        // What it does over a bus that obeys the law.
-        ensures changes { (up : Bool) (d : DriverState) → IsReady B.Bus up (at bus.old d)
+        // Over a bus that obeys the law.
+        ensures changes { (up : Bool) (d : DriverState) → IsReadyOver B.Bus up (at bus.old d)
             → OnOk result (ChangesJoined B.Bus up self.old group (at bus.old (with_groups self.old d))
             (at bus.new (with_groups self.new d))) }
     {
@@ -163,17 +163,18 @@ impl Groups {
         Ok(())
     }
 
-    /// Leaves a group. If no group that stays joined has its number, one word of the group table is written; otherwise
+    /// Leaves a group. If no other joined group has the same number, one word of the group table is written; otherwise
     /// there is no access.
     ///
     /// # Errors
     ///
-    /// E23 [`NotGroup`](GroupError::NotGroup) if the address isn't a group's, else E25
-    /// [`NotJoined`](GroupError::NotJoined) if the group isn't joined. Then nothing changes, and there is no access.
+    /// E23 [`NotGroup`](GroupError::NotGroup) if this isn't the address of a group, else E25
+    /// [`NotJoined`](GroupError::NotJoined) if the group isn't joined. After an error, nothing has changed, and there
+    /// was no access.
     pub fn leave<B: Bus>(&mut self, bus: &mut B, group: [u8; 6]) -> Result<(), GroupError>
         ensures keeps { Keeps B.Bus bus.old bus.new }
 
-        // What it does over any bus.
+        // Over any bus.
         ensures not_group { (result ≡ Err NotGroup) ↔ (¬ (IsGroup group)) }
         ensures not_joined { (result ≡ Err NotJoined) ↔ (IsGroup group × (¬ (Contains self.old group))) }
         ensures else_ok { (result ≢ Err Joined) × (result ≢ Err GroupsFull) }
@@ -181,8 +182,8 @@ impl Groups {
         ensures list { OnOk result (Removes group self.old self.new) }
         ensures quiet { HasNumber self.new group → bus.new ≡ bus.old }
 
-        // What it does over a bus that obeys the law.
-        ensures changes { (up : Bool) (d : DriverState) → IsReady B.Bus up (at bus.old d)
+        // Over a bus that obeys the law.
+        ensures changes { (up : Bool) (d : DriverState) → IsReadyOver B.Bus up (at bus.old d)
             → OnOk result (ChangesJoined B.Bus up self.new group (at bus.old (with_groups self.old d))
             (at bus.new (with_groups self.new d))) }
     {
@@ -201,10 +202,11 @@ impl Groups {
     }
 }
 
-/// Writes the word of the group table that has the bit of a group's number. The word has the bits of these groups.
+/// Writes the word of the group table that contains the bit of a group's number. The word gets exactly the bits of
+/// these groups.
 fn write_word<B: Bus>(bus: &mut B, groups: &[[u8; 6]], group: &[u8; 6])
     ensures keeps { Keeps B.Bus bus.old bus.new }
-    ensures rewrites { (up : Bool) (d : DriverState) → IsReady B.Bus up (at bus.old d)
+    ensures rewrites { (up : Bool) (d : DriverState) → IsReadyOver B.Bus up (at bus.old d)
         → RewritesWord B.Bus up group.now groups.now d bus.old bus.new }
 {
     let table = group_table(groups);
@@ -219,7 +221,7 @@ fn set_word<B: Bus>(bus: &mut B, word: u8, value: u32)
     ensures table { B.honest bus.old
         → (B.world bus.new).adapter.filter.mta ≡ slice_set (B.world bus.old).adapter.filter.mta word value }
     ensures fits { value < register_limit }
-    ensures runs { (up : Bool) (d : DriverState) → IsReady B.Bus up (at bus.old d)
+    ensures runs { (up : Bool) (d : DriverState) → IsReadyOver B.Bus up (at bus.old d)
         → Ran B.Bus up (only (Writes (MTA + REGISTER_BYTES * word) value ∷ [])) (at bus.old d) (at bus.new d) }
 {
     bus.write(MTA + REGISTER_BYTES * u32::from(word), value);

@@ -2,7 +2,7 @@
 
 ghost use Rattle.joined_groups.specs.Groups.{TablesAgree};
 
-/// The groups joined determine the words of the group table.
+/// If a group table has exactly the bits of the joined groups, these groups determine its words.
 pub fn groups_determine_table()
     ensures { TablesAgree }
 {}

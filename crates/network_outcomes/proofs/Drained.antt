@@ -9,8 +9,8 @@ use Rattle.packet_socket.specs.HostCalls.{Given, given_for, held_for_socket}
 use Rattle.packet_socket.specs.HostState.{HostState}
 use Rattle.stations.specs.Stations.{backlog_at, world_at}
 use Rattle.wire.specs.DrainedNetworks.{NetworkDrains}
-use Rattle.wire.specs.Equations.{counted}
-use Rattle.network_outcomes.specs.Alike.{DrainsAreAlike, Outlets}
+use Rattle.wire.specs.Equations.{missed_count}
+use Rattle.network_outcomes.specs.Alike.{DrainsAreAlike, FrameSinks}
 
 -- the frames that a host holds for a socket, if it is there
 held-in : NetworkState → (host socket : ℕ) → Option HostState → List (List ℕ)
@@ -25,7 +25,7 @@ record Leaves (old : NetworkState) (host : ℕ) (given : List Given) (new : Netw
   lines : (k : ℕ) → backlog_at new.stations k ≡ backlog_at old.stations k
   worlds : (k : ℕ) → k ≢ host → world_at new.stations k ≡ world_at old.stations k
   was : (h : HostState) → IsHost new host h → (before : HostState) × (slice_get old.hosts host ≡ Some before)
-      × (counted h (world_at new.stations host) ≡ counted before (world_at old.stations host))
+      × (missed_count h (world_at new.stations host) ≡ missed_count before (world_at old.stations host))
 
 there-is : {X : Type 0} (xs : List X) (k : ℕ) → k < length xs → (x : X) × (slice_get xs k ≡ Some x)
 there-is [] k below = absurd (omega (arith, below))
@@ -77,7 +77,7 @@ same-before : (old : NetworkState) (host : ℕ) (x y : HostState) → slice_get 
     → x ≡ y
 same-before old host x y is is' = let both : Some x ≡ Some y = sym is ∙ is' in cc
 
-pub drains-alike : (old : NetworkState) (host m n : ℕ) (a b : Outlets) (one other : NetworkState)
+pub drains-alike : (old : NetworkState) (host m n : ℕ) (a b : FrameSinks) (one other : NetworkState)
     → NetworkDrains old host m a.before a.after one → NetworkDrains old host n b.before b.after other
     → DrainsAreAlike host a b one other
 drains-alike old host m n a b one other x y =
@@ -95,11 +95,11 @@ drains-alike old host m n a b one other x y =
       counts = λ h h' is is'.
           let p = left.was h is in
           let q = right.was h' is' in
-          p.2 ∙ (ap (λ (state : HostState). counted state (world_at old.stations host)) (same-before old host p.0 q.0 p.1 q.1)
+          p.2 ∙ (ap (λ (state : HostState). missed_count state (world_at old.stations host)) (same-before old host p.0 q.0 p.1 q.1)
           ∙ sym q.2);
     }
 
-pub drains-alike-from : (old old' : NetworkState) (host m n : ℕ) (a b : Outlets) (one other : NetworkState) → old ≡ old'
+pub drains-alike-from : (old old' : NetworkState) (host m n : ℕ) (a b : FrameSinks) (one other : NetworkState) → old ≡ old'
     → NetworkDrains old host m a.before a.after one → NetworkDrains old' host n b.before b.after other
     → DrainsAreAlike host a b one other
 drains-alike-from old old' host m n a b one other same x y =

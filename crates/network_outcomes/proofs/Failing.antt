@@ -12,7 +12,7 @@ use Rattle.network_plan.specs.declared.plan.HostPlan.{HostPlan}
 use Rattle.network_plan.specs.declared.plan_error.PlanError.{PlanError}
 use Rattle.network_plan.specs.declared.plan_error.PlanError.TheVariants.{Address, Config, Ends, Hosts, Init, Memory, Name}
 use Rattle.wire.specs.HostsUp.{IsDevices, IsNotUp}
-use Rattle.wire.specs.NewNetworks.{IsLanAnswer, IsMade}
+use Rattle.wire.specs.NewNetworks.{IsLanAnswer, IsMadeByPlan}
 use Rattle.network_outcomes.specs.Alike.{IsSameFailure, LinksAreClear}
 use Rattle.network_outcomes.proofs.Made.{there-is}
 
@@ -57,7 +57,7 @@ module _ (plans : List HostPlan) (clear : LinksAreClear plans) where
     ]
   ]
 
-  none-made : (network : NetworkState) (host : ℕ) (error : InitError) → IsNotUp plans host error → IsMade plans network → ⊥
+  none-made : (network : NetworkState) (host : ℕ) (error : InitError) → IsNotUp plans host error → IsMadeByPlan plans network → ⊥
   none-made network host error x made =
       let below = slice_get_within plans host x.0 x.1 in
       let h = there-is network.hosts host (omega (arith, below, made.up.host_count)) in

@@ -13,7 +13,7 @@ use Rattle.rx_engine.specs.Registers.{FilterRegisters, filter_of}
 use Rattle.stations.specs.Stations.{StationState}
 use Rattle.wire.specs.Filters.{HasPlansFilter, plans_filter}
 use Rattle.wire.specs.HostsUp.{AreUp, ComesUp}
-use Rattle.wire.specs.NewNetworks.{IsLanAnswer, IsMade, IsRight}
+use Rattle.wire.specs.NewNetworks.{IsLanAnswer, IsMadeByPlan, IsRight}
 use Rattle.network_outcomes.specs.Alike.{HostsAreAlike, IsOfPlan, NetworksAreAlike}
 
 passes-too : (plan : HostPlan) (a b : FilterRegisters) (frame : List ℕ) → HasPlansFilter plan a → HasPlansFilter plan b
@@ -51,7 +51,7 @@ plan-of plans count hosts stations k s up all there =
     let stationed = up.station_count in
     there-is plans k (omega (arith, within, stationed, all))
 
-pub networks-alike : (plans : List HostPlan) (one other : NetworkState) → IsMade plans one → IsMade plans other
+pub networks-alike : (plans : List HostPlan) (one other : NetworkState) → IsMadeByPlan plans one → IsMadeByPlan plans other
     → NetworksAreAlike one other
 networks-alike plans one other x y = record {
   count = x.up.host_count ∙ sym y.up.host_count;

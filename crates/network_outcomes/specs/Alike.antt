@@ -1,5 +1,4 @@
--- What is equal after two calls from equal states: all that the contract of the call determines of its outcome (our
--- choice).
+-- The parts of the outcome that are equal after two calls from equal states: those that the contract of the call determines (our choice).
 use Rattle.std.specs.Prelude.{⊤, ◌≡◌, ◌≢◌, ◌⊎◌, ◌↔◌, ◌++◌, ℕ, Err, List, Result, Some, length, slice_get}
 use Rattle.adapter.specs.HostFrames.{frames_to_send}
 use Rattle.adapter.specs.World.{World}
@@ -16,10 +15,10 @@ use Rattle.packet_socket.specs.HostState.{HostState}
 use Rattle.rx_engine.specs.Passing.{Passes}
 use Rattle.rx_engine.specs.Registers.{filter_of}
 use Rattle.stations.specs.Stations.{StationState, backlog_at, world_at}
-use Rattle.wire.specs.Equations.{counted}
+use Rattle.wire.specs.Equations.{missed_count}
 use Rattle.wire.specs.HostsUp.{most_link_ticks}
 
--- Networks that one plan made.
+-- Networks that were made from one plan.
 
 -- the adapter passes this frame
 abbrev pub PassesAt : World → List ℕ → Type 0
@@ -39,49 +38,49 @@ pub record HostsAreAlike (one : HostState) (a : World) (other : HostState) (b : 
   pub passes : (frame : List ℕ) → PassesAt a frame ↔ PassesAt b frame
   -- the EEPROM
   pub image : a.adapter.image ≡ b.adapter.image
-  -- when the link comes up
+  -- after how many ticks the link is up
   pub link : a.adapter.phy.link ≡ b.adapter.phy.link
 
 -- Two networks that were made by one plan.
 pub record NetworksAreAlike (one other : NetworkState) : Type 0 where
   -- the number of hosts
   pub count : length one.hosts ≡ length other.hosts
-  -- each host
+  -- the hosts with the same number
   pub hosts : (k : ℕ) (h h' : HostState) (s s' : StationState) → IsHost one k h → IsHost other k h' → slice_get one.stations k ≡ Some s
       → slice_get other.stations k ≡ Some s' → HostsAreAlike h s.world h' s'.world
   -- the wire of each host
   pub wires : (k : ℕ) (s s' : StationState) → slice_get one.stations k ≡ Some s → slice_get other.stations k ≡ Some s' → s.wire ≡ s'.wire
 
--- the error is one of the plan itself: neither refused memory nor a host that can't be initialized
+-- the error is that of an invalid plan: neither refused memory nor a host that can't be initialized
 abbrev pub IsOfPlan : PlanError → Type 0
 IsOfPlan refused.Memory = ⊥
 IsOfPlan (refused.Init host error) = ⊥
 IsOfPlan error = ⊤
 
--- The link of each host comes up within 2,000 ticks, or never. Of a link that comes up later, the contract of `Lan::new` leaves open
--- whether it is found.
+-- The link of each host is up within 2,000 ticks, or never. The contract of `Lan::new` doesn't state whether a link that is up later is
+-- found.
 abbrev pub LinksAreClear : List HostPlan → Type 0
 LinksAreClear plans =
     (k : ℕ) (plan : HostPlan) → slice_get plans k ≡ Some plan → NeedsMoreThan most_link_ticks plan.link → plan.link ≡ Never
 
--- the same host can't be initialized for the same reason, or memory is refused
+-- the answer is the error Init with this host and this reason, or the error Memory
 abbrev pub IsSameFailure : {T : Type 0} (host : ℕ) → InitError → Result T PlanError → Type 0
 IsSameFailure host error answer = (answer ≡ Err refused.Memory) ⊎ (answer ≡ Err (refused.Init host error))
 
 -- Drains of one host from one state.
 
 -- the frames of a sink before and after a drain
-pub record Outlets : Type 0 where
+pub record FrameSinks : Type 0 where
   pub before : List Given
   pub after : List Given
 
--- the frames that a drain gave
-pub record Gave (outlet : Outlets) : Type 0 where
+-- the frames that a drain returned
+pub record Gave (frame_sink : FrameSinks) : Type 0 where
   pub frames : List Given
-  pub appended : outlet.after ≡ outlet.before ++ frames
+  pub appended : frame_sink.after ≡ frame_sink.before ++ frames
 
 -- Two drains of the host with this number.
-pub record DrainsAreAlike (host : ℕ) (a b : Outlets) (one other : NetworkState) : Type 0 where
+pub record DrainsAreAlike (host : ℕ) (a b : FrameSinks) (one other : NetworkState) : Type 0 where
   -- the frames that the first drain returned
   pub first : Gave a
   pub second : Gave b
@@ -89,7 +88,7 @@ pub record DrainsAreAlike (host : ℕ) (a b : Outlets) (one other : NetworkState
   pub given : (socket : ℕ) → given_for socket first.frames ≡ given_for socket second.frames
   -- the host holds nothing afterwards
   pub nothing : (h : HostState) → IsHost one host h → HoldsNothing h (world_at one.stations host)
-  -- the frames that the host has still to send
+  -- the frames that the host still has to send
   pub to_send : frames_to_send (world_at one.stations host) ≡ frames_to_send (world_at other.stations host)
   -- the frames that wait at the ends of wires
   pub lines : (k : ℕ) → backlog_at one.stations k ≡ backlog_at other.stations k
@@ -98,4 +97,4 @@ pub record DrainsAreAlike (host : ℕ) (a b : Outlets) (one other : NetworkState
   pub worlds : (k : ℕ) → k ≢ host → world_at one.stations k ≡ world_at other.stations k
   -- the count of misses of the host
   pub counts : (h h' : HostState) → IsHost one host h → IsHost other host h'
-      → counted h (world_at one.stations host) ≡ counted h' (world_at other.stations host)
+      → missed_count h (world_at one.stations host) ≡ missed_count h' (world_at other.stations host)

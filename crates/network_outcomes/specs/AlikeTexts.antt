@@ -1,4 +1,4 @@
--- What is equal after two reads of one text (our choice).
+-- The parts of the result that are equal after two reads of one text (our choice).
 use Rattle.std.specs.Prelude.{◌≡◌, ◌⊎◌, ℕ, Err, Ok, Result}
 use Rattle.scenario.specs.SoFar.{so_far}
 use Rattle.scenario.specs.declared.command.Scenario.{Scenario}
@@ -6,12 +6,12 @@ use Rattle.scenario.specs.declared.refusal.Fault.{Fault}
 use Rattle.scenario.specs.declared.refusal.Refusal.{Refusal}
 use Rattle.scenario.specs.declared.refusal.Refusal.TheVariants.{Line, Memory}
 
--- If the text is read twice, both reads give the same hosts, commands and traces.
+-- If both reads accept the text, their hosts, commands and traces are the same.
 abbrev pub ReadAlike : (one other : Result Scenario Refusal) → Type 0
 ReadAlike one other = (a b : Scenario) → one ≡ Ok a → other ≡ Ok b → so_far a ≡ so_far b
 
--- If the first read refuses the text for a line, the second refuses it for this line with this fault, or because memory
--- is refused.
+-- If the first read refuses the text for a line, the second read refuses the text for this line with this fault, or
+-- because memory is refused.
 abbrev pub RefusedAlike : (one other : Result Scenario Refusal) → Type 0
 RefusedAlike one other =
     (line : ℕ) (fault : Fault) → one ≡ Err (Line line fault) → (other ≡ Err (Line line fault)) ⊎ (other ≡ Err Memory)

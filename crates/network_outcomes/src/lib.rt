@@ -1,4 +1,5 @@
-//! Calls of a network and of a scenario, each made twice: what its contract determines of the outcome.
+//! Calls of a network and of a scenario, each made twice. What both outcomes have in common is what the call's contract
+//! determines.
 #![tactic(auto)]
 
 mod network_calls;

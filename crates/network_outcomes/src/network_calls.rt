@@ -1,6 +1,6 @@
-//! Calls that are made twice, from equal states. The prover knows nothing of a call but its clauses, so these exclude
-//! every body whose outcome differs in what the function compares. Memory that is refused isn't compared: no clause
-//! states when it is.
+//! Calls that are made twice, from equal states. The prover knows only the clauses of a call, so the clauses exclude
+//! every body whose outcome differs in what the function compares. Whether memory is refused isn't compared: no clause
+//! states when memory is refused.
 
 ghost use Rattle.std.specs.Prelude.{◌≡◌, ◌≤◌, ◌+◌, [], ℕ, length};
 ghost use Rattle.bring_up.specs.declared.init_error.InitError.{InitError};
@@ -19,7 +19,7 @@ use network_plan::{Plan, PlanError};
 use rx_engine::MOST_FRAMES;
 use scenario::{Refusal, Scenario};
 use std::alloc::Global;
-use wire::{Counts, Lan, Outlet};
+use wire::{Counts, FrameSink, Lan};
 
 /// [`Scenario::read`] twice: one text is read to the same hosts, commands and traces, or refused for the same line,
 /// with the same fault.
@@ -34,7 +34,7 @@ pub fn read_twice(
     (Scenario::read(alloc, text), Scenario::read(alloc, text))
 }
 
-/// [`Lan::new`] twice: one plan is refused for the same reason, or makes networks that are alike. If each link comes up
+/// [`Lan::new`] twice: one plan is refused for the same reason, or leads to networks that are alike. If each link is up
 /// within 2,000 ticks or never, then the same host can't be initialized, for the same reason.
 pub fn new_twice(alloc: Global, plan: &Plan) -> (Result<Lan, PlanError>, Result<Lan, PlanError>)
     ensures refused { (error : PlanError) → result.0 ≡ Err error → IsOfPlan error → result.1 ≡ Err error }
@@ -68,9 +68,9 @@ pub fn drain_room_twice(lan: &Lan, host: usize) -> (usize, usize)
     (lan.drain_room(host), lan.drain_room(host))
 }
 
-/// [`Lan::drain`] twice: two drains of one host, from equal networks, give the same frames at each socket, and leave
-/// the networks alike.
-pub fn drain_twice<S: Outlet>(
+/// [`Lan::drain`] twice: two drains of one host, from equal networks, return the same frames at each socket, and the
+/// networks afterwards are alike.
+pub fn drain_twice<S: FrameSink>(
     one: &mut Lan,
     other: &mut Lan,
     host: usize,

@@ -7,7 +7,7 @@ use Rattle.packet_socket.specs.declared.call.HostAnswer.TheVariants.{Received as
 use Rattle.network_plan.specs.EventCalls.{Alone, ByCall, ByReset, EventKind, in_event}
 use Rattle.network_plan.specs.declared.event.Event.{Event}
 use Rattle.network_plan.specs.declared.reply.Answer.{Answer}
-use Rattle.network_plan.specs.declared.reply.Answer.TheVariants.{Interrupted, Joined, Left, NoHost, Received, Reset, Sent, Ticked}
+use Rattle.network_plan.specs.declared.reply.Answer.TheVariants.{Interrupted, Joined, Left, NoHost, Received, Reset, Sent, NoCall}
 
 -- an answer with the bytes of its frame
 abbrev pub FrameAnswer : Type 0
@@ -22,10 +22,10 @@ answer_with frame (Interrupted handled) = Interrupted handled
 answer_with frame (Joined joined) = Joined joined
 answer_with frame (Left left) = Left left
 answer_with frame (Reset sending holding on_after) = Reset sending holding on_after
-answer_with frame Ticked = Ticked
+answer_with frame NoCall = NoCall
 answer_with frame NoHost = NoHost
 
--- the answer of an event that was a call
+-- the answer to an event, by the answer of its call
 abbrev pub event_answer : HostAnswer (List ℕ) → FrameAnswer
 event_answer (SentBy result) = Sent result
 event_answer (ReceivedBy result) = Received result
@@ -33,7 +33,7 @@ event_answer (InterruptedBy result) = Interrupted result
 event_answer (JoinedBy result) = Joined result
 event_answer (LeftBy result) = Left result
 
--- the ticks of an event, each Go among them
+-- the ticks of an event, including each Go
 abbrev pub ticks_by : EventKind → List Tick
 ticks_by (ByCall call) = call.ticks
 ticks_by (ByReset host ticks) = ticks

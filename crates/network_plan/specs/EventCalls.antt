@@ -1,16 +1,16 @@
--- The kinds of events: a call of a host with the ticks that are played in it, a reset of a host's adapter with its ticks, or a tick by
--- itself (our choice). So a definition of calls doesn't need a case for each kind of call.
+-- The kinds of events (our choice): a call of a host with its ticks, a reset of a host's adapter with its ticks, or a
+-- tick outside a call. So a definition about calls doesn't need a case for each kind of call.
 use Rattle.std.specs.Prelude.{List, ℕ}
 use Rattle.packet_socket.specs.CallEffects.{Interrupting, Joining, Leaving, Receiving, Request, Sending}
 use Rattle.stations.specs.declared.tick.Tick.{Tick}
 use Rattle.network_plan.specs.declared.event.Event.{Event}
 use Rattle.network_plan.specs.declared.event.Event.TheVariants.{Interrupt, Join, Leave, Recv, Reset, Send, Tick as OfTick}
 
--- the host that is called, which call it makes, and the ticks that are played in the call
+-- a call of a host, and the ticks that are played in it
 pub record EventCall : Type 0 where
   -- the number of the host
   pub host : ℕ
-  -- which call it makes
+  -- the call that the host makes
   pub request : Request
   -- the ticks that are played in the call
   pub ticks : List Tick
@@ -21,7 +21,7 @@ pub data EventKind : Type 0 where
   ByReset : (host : ℕ) (ticks : List Tick) → EventKind
   Alone : (tick : Tick) → EventKind
 
--- what an event is: a call of a host, a reset, or a tick alone
+-- the kind of an event: a call of a host, a reset, or a tick outside a call
 abbrev pub in_event : Event → EventKind
 in_event (Send host frame ticks) = ByCall (record { host = host; request = Sending frame.items; ticks = ticks.items })
 in_event (Recv host socket ticks) = ByCall (record { host = host; request = Receiving socket; ticks = ticks.items })

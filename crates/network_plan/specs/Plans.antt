@@ -1,4 +1,4 @@
--- When a network can be made by a plan (our choice).
+-- When a network can be made of a plan (our choice).
 use Rattle.std.specs.Prelude.{◌≡◌, ◌≢◌, ◌≤◌, ◌-◌, ◌^◌, ◌&&◌, ◌||◌, ◌==◌, ℕ, Bool, true, List, All, Err, Ok, Result, String, count_by}
 use Rattle.std.specs.Prelude.{length, nat_le}
 use Rattle.std.specs.Prelude.{string_bytes, string_eq}
@@ -23,15 +23,15 @@ most_ends = 8
 abbrev pub most_hosts : ℕ
 most_hosts = 16
 
--- a byte of a name: a to z, 0 to 9, _ and -, in ASCII
+-- whether a byte may be in a name: a to z, 0 to 9, _ and -, in ASCII
 abbrev pub is_of_name : ℕ → Bool
 is_of_name byte = (nat_le 0x61 byte && nat_le byte 0x7A) || (nat_le 0x30 byte && nat_le byte 0x39) || (byte == 0x5F) || (byte == 0x2D)
 
--- the bytes of a name of a host or a wire
+-- These are the bytes of a valid name of a host or a wire.
 pub record IsName (bytes : List ℕ) : Type 0 where
   -- at least one byte
   pub least : 1 ≤ length bytes
-  -- not too many bytes
+  -- at most 16 bytes
   pub most : length bytes ≤ most_name_bytes
   -- each byte may be in a name
   pub all : All (λ byte. is_of_name byte ≡ true) bytes
@@ -44,18 +44,18 @@ hosts_named hosts name = count_by (λ (host : HostPlan). string_eq host.name nam
 abbrev pub hosts_on : List HostPlan → String Global → ℕ
 hosts_on hosts wire = count_by (λ (host : HostPlan). string_eq host.wire wire) hosts
 
--- The names of the host and of its wire are right, and no other host has its name.
+-- The names of the host and of its wire are valid, and no other host has its name.
 pub record HasName (hosts : List HostPlan) (host : HostPlan) : Type 0 where
-  -- the host's name
+  -- the host's name is valid
   pub name : IsName (string_bytes host.name)
-  -- the wire's name
+  -- the wire's name is valid
   pub wire : IsName (string_bytes host.wire)
   -- no other host has the host's name
   pub once : hosts_named hosts host.name ≡ 1
 
--- Each host has its own right name, and its wire has a right name.
+-- All names are valid, and no two hosts have the same name.
 pub record HasNames (hosts : List HostPlan) : Type 0 where
-  -- each host has its own right name
+  -- each host has valid names, and no other host has its name
   pub all : All (HasName hosts) hosts
 
 -- A wire may have this number of ends.
@@ -67,12 +67,12 @@ pub record IsEndCount (ends : ℕ) : Type 0 where
 
 -- The host's wire has 2 to 8 ends.
 pub record HasWire (hosts : List HostPlan) (host : HostPlan) : Type 0 where
-  -- the number of hosts on its wire is allowed
+  -- the number of hosts on its wire is from 2 to 8
   pub ends : IsEndCount (hosts_on hosts host.wire)
 
 -- Each wire has 2 to 8 ends.
 pub record HasEnds (hosts : List HostPlan) : Type 0 where
-  -- each host's wire
+  -- each host's wire has 2 to 8 ends
   pub all : All (HasWire hosts) hosts
 
 -- There are 2 to 16 hosts.
@@ -82,15 +82,15 @@ pub record HasHosts (hosts : List HostPlan) : Type 0 where
   -- at most 16
   pub most : length hosts ≤ most_hosts
 
--- If both hosts have one address, they have one name.
+-- If two hosts have the same address, they have the same name.
 abbrev pub IsSameIfAddressed : (host other : HostPlan) → Type 0
 IsSameIfAddressed host other = address_bytes other.image ≡ address_bytes host.image → string_eq other.name host.name ≡ true
 
--- The host's address is an individual one, and no other host has it.
+-- The host's address is an individual address, and no other host has the same address.
 pub record HasAddress (hosts : List HostPlan) (host : HostPlan) : Type 0 where
-  -- its address isn't one of a group
+  -- the host's address isn't a group's
   pub individual : IsIndividual (address_bytes host.image)
-  -- no other host has it
+  -- no other host has the same address
   pub own : All (IsSameIfAddressed host) hosts
 
 -- Each host has its own individual address.
@@ -111,7 +111,7 @@ pub record HasConfigs (hosts : List HostPlan) : Type 0 where
   -- each host has a valid configuration
   pub all : All HasConfig hosts
 
--- Which answer a plan gets: the first reason to refuse it, and Ok exactly if there is none.
+-- The result of checking a plan: the first reason to reject the plan, or Ok if there is no reason.
 abbrev pub IsPlanAnswer : List HostPlan → Result (Unit {0}) PlanError → Type 0
 IsPlanAnswer hosts (Err refused.Name) = ¬ (HasNames hosts)
 IsPlanAnswer hosts (Err refused.Ends) = HasNames hosts × (¬ (HasEnds hosts))

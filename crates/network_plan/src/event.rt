@@ -1,20 +1,20 @@
-// What a network is to do.
+// The events of a run.
 
 use stations::Tick;
 
-/// An event of a run. The ticks of a call, or of a reset, up to the next [`Go`](Tick::Go) are played just before its
-/// next access; the ticks that are left after its last access are played then, with each `Go` skipped. Hosts are
-/// numbered from 0 in the order of the plan.
+/// An event of a run. Just before each access of a call or of a reset, its ticks up to the next [`Go`](Tick::Go) are
+/// played. After the last access, the remaining ticks are played, and each `Go` is skipped. Hosts are numbered from 0
+/// in the order of the plan.
 #[derive(Debug, Drop)]
 pub enum Event {
-    /// A host sends a frame of any length. The answer is E20 if the frame has fewer than 14 bytes, and E21 if it has
-    /// more than 1,518.
+    /// A host sends a frame of any length. The answer is E20 if the frame has fewer than 14 bytes, and E21 if the frame
+    /// has more than 1,518 bytes.
     Send {
         /// The host.
         host: usize,
         /// The frame's bytes.
         frame: Vec<u8>,
-        /// What is played inside the call.
+        /// The ticks that are played inside the call.
         ticks: Vec<Tick>,
     },
     /// A host asks for the oldest frame of a socket.
@@ -23,14 +23,14 @@ pub enum Event {
         host: usize,
         /// The socket, numbered from 0 in the host's table.
         socket: usize,
-        /// What is played inside the call.
+        /// The ticks that are played inside the call.
         ticks: Vec<Tick>,
     },
     /// A host handles an interrupt.
     Interrupt {
         /// The host.
         host: usize,
-        /// What is played inside the call.
+        /// The ticks that are played inside the call.
         ticks: Vec<Tick>,
     },
     /// A host joins a multicast group.
@@ -39,7 +39,7 @@ pub enum Event {
         host: usize,
         /// The group's address.
         group: [u8; 6],
-        /// What is played inside the call.
+        /// The ticks that are played inside the call.
         ticks: Vec<Tick>,
     },
     /// A host leaves a multicast group.
@@ -48,14 +48,14 @@ pub enum Event {
         host: usize,
         /// The group's address.
         group: [u8; 6],
-        /// What is played inside the call.
+        /// The ticks that are played inside the call.
         ticks: Vec<Tick>,
     },
-    /// A host's driver resets its adapter, and begins again with the groups now joined.
+    /// A host's driver resets its adapter, and initializes it with the groups that are joined now.
     Reset {
         /// The host.
         host: usize,
-        /// What is played inside the reset.
+        /// The ticks that are played inside the reset.
         ticks: Vec<Tick>,
     },
     /// A tick outside a call. `Go` does nothing here.
@@ -66,7 +66,7 @@ impl Event {
     ghost use Rattle.std.specs.Prelude.{◌≡◌, length};
     ghost use Rattle.network_plan.specs.Answers.{ticks_of};
 
-    /// The number of the event's ticks, each `Go` included.
+    /// The number of the event's ticks, including each `Go`.
     pub fn tick_count(&self) -> usize
         ensures { result ≡ length (ticks_of self.now) }
     {

@@ -1,5 +1,5 @@
-//! The plan of a network: its hosts, each with its EEPROM, its link, its configuration and its sockets, and the wires
-//! that join them; why a plan is refused; and what a network is to do, event by event, and what came of each.
+//! The plan of a network: hosts, each with an EEPROM, a link, a configuration and sockets, and the wires between them.
+//! The crate also defines why a plan is rejected, the events of a run, and the reply to each event.
 #![tactic(auto)]
 
 mod event;

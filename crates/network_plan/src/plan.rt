@@ -11,36 +11,39 @@ use eeprom::Image;
 use mdic_phy::Link;
 use packet_socket::SocketKind;
 
-/// How many bytes a name has at most (our choice).
+/// The maximum number of bytes of a name (our choice).
 pub const MOST_NAME_BYTES: usize = 16;
 
-/// How many ends a wire has at most (our choice).
+/// The maximum number of ends of a wire (our choice).
 pub const MOST_ENDS: usize = 8;
 
-/// How many hosts a network has at most (our choice).
+/// The maximum number of hosts of a network (our choice).
 pub const MOST_HOSTS: usize = 16;
 
-/// How many sockets a host has at most (our choice).
+/// The maximum number of sockets of a host (our choice).
 pub const MOST_SOCKETS: usize = 8;
 
-/// A host, as it is to be.
+/// The plan of a host.
 #[derive(Debug, Drop, PartialEq, Eq)]
 pub struct HostPlan {
-    /// The name of the host: 1 to 16 bytes of `a-z 0-9 _ -`. No other host has it.
+    /// The name of the host. In a valid plan it has 1 to 16 bytes of `a-z 0-9 _ -`, and no other host has the same
+    /// name.
     pub name: String,
-    /// The name of the wire that it is on, spelled the same way.
+    /// The name of the host's wire. In a valid plan it has 1 to 16 bytes of `a-z 0-9 _ -`.
     pub wire: String,
-    /// The EEPROM of its adapter; its address is an individual one, which no other host has.
+    /// The EEPROM of the host's adapter. In a valid plan its address is an individual address, and no other host has
+    /// the same address.
     pub image: Image,
-    /// When its link comes up.
+    /// When the link is up: after a number of ticks of the PHY, or never.
     pub link: Link,
-    /// The configuration with which its adapter is initialized.
+    /// The configuration with which the host's adapter is initialized.
     pub config: Config,
-    /// Its sockets, in the order in which a frame looks for its socket.
+    /// The host's sockets. The order decides which of several matching sockets gets a frame.
     pub sockets: ArrayVec<SocketKind, MOST_SOCKETS>,
 }
 
-/// A network, as it is to be: its hosts, numbered from 0 in this order. Those that name one wire are on it.
+/// The plan of a network: its hosts, numbered from 0 in this order. Hosts whose wires have the same name are on one
+/// wire.
 #[derive(Debug, Drop, PartialEq, Eq)]
 pub struct Plan {
     /// The hosts.
@@ -48,8 +51,8 @@ pub struct Plan {
 }
 
 impl Plan {
-    /// Checks whether this plan is valid: whether a network can be made by it, if memory isn't refused and each host
-    /// can be initialized.
+    /// Checks whether this plan is valid: whether a network can be made of this plan, if memory isn't refused and each
+    /// host can be initialized.
     ///
     /// # Errors
     ///
@@ -85,7 +88,7 @@ fn is_of_name(byte: u8) -> bool
     matches!(byte, b'a'..=b'z' | b'0'..=b'9' | b'_' | b'-')
 }
 
-/// Whether a text is a name.
+/// Whether a text is a valid name.
 fn is_name(text: &str) -> bool
     ensures { IsTrue result ↔ IsName text.now }
 {
@@ -95,7 +98,7 @@ fn is_name(text: &str) -> bool
         && bytes.iter().all(|byte| is_of_name(*byte))
 }
 
-/// How many hosts have this name.
+/// The number of hosts with this name.
 fn count_named(hosts: &[HostPlan], name: &String) -> usize
     ensures { result ≡ hosts_named hosts.now name.now }
 {
@@ -109,7 +112,7 @@ fn count_ends(hosts: &[HostPlan], wire: &String) -> usize
     hosts.iter().filter(|host| host.wire == *wire).count()
 }
 
-/// Whether a host's names are right, and no other host has its name.
+/// Whether a host's name and that of its wire are valid, and no other host has its name.
 fn has_name(hosts: &[HostPlan], host: &HostPlan) -> bool
     ensures { IsTrue result ↔ HasName hosts.now host.now }
 {
@@ -118,7 +121,7 @@ fn has_name(hosts: &[HostPlan], host: &HostPlan) -> bool
         && count_named(hosts, &host.name) == 1
 }
 
-/// Whether all names are right, and each host has a name of its own.
+/// Whether all names are valid, and no two hosts have the same name.
 fn have_names(hosts: &[HostPlan]) -> bool
     ensures { IsTrue result ↔ HasNames hosts.now }
 {
@@ -145,21 +148,21 @@ fn have_ends(hosts: &[HostPlan]) -> bool
     true
 }
 
-/// Whether two hosts have different addresses, or are one.
+/// Whether two hosts have different addresses, or the same name.
 fn is_same_if_addressed(host: &HostPlan, other: &HostPlan) -> bool
     ensures { IsTrue result ↔ IsSameIfAddressed host.now other.now }
 {
     other.image.address() != host.image.address() || other.name == host.name
 }
 
-/// Whether a host's address is an individual one, and no other host has it.
+/// Whether a host's address is an individual address, and no other host has the same address.
 fn has_address(hosts: &[HostPlan], host: &HostPlan) -> bool
     ensures { IsTrue result ↔ HasAddress hosts.now host.now }
 {
     host.image.address()[0] % 2 == 0 && hosts.iter().all(|other| is_same_if_addressed(host, other))
 }
 
-/// Whether each address is an individual one, and no other host has it.
+/// Whether each host's address is an individual address, and no other host has the same address.
 fn have_addresses(hosts: &[HostPlan]) -> bool
     ensures { IsTrue result ↔ HasAddresses hosts.now }
 {

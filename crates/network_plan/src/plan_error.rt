@@ -1,25 +1,25 @@
-//! Why no network was made by a plan.
+//! The reasons why no network was made of a plan.
 
 use bring_up::InitError;
 use thiserror::Error;
 
-/// Why no network was made by a plan. If there are several reasons, the first in this order is returned.
+/// Why no network was made of a plan. If there are several reasons, the first in this order is returned.
 #[derive(Clone, Copy, Debug, PartialEq, Eq, Error)]
 pub enum PlanError {
-    /// The name of a host or a wire is empty, has more than 16 bytes, or bytes other than those of `a-z 0-9 _ -`; or
-    /// two hosts have one name.
+    /// The name of a host or a wire is empty, has more than 16 bytes, or has a byte other than `a-z 0-9 _ -`. Or two
+    /// hosts have the same name.
     #[error("E40 Name")]
     Name,
-    /// A wire has one end, or more than 8.
+    /// A wire has one end, or more than 8 ends.
     #[error("E41 Ends")]
     Ends,
-    /// There are less than 2 hosts, or more than 16.
+    /// There are fewer than 2 hosts, or more than 16 hosts.
     #[error("E42 Hosts")]
     Hosts,
-    /// The address of a host's image is a group address, or another host has it, too.
+    /// The address of a host's image is a group address, or another host has the same address.
     #[error("E43 Address")]
     Address,
-    /// A host's configuration is invalid, or its link is to be up after 0 ticks.
+    /// A host's configuration is invalid, or its link would be up after 0 ticks.
     #[error("E44 Config")]
     Config,
     /// Memory was refused.

@@ -1,4 +1,4 @@
-// What came of an event.
+// The replies to events.
 
 use descriptors::Frame;
 use driver::{Handled, SendError};
@@ -7,35 +7,35 @@ use packet_socket::RecvError;
 use stations::{HeapFrame, Outcomes};
 use thiserror::Error;
 
-/// What a call answered.
+/// The answer to an event.
 ///
 /// `F` is the type of the frame in [`Received`](Answer::Received). A [`Reply`] contains the frame itself, on the heap
 /// (`HeapFrame`). An observer of a run gets an answer without a frame (`()`), and borrows the frame separately.
 #[derive(Debug, Drop, PartialEq, Eq)]
 pub enum Answer<F> {
-    /// A send was accepted, or refused.
+    /// A host accepted or rejected a frame to send.
     Sent(Result<(), SendError>),
-    /// A socket returned its oldest frame, or none.
+    /// A socket returned its oldest frame, or has no frame, or doesn't exist.
     Received(Result<F, RecvError>),
     /// An interrupt was handled.
     Interrupted(Handled),
-    /// A group was joined, or not.
+    /// A host joined a group, or the join was rejected.
     Joined(Result<(), GroupError>),
-    /// A group was left, or not.
+    /// A host left a group, or the leave was rejected.
     Left(Result<(), GroupError>),
-    /// An adapter was reset, by the write of CTRL.RST. The frames that were to be sent then are given up, and so are
-    /// those that the host held outside its sockets' queues.
+    /// An adapter was reset by a write of CTRL.RST. The frames that were to be sent at this write are given up, and so
+    /// are those that the host held outside its sockets' queues.
     Reset {
         /// The frames that were to be sent, oldest first.
         sending: Vec<Frame>,
         /// The frames that were held, oldest first.
         holding: Vec<Frame>,
-        /// How many accesses were made once the receiver was enabled again.
+        /// The number of accesses that the reset had made when the receiver was enabled again.
         on_after: u64,
     },
     /// A tick was played outside a call.
-    Ticked,
-    /// There is no such host; the ticks of the call were played.
+    NoCall,
+    /// There is no such host. The ticks of the call were played.
     NoHost,
 }
 
@@ -43,7 +43,7 @@ impl<F> Answer<F> {
     ghost use Rattle.std.specs.Prelude.{◌≡◌};
     ghost use Rattle.network_plan.specs.Answers.{answer_with};
 
-    /// The same answer, with this frame if it has one.
+    /// The same answer, with `frame` in place of its frame, if it has one.
     pub fn with_frame<G>(self, frame: G) -> Answer<G>
     where
         F: Drop,
@@ -66,29 +66,29 @@ impl<F> Answer<F> {
                 holding,
                 on_after,
             },
-            Answer::Ticked => Answer::Ticked,
+            Answer::NoCall => Answer::NoCall,
             Answer::NoHost => Answer::NoHost,
         }
     }
 }
 
-/// The reply to an event: the answer of the call, how many accesses it made, and the outcome of each tick that isn't a
-/// `Go`, in order, with the number of accesses that the call had made before it.
+/// The reply to an event: its answer, the number of accesses of the call, and the outcomes of its ticks. Each outcome
+/// has the number of accesses that the call had made before the tick. A `Go` inside a call has no outcome.
 #[derive(Debug, Drop)]
 pub struct Reply {
-    /// What the call answered.
+    /// The answer to the event.
     pub answer: Answer<HeapFrame>,
-    /// How many accesses it made, up to the greatest `u64`.
+    /// The number of accesses of the call, up to the greatest `u64`.
     pub accesses: u64,
-    /// The outcomes of its ticks.
+    /// The outcomes of the event's ticks.
     pub outcomes: Outcomes,
 }
 
-/// A run ended before an event, because memory was refused: by its observer, or for the frames that a reset gives up.
-/// The first `done` events were run and reported, and nothing else changed.
+/// A run ended before an event, because memory for its observer, or for the frames that a reset gives up, couldn't be
+/// allocated. The first `done` events were run and reported, and nothing else changed.
 #[derive(Clone, Copy, Debug, PartialEq, Eq, Error)]
 #[error("E47 Memory")]
 pub struct Stopped {
-    /// How many events were done.
+    /// The number of events that were done.
     pub done: usize,
 }

@@ -1,5 +1,5 @@
-//! Correct bodies for the contracts of a network's calls and of a scenario's: each makes one call and returns its
-//! result. The edits of `must-fail/` make these bodies wrong.
+//! Twins of the calls of a network and of a scenario: each makes one call and returns its result. The edits in
+//! `must-fail/` make these bodies wrong.
 #![tactic(auto)]
 
 mod of_bench;

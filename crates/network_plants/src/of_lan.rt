@@ -9,7 +9,7 @@ ghost use Rattle.wire.specs.Runs.{RunTold, RunsTo, StopsAt};
 use network_plan::{Event, Reply, Stopped};
 use rx_engine::MOST_FRAMES;
 use std::alloc::Global;
-use wire::{Lan, Outlet, RunObserver};
+use wire::{FrameSink, Lan, RunObserver};
 
 /// A twin of [`Lan::play`].
 pub fn play<O: RunObserver>(
@@ -45,7 +45,7 @@ pub fn run(
 }
 
 /// A twin of [`Lan::drain`].
-pub fn drain<S: Outlet>(lan: &mut Lan, host: usize, sink: &mut S) -> u64
+pub fn drain<S: FrameSink>(lan: &mut Lan, host: usize, sink: &mut S) -> u64
     requires room { (state : HostState) → IsHost lan.old host state
         → state.driver.layout.buffers + MOST_FRAMES ≤ S.room_left sink.old }
     ensures drains { NetworkDrains lan.old host result (S.frames sink.old) (S.frames sink.new) lan.new }

@@ -3,7 +3,7 @@
 ghost use Rattle.std.specs.Prelude.{◌≤◌, ◌<◌, length};
 ghost use Rattle.adapter.specs.State.{IsAdapter};
 ghost use Rattle.stations.specs.Stations.{world_at};
-ghost use Rattle.packet_socket.specs.CallEffects.{answer_in, request_of};
+ghost use Rattle.packet_socket.specs.CallEffects.{answer_in, call_request};
 ghost use Rattle.packet_socket.specs.HostCalls.{HostReady};
 ghost use Rattle.host_calls.specs.BeforeReset.{IsBeforeReset};
 ghost use Rattle.host_calls.specs.CallsInSteps.{MakesCall};
@@ -29,7 +29,7 @@ pub fn call_in_network<O: Observer>(
     requires room { length ticks.now ≤ O.room_left observer.old }
     ensures does { MakesCall
         (played_call number ticks.now (O.heard observer.old observer.new) result.accesses)
-        (request_of call.entry) (answer_in into.new result.answer)
+        (call_request call.entry) (answer_in into.new result.answer)
         (connected_at network.old number) (connected_at network.new number) }
 {
     let called = network.call(number, call, ticks, observer, into);

@@ -7,13 +7,13 @@ use Rattle.std.specs.Result.{OnErr, OnOk}
 use Rattle.std.proofs.lemmas.List.Elements.{All-cons}
 use Rattle.std.proofs.lemmas.Bool.{cases_eq}
 use Rattle.bus.proofs.Lists.{all-none}
-use Rattle.bus.specs.PastOfStretch.{nothing}
+use Rattle.bus.specs.Pasts.{nothing}
 use Rattle.bus.specs.declared.bus.Bus.{Ghosts}
 use Rattle.bus.specs.declared.event.Access.{Access}
 use Rattle.bus.specs.declared.event.Access.TheVariants.{Writes}
 use Rattle.rx_engine.specs.Addresses.{IsGroup}
 use Rattle.rx_engine.specs.GroupLists.{Removes}
-use Rattle.driver_law.proofs.Stretches.{joined-nothing}
+use Rattle.driver_law.proofs.Intervals.{joined-nothing}
 use Rattle.driver_law.specs.Calls.{IsRefilled, Moment, held_at}
 use Rattle.driver_law.specs.DriverState.{DriverState}
 use Rattle.joined_groups.specs.Groups.{ChangesJoined, SetsTable, with_groups, word_of}
@@ -23,9 +23,9 @@ use Rattle.packet_socket.specs.HostActs.{IsGroupWrite, OnlyLastWrites, OverBus, 
 use Rattle.packet_socket.specs.HostCalls.{HostMoment, IsReadyHost, driver_at, host_at}
 use Rattle.packet_socket.specs.HostEffects.{GroupAnswer, JoinEffect, LeaveEffect, groups_act}
 use Rattle.packet_socket.proofs.DriverActs.{driver-acts, makes-none}
-use Rattle.packet_socket.proofs.Stretches.{with_driver}
+use Rattle.packet_socket.proofs.Intervals.{with_driver}
 
--- No access, or one write of a word of the table.
+-- No access, or one write of a word of the group table
 
 own-sets : (kept : List (List ℕ)) (group : List ℕ) (groups : List (List ℕ)) (accesses : List Access) → SetsTable kept group groups accesses
     → All IsGroupWrite (accesses ++ [])
@@ -64,7 +64,7 @@ groups-act bus old new kept group changes is others =
     (own-sets kept group new.driver.groups changes.accesses changes.sets)
     (last-sets kept group new.driver.groups changes.accesses changes.sets) ran.goes ran.follows
 
--- What is left if the other results are ruled out.
+-- The remaining result if the others are impossible
 
 is-group : (group : List ℕ) (result : GroupAnswer) → ((result ≡ Err NotGroup) ↔ (¬ (IsGroup group))) → result ≢ Err NotGroup → IsGroup group
 is-group group result not_group other =

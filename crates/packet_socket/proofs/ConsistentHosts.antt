@@ -1,4 +1,4 @@
--- A host stays consistent in its calls, over any bus.
+-- A host remains consistent in its calls, over any bus.
 use Rattle.std.proofs.Common.{◌≡◌, ◌+◌, ◌<◌, ◌≤◌, ◌++◌, ◌∷◌, [], ℕ, Bool, List, length, replicate, sym, ap, subst, ◌∙◌}
 use Rattle.std.proofs.Common.{length-append, arith}
 use Rattle.std.specs.List.{All, flat_map, slice_set}
@@ -13,7 +13,7 @@ use Rattle.bus.proofs.Lists.{all-head, all-none, all-right, all-without}
 use Rattle.driver_law.proofs.Owners.{all-copies}
 use Rattle.driver_law.specs.DriverState.{DriverState, HandedOut, holding, owners}
 use Rattle.driver_law.specs.ReadyDrivers.{ReadyWith}
-use Rattle.driver.specs.HandlerSteps.{IfHandled, IfNotMine, Serves}
+use Rattle.driver.specs.HandlerSteps.{IfHandled, IfNotMine, ServesReceiver}
 use Rattle.driver.specs.Parts.{AreFrames, IsWholeFrame, buffers_in, buffers_of}
 use Rattle.driver.specs.declared.interrupt.Handled.{Handled}
 use Rattle.driver.specs.declared.interrupt.Handled.TheVariants.{NotMine}
@@ -28,7 +28,7 @@ use Rattle.packet_socket.specs.declared.socket_kind.SocketKind.{SocketKind}
 use Rattle.packet_socket.proofs.QueueParts.{Splits, none-wait, splits}
 use Rattle.packet_socket.proofs.QueuedPieces.{buffers-append, buffers-first, copies-joined, entries-fit}
 
--- The oldest entry of a queue that was there.
+-- The oldest entry of a queue.
 pub entry-splits : (driver : DriverState) (before after : SocketsState) (socket count : ℕ) (received : Received) → AreOfHost driver before
     → socket < count → count ≡ length before.kinds
     → queue_at before.queues socket ≡ received ∷ queue_at after.queues socket
@@ -36,14 +36,14 @@ pub entry-splits : (driver : DriverState) (before after : SocketsState) (socket 
 entry-splits driver before after socket count received host below size is = splits before.queues socket received
     (queue_at after.queues socket) (omega (arith, below, size, host.count)) is
 
--- The buffers of an entry.
+-- The buffers of an entry
 
 pub record CanComeBack (driver : DriverState) (received : Received) : Type 0 where
   pub known : All (λ number. number < driver.layout.buffers) (buffers_in received.parts)
   pub one_owner : HasNoSecondOwner driver.layout.buffers (buffers_in received.parts ++ owners driver)
   pub whole : IsWholeFrame received
 
--- What is in the middle of a list.
+-- A list without its middle part.
 middle-copies : (k : ℕ) (first last : List Received) (received : Received)
     → copies k (buffers_of (first ++ received ∷ last)) ≡ copies k (buffers_in received.parts) + copies k (buffers_of (first ++ last))
 middle-copies k first last received =
@@ -72,7 +72,7 @@ can-come-back driver sockets socket received later host parts =
           (all-right IsWholeFrame parts.first (received ∷ parts.last) (subst AreFrames parts.before host.sizes));
     }
 
--- They come back, and no buffer has another number of owners.
+-- The buffers return to the driver, and no number of owners changes.
 pub stays-owners : (driver driver' : DriverState) (before after : SocketsState) (socket : ℕ) (received : Received)
     → (parts : Splits before.queues socket received (queue_at after.queues socket))
     → after ≡ record before { queues = slice_set before.queues socket (queue_at after.queues socket) }
@@ -111,7 +111,7 @@ stays-host driver driver' before after socket received host parts others counts 
           (all-without IsWholeFrame parts.first received parts.last (subst AreFrames parts.before host.sizes));
     }
 
--- Frames were shown to the sockets.
+-- Frames were shown to the sockets
 
 pub kept-are-frames : (before after : SocketsState) (shown kept : List Received) → Sorts before after shown kept → AreFrames shown
     → AreFrames kept
@@ -119,7 +119,7 @@ kept-are-frames before after shown kept sorts sizes =
     subst AreFrames (sym sorts.claimed)
     (All-filter (λ (r : Received). has_socket before.kinds r.ether_type) IsWholeFrame shown sizes)
 
--- How often a number is in the queues, with those that were kept.
+-- The number of copies of a number in the queues after frames were kept.
 pub kept-copies : (k : ℕ) (kinds : List SocketKind) (before after : List (List Received)) (kept : List Received)
     → Queues kinds before after kept
     → copies k (buffers_of (all_of after)) ≡ copies k (buffers_of (all_of before)) + copies k (buffers_of kept)
@@ -130,7 +130,7 @@ kept-copies k kinds before after kept queues =
     ∙ sym (copies-joined k (all_of before ++ kept))
     ∙ buffers-append k (all_of before) kept
 
--- There is room for all that was kept.
+-- The queues have room for all frames that were kept.
 pub has-room : (driver driver' : DriverState) (before : SocketsState) (kept : List Received) → AreOfHost driver before → AreFrames kept
     → HaveSameNumbers (owners driver) (owners driver' ++ buffers_of kept) → length (all_of before.queues) + length kept ≤ before.room
 has-room driver driver' before kept host sizes numbers =
@@ -153,19 +153,19 @@ has-room driver driver' before kept host sizes numbers =
       host.room,
     )
 
--- In an interrupt.
+-- In an interrupt
 
 pub served-queues : (n : ℕ) (driver driver' : DriverState) (before after : SocketsState) → AreOfHost driver before
-    → (serves : Serves (record { took = Sorts }) before after driver driver' n)
+    → (serves : ServesReceiver (record { took = Sorts }) before after driver driver' n)
     → Queues before.kinds before.queues after.queues serves.receiver.kept
 served-queues n driver driver' before after host serves =
     let shows = serves.receiver in
     shows.shown.queues (has-room driver driver' before shows.kept host
     (kept-are-frames before after shows.received shows.kept shows.shown shows.frames.sizes) serves.owners)
 
--- No buffer has another number of owners then.
+-- No number of owners changes.
 served-owners : (n : ℕ) (driver driver' : DriverState) (before after : SocketsState) → AreOfHost driver before
-    → Serves (record { took = Sorts }) before after driver driver' n
+    → ServesReceiver (record { took = Sorts }) before after driver driver' n
     → HaveSameNumbers (host_owners (host_with driver before)) (host_owners (host_with driver' after))
 served-owners n driver driver' before after host serves = λ k.
     omega (
@@ -178,7 +178,7 @@ served-owners n driver driver' before after host serves = λ k.
     )
 
 served-host : (n : ℕ) (driver driver' : DriverState) (before after : SocketsState) → AreOfHost driver before
-    → Serves (record { took = Sorts }) before after driver driver' n → driver'.layout ≡ driver.layout
+    → ServesReceiver (record { took = Sorts }) before after driver driver' n → driver'.layout ≡ driver.layout
     → AreOfHost driver' after
 served-host n driver driver' before after host serves counts =
     let shows = serves.receiver in
@@ -196,16 +196,16 @@ served-host n driver driver' before after host serves counts =
 
 pub handled-host : (result : Handled) (driver driver' : DriverState) (before after : SocketsState) → AreOfHost driver before
     → IfNotMine result ((driver' ≡ driver) × (after ≡ before))
-    → IfHandled result (Serves (record { took = Sorts }) before after driver driver') → driver'.layout ≡ driver.layout
+    → IfHandled result (ServesReceiver (record { took = Sorts }) before after driver driver') → driver'.layout ≡ driver.layout
     → AreOfHost driver' after
 handled-host NotMine driver driver' before after host stays serves counts = subst (λ (s : SocketsState). AreOfHost driver' s)
     (sym stays.1) (subst (λ (d : DriverState). AreOfHost d before) (sym stays.0) host)
 handled-host (answers.Handled taken) driver driver' before after host stays serves counts =
     served-host taken driver driver' before after host serves counts
 
--- What the handler does to sockets.
+-- How the handler changes the sockets.
 pub sorts-all : (result : Handled) (driver driver' : DriverState) (before after : SocketsState) → AreOfHost driver before
-    → IfHandled result (Serves (record { took = Sorts }) before after driver driver')
+    → IfHandled result (ServesReceiver (record { took = Sorts }) before after driver driver')
     → IfHandled result (HostServes (host_with driver before) (host_with driver' after))
 sorts-all NotMine driver driver' before after host serves = tt
 sorts-all (answers.Handled taken) driver driver' before after host serves =
@@ -224,7 +224,7 @@ sorts-all (answers.Handled taken) driver driver' before after host serves =
       owners = served-owners taken driver driver' before after host serves;
     }
 
--- At first nothing waits.
+-- The queues of a new host are empty.
 pub new-host : (driver : DriverState) (sockets : SocketsState) (kinds : List SocketKind) (room : ℕ)
     → sockets ≡ record { kinds = kinds; queues = replicate (length kinds) []; room = room; unclaimed = 0 } → room ≡ driver.layout.buffers
     → HasNoSecondOwner driver.layout.buffers (owners driver)

@@ -1,11 +1,11 @@
--- What a call does over a bus, if it takes no frame and returns none.
+-- A call over a bus that takes and returns no frame.
 use Rattle.std.proofs.Common.{Bool, ◌≡◌, [], ℕ, List, refl, sym, subst}
 use Rattle.std.specs.List.{All}
 use Rattle.bus.proofs.Composition.{happens_none}
 use Rattle.bus.proofs.Lists.{all-none}
-use Rattle.bus.specs.PastOfStretch.{Past, nothing}
+use Rattle.bus.specs.Pasts.{Past, nothing}
 use Rattle.bus.specs.declared.bus.Bus.{Ghosts}
-use Rattle.driver_law.proofs.Stretches.{work_kept}
+use Rattle.driver_law.proofs.Intervals.{work_kept}
 use Rattle.driver_law.specs.Calls.{DriverDid, DriverInWorld, FollowsWrites, GoesTo, IsRefilled, Moment, driver_did, driver_in}
 use Rattle.driver_law.specs.DriverState.{DriverState, holding}
 use Rattle.packet_socket.specs.HostActs.{ActKind, CallStages, IsAccessOf, IsOfDriver, OnlyLastWrites, OverBus, PassesStages, accesses_in}
@@ -13,9 +13,9 @@ use Rattle.packet_socket.specs.HostActs.{changed_by, no_act}
 use Rattle.packet_socket.specs.HostCalls.{HostMoment, IsReadyHost, driver_at, driver_of, host_at}
 use Rattle.packet_socket.specs.HostEffects.{MakesNoAccess}
 use Rattle.packet_socket.specs.HostState.{HostState}
-use Rattle.packet_socket.proofs.Stretches.{accounts-stay, driver-stays, host-happens, with_driver}
+use Rattle.packet_socket.proofs.Intervals.{accounts-stay, driver-stays, host-happens, with_driver}
 
--- No access.
+-- No access
 
 no-acts : {up : Bool} {B : Type 0} (bus : Ghosts B) (now : HostMoment B) → IsReadyHost bus up now → OverBus bus up [] [] now now no_act
 no-acts {up} bus now is = record {
@@ -41,9 +41,9 @@ makes-none {up} {B} bus old b h' is same stays =
     (subst (λ (x : B). MakesNoAccess old.host old.host (OverBus bus up [] [] old (host_at x old.host))) (sym same)
     (record { stays = refl; runs = no-acts bus old is }))
 
--- Only the driver changes.
+-- Only the driver changes
 
--- Calls of this kind are intervals in which ICR isn't read.
+-- Calls of this kind are intervals in which no recorded cause is cleared.
 abbrev pub GoesBy : ActKind → Bool → Type 0
 GoesBy kind up =
     (old new : DriverInWorld) (done : DriverDid) (past : Past) → GoesTo up old new done past → changed_by kind up old new done past

@@ -1,4 +1,4 @@
--- The accesses of a driver's calls are those of a driver that is up.
+-- The accesses of a driver's calls are those of `IsOfDriver`.
 use Rattle.std.proofs.Common.{◌≡◌, ◌<◌, ◌+◌, ◌%◌, ◌++◌, ◌∷◌, [], ℕ, List, length, inl, inr, map, refl, sym, subst}
 use Rattle.std.specs.List.{All}
 use Rattle.std.proofs.lemmas.List.{append-nil}
@@ -23,7 +23,7 @@ use Rattle.packet_socket.specs.HostCalls.{receive_accesses}
 use Rattle.std.specs.Prelude.{⊤}
 use Rattle.packet_socket.specs.HostActs.{IsOfDriver, OnlyLastWrites}
 
--- Loads and stores are of a driver that is up, and write no register.
+-- Loads and stores are such accesses, and write no register
 
 abbrev IsOfMemory : Access → Type 0
 IsOfMemory (Reads offset value) = ⊥
@@ -63,7 +63,7 @@ slot-loads slot_address [] = all-none IsOfMemory
 slot-loads slot_address (slot ∷ later) = All-cons IsOfMemory (Loads (slot_address slot) 16)
     (map (λ slot. Loads (slot_address slot) 16) later) tt (slot-loads slot_address later)
 
--- Sending.
+-- Sending
 
 sent-memory : (d : DriverState) (k : ℕ) → All IsOfMemory (transmit_loads d.layout d.oldest_transmit k)
 sent-memory d k = slot-loads (transmit_slot d.layout) (slots_from d.layout.tx d.oldest_transmit k)
@@ -102,7 +102,7 @@ frees-last d left =
     let k = slots_looked_at d.sending left in
     after-memory (transmit_loads d.layout d.oldest_transmit k) [] (sent-memory d k) tt
 
--- Offering slots.
+-- Offering slots
 
 stores-memory : (counts : Counts) (slot : ℕ) (numbers : List ℕ) → All IsOfMemory (stores_from counts slot numbers)
 stores-memory counts slot [] = all-none IsOfMemory
@@ -117,7 +117,7 @@ tail-last : (slot : ℕ) (staged : List ℕ) → OnlyLastWrites (tail_write slot
 tail-last slot [] = tt
 tail-last slot (number ∷ later) = refl
 
--- Of the memory's accesses, then stores, then a tail.
+-- Accesses of memory, then stores, then a write of RDT.
 offers-of_driver : (own counts : Counts) (first : List Access) (slot last : ℕ) (offered staged : List ℕ) → All IsOfMemory first
     → last < own.rx → All (IsOfDriver own) (first ++ (stores_from counts slot offered ++ tail_write last staged))
 offers-of_driver own counts first slot last offered staged memory below =
@@ -133,7 +133,7 @@ offers-last counts first slot last offered staged memory =
     after-memory first (stores ++ tail_write last staged) memory
     (after-memory stores (tail_write last staged) (stores-memory counts slot offered) (tail-last last staged))
 
--- Receiving.
+-- Receiving
 
 parts-memory : (counts : Counts) (parts : List Part) → All IsOfMemory (part_loads counts parts)
 parts-memory counts [] = all-none IsOfMemory
@@ -154,7 +154,7 @@ receives-last d d' parts offered =
     (offers-last d.layout (part_loads d.layout parts) (next_receive d) (next_receive d') offered (d.staged ++ offered)
     (parts-memory d.layout parts))
 
--- Handling an interrupt.
+-- Handling an interrupt
 
 looks-memory : (counts : Counts) (slot n : ℕ) → All IsOfMemory (receive_loads counts slot n)
 looks-memory counts slot n = slot-loads receive_slot (slots_from counts.rx slot n)

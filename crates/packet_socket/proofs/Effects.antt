@@ -1,9 +1,9 @@
--- An effect of a call, run in another way.
+-- An effect of a call, with another meaning of `Runs`.
 use Rattle.std.proofs.Common.{Bool, ◌≡◌, ◌++◌, ℕ, List, ap, inl, inr, ◌∙◌}
 use Rattle.std.specs.List.{All}
 use Rattle.dma_memory.specs.Layout.{Counts}
 use Rattle.adapter.specs.World.{World}
-use Rattle.bus.specs.PastOfStretch.{Past}
+use Rattle.bus.specs.Pasts.{Past}
 use Rattle.bus.specs.declared.bus.Bus.{Ghosts}
 use Rattle.bus.specs.declared.event.Access.{Access}
 use Rattle.driver.specs.declared.interrupt.Handled.{Handled}
@@ -34,7 +34,7 @@ passes-accesses bus (Then made Holds later) old new past it =
     ∙ ap (λ (list : List Access). list ++ it.behind.accesses) it.made_are
     ∙ ap (λ (list : List Access). made ++ list) (passes-accesses bus later it.middle new it.behind it.later)
 
--- If ICR isn't read, or after it was read, more is known.
+-- What a call changes in the driver implies `FlowsTo`.
 pub flows-changed : (kind : ActKind) (up : Bool) (old new : DriverInWorld) (done : DriverDid) (past : Past)
     → changed_by kind up old new done past → FlowsTo up old new done past
 flows-changed HandlesInterrupt up old new done past it = it.flows
@@ -48,7 +48,7 @@ own-host HandlesInterrupt counts accesses own = λ k d below. inl (own k d below
 own-host MovesFrames counts accesses own = λ k d below. inl (own k d below)
 own-host SetsGroups counts accesses own = λ k d below. inr (own k d below)
 
--- Whatever follows from the way in which an act was run follows from an effect.
+-- If one meaning of `Runs` implies another, the effect with the first implies the effect with the second.
 abbrev pub Maps : Effect → Type 1
 Maps Does =
     (S : Type 0) (h h' : HostState) (world : World) (Runs : HostAct → Type 0) (Also : S → HostAct → Type 0)
@@ -153,7 +153,7 @@ leave-map group (Err NotJoined) S h h' world Runs Also run it =
 leave-map group (Err errors.Joined) S h h' world Runs Also run it = absurd it
 leave-map group (Err GroupsFull) S h h' world Runs Also run it = absurd it
 
--- A call that is a value.
+-- A `HostCall`
 answer-map : {R : Type 0} (result : Option R) (Does : R → Effect) → ((r : R) → Maps (Does r)) → Maps (OfAnswer result Does)
 answer-map (Some result) Does maps = maps result
 answer-map None Does maps = λ S h h' world Runs Also run it. absurd it

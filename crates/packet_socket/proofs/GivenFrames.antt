@@ -1,4 +1,4 @@
--- A host gives the oldest frame of a queue.
+-- A host returns the oldest frame of a queue.
 use Rattle.std.proofs.Common.{Bool, true, false, cond, inl, inr, ◌≡◌, ◌≢◌, ◌<◌, ◌+◌, ◌++◌, ◌∷◌, [], ℕ, List, length, map, take}
 use Rattle.std.proofs.Common.{refl, sym, ap, subst, ◌∙◌, arith}
 use Rattle.std.specs.Prelude.{◌==◌, IfNone, None, Option, Some}
@@ -10,13 +10,13 @@ use Rattle.std.proofs.lemmas.Simd.{map-map}
 use Rattle.dma_memory.specs.Layout.{Counts}
 use Rattle.bus.proofs.Lists.{all-head, all-right, all-without}
 use Rattle.descriptors.specs.Frames.{longest_frame}
-use Rattle.bus.specs.PastOfStretch.{Past, joined, nothing}
+use Rattle.bus.specs.Pasts.{Past, joined, nothing}
 use Rattle.bus.specs.declared.bus.Bus.{Ghosts}
 use Rattle.bus.specs.declared.event.Access.{Access}
 use Rattle.driver_law.proofs.Accesses.{ran_by-join}
-use Rattle.driver_law.proofs.Stretches.{joined-nothing, work_kept}
+use Rattle.driver_law.proofs.Intervals.{joined-nothing, work_kept}
 use Rattle.driver_law.specs.Calls.{GoesTo, IsRefilled, Ran, at, driver_did, driver_in, only, stores_from, tail_write}
-use Rattle.driver_law.specs.DriverState.{DriverState, HandedOut, frame_of, holding, next_receive, numbers_of, with_owners}
+use Rattle.driver_law.specs.DriverState.{DriverState, HandedOut, frame_of, holding, next_receive, piece_numbers, with_owners}
 use Rattle.driver_law.specs.ReadyDrivers.{ReadyWith, Stands}
 use Rattle.driver.specs.RefillSteps.{Refills}
 use Rattle.driver.specs.Parts.{AreFrames, IsFrameSize, IsWholeFrame, buffers_in, part_loads, parts_of}
@@ -34,7 +34,7 @@ use Rattle.packet_socket.proofs.WaitingFrames.{AreLong, AreSame, IsLong, all-lon
 use Rattle.driver_law.proofs.Places.{place-below}
 use Rattle.packet_socket.proofs.DriversAccesses.{receives-last, receives-of_driver}
 
--- What is given, by sockets.
+-- Returned frames, by sockets
 given-here : (socket : ℕ) (frame : List ℕ) (other : ℕ) (goes : Bool) → (socket == other) ≡ goes
     → given_for other (record { socket = socket; frame = frame } ∷ []) ≡ cond goes (frame ∷ []) []
 given-here socket frame other goes is =
@@ -46,7 +46,7 @@ given-here socket frame other goes is =
     by-cases true = refl
     by-cases false = refl
 
--- What a call that gives back buffers changes of its host.
+-- How a call that returns buffers to the driver changes its host.
 pub gives-others : (d d' : DriverState) (before after : SocketsState) → d' ≡ with_owners d d'.buffers [] d'.pool []
     → after.kinds ≡ before.kinds → after.unclaimed ≡ before.unclaimed
     → host_with d' after ≡ record (host_with d before) { driver = with_owners d d'.buffers [] d'.pool []; queues = after.queues }
@@ -58,12 +58,12 @@ gives-others d d' before after driver kinds unclaimed =
     ∙ ap (λ (n : ℕ). let host : HostState = record
     { driver = made; kinds = before.kinds; queues = after.queues; unclaimed = n } in host) unclaimed
 
--- what is known if there is none
+-- what is known if there is no entry
 pub if-none : {X : Type 0} {P : Type 0} (found : Option X) → found ≡ None → IfNone found P → P
 if-none None is p = p
 if-none (Some x) is p = absurd (cc)
 
--- The bytes that are returned are as many as they should be.
+-- The number of bytes that are returned is the size of the frame.
 pub front-long : (size : ℕ) (bytes : List ℕ) → length bytes ≡ longest_frame → IsFrameSize size → length (take size bytes) ≡ size
 front-long size bytes long legal = let fits = legal.most in grind (arith, common_steps)
 
@@ -75,7 +75,7 @@ pub host-receives : {up : Bool} {B : Type 0} (bus : Ghosts B)
     → ((first pieces later : List HandedOut)
     → ReadyWith up (holding (first ++ (pieces ++ later)) old.host.driver) (bus.world old.bus)
     → parts_of pieces ≡ received.parts → bytes ≡ frame_of pieces)
-    → ((first pieces later : List HandedOut) → numbers_of pieces ≡ buffers_in received.parts
+    → ((first pieces later : List HandedOut) → piece_numbers pieces ≡ buffers_in received.parts
     → ReadyWith up (holding (first ++ (pieces ++ later)) old.host.driver) (bus.world b)
     → Refills bus up (at b (holding (first ++ (pieces ++ later)) old.host.driver)) (at new.bus (holding (first ++ later) new.host.driver)))
     → length bytes ≡ size → socket < length old.host.kinds → IsRefilled new.host.driver
@@ -113,7 +113,7 @@ host-receives {up} bus joins old new b socket size received bytes is parts leave
     let loads : List Access = part_loads counts received.parts in
     let reads2 : Ran bus up (only loads) (at a d2) (at b d2) = subst
     (λ (s : DriverState). Ran bus up (only loads) (at a s) (at b s)) split reads in
-    let numbers : numbers_of pieces ≡ buffers_in received.parts =
+    let numbers : piece_numbers pieces ≡ buffers_in received.parts =
     map-map (λ (one : HandedOut). one.number) (waiting_piece counts m) received.parts in
     let refills = gives first pieces later numbers reads2.goes.flows.ready in
     let e = holding (first ++ later) h'.driver in

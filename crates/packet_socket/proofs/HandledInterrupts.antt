@@ -11,16 +11,16 @@ use Rattle.dma_memory.specs.OwnersLaws.{copies-append, length-no_second}
 use Rattle.adapter.specs.World.{World}
 use Rattle.bus.proofs.Composition.{happens_none}
 use Rattle.bus.proofs.Lists.{all-left, all-right}
-use Rattle.bus.specs.PastOfStretch.{joined, nothing}
+use Rattle.bus.specs.Pasts.{joined, nothing}
 use Rattle.driver_law.proofs.TakenSlots.{buffers_can_come_back}
 use Rattle.bus.specs.declared.bus.Bus.{Ghosts}
 use Rattle.driver_law.specs.Calls.{FlowsTo, FollowsWrites, GoesTo, at, driver_did, driver_in}
-use Rattle.driver_law.proofs.Stretches.{joined-nothing}
+use Rattle.driver_law.proofs.Intervals.{joined-nothing}
 use Rattle.driver_law.proofs.Places.{place-below}
-use Rattle.driver_law.specs.DriverState.{DriverState, HandedOut, frame_of, holding, next_receive, numbers_of, owners}
+use Rattle.driver_law.specs.DriverState.{DriverState, HandedOut, frame_of, holding, next_receive, piece_numbers, owners}
 use Rattle.driver_law.specs.ReadyDrivers.{ReadyWith, Stands}
-use Rattle.driver.specs.HandlerSteps.{Asked, DoesNothing, GrowsBy, Handles, HandlesIt, IfHandled, IfNotMine, IsPart, OnlyReceives}
-use Rattle.driver.specs.HandlerSteps.{Scene, Serves}
+use Rattle.driver.specs.HandlerSteps.{Asked, DoesNothing, GrowsBy, Handles, HandlesIt, IfHandled, IfNotMine, IsSublist, OnlyReceives}
+use Rattle.driver.specs.HandlerSteps.{Scene, ServesReceiver}
 use Rattle.driver.specs.HandlerSteps.{held_in}
 use Rattle.driver.specs.Parts.{buffers_of, joined_frames, pieces_of, received_of}
 use Rattle.driver.specs.declared.interrupt.Handled.{Handled}
@@ -45,13 +45,13 @@ use Rattle.packet_socket.proofs.WaitingFrames.{AreLong, AreSame, IsLong, all-lon
 use Rattle.packet_socket.proofs.WaitingFrames.{read-pieces, read-stands}
 use Rattle.driver_law.proofs.Steps.{goes-happens}
 use Rattle.driver_law.proofs.Accesses.{follows-join}
-use Rattle.packet_socket.proofs.Stretches.{accounts-stay, driver-stays, flows-hold, goes-hold, queues-stand}
+use Rattle.packet_socket.proofs.Intervals.{accounts-stay, driver-stays, flows-hold, goes-hold, queues-stand}
 
--- a host's moment, of its driver and its sockets
+-- the moment of a host with this driver and these sockets
 abbrev pub host_in : {B : Type 0} → Scene B SocketsState → HostMoment B
 host_in now = record { bus = now.bus; host = host_with now.driver now.receiver }
 
--- It does nothing.
+-- The handler does nothing.
 leaves : {up : Bool} {B : Type 0} (bus : Ghosts B) (old : HostMoment B) (new : B) (asked : Asked bus up (driver_at bus old))
     → IsReadyHost bus up old → DoesNothing bus (driver_at bus old) (at new (driver_at bus old).driver) asked
     → FindsNoCause old.host old.host (OverBus bus up [] [] old (host_at new old.host))
@@ -107,12 +107,12 @@ leaves {up} {B} bus old new asked is it =
       };
     }
 
--- There is room for as many frames as there were outstanding slots.
+-- The queues have room for one frame for each outstanding slot.
 has-room : (driver : DriverState) (before : SocketsState) (n : ℕ) → AreOfHost driver before → n ≤ length driver.buffers
     → length (all_of before.queues) + n ≤ before.room
 has-room driver before n host few =
     let waiting = buffers_of (all_of before.queues) in
-    let rest = driver.staged ++ numbers_of driver.handed_out in
+    let rest = driver.staged ++ piece_numbers driver.handed_out in
     omega (
       arith,
       few,
@@ -124,7 +124,7 @@ has-room driver before n host few =
       entries-fit (all_of before.queues) host.sizes,
     )
 
--- After the driver's work, the queues have what it handed out, and the driver is ready with that.
+-- After the driver handled the causes, the queues hold the frames that it handed out, and the driver is ready.
 pub record Sorted (up : Bool) (driver driver' : DriverState) (before after : SocketsState) (a b : World)
     (taken kept : List (List HandedOut)) : Type 0 where
   pub queues : Queues before.kinds before.queues after.queues (map received_of kept)
@@ -136,7 +136,7 @@ pub record Sorted (up : Bool) (driver driver' : DriverState) (before after : Soc
 pub sorted : {up : Bool} (driver driver' : DriverState) (before after : SocketsState) (a b : World) (taken kept : List (List HandedOut))
     → AreOfHost driver before → AreOfHost driver' after
     → HostReadyWith up (host_with driver before) a → driver'.layout ≡ driver.layout
-    → ReadyWith up (holding ((driver_of (host_with driver before) a).handed_out ++ pieces_of kept) driver') b → IsPart kept taken
+    → ReadyWith up (holding ((driver_of (host_with driver before) a).handed_out ++ pieces_of kept) driver') b → IsSublist kept taken
     → length taken ≤ length driver.buffers
     → Sorts before after (map received_of taken) (map received_of kept) → Sorted up driver driver' before after a b taken kept
 sorted {up} driver driver' before after a b taken kept sound sound' host counts ready part few shown =
@@ -156,19 +156,19 @@ sorted {up} driver driver' before after a b taken kept sound sound' host counts 
     let each = all-pieces P (λ (one : List HandedOut). one) kept (all-right P held pieces ready.stand) in
     let outs : All (λ (one : List HandedOut). frame (received_of one) ≡ frame_of one) kept = λ k one below.
     ap frame_of (read-pieces driver'.layout new (slice_index_or kept k one) (each k one below)) in
-    let numbers : (k : ℕ) → copies k (numbers_of (held ++ pieces)) ≡ copies k (buffers_of waits) + copies k (buffers_of entries) = λ k.
+    let numbers : (k : ℕ) → copies k (piece_numbers (held ++ pieces)) ≡ copies k (buffers_of waits) + copies k (buffers_of entries) = λ k.
     omega (
       arith,
       ap (copies k) (received-numbers kept),
       ap (copies k) (waiting-numbers driver.layout old waits),
       ap (copies k) (map-append number held pieces),
-      copies-append k (numbers_of held) (numbers_of pieces),
+      copies-append k (piece_numbers held) (piece_numbers pieces),
     ) in
     let fits = has-room driver before (length entries) sound (omega (arith, length-map kept received_of, part-length part, few)) in
     let queues = shown.queues fits in
     let list = flat_map (waiting_pieces driver'.layout new) (all_of after.queues) in
-    let moves : (k : ℕ) → copies k driver'.pool + copies k (numbers_of list)
-    ≡ copies k driver'.pool + copies k (numbers_of (held ++ pieces)) = λ k.
+    let moves : (k : ℕ) → copies k driver'.pool + copies k (piece_numbers list)
+    ≡ copies k driver'.pool + copies k (piece_numbers (held ++ pieces)) = λ k.
     omega (
       arith,
       ap (copies k) (waiting-numbers driver'.layout new (all_of after.queues)),
@@ -197,20 +197,20 @@ sorted {up} driver driver' before after a b taken kept sound sound' host counts 
           (queue-frames before.kinds socket frame kept taken part shown.claimed outs);
     }
 
--- The buffers of frames, one frame after the other, are those of their pieces.
-numbers-joined : (taken : List (List HandedOut)) → numbers_of (pieces_of taken) ≡ concat (map numbers_of taken)
+-- The buffers of frames are those of their pieces.
+numbers-joined : (taken : List (List HandedOut)) → piece_numbers (pieces_of taken) ≡ concat (map piece_numbers taken)
 numbers-joined [] = refl
 numbers-joined (pieces ∷ later) =
     map-append (λ (one : HandedOut). one.number) pieces (pieces_of later)
-    ∙ ap (λ (numbers : List ℕ). numbers_of pieces ++ numbers) (numbers-joined later)
+    ∙ ap (λ (numbers : List ℕ). piece_numbers pieces ++ numbers) (numbers-joined later)
 
--- It does its work.
+-- The handler handles the causes.
 works : {up : Bool} {B : Type 0} (bus : Ghosts B) (old new : Scene B SocketsState) (n : ℕ)
     → AreOfHost old.driver old.receiver → AreOfHost new.driver new.receiver → IsReadyHost bus up (host_in old)
     → (asked : Asked bus up (driver_at bus (host_in old)))
     → HandlesIt bus (record { took = Sorts }) n (held_in (driver_at bus (host_in old)).driver.handed_out old)
     (held_in (driver_at bus (host_in old)).driver.handed_out new) asked
-    → Serves (record { took = Sorts }) old.receiver new.receiver old.driver new.driver n
+    → ServesReceiver (record { took = Sorts }) old.receiver new.receiver old.driver new.driver n
     → OnlyReceives old.driver new.driver
     → HandlesFrames n (host_in old).host (host_in new).host (OverBus bus up [] [] (host_in old) (host_in new)) (bus.world old.bus)
 works {up} bus old new n sound sound' is asked it serves only_receives =
@@ -294,9 +294,9 @@ works {up} bus old new n sound sound' is asked it serves only_receives =
           };
           whole = refl;
         };
-        own = handles-of_driver h.driver.layout h.driver asked.causes w.misses.misses (map numbers_of frames.taken) w.loads
+        own = handles-of_driver h.driver.layout h.driver asked.causes w.misses.misses (map piece_numbers frames.taken) w.loads
             w.served.offered (next_receive driver') below;
-        last_writes = handles-last h.driver asked.causes w.misses.misses (map numbers_of frames.taken) w.loads w.served.offered
+        last_writes = handles-last h.driver asked.causes w.misses.misses (map piece_numbers frames.taken) w.loads w.served.offered
             (next_receive driver');
         changed = record {
           sizes = sound'.sizes;
@@ -323,7 +323,7 @@ works {up} bus old new n sound sound' is asked it serves only_receives =
 pub host-handles : {up : Bool} {B : Type 0} (bus : Ghosts B) (old new : Scene B SocketsState) (result : Handled)
     → AreOfHost old.driver old.receiver → AreOfHost new.driver new.receiver → IsReadyHost bus up (host_in old)
     → IfNotMine result ((new.driver ≡ old.driver) × (new.receiver ≡ old.receiver))
-    → IfHandled result (Serves (record { took = Sorts }) old.receiver new.receiver old.driver new.driver)
+    → IfHandled result (ServesReceiver (record { took = Sorts }) old.receiver new.receiver old.driver new.driver)
     → OnlyReceives old.driver new.driver
     → Handles bus (record { took = Sorts }) result up (held_in (driver_at bus (host_in old)).driver.handed_out old)
     (held_in (driver_at bus (host_in old)).driver.handed_out new)
@@ -340,7 +340,7 @@ host-handles {up} {B} bus old new NotMine sound sound' is stays serves only_rece
 host-handles {up} {B} bus old new (answers.Handled taken) sound sound' is stays serves only_receives it =
     works bus old new taken sound sound' is it.asked it.then_does serves only_receives
 
--- What holds if frames were taken says less, too.
+-- A statement about the result `Handled` may be replaced by a consequence.
 pub taken-less : (result : Handled) (P Q : ℕ → Type 0) → ((n : ℕ) → P n → Q n) → IfHandled result P → IfHandled result Q
 taken-less NotMine P Q less holds = tt
 taken-less (answers.Handled taken) P Q less holds = less taken holds

@@ -1,4 +1,4 @@
--- Queues, as the host keeps them.
+-- Queues, as `Sockets` stores them.
 use Rattle.std.proofs.Common.{◌≡◌, ◌-◌, ◌<◌, ◌++◌, ◌∷◌, [], ℕ, zero, suc, Some, Option, List, length, map, drop, replicate, refl}
 use Rattle.std.proofs.Common.{sym, ap, subst, ◌∙◌, length-append, arith}
 use Rattle.std.specs.List.{All, slice_get, slice_index_or, slice_set}
@@ -26,7 +26,7 @@ queue-new [] socket queue below = absurd (omega (arith, below))
 queue-new (first ∷ later) zero queue below = refl
 queue-new (first ∷ later) (suc socket) queue below = queue-new later socket queue (omega (arith, below))
 
--- The oldest leaves.
+-- The oldest frame leaves a queue
 
 first-is : (items : List Received) → IfSome (slice_get items 0) (λ received. items ≡ received ∷ drop 1 items)
 first-is [] = tt
@@ -54,7 +54,7 @@ pub others_stay : (queues : List (Buffer Received)) (socket : ℕ) (queue : Buff
 others_stay queues socket queue below = map-set items_of queues socket queue
     ∙ ap (slice_set (map items_of queues) socket) (sym (queue-new queues socket queue below))
 
--- A frame goes to the end.
+-- A frame goes to the end of a queue
 
 last-kept : (capacity : ℕ) (items : List Received) (received : Received) → length items < capacity
     → keep_last capacity (items ++ received ∷ []) ≡ items ++ received ∷ []
@@ -82,7 +82,7 @@ newest-comes kinds queues room unclaimed socket received queue queue' is below f
     (λ fits. ap items_of new ∙ last-kept queue.capacity queue.items received (omega (arith, fits, capacity, ap length same))
     ∙ ap (λ (list : List Received). list ++ received ∷ []) (sym same)))
 
--- At first all are empty.
+-- The queues of a new host are empty
 
 pub all-empty : (n room : ℕ) → map items_of (replicate n (buffer [] room)) ≡ replicate n []
 all-empty zero room = refl

@@ -4,7 +4,7 @@ pub mod QueuedPieces
 pub mod ConsistentHosts
 pub mod WaitingFrames
 pub mod Accounts
-pub mod Stretches
+pub mod Intervals
 pub mod GivenFrames
 pub mod ShownFrames
 pub mod HandledInterrupts

@@ -1,10 +1,10 @@
--- The oldest entry of a queue, among all that wait.
+-- The oldest entry of a queue, among all queued entries.
 use Rattle.std.proofs.Common.{◌≡◌, ◌<◌, ◌++◌, ◌∷◌, [], ℕ, zero, suc, List, length, refl, sym, ap, ◌∙◌, append_assoc, replicate, arith}
 use Rattle.std.specs.List.{slice_set}
 use Rattle.driver.specs.declared.receiver.Received.{Received}
 use Rattle.packet_socket.specs.HostState.{all_of, queue_at}
 
--- Those before it and those behind it, and all with it and without it.
+-- The entries before and after this entry, with it and without it.
 pub record Splits (queues : List (List Received)) (socket : ℕ) (received : Received) (later : List Received) : Type 0 where
   pub first : List Received
   pub last : List Received

@@ -13,7 +13,7 @@ use Rattle.packet_socket.specs.HostCalls.{HostMoment, IsReadyHost, driver_at, dr
 use Rattle.packet_socket.specs.HostResets.{HostResets}
 use Rattle.packet_socket.specs.HostState.{SocketsState, all_of, queue_at}
 use Rattle.packet_socket.specs.InsideHost.{AreOfHost}
-use Rattle.packet_socket.proofs.Stretches.{driver-stays, queues-stand, with_driver}
+use Rattle.packet_socket.proofs.Intervals.{driver-stays, queues-stand, with_driver}
 use Rattle.packet_socket.proofs.WaitingFrames.{queue-frames-same}
 
 pub host-resets : {B : Type 0} (bus : Ghosts B) (up : Bool) (old : HostMoment B) (new : Moment B)
@@ -39,7 +39,7 @@ host-resets bus up old new is layout resets =
           ∙ queue-frames-same counts a.memory b.memory h.queues same socket;
     }
 
--- The queues' buffers are still no others'.
+-- The buffers in the queues still have no second owner.
 pub reset-host : (driver driver' : DriverState) (sockets : SocketsState) → AreOfHost driver sockets → driver'.layout ≡ driver.layout
     → HaveSameNumbers (owners driver) (owners driver') → AreOfHost driver' sockets
 reset-host driver driver' sockets host layout same = record {

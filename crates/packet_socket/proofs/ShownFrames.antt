@@ -1,4 +1,4 @@
--- Frames that the driver takes, as its sockets see them.
+-- Frames that the driver takes, as its sockets are shown them.
 use Rattle.std.proofs.Common.{Bool, true, false, cond, ◌≡◌, ◌≤◌, ◌∷◌, [], ℕ, Option, Some, None, suc, List, length, map}
 use Rattle.std.proofs.Common.{refl, sym, ap, subst, ◌∙◌, arith}
 use Rattle.std.specs.List.{All, filter}
@@ -9,28 +9,28 @@ use Rattle.std.proofs.lemmas.List.Sums.{sum_by-cons}
 use Rattle.rx_engine.specs.Addresses.{ether_type}
 use Rattle.bus.proofs.Lists.{all-head, all-tail, all-unmapped}
 use Rattle.driver_law.specs.DriverState.{HandedOut, frame_of}
-use Rattle.driver.specs.HandlerSteps.{IsPart, part_none, part_with, part_without}
+use Rattle.driver.specs.HandlerSteps.{IsSublist, part_none, part_with, part_without}
 use Rattle.driver.specs.Parts.{joined_frames, received_of}
 use Rattle.driver.specs.declared.receiver.Received.{Received}
 use Rattle.packet_socket.specs.HostCalls.{claimed_of, socket_entries, socket_frames, unclaimed_of, without_socket}
-use Rattle.packet_socket.specs.SocketKinds.{goes_to, has_none, has_socket, is_at, socket_of}
+use Rattle.packet_socket.specs.SocketKinds.{goes_to, has_none, has_socket, is_position, socket_of}
 use Rattle.packet_socket.specs.declared.socket_kind.SocketKind.{SocketKind}
 
--- whether a frame that was taken has a socket, and whether it is this one
+-- whether a frame that was taken has a socket
 abbrev pub has : List SocketKind → List HandedOut → Bool
 has kinds one = has_socket kinds (ether_type (frame_of one))
 
 abbrev pub goes : List SocketKind → ℕ → List HandedOut → Bool
 goes kinds socket one = goes_to kinds socket (ether_type (frame_of one))
 
--- Some of a list are no more than all of it.
-pub part-length : {some all : List (List HandedOut)} → IsPart some all → length some ≤ length all
+-- A part of a list isn't longer than the list.
+pub part-length : {some all : List (List HandedOut)} → IsSublist some all → length some ≤ length all
 part-length part_none = omega arith
 part-length (part_with rest) = let later = part-length rest in omega (arith, later)
 part-length (part_without rest) = let later = part-length rest in omega (arith, later)
 
--- Some of a list, all of which pass a test, are no more than those that do.
-part-count : {some all : List (List HandedOut)} (p : List HandedOut → Bool) → IsPart some all → All (λ one. p one ≡ true) some
+-- A part of a list whose items pass a test isn't longer than the list of all items that pass.
+part-count : {some all : List (List HandedOut)} (p : List HandedOut → Bool) → IsSublist some all → All (λ one. p one ≡ true) some
     → length some ≤ length (filter p all)
 part-count p part_none passes = omega arith
 part-count p (part_with {one = one} {some = some} {all = all} rest) passes =
@@ -45,8 +45,8 @@ part-count p (part_without {one = one} {some = some} {all = all} rest) passes =
     at true later = omega (arith, later)
     at false later = later
 
--- So they are those that do, if there are as many.
-part-is : {some all : List (List HandedOut)} (p : List HandedOut → Bool) → IsPart some all → All (λ one. p one ≡ true) some
+-- If both have the same length, the part is the list of all items that pass.
+part-is : {some all : List (List HandedOut)} (p : List HandedOut → Bool) → IsSublist some all → All (λ one. p one ≡ true) some
     → length some ≡ length (filter p all) → some ≡ filter p all
 part-is p part_none passes many = refl
 part-is p (part_with {one = one} {some = some} {all = all} rest) passes many =
@@ -63,7 +63,7 @@ part-is p (part_without {one = one} {some = some} {all = all} rest) passes many 
     at true most later more = absurd (omega (arith, more, most))
     at false most later same = later same
 
--- A test of what a list is mapped to.
+-- Filtering a mapped list.
 filter-mapped : {X Y : Type 0} (f : X → Y) (p : Y → Bool) (xs : List X) → filter p (map f xs) ≡ map f (filter (λ x. p (f x)) xs)
 filter-mapped f p [] = refl
 filter-mapped f p (x ∷ xs) = at (p (f x)) (filter-mapped f p xs)
@@ -74,7 +74,7 @@ filter-mapped f p (x ∷ xs) = at (p (f x)) (filter-mapped f p xs)
     at true rest = ap (λ list. f x ∷ list) rest
     at false rest = rest
 
--- What passes one test passes another.
+-- Filtering by a stronger test after a weaker test.
 filter-stronger : {X : Type 0} (p q : X → Bool) → ((x : X) → q x ≡ false → p x ≡ false) → (xs : List X)
     → filter p (filter q xs) ≡ filter p xs
 filter-stronger p q so [] = refl
@@ -86,7 +86,7 @@ filter-stronger p q so (x ∷ xs) = at (q x) refl (filter-stronger p q so xs)
     at false is rest = rest ∙ ap (λ (b : Bool). cond b (x ∷ filter p xs) (filter p xs)) (sym (so x is))
 
 -- Those that the sockets keep are those of them that have one.
-pub kept-is : (kinds : List SocketKind) (kept taken : List (List HandedOut)) → IsPart kept taken
+pub kept-is : (kinds : List SocketKind) (kept taken : List (List HandedOut)) → IsSublist kept taken
     → map received_of kept ≡ claimed_of kinds (map received_of taken)
     → kept ≡ filter (has kinds) taken
 kept-is kinds kept taken part is =
@@ -122,12 +122,12 @@ kept-frames kinds socket frame (one ∷ later) same =
         ∙ ap (λ (list : List (List ℕ)). frame_of one ∷ list) rest
     at false first rest = rest
 
-no-socket : (socket : ℕ) (place : Option ℕ) → is_some place ≡ false → is_at socket place ≡ false
+no-socket : (socket : ℕ) (place : Option ℕ) → is_some place ≡ false → is_position socket place ≡ false
 no-socket socket None none = refl
 no-socket socket (Some place) none = absurd (cc (none))
 
 pub queue-frames : (kinds : List SocketKind) (socket : ℕ) (frame : Received → List ℕ) (kept taken : List (List HandedOut))
-    → IsPart kept taken
+    → IsSublist kept taken
     → map received_of kept ≡ claimed_of kinds (map received_of taken)
     → All (λ (one : List HandedOut). frame (received_of one) ≡ frame_of one) kept
     → map frame (socket_entries kinds socket (map received_of kept)) ≡ socket_frames kinds socket (joined_frames taken)

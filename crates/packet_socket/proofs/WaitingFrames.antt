@@ -9,7 +9,7 @@ use Rattle.adapter.specs.World.{World}
 use Rattle.bus.proofs.Lists.{all-head, all-left, all-none, all-right, all-tail, all-unmapped, map-same}
 use Rattle.driver_law.proofs.Buffers.{buffer-lies}
 use Rattle.driver_law.proofs.Owners.{all-copies, elsewhere-number}
-use Rattle.driver_law.specs.DriverState.{HandedOut, buffer_at, frame_of, holding, numbers_of}
+use Rattle.driver_law.specs.DriverState.{HandedOut, buffer_at, frame_of, holding, piece_numbers}
 use Rattle.driver_law.specs.ReadyDrivers.{Stands}
 use Rattle.driver.specs.Parts.{IsWholeFrame, part_of, parts_of}
 use Rattle.driver.specs.declared.parts.Part.{Part}
@@ -44,7 +44,7 @@ all-long h a host =
     let number : HandedOut → ℕ = λ one. one.number in
     let Known : ℕ → Type 0 = λ m. m < counts.buffers in
     let Fits : ℕ → Type 0 = λ n. n ≤ receive_buffer_bytes in
-    let numbers : All Known (numbers_of d.handed_out) = all-copies Known (numbers_of d.handed_out)
+    let numbers : All Known (piece_numbers d.handed_out) = all-copies Known (piece_numbers d.handed_out)
     (λ m some. (elsewhere-number d m host.ready.driver_is (omega (arith, some))).known) in
     let known = all-pieces (λ (one : HandedOut). Known one.number) (waiting_pieces counts a.memory) list
     (all-unmapped Known number d.handed_out numbers) in

@@ -1,4 +1,4 @@
--- The effect of a call that is a value (our choice).
+-- The effect of a `HostCall` (our choice).
 use Rattle.std.specs.Prelude.{⊤, ◌≡◌, [], ℕ, List, None, Ok, Option, Result, Some, drop}
 use Rattle.bus.specs.declared.bus.Bus.{Ghosts}
 use Rattle.driver.specs.Parts.{IsFrameSize}
@@ -14,7 +14,7 @@ use Rattle.packet_socket.specs.declared.call.HostAnswer.TheVariants.{Interrupted
 use Rattle.packet_socket.specs.declared.call.HostCall.{HostCall}
 use Rattle.packet_socket.specs.declared.call.HostCall.TheVariants.{Interrupt, Join, Leave, Recv, Send}
 
--- What is asked of a host by a call.
+-- A call of a host as plain data.
 pub data Request : Type 0 where
   Sending : (frame : List ℕ) → Request
   Receiving : (socket : ℕ) → Request
@@ -22,14 +22,14 @@ pub data Request : Type 0 where
   Joining : (group : List ℕ) → Request
   Leaving : (group : List ℕ) → Request
 
-abbrev pub request_of : HostCall → Request
-request_of (Send frame) = Sending frame.now
-request_of (Recv socket) = Receiving socket
-request_of Interrupt = Interrupting
-request_of (Join group) = Joining group
-request_of (Leave group) = Leaving group
+abbrev pub call_request : HostCall → Request
+call_request (Send frame) = Sending frame.now
+call_request (Recv socket) = Receiving socket
+call_request Interrupt = Interrupting
+call_request (Join group) = Joining group
+call_request (Leave group) = Leaving group
 
--- the answer with the frame that a socket returned in place of its size: the first bytes of `into`
+-- the answer, with a returned frame in place of its size: the frame is the first bytes of `into`
 abbrev pub answer_in : (into : List ℕ) → HostAnswer ℕ → HostAnswer (List ℕ)
 answer_in into (Sent result) = Sent result
 answer_in into (Received result) = Received (frame_answer into result)
@@ -37,7 +37,7 @@ answer_in into (Interrupted result) = Interrupted result
 answer_in into (Joined result) = Joined result
 answer_in into (Left result) = Left result
 
--- a frame that is returned has 60 to 1,518 bytes
+-- A frame that is returned has 60 to 1,518 bytes.
 abbrev pub IsLegalAnswer : HostAnswer ℕ → Type 0
 IsLegalAnswer (Received (Ok size)) = IsFrameSize size
 IsLegalAnswer _ = ⊤
@@ -57,34 +57,34 @@ abbrev pub accepted_in : Request → HostAnswer (List ℕ) → List (List ℕ)
 accepted_in (Sending frame) (Sent result) = accepted_by result frame
 accepted_in request answer = []
 
--- The result in an answer, if the answer belongs to this kind of call.
+-- The result in an answer, if the answer is that of this kind of call
 
--- the result of a send, if it was one
+-- the result of a send
 abbrev pub sent_in : HostAnswer (List ℕ) → Option SendAnswer
 sent_in (Sent result) = Some result
 sent_in answer = None
 
--- the result of a receive, if it was one
+-- the result of a recv
 abbrev pub received_in : HostAnswer (List ℕ) → Option (Result (List ℕ) RecvError)
 received_in (Received result) = Some result
 received_in answer = None
 
--- the result of an interrupt, if it was one
+-- the result of an interrupt handler
 abbrev pub interrupted_in : HostAnswer (List ℕ) → Option Handled
 interrupted_in (Interrupted result) = Some result
 interrupted_in answer = None
 
--- the result of a join, if it was one
+-- the result of a join
 abbrev pub joined_in : HostAnswer (List ℕ) → Option GroupAnswer
 joined_in (Joined result) = Some result
 joined_in answer = None
 
--- the result of a leave, if it was one
+-- the result of a leave
 abbrev pub left_in : HostAnswer (List ℕ) → Option GroupAnswer
 left_in (Left result) = Some result
 left_in answer = None
 
--- the effect of a result; an answer that belongs to another kind of call is impossible
+-- The effect of a result; an answer of another kind of call is impossible.
 abbrev pub OfAnswer : {R : Type 0} → Option R → (R → Effect) → Effect
 OfAnswer (Some result) Does = Does result
 OfAnswer None Does = λ h h' Runs world. ⊥
@@ -97,7 +97,7 @@ EffectOf Interrupting answer = OfAnswer (interrupted_in answer) InterruptEffect
 EffectOf (Joining group) answer = OfAnswer (joined_in answer) (JoinEffect group)
 EffectOf (Leaving group) answer = OfAnswer (left_in answer) (LeaveEffect group)
 
--- A call over a bus had the effect of its answer. The transmit side must be set up.
+-- If the bus obeys the law, and the host is ready with its transmit side set up, a call has the effect of its answer.
 abbrev pub CallsBy : {B : Type 0} → Ghosts B → Request → HostAnswer (List ℕ) → (old new : HostMoment B) → Type 0
 CallsBy bus request answer old new =
     CallsUp bus (given_in request answer) (accepted_in request answer) old new (EffectOf request answer)

@@ -1,16 +1,17 @@
--- What a call of a host does, stage by stage (our choice). An effect states this once, and takes `Runs`, which states how the stages are
--- run. Over a bus, `Runs` is `OverBus`. In the steps of a network, it is `InSteps` of the crate `host_calls`.
+-- What a call of a host does, stage by stage (our choice). An effect states the stages once; its argument `Runs` states
+-- how they are run. Over a bus, `Runs` is `OverBus`. In the steps of a network, `Runs` is `InSteps` of the crate
+-- `host_calls`.
 use Rattle.std.specs.Prelude.{⊤, ◌≡◌, ◌<◌, ◌⊎◌, ◌+◌, ◌*◌, ◌++◌, ◌∷◌, [], ℕ, Bool, true, All, List}
 use Rattle.dma_memory.specs.Layout.{Counts}
 use Rattle.adapter.specs.World.{World}
 use Rattle.adapter.specs.declared.offsets.TheConstants.{ICR, MPC, MTA, RDT, REGISTER_BYTES, TDT}
 use Rattle.rx_engine.specs.declared.filter.TheConstants.{TABLE_WORDS}
-use Rattle.bus.specs.PastOfStretch.{Past, joined, nothing}
+use Rattle.bus.specs.Pasts.{Past, joined, nothing}
 use Rattle.bus.specs.declared.bus.Bus.{Ghosts}
 use Rattle.bus.specs.declared.event.Access.{Access}
 use Rattle.bus.specs.declared.event.Access.TheVariants.{Loads, Reads, Stores, Writes}
 use Rattle.driver_law.specs.Calls.{DriverDid, DriverInWorld, FlowsTo, FollowsWrites, GoesTo, HasNoForgottenWork, IsRefilled, driver_in}
-use Rattle.packet_socket.specs.HostCalls.{Given, HostInterval, HostMoment, IsReadyHost, did, in_world}
+use Rattle.packet_socket.specs.HostCalls.{Given, HostInterval, HostMoment, IsReadyHost, host_did, in_world}
 use Rattle.packet_socket.specs.HostState.{HostState}
 
 -- The stages of a call, in order. A stage consists of some accesses (`made`) and a fact (`Holds`). The fact is about three things: the
@@ -32,11 +33,11 @@ pub data ActKind : Type 0 where
   MovesFrames : ActKind
   SetsGroups : ActKind
 
--- What a call does. An effect passes it to `Runs`.
+-- What a call does: its stages, its kind, and the frames taken. An effect passes this record to `Runs`.
 pub record HostAct : Type 1 where
   -- the stages of its accesses
   pub stages : CallStages
-  -- what its accesses may be
+  -- the kind of the call, which determines what its accesses may be
   pub kind : ActKind
   -- the frames that the call takes off the receive ring
   pub taken : List (List ℕ)
@@ -45,18 +46,19 @@ pub record HostAct : Type 1 where
 abbrev pub no_act : HostAct
 no_act = record { stages = Ends; kind = MovesFrames; taken = [] }
 
--- a write of RDT or TDT; the value is the index of a slot of its ring
+-- The access is a write of RDT or TDT, with the index of a slot of the ring.
 abbrev pub IsTailWrite : Counts → (offset value : ℕ) → Type 0
 IsTailWrite counts offset value = ((offset ≡ RDT) × (value < counts.rx)) ⊎ ((offset ≡ TDT) × (value < counts.tx))
 
--- An access of a call that handles an interrupt or moves frames: a load, a store, a read of ICR or MPC, or a write of RDT or TDT.
+-- The access may be one of a call that handles an interrupt or moves frames: a load, a store, a read of ICR or MPC, or
+-- a write of RDT or TDT.
 abbrev pub IsOfDriver : Counts → Access → Type 0
 IsOfDriver counts (Reads offset value) = (offset ≡ ICR) ⊎ (offset ≡ MPC)
 IsOfDriver counts (Writes offset value) = IsTailWrite counts offset value
 IsOfDriver counts (Loads address size) = ⊤
 IsOfDriver counts (Stores address bytes) = ⊤
 
--- the offset of a word of the group table
+-- The offset is that of a word of the group table.
 pub record IsGroupWord (offset : ℕ) : Type 0 where
   -- the index of the word
   pub word : ℕ
@@ -65,7 +67,7 @@ pub record IsGroupWord (offset : ℕ) : Type 0 where
   -- the offset is that word's
   pub is : offset ≡ MTA + REGISTER_BYTES * word
 
--- The access is a write of a word of the group table, as a call that changes the groups joined makes it.
+-- The access is a write of a word of the group table.
 abbrev pub IsGroupWrite : Access → Type 0
 IsGroupWrite (Writes offset value) = IsGroupWord offset
 IsGroupWrite _ = ⊥
@@ -88,8 +90,8 @@ OnlyLastWrites (Writes offset value ∷ later) = later ≡ []
 OnlyLastWrites (Loads address size ∷ later) = OnlyLastWrites later
 OnlyLastWrites (Stores address bytes ∷ later) = OnlyLastWrites later
 
--- The first access reads ICR. `GoesTo` holds from a moment after this read, before the next access (`asked`), to the end, as in an interval
--- without a read of ICR. So after the read, causes are only added.
+-- The first access reads ICR. `GoesTo` holds from a moment after this read, before the next access (`asked`), to the
+-- end. So no cause is cleared after this moment.
 pub record ReadsThenGoes (up : Bool) (old new : DriverInWorld) (did : DriverDid) (past : Past) : Type 0 where
   pub flows : FlowsTo up old new did past
   -- the world at this moment
@@ -101,15 +103,15 @@ pub record ReadsThenGoes (up : Bool) (old new : DriverInWorld) (did : DriverDid)
   pub whole : past ≡ joined first later
   pub goes : GoesTo up (driver_in old.driver asked) new did later
 
--- what a call of this kind changes in the driver
+-- What a call of this kind changes in the driver.
 abbrev pub changed_by : ActKind → (up : Bool) → DriverInWorld → DriverInWorld → DriverDid → Past → Type 0
 changed_by HandlesInterrupt up = ReadsThenGoes up
 changed_by MovesFrames up = GoesTo up
 changed_by SetsGroups up = GoesTo up
 
--- Over a bus.
+-- Over a bus
 
--- One stage over a bus. `Later` holds of the interval after it.
+-- One stage over a bus. `Later` holds of the interval after this stage.
 pub record PassesStage {B : Type 0} (bus : Ghosts B) (made : List Access) (Holds : World → Past → World → Type 0) (old : B) (past : Past)
     (Later : B → Past → Type 0) : Type 0 where
   -- the bus when the stage ends: after its last access, before the next access
@@ -135,28 +137,28 @@ pub record OverBus {B : Type 0} (bus : Ghosts B) (up : Bool) (given : List Given
   pub stages : PassesStages bus act.stages old.bus new.bus past
   pub own : All (IsAccessOf act.kind old.host.driver.layout) (accesses_in act.stages)
   pub last_writes : OnlyLastWrites (accesses_in act.stages)
-  -- What changed, with the account of frames. In particular, the host is ready at the end.
+  -- What changed, with the account of frames. The host is ready at the end.
   pub changed :
       HostInterval (changed_by act.kind up) (in_world old.host (bus.world old.bus)) (in_world new.host (bus.world new.bus))
-      (did act.taken given accepted) past
+      (host_did act.taken given accepted) past
   pub follows : FollowsWrites (bus.world old.bus) (bus.world new.bus) past
   pub work : HasNoForgottenWork old.host.driver (bus.world old.bus) → HasNoForgottenWork new.host.driver (bus.world new.bus)
   pub refilled : IsRefilled old.host.driver → IsRefilled new.host.driver
   -- If no slot was staged before the call, no slot is staged after it.
   pub offered : old.host.driver.staged ≡ [] → new.host.driver.staged ≡ []
 
--- An effect: what a call does. It relates the host before the call (h), the host after it (h'), and the world before it. `Runs act` states
--- that the act was run.
+-- An effect states what a call does. It relates the host before the call (h), the host after the call (h'), and the
+-- world before the call. `Runs act` states that the act was run.
 abbrev pub Effect : Type 1
 Effect = (h h' : HostState) → (Runs : HostAct → Type 0) → World → Type 0
 
--- A call over a bus has the effect `Does`, if the bus obeys the law, and the host is ready with its transmit side set up. Its sockets
--- return the frames `given`, and it accepts the frames `accepted` for sending.
+-- If the bus obeys the law, and the host is ready with its transmit side set up, the call has the effect `Does`. Its
+-- sockets return the frames `given`, and it accepts the frames `accepted` for sending.
 abbrev pub CallsUp : {B : Type 0} → Ghosts B → List Given → (accepted : List (List ℕ)) → (old new : HostMoment B) → Effect → Type 0
 CallsUp bus given accepted old new Does =
     IsReadyHost bus true old → Does old.host new.host (OverBus bus true given accepted old new) (bus.world old.bus)
 
--- `CallsUp` of a call that doesn't need the transmit side.
+-- `CallsUp` for a call of a host whose transmit side is set up or off.
 abbrev pub CallsOver : {B : Type 0} → Ghosts B → List Given → (accepted : List (List ℕ)) → (old new : HostMoment B) → Effect → Type 0
 CallsOver bus given accepted old new Does =
     (up : Bool) → IsReadyHost bus up old → Does old.host new.host (OverBus bus up given accepted old new) (bus.world old.bus)

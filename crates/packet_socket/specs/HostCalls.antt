@@ -1,4 +1,4 @@
--- What a host holds for its sockets, and what it does in its calls (our choice).
+-- The frames that a host holds for its sockets, and what it does in its calls (our choice).
 use Rattle.std.specs.Prelude.{◌≡◌, ◌==◌, ◌≤◌, ◌<◌, ◌+◌, ◌-◌, ◌++◌, ◌∷◌, []}
 use Rattle.std.specs.Prelude.{ℕ, Bool, true, List, count_by}
 use Rattle.std.specs.Prelude.{All, drop, filter, flat_map, length, map, slice_set}
@@ -10,11 +10,11 @@ use Rattle.rx_engine.specs.Addresses.{ether_type}
 use Rattle.adapter.specs.HostFrames.{frames_held}
 use Rattle.adapter.specs.World.{World}
 use Rattle.bus.specs.declared.bus.Bus.{Ghosts}
-use Rattle.bus.specs.PastOfStretch.{Past}
+use Rattle.bus.specs.Pasts.{Past}
 use Rattle.bus.specs.declared.event.Access.{Access}
 use Rattle.driver_law.specs.Calls.{DriverDid, DriverInWorld, FlowsTo, GoesTo, IsRefilled, Moment, driver_did, driver_in}
 use Rattle.driver_law.specs.Calls.{stores_from, tail_write}
-use Rattle.driver_law.specs.DriverState.{DriverState, HandedOut, buffer_at, frame_of, holding, next_receive, numbers_of, with_owners}
+use Rattle.driver_law.specs.DriverState.{DriverState, HandedOut, buffer_at, frame_of, holding, next_receive, piece_numbers, with_owners}
 use Rattle.driver_law.specs.ReadyDrivers.{ReadyWith}
 use Rattle.driver.specs.HandlerSteps.{AreFramesOf, AreOfOneFrame, GrowsBy, IsTaken, RunOfSlots}
 use Rattle.driver.specs.HandlerSteps.{ServesRing, count_limit}
@@ -25,30 +25,30 @@ use Rattle.packet_socket.specs.HostState.{HostState, all_of, host_owners, queue_
 use Rattle.packet_socket.specs.SocketKinds.{goes_to, has_none, has_socket}
 use Rattle.packet_socket.specs.declared.socket_kind.SocketKind.{SocketKind}
 
--- The frames that a host holds for its sockets, read from the bytes of memory.
+-- The frames that a host holds for its sockets, as bytes in memory
 
 -- the piece of a frame in a buffer: the first `length` bytes of the buffer
 abbrev pub waiting_piece : Counts → List ℕ → Part → HandedOut
 waiting_piece counts memory part = record { number = part.buffer; bytes = bytes_at memory (buffer_at counts part.buffer) part.length }
 
--- the pieces of an entry of a queue, as the driver handed them out
+-- the pieces of an entry of a queue, with the numbers of their buffers
 abbrev pub waiting_pieces : Counts → List ℕ → Received → List HandedOut
 waiting_pieces counts memory received = map (waiting_piece counts memory) received.parts
 
--- the frame of an entry of a queue: its pieces joined
+-- the frame of an entry of a queue: its pieces, joined in order
 abbrev pub waiting_frame : Counts → List ℕ → Received → List ℕ
 waiting_frame counts memory received = frame_of (waiting_pieces counts memory received)
 
--- the host's driver, whose `handed_out` is set to the pieces of the queued frames, with the bytes that are in memory now
+-- The host's driver while the queues hold the pieces of the queued frames. The bytes of the pieces are those in memory.
 abbrev pub driver_of : HostState → World → DriverState
 driver_of host world = holding (flat_map (waiting_pieces host.driver.layout world.memory) (all_of host.queues)) host.driver
 
--- The host is ready, with its transmit side set up or off: its driver is ready, and each queued frame has 60 to 1,518 bytes, those of its
--- pieces.
+-- The host is ready, with its transmit side set up or off: its driver is ready. Each queued frame has 60 to 1,518
+-- bytes, and pieces that fit into their buffers.
 pub record HostReadyWith (up : Bool) (host : HostState) (world : World) : Type 0 where
   -- each queued frame has a legal size
   pub sizes : AreFrames (all_of host.queues)
-  -- the driver is ready; the queued frames are handed out
+  -- the driver is ready; the queues hold the pieces of the queued frames
   pub ready : ReadyWith up (driver_of host world) world
 
 -- The host is ready, with its transmit side set up.
@@ -59,7 +59,7 @@ HostReady = HostReadyWith true
 abbrev pub waiting_frames : HostState → (socket : ℕ) → World → List (List ℕ)
 waiting_frames host socket world = map (waiting_frame host.driver.layout world.memory) (queue_at host.queues socket)
 
--- the frames of a list that go to a socket
+-- the frames of a list that go to this socket
 abbrev pub socket_frames : List SocketKind → (socket : ℕ) → List (List ℕ) → List (List ℕ)
 socket_frames kinds socket frames = filter (λ (frame : List ℕ). goes_to kinds socket (ether_type frame)) frames
 
@@ -72,9 +72,9 @@ abbrev pub held_for_socket : HostState → (socket : ℕ) → World → List (Li
 held_for_socket host socket world =
     waiting_frames host socket world ++ socket_frames host.kinds socket (frames_held host.driver.oldest_receive world)
 
--- An interval of a host's run.
+-- Intervals of a host's run
 
--- a frame that a socket returned
+-- A frame that a socket returned.
 pub record Given : Type 0 where
   -- the socket's number
   pub socket : ℕ
@@ -85,17 +85,17 @@ pub record Given : Type 0 where
 abbrev pub given_for : ℕ → List Given → List (List ℕ)
 given_for socket given = map (λ (one : Given). one.frame) (filter (λ (one : Given). one.socket == socket) given)
 
--- the number of frames without a socket: those counted, and those that the driver hasn't taken yet
+-- the number of frames without a socket: those that the host has counted, and those that the driver hasn't taken yet
 abbrev pub unclaimed_in : HostState → World → ℕ
 unclaimed_in host world = host.unclaimed + without_socket host.kinds (frames_held host.driver.oldest_receive world)
 
--- The account of frames, from the host h in the world a to the host h' in the world b. The table of sockets doesn't change. For each
--- socket, the frames returned, then the frames held at the end, are the frames held at the beginning, then the frames stored for the
--- socket. Frames without a socket are counted, up to the greatest u64.
+-- The account of frames, from the host h in the world a to the host h' in the world b. The table of sockets doesn't
+-- change. For each socket, the frames returned, followed by those held at the end, are those held at the beginning,
+-- followed by those stored. Frames without a socket are counted, up to the greatest u64.
 pub record Accounts (h : HostState) (a : World) (h' : HostState) (b : World) (given : List Given) (stored : List (List ℕ)) : Type 0 where
   -- the sockets are the same
   pub kinds : h'.kinds ≡ h.kinds
-  -- for each socket, no frame is lost, doubled or reordered
+  -- for each socket, no frame is lost, duplicated or reordered
   pub sockets : (socket : ℕ) → given_for socket given ++ held_for_socket h' socket b ≡ held_for_socket h socket a
       ++ socket_frames h.kinds socket stored
   -- the count of unclaimed frames doesn't fall
@@ -105,43 +105,43 @@ pub record Accounts (h : HostState) (a : World) (h' : HostState) (b : World) (gi
   -- each frame without a socket is counted, unless the count is at its greatest value
   pub exactly : h'.unclaimed < count_limit - 1 → unclaimed_in h' b ≡ unclaimed_in h a + without_socket h.kinds stored
 
--- A host in its world, at a moment of a run.
+-- A host with its world, at one point of a run.
 pub record HostInWorld : Type 0 where
   -- the host
   pub host : HostState
-  -- its adapter and its memory
+  -- the host's adapter and memory
   pub world : World
 
 -- this host in this world
 abbrev pub in_world : HostState → World → HostInWorld
 in_world host world = record { host = host; world = world }
 
--- the host's driver in this world; the queued frames are those that others hold
+-- The host's driver in this world, while the queues hold the pieces of the queued frames.
 abbrev pub host_driver_in : HostInWorld → DriverInWorld
 host_driver_in now = driver_in (driver_of now.host now.world) now.world
 
--- What a host did with frames: what its driver did, and the frames that its sockets returned.
+-- The frames that a host took, accepted and returned.
 pub record HostDid : Type 0 where
-  -- the frames that its driver took and accepted
+  -- the frames that the driver took and accepted
   pub driver : DriverDid
-  -- the frames that its sockets returned, in order
+  -- the frames that the sockets returned, in order
   pub given : List Given
 
--- a host took, returned and accepted these frames
-abbrev pub did : (taken : List (List ℕ)) → (given : List Given) → (accepted : List (List ℕ)) → HostDid
-did taken given accepted = record { driver = driver_did taken accepted; given = given }
+-- The host took, returned and accepted these frames.
+abbrev pub host_did : (taken : List (List ℕ)) → (given : List Given) → (accepted : List (List ℕ)) → HostDid
+host_did taken given accepted = record { driver = driver_did taken accepted; given = given }
 
 -- no frame was taken, returned or accepted
 abbrev pub did_nothing : HostDid
-did_nothing = did [] [] []
+did_nothing = host_did [] [] []
 
 -- what a host did in two consecutive intervals
 abbrev pub did_both : (first later : HostDid) → HostDid
 did_both first later =
-    did (first.driver.taken ++ later.driver.taken) (first.given ++ later.given) (first.driver.accepted ++ later.driver.accepted)
+    host_did (first.driver.taken ++ later.driver.taken) (first.given ++ later.given) (first.driver.accepted ++ later.driver.accepted)
 
--- An interval in which the host did this with frames. `Holds` relates its driver at the beginning and at the end. The host is ready at the
--- end: `sizes`, and what `Holds` says of the driver at the end.
+-- An interval in which the host took, accepted and returned the frames `done`. `Holds` relates the driver at the
+-- beginning and at the end.
 pub record HostInterval (Holds : DriverInWorld → DriverInWorld → DriverDid → Past → Type 0) (old new : HostInWorld) (done : HostDid)
     (past : Past) : Type 0 where
   -- each queued frame has a legal size
@@ -151,17 +151,17 @@ pub record HostInterval (Holds : DriverInWorld → DriverInWorld → DriverDid �
   -- the account of frames
   pub accounts : Accounts old.host old.world new.host new.world done.given past.stored
 
--- An interval of a host's run in which any register may have been read.
+-- An interval of a host's run in which any register may have been read. The host is ready at the end.
 abbrev pub HostFlowsTo : Bool → (old new : HostInWorld) → HostDid → Past → Type 0
 HostFlowsTo up = HostInterval (FlowsTo up)
 
--- A host's interval in which frames flow in order, and no recorded cause is cleared.
+-- An interval of a host's run in which no recorded cause is cleared. The host is ready at the end.
 abbrev pub HostGoesTo : Bool → (old new : HostInWorld) → HostDid → Past → Type 0
 HostGoesTo up = HostInterval (GoesTo up)
 
--- Calls over a bus.
+-- Calls over a bus
 
--- A moment of a host's run.
+-- The bus and the host at one point of a run.
 pub record HostMoment (B : Type 0) : Type 0 where
   pub bus : B
   pub host : HostState
@@ -169,20 +169,21 @@ pub record HostMoment (B : Type 0) : Type 0 where
 abbrev pub host_at : {B : Type 0} → B → HostState → HostMoment B
 host_at bus host = record { bus = bus; host = host }
 
--- this moment of the host's driver; the queued frames are those that others hold
+-- The bus and the host's driver at this moment, while the queues hold the pieces of the queued frames.
 abbrev pub driver_at : {B : Type 0} → Ghosts B → HostMoment B → Moment B
 driver_at bus now = record { bus = now.bus; driver = driver_of now.host (bus.world now.bus) }
 
--- The bus obeys the law, and the host is ready.
+-- The bus obeys the law, and the host is ready, with its transmit side set up or off.
 pub record IsReadyHost {B : Type 0} (bus : Ghosts B) (up : Bool) (now : HostMoment B) : Type 0 where
   pub honest : bus.honest now.bus
   pub ready : HostReadyWith up now.host (bus.world now.bus)
 
--- Receiving.
+-- Receiving
 
--- The oldest entry of a socket's queue is removed, and nothing else of the sockets changes. `size` is the entry's length.
+-- The oldest entry of a socket's queue is removed, and no other part of the sockets changes. `size` is the entry's
+-- length.
 pub record LeavesQueue (h h' : HostState) (socket size : ℕ) (received : Received) : Type 0 where
-  -- the entry was the oldest of its queue
+  -- the entry was the oldest of this queue
   pub oldest : queue_at h.queues socket ≡ received ∷ queue_at h'.queues socket
   -- no other queue changes
   pub others : h'.queues ≡ slice_set h.queues socket (queue_at h'.queues socket)
@@ -190,29 +191,31 @@ pub record LeavesQueue (h h' : HostState) (socket size : ℕ) (received : Receiv
   pub kinds : h'.kinds ≡ h.kinds
   -- the count of unclaimed frames is the same
   pub unclaimed : h'.unclaimed ≡ h.unclaimed
-  -- the entry has this length
+  -- `size` is the length of the entry
   pub long : size ≡ received.length
 
--- The frame is loaded, piece by piece. Then slots are offered with the buffers `offered`; the frame's buffers may be among them.
+-- The accesses of `recv`: the frame is loaded, piece by piece, and then slots are offered with the buffers `offered`.
+-- The frame's buffers may be among these buffers.
 abbrev pub receive_accesses : (d d' : DriverState) → (parts : List Part) → (offered : List ℕ) → List Access
 receive_accesses d d' parts offered =
     part_loads d.layout parts
     ++ (stores_from d.layout (next_receive d) offered ++ tail_write (next_receive d') (d.staged ++ offered))
 
--- Over any bus: the oldest entry of a queue is removed, its buffers go back to the driver, and slots are offered. The caller's bytes are
--- `into` before the call and `into'` after it; those after the entry's length don't change.
+-- The contract of `recv` over any bus, if it returns Ok. The oldest entry of a queue is removed, its buffers return to
+-- the driver, and slots are offered. The caller's bytes are `into` before the call and `into'` after it; the bytes
+-- after the entry's length don't change.
 pub record Returns (h h' : HostState) (socket : ℕ) (into into' : List ℕ) (size : ℕ) : Type 0 where
   pub received : Received
   pub leaves : LeavesQueue h h' socket size received
-  -- of the driver only the owners of buffers change, and no slot is staged
+  -- in the driver only the owners of buffers change, and no slot is staged
   pub others : h' ≡ record h { driver = with_owners h.driver h'.driver.buffers [] h'.driver.pool []; queues = h'.queues }
-  -- No buffer is lost or has another number of owners.
+  -- Each buffer has the same number of owners as before.
   pub owners : HaveSameNumbers (host_owners h) (host_owners h')
   pub refilled : IsRefilled h'.driver
   pub legal : IsFrameSize size
   pub rest : drop size into' ≡ drop size into
 
--- Handling an interrupt.
+-- Handling an interrupt
 
 -- the entries of a list that go to one socket
 abbrev pub socket_entries : List SocketKind → (socket : ℕ) → List Received → List Received
@@ -226,14 +229,15 @@ claimed_of kinds list = filter (λ (received : Received). has_socket kinds recei
 abbrev pub unclaimed_of : List SocketKind → List Received → ℕ
 unclaimed_of kinds list = count_by (λ (received : Received). has_none kinds received.ether_type) list
 
--- Entries went to the ends of their sockets' queues, in order, and no queue has another entry.
+-- The entries `kept` went to the ends of their sockets' queues, in order, and the queues changed in no other way.
 pub record Queues (kinds : List SocketKind) (before after : List (List Received)) (kept : List Received) : Type 0 where
   -- each socket's entries went to the end of its queue, in order
   pub ends : (socket : ℕ) → queue_at after socket ≡ queue_at before socket ++ socket_entries kinds socket kept
-  -- no other entry came, and none went
+  -- no other entry was added, and no entry was removed
   pub all : IsPermutation (all_of before ++ kept) (all_of after)
 
--- The frames shown went to the ends of their sockets' queues, in order. Those without a socket were counted as unclaimed.
+-- The frames shown that have a socket went to the ends of their sockets' queues, in order. The other frames were
+-- counted as unclaimed.
 pub record SortsFrames (h h' : HostState) (shown : List Received) : Type 0 where
   -- the sockets are the same
   pub kinds : h'.kinds ≡ h.kinds
@@ -242,23 +246,24 @@ pub record SortsFrames (h h' : HostState) (shown : List Received) : Type 0 where
   -- the frames without a socket were counted
   pub unclaimed : GrowsBy h.unclaimed h'.unclaimed (unclaimed_of h.kinds shown)
 
--- Over any bus: the driver's ring was served, and the whole frames of the runs that left it were sorted.
+-- The contract of `interrupt` over any bus, if it returns `Handled`: runs left the driver's ring, and their whole
+-- frames were queued or counted (`SortsFrames`).
 pub record HostServes (h h' : HostState) (n : ℕ) : Type 0 where
   pub runs : List RunOfSlots
   pub ring : ServesRing h.driver h'.driver runs n
   pub shown : List Received
   pub frames : AreFramesOf runs shown
   pub sorted : SortsFrames h h' shown
-  -- No buffer is lost or has another number of owners.
+  -- Each buffer has the same number of owners as before.
   pub owners : HaveSameNumbers (host_owners h) (host_owners h')
 
--- n frames were taken, each in the pieces of one list, and sorted.
+-- n frames were taken, each a list of pieces, and queued or counted.
 pub record AreSorted (n : ℕ) (h h' : HostState) (taken : List (List HandedOut)) : Type 0 where
   -- n frames were taken
   pub count : length taken ≡ n
-  -- the buffers of each are those of one frame
-  pub groups : All AreOfOneFrame (map numbers_of taken)
-  -- each is a frame of legal size, cut into full buffers
+  -- each frame has at least one buffer, and no more buffers than the longest frame needs (`AreOfOneFrame`)
+  pub groups : All AreOfOneFrame (map piece_numbers taken)
+  -- each frame has a legal size, and fills all its buffers except the last
   pub each : All IsTaken taken
-  -- each was queued or counted
+  -- each frame was queued or counted
   pub sorted : SortsFrames h h' (map received_of taken)

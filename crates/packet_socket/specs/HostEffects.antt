@@ -1,6 +1,7 @@
--- The effects of calls of a host, by their results. Each record states one way in which a call ends: when the call has this result, what
--- the host is afterwards (h'), and the call's stages (`runs`). `Runs` is explained in specs/HostActs. `world` is the adapter and memory
--- before the call. A read of ICR clears the causes (13.4.17 "Interrupt Cause Read Register"); the rest is our choice.
+-- The effects of calls of a host, by their results. Each record is one way in which a call ends. It states when the
+-- call has this result, the host after the call (h'), and the call's stages (`runs`). `Runs` is explained in
+-- specs/HostActs. `world` is the adapter and memory before the call. A read of ICR clears the causes (13.4.17
+-- "Interrupt Cause Read Register"); the rest is our choice.
 use Rattle.std.specs.Prelude.{⊤, ◌≡◌, ◌≤◌, ◌<◌, ◌+◌, ◌-◌, ◌++◌, ◌∷◌, [], ℕ, Err, List, Ok, Result, length, map, take}
 use Rattle.std.specs.List.{Contains, concat}
 use Rattle.registers.specs.Bits.{HasBit, Meet}
@@ -14,11 +15,11 @@ use Rattle.adapter.specs.World.{World}
 use Rattle.adapter.specs.declared.offsets.TheConstants.{ICR}
 use Rattle.bring_up.specs.WrittenRegisters.{handled_causes}
 use Rattle.bring_up.specs.declared.config.TheConstants.{MOST_GROUPS}
-use Rattle.bus.specs.PastOfStretch.{Past}
+use Rattle.bus.specs.Pasts.{Past}
 use Rattle.bus.specs.declared.event.Access.{Access}
 use Rattle.bus.specs.declared.event.Access.TheVariants.{Reads}
 use Rattle.driver_law.specs.Calls.{HasNoForgottenWork, driver_in, frames_ended, send_accesses}
-use Rattle.driver_law.specs.DriverState.{HandedOut, next_receive, numbers_of, with_owners}
+use Rattle.driver_law.specs.DriverState.{HandedOut, next_receive, piece_numbers, with_owners}
 use Rattle.joined_groups.specs.Groups.{HasTable, SetsTable, with_groups}
 use Rattle.joined_groups.specs.declared.groups.GroupError.{GroupError}
 use Rattle.joined_groups.specs.declared.groups.GroupError.TheVariants.{GroupsFull, Joined, NotGroup, NotJoined}
@@ -43,14 +44,13 @@ pub record MakesNoAccess (h h' : HostState) (Runs : HostAct → Type 0) : Type 0
   -- no access is made
   pub runs : Runs no_act
 
--- Sending.
+-- Sending
 
--- `left` transmit slots are outstanding, from the index `oldest` on. None of them is written back: each has a frame that is still to be
--- sent.
+-- Of the transmit slots from the index `oldest` on, no slot is written back, and `left` frames are still to be sent.
 pub record AreLeft (oldest left : ℕ) (world : World) : Type 0 where
   -- no outstanding slot is written back
   pub none : written_back oldest world ≡ []
-  -- the number of frames that are still to be sent
+  -- `left` frames are still to be sent
   pub frames : length (frames_to_send world) ≡ left
 
 -- The frame has 14 to 1,518 bytes.
@@ -60,18 +60,20 @@ pub record IsSendable (frame : List ℕ) : Type 0 where
   -- at most 1,518 bytes
   pub most : length frame ≤ longest_frame
 
--- Ok: the frame is accepted. Each transmit slot that was written back when the call began is freed, and the frame's slot is outstanding.
+-- Ok: the frame is accepted. At least the transmit slots that were written back when the call began are freed, and the
+-- frame's slot is outstanding.
 pub record AcceptsFrame (frame : List ℕ) (h h' : HostState) (Runs : HostAct → Type 0) (world : World) : Type 0 where
   -- the frame has a valid size
   pub sendable : IsSendable frame
-  -- at least the slots that were written back at the beginning are freed
+  -- the number of freed slots is at least the number of slots that were written back when the call began
   pub freed : length (written_back h.driver.oldest_transmit world) + h'.driver.sending ≤ h.driver.sending + 1
-  -- the frame's slot is outstanding
+  -- at least the frame's slot is outstanding
   pub some : 0 < h'.driver.sending
-  -- Nothing else changes than which transmit slots are outstanding.
+  -- In the host, only the outstanding transmit slots change.
   pub others : h' ≡ record h { driver = with_transmit_slots h.driver h'.driver.oldest_transmit h'.driver.sending }
-  -- In the first stage, the call loads the descriptor of each slot that it frees, and of the next outstanding slot, if there is one. It
-  -- frees exactly the slots that are written back when this stage ends. In the second stage, it stores and offers the frame.
+  -- In the first stage, the call loads the descriptor of each slot that it frees, and of the next outstanding slot if
+  -- there is one. When this stage ends, no remaining slot is written back. In the second stage, the call stores and
+  -- offers the frame.
   pub runs : Runs (record {
     stages = Then (loads_to_free h.driver (h'.driver.sending - 1))
         (λ old past new. AreLeft h'.driver.oldest_transmit (h'.driver.sending - 1) new)
@@ -80,18 +82,18 @@ pub record AcceptsFrame (frame : List ℕ) (h h' : HostState) (Runs : HostAct �
     taken = [];
   })
 
--- RingFull: all transmit slots but one have frames that are to be sent, when the call begins and when its stage ends. The host doesn't
--- change.
+-- RingFull: all transmit slots except one have frames to be sent, when the call begins and when its stage ends. The
+-- host doesn't change.
 pub record FindsRingFull (frame : List ℕ) (h h' : HostState) (Runs : HostAct → Type 0) (world : World) : Type 0 where
   -- the frame has a valid size
   pub sendable : IsSendable frame
-  -- when the call begins, all slots but one have frames to be sent
+  -- when the call begins, all slots except one have frames to be sent
   pub full : length (frames_to_send world) + 1 ≡ h.driver.layout.tx
-  -- when its stage ends, all slots but one have frames to be sent, too
+  -- all slots except one are outstanding
   pub still_full : h'.driver.sending + 1 ≡ h.driver.layout.tx
   -- the host doesn't change
   pub stays : h' ≡ h
-  -- the descriptors of the outstanding slots are loaded
+  -- In its stage, the call loads the descriptor of the oldest slot. When this stage ends, no slot is written back.
   pub runs : Runs (record {
     stages = Then (loads_to_free h.driver h'.driver.sending) (λ old past new. AreLeft h'.driver.oldest_transmit h'.driver.sending new) Ends;
     kind = MovesFrames;
@@ -105,9 +107,9 @@ SendEffect frame (Err TooShort) h h' Runs world = (length frame < shortest_sent)
 SendEffect frame (Err TooLong) h h' Runs world = (longest_frame < length frame) × MakesNoAccess h h' Runs
 SendEffect frame (Err RingFull) h h' Runs world = FindsRingFull frame h h' Runs world
 
--- Receiving.
+-- Receiving
 
--- the result with the frame in place of its size: the first `size` of these bytes
+-- the result, with the frame in place of its size: the first `size` of these bytes
 abbrev pub frame_answer : List ℕ → Result ℕ RecvError → Result (List ℕ) RecvError
 frame_answer bytes (Ok size) = Ok (take size bytes)
 frame_answer bytes (Err error) = Err error
@@ -117,21 +119,23 @@ abbrev pub given_by : (socket : ℕ) → Result (List ℕ) RecvError → List Gi
 given_by socket (Ok frame) = record { socket = socket; frame = frame } ∷ []
 given_by socket (Err error) = []
 
--- Ok: the oldest frame of a socket's queue is returned. The call loads it, piece by piece, and then offers slots.
+-- Ok: the oldest frame of a socket's queue is returned. The call loads the frame, piece by piece, and then offers
+-- slots.
 pub record ReturnsFrame (socket : ℕ) (frame : List ℕ) (h h' : HostState) (Runs : HostAct → Type 0) (world : World) : Type 0 where
   -- there is such a socket
   pub known : socket < length h.kinds
   -- the entry of the queue
   pub received : Received
-  -- the frame was the oldest, and leaves the queue
+  -- the frame was the oldest in the queue, and is removed from it
   pub leaves : LeavesQueue h h' socket (length frame) received
   -- In the driver, only the owners of buffers change, and no slot is staged. So its transmit slots and its counts don't change.
   pub others : h' ≡ record h { driver = with_owners h.driver h'.driver.buffers [] h'.driver.pool []; queues = h'.queues }
   -- the buffers of the new slots
   pub offered : List ℕ
-  -- The buffers of the outstanding receive slots after the call: those before it, then those staged before it, then `offered`.
+  -- The buffers of the outstanding receive slots after the call: those before the call, then those of the staged slots,
+  -- then `offered`.
   pub newest : h'.driver.buffers ≡ h.driver.buffers ++ (h.driver.staged ++ offered)
-  -- The frame was the first in the queue before the call. The frames that stay in the queue don't change.
+  -- The frame was the first in the queue before the call. The other frames remain in the queue.
   pub runs : Runs (record {
     stages = Then (receive_accesses h.driver h'.driver received.parts offered)
         (λ old past new. waiting_frames h socket world ≡ frame ∷ waiting_frames h' socket new) Ends;
@@ -146,11 +150,11 @@ RecvEffect socket (Err NoSocket) h h' Runs world = (length h.kinds ≤ socket) �
 RecvEffect socket (Err Empty) h h' Runs world =
     (socket < length h.kinds) × (queue_at h.queues socket ≡ []) × MakesNoAccess h h' Runs
 
--- Handling an interrupt.
+-- Handling an interrupt
 
 -- After a read of ICR: the value contains each cause that was recorded when the stage began, and no cause is recorded.
 pub record ClearsCauses (causes : ℕ) (old : World) (past : Past) (new : World) : Type 0 where
-  -- each cause that was recorded was read
+  -- each cause that was recorded is in the value
   pub seen : (place : ℕ) → HasBit old.adapter.causes.recorded place → HasBit causes place
   -- no cause is recorded
   pub cleared : new.adapter.causes.recorded ≡ 0
@@ -166,9 +170,9 @@ pub record FindsNoCause (h h' : HostState) (Runs : HostAct → Type 0) : Type 0 
   -- there is no other access
   pub runs : Runs (record { stages = Then (Reads ICR causes ∷ []) (ClearsCauses causes) Ends; kind = HandlesInterrupt; taken = [] })
 
--- Handled: n frames are taken. `taken` has the pieces of each. They are at least as many as the frames that ended in finished slots when
--- the call began (`least`), and the first of the frames that the host held, so those are among them. A frame that has a socket goes to the
--- end of the socket's queue (`frames`). The others are counted, up to the greatest u64 (`unclaimed`).
+-- Handled: n frames are taken, at least the number of frames that ended in finished slots when the call began
+-- (`least`). `taken` contains the pieces of each frame. A frame that has a socket goes to the end of the socket's queue
+-- (`frames`). The other frames are counted, up to the greatest u64 (`unclaimed`).
 pub record HandlesFrames (n : ℕ) (h h' : HostState) (Runs : HostAct → Type 0) (world : World) : Type 0 where
   -- the value read from ICR
   pub causes : ℕ
@@ -182,21 +186,21 @@ pub record HandlesFrames (n : ℕ) (h h' : HostState) (Runs : HostAct → Type 0
   pub frames : AreSorted n h h' taken
   -- the frames without a socket were counted
   pub unclaimed : GrowsBy h.unclaimed h'.unclaimed (without_socket h.kinds (joined_frames taken))
-  -- each frame that ended in finished slots at the beginning is taken
+  -- n is at least the number of frames that ended in finished slots when the call began
   pub least : length (frames_ended (driver_in h.driver world)) ≤ n
-  -- The buffers of the frames leave the ring, those of `rest` stay outstanding, and those of `offered` are offered. The index of the oldest
-  -- slot isn't stated here: it follows from the host being ready after the call.
-  pub served : TakesAndOffers h.driver h'.driver (concat (map numbers_of taken))
-  -- Which transmit slots are outstanding, and which groups are joined, doesn't change.
+  -- The buffers of the frames leave the ring, the slots of `rest` remain outstanding, and the staged slots and those of
+  -- `offered` are offered. The index of the oldest slot follows from the host being ready after the call.
+  pub served : TakesAndOffers h.driver h'.driver (concat (map piece_numbers taken))
+  -- The outstanding transmit slots and the joined groups don't change.
   pub only_receives : OnlyReceives h.driver h'.driver
   -- the number of descriptors that the last look loads
   pub loads : ℕ
-  -- Three stages. In the first, ICR is read. In the second, MPC is read, frames are taken, and a last look loads descriptors. When this
-  -- stage is over, no frame ends in finished slots. In the third, slots are offered. When it is over, no work is forgotten, if RXT0 was in
-  -- the mask when the call began.
+  -- In the first stage, ICR is read. In the second stage, MPC is read, frames are taken, and a last look loads
+  -- descriptors; when this stage ends, no frame ends in finished slots. In the third stage, slots are offered; when
+  -- this stage ends, no work is forgotten if RXT0 was in the mask when the call began.
   pub runs : Runs (record {
     stages = Then (Reads ICR causes ∷ []) (ClearsCauses causes)
-        (Then (taking_accesses h.driver missed.misses (map numbers_of taken) loads)
+        (Then (taking_accesses h.driver missed.misses (map piece_numbers taken) loads)
         (λ old past new. IsLook h'.driver.oldest_receive served.rest new loads)
         (Then (offering_accesses h.driver served.offered (next_receive h'.driver))
         (λ old past new. HasBit world.adapter.causes.mask rxt0 → HasNoForgottenWork h'.driver new) Ends));
@@ -204,19 +208,19 @@ pub record HandlesFrames (n : ℕ) (h h' : HostState) (Runs : HostAct → Type 0
     taken = joined_frames taken;
   })
 
--- the effect of each result of an interrupt
+-- the effect of each result of an interrupt handler
 abbrev pub InterruptEffect : Handled → Effect
 InterruptEffect NotMine h h' Runs world = FindsNoCause h h' Runs
 InterruptEffect (answers.Handled n) h h' Runs world = HandlesFrames n h h' Runs world
 
--- Joining and leaving groups.
+-- Joining and leaving groups
 
--- the host, while its driver has joined these groups
+-- the host whose driver has these joined groups
 abbrev pub with_joined : List (List ℕ) → HostState → HostState
 with_joined groups h = record h { driver = with_groups groups h.driver }
 
--- The group table follows the groups: if it had the numbers of those joined before, it has the numbers of those joined afterwards right
--- after the last access, or at once if there is no access.
+-- The act of a call that changes the joined groups by these accesses. If MTA has exactly the bits of the old joined
+-- groups when the stage begins, it has exactly the bits of the new joined groups when the stage ends.
 abbrev pub groups_act : (h h' : HostState) → List Access → HostAct
 groups_act h h' accesses = record {
   stages = Then accesses (λ old past new. HasTable h.driver.groups old → HasTable h'.driver.groups new) Ends;
@@ -232,31 +236,32 @@ pub record JoinsGroup (group : List ℕ) (h h' : HostState) (Runs : HostAct → 
   pub not_yet : ¬ Contains h.driver.groups group
   -- fewer than 32 groups are joined
   pub room : length h.driver.groups < MOST_GROUPS
-  -- the group is the last of the groups joined
+  -- the group is appended to the joined groups
   pub joined : h' ≡ with_joined (h.driver.groups ++ group ∷ []) h
-  -- There is no access if a joined group has the same number. Otherwise one word of the group table is written.
+  -- the accesses of the call
   pub accesses : List Access
-  -- the accesses write the group's bit, if it isn't set
+  -- There is no access if a joined group has the same number. Otherwise one word of the group table is written.
   pub sets : SetsTable h.driver.groups group h'.driver.groups accesses
   -- there is no other access
   pub runs : Runs (groups_act h h' accesses)
 
--- Ok of a leave: the group isn't joined any more, and nothing else changes.
+-- Ok of a leave: the group is no longer joined, and nothing else changes.
 pub record LeavesGroup (group : List ℕ) (h h' : HostState) (Runs : HostAct → Type 0) : Type 0 where
   -- this is the address of a group
   pub group_is : IsGroup group
-  -- the group was joined, and isn't any more
+  -- the group was joined, and is no longer joined
   pub left : Removes group h.driver.groups h'.driver.groups
   -- nothing else of the host changes
   pub others : h' ≡ with_joined h'.driver.groups h
-  -- There is no access if a group that stays joined has the same number. Otherwise one word of the group table is written.
+  -- the accesses of the call
   pub accesses : List Access
-  -- the accesses clear the group's bit, if no other group needs it
+  -- There is no access if a group that remains joined has the same number. Otherwise one word of the group table is
+  -- written.
   pub sets : SetsTable h'.driver.groups group h'.driver.groups accesses
   -- there is no other access
   pub runs : Runs (groups_act h h' accesses)
 
--- Ok, or why a group wasn't joined or left
+-- the result of `join` or `leave`: Ok, or the reason for an error
 abbrev pub GroupAnswer : Type 0
 GroupAnswer = Result (Unit {0}) GroupError
 

@@ -1,4 +1,4 @@
--- A host, as plain data: its driver, the table of its sockets, and the frames queued for them (our choice).
+-- The state of a host as plain data (our choice).
 use Rattle.std.specs.Prelude.{◌≡◌, ◌++◌, ◌∷◌, ℕ, List, [], length, replicate, slice_index_or}
 use Rattle.driver.specs.declared.receiver.Received.{Received}
 use Rattle.bring_up.specs.declared.config.Config.{Config}
@@ -16,36 +16,36 @@ abbrev pub all_of : List (List Received) → List Received
 all_of [] = []
 all_of (queue ∷ later) = queue ++ all_of later
 
--- the sockets of a host
+-- The sockets of a host, with their queues.
 pub record SocketsState : Type 0 where
   pub kinds : List SocketKind
   -- the frames queued for each socket, the oldest first
   pub queues : List (List Received)
   -- the number of frames that each queue has room for
   pub room : ℕ
-  -- the number of frames that no socket took, up to the greatest u64
+  -- the number of frames that no socket took; it saturates at the greatest u64
   pub unclaimed : ℕ
 
--- a driver with the sockets of a host, and the frames that wait for them
+-- The state of a host: its driver, its sockets, and the frames queued for them.
 pub record HostState : Type 0 where
-  -- the driver; `handed_out` is empty in its state
+  -- the driver's state, in which `handed_out` is empty
   pub driver : DriverState
-  -- which frames each socket takes
+  -- the table of sockets
   pub kinds : List SocketKind
   -- the frames queued for each socket, the oldest first
   pub queues : List (List Received)
-  -- the number of frames that no socket took, up to the greatest u64
+  -- the number of frames that no socket took; it saturates at the greatest u64
   pub unclaimed : ℕ
 
--- the buffers of all owners, one after the other: of the driver, and of the queued frames
+-- The numbers of all buffers by owner: the owners in the driver's state, and the queues.
 abbrev pub host_owners : HostState → List ℕ
 host_owners host = owners host.driver ++ buffers_of (all_of host.queues)
 
--- a host with empty queues that has counted nothing
+-- A host with empty queues that has counted no frame.
 abbrev pub new_host : DriverState → List SocketKind → HostState
 new_host driver kinds = record { driver = driver; kinds = kinds; queues = replicate (length kinds) []; unclaimed = 0 }
 
--- A new host, with the driver of an adapter that was initialized.
+-- The state of a host that `new` returns, over any bus.
 pub record IsNewHost (config : Config) (kinds : List SocketKind) (host : HostState) : Type 0 where
   pub new : host ≡ new_host host.driver kinds
   pub fresh : IsFresh config host.driver

@@ -1,4 +1,4 @@
--- How a host keeps its state (our choice).
+-- How `Host` stores its state (our choice).
 use Rattle.std.specs.Prelude.{◌≡◌, ◌++◌, length}
 use Rattle.dma_memory.specs.Owners.{HasNoSecondOwner}
 use Rattle.driver_law.specs.DriverState.{DriverState, owners}
@@ -6,7 +6,7 @@ use Rattle.driver.specs.Parts.{AreFrames, buffers_of}
 use Rattle.packet_socket.specs.HostState.{HostState, SocketsState, all_of}
 use Rattle.packet_socket.specs.declared.host.Host.TheInside.{Inside}
 
--- a host of a driver and sockets
+-- the host with this driver and these sockets
 abbrev pub host_with : DriverState → SocketsState → HostState
 host_with driver sockets = record { driver = driver; kinds = sockets.kinds; queues = sockets.queues; unclaimed = sockets.unclaimed }
 

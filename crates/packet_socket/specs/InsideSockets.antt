@@ -1,4 +1,4 @@
--- How a host keeps its sockets (our choice).
+-- How `Sockets` stores the sockets of a host (our choice).
 use Rattle.std.specs.Prelude.{◌≡◌, List, All, length, map}
 use Rattle.circular_buffer.specs.Buffer.{Buffer}
 use Rattle.driver.specs.declared.receiver.Received.{Received}

@@ -1,4 +1,4 @@
--- A frame at the end of a queue.
+-- Laws of queues to which frames are appended.
 use Rattle.std.proofs.Common.{◌≡◌, inl, inr, ◌≤◌, ◌<◌, ◌++◌, ◌∷◌, [], ℕ, zero, suc, Bool, cond, Some, List, length}
 use Rattle.std.proofs.Common.{sym, ap, subst, ◌∙◌, append_assoc, length-append, arith}
 use Rattle.std.specs.List.{slice_set}
@@ -13,7 +13,7 @@ use Rattle.packet_socket.specs.HostState.{all_of, queue_at}
 use Rattle.packet_socket.specs.declared.socket_kind.SocketKind.{SocketKind}
 use Rattle.packet_socket.specs.KindLaws.{goes-there, goes-nowhere-else}
 
--- A queue has at most as many frames as all queues together.
+-- The number of frames in a queue is at most the number of frames in all queues.
 pub queue-within : (queues : List (List Received)) (socket : ℕ) → length (queue_at queues socket) ≤ length (all_of queues)
 queue-within [] socket = omega arith
 queue-within (queue ∷ later) zero = omega (arith, length-append queue (all_of later))

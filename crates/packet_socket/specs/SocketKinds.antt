@@ -4,9 +4,9 @@ use Rattle.packet_socket.specs.declared.socket_kind.SocketKind.{SocketKind}
 use Rattle.packet_socket.specs.declared.socket_kind.SocketKind.TheVariants.{Ether, All}
 
 -- whether a socket takes the frames of this EtherType, and no others
-abbrev pub is_of : ℕ → SocketKind → Bool
-is_of ether_type (Ether own) = own == ether_type
-is_of ether_type All = false
+abbrev pub is_of_type : ℕ → SocketKind → Bool
+is_of_type ether_type (Ether own) = own == ether_type
+is_of_type ether_type All = false
 
 -- whether a socket takes the frames of all EtherTypes
 abbrev pub takes_all : SocketKind → Bool
@@ -14,24 +14,25 @@ takes_all (Ether own) = false
 takes_all All = true
 
 -- the first socket number if there is one, else the second
-abbrev pub or_else : Option ℕ → Option ℕ → Option ℕ
-or_else (Some first) second = Some first
-or_else None second = second
+abbrev pub number_or_else : Option ℕ → Option ℕ → Option ℕ
+number_or_else (Some first) second = Some first
+number_or_else None second = second
 
--- The socket of an EtherType: the first in the table that takes this EtherType, else the first that takes all EtherTypes, else none.
+-- The socket of an EtherType: the first in the table that takes only this EtherType, else the first that takes all
+-- EtherTypes, else no socket.
 abbrev pub socket_of : List SocketKind → ℕ → Option ℕ
-socket_of kinds ether_type = or_else (position (is_of ether_type) kinds) (position takes_all kinds)
+socket_of kinds ether_type = number_or_else (position (is_of_type ether_type) kinds) (position takes_all kinds)
 
--- whether a position found is this socket's
-abbrev pub is_at : ℕ → Option ℕ → Bool
-is_at socket None = false
-is_at socket (Some place) = place == socket
+-- whether the position found is that of this socket
+abbrev pub is_position : ℕ → Option ℕ → Bool
+is_position socket None = false
+is_position socket (Some place) = place == socket
 
 -- whether frames of an EtherType go to this socket
 abbrev pub goes_to : List SocketKind → (socket ether_type : ℕ) → Bool
-goes_to kinds socket ether_type = is_at socket (socket_of kinds ether_type)
+goes_to kinds socket ether_type = is_position socket (socket_of kinds ether_type)
 
--- whether a socket takes frames of this EtherType
+-- whether any socket takes frames of this EtherType
 abbrev pub has_socket : List SocketKind → ℕ → Bool
 has_socket kinds ether_type = is_some (socket_of kinds ether_type)
 

@@ -1,12 +1,12 @@
--- How the sockets of a host sort the frames that the driver shows them (our choice).
+-- How the sockets of a host sort the frames that the driver shows to them (our choice).
 use Rattle.std.specs.Prelude.{◌≡◌, ◌≤◌, ◌+◌, List, length}
 use Rattle.driver.specs.HandlerSteps.{GrowsBy}
 use Rattle.driver.specs.declared.receiver.Received.{Received}
 use Rattle.packet_socket.specs.HostCalls.{Queues, claimed_of, unclaimed_of}
 use Rattle.packet_socket.specs.HostState.{SocketsState, all_of}
 
--- Frames with a socket are kept, the others are counted. A queue has room for its frames if all queues together, with the frames kept,
--- have no more than `room`.
+-- The sockets keep the frames that have a socket, and count the other frames. If all queues together, with the frames
+-- kept, have at most `room` frames, each frame kept goes to the end of its socket's queue.
 pub record Sorts (before after : SocketsState) (shown kept : List Received) : Type 0 where
   pub kinds : after.kinds ≡ before.kinds
   pub room : after.room ≡ before.room

@@ -1,4 +1,4 @@
--- Sockets sort the frames that they are shown.
+-- Laws of sockets that sort frames.
 use Rattle.std.proofs.Common.{◌≡◌, ◌+◌, ◌-◌, ◌<◌, ◌++◌, ◌∷◌, [], ℕ, cond, Option, Some, None, List, length, min, refl, sym}
 use Rattle.std.proofs.Common.{ap, subst, ◌∙◌, append_assoc, length-append, arith}
 use Rattle.std.specs.List.{slice_set}
@@ -17,7 +17,7 @@ use Rattle.packet_socket.specs.Sorting.{Sorts}
 use Rattle.packet_socket.specs.declared.socket_kind.SocketKind.{SocketKind}
 use Rattle.packet_socket.specs.QueueLaws.{queue-within, queues-pushed}
 
--- Counts up to the greatest u64.
+-- Counts that saturate
 
 grows-none : (a : ℕ) → GrowsBy a a 0
 grows-none a = record { least = omega arith; most = omega arith; exactly = λ below. omega arith }
@@ -36,7 +36,7 @@ grows-one : (a b : ℕ) → a < count_limit → b ≡ min (a + 1) (count_limit -
 grows-one a b fits is = record
     { least = omega (arith, fits, is); most = omega (arith, fits, is); exactly = λ below. omega (arith, fits, is, below) }
 
--- Frames of sockets.
+-- Frames of sockets
 
 pub unclaimed-append : (kinds : List SocketKind) (xs ys : List Received)
     → unclaimed_of kinds (xs ++ ys) ≡ unclaimed_of kinds xs + unclaimed_of kinds ys
@@ -47,7 +47,7 @@ unclaimed-one : (kinds : List SocketKind) (received : Received) (count : ℕ) �
 unclaimed-one kinds received count is = omega
     (arith, is, sum_by-cons (λ (r : Received). cond (has_none kinds r.ether_type) 1 0) received [])
 
--- No frame.
+-- No frame
 
 pub queues-stay : (kinds : List SocketKind) (queues : List (List Received)) → Queues kinds queues queues []
 queues-stay kinds queues = record {
@@ -66,7 +66,7 @@ sorts_stays sockets = record {
   queues = λ fits. queues-stay sockets.kinds sockets.queues;
 }
 
--- Two intervals.
+-- Two consecutive intervals
 
 pub queues-join : (kinds : List SocketKind) (a b c : List (List Received)) (kept more : List Received) → Queues kinds a b kept
     → Queues kinds b c more → Queues kinds a c (kept ++ more)
@@ -114,7 +114,7 @@ sorts_join a b c shown kept later more one two = record {
       (subst (λ (kinds : List SocketKind). Queues kinds b.queues c.queues more) one.kinds second);
 }
 
--- One frame.
+-- One frame
 
 pub sorts-kept : (kinds : List SocketKind) (queues : List (List Received)) (room unclaimed socket : ℕ) (received : Received)
     (queue : List Received)

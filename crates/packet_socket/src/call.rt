@@ -3,7 +3,7 @@
 ghost use Rattle.std.specs.Prelude.{◌≡◌, ◌≤◌};
 ghost use Rattle.dma_memory.specs.Layout.{size_of};
 ghost use Rattle.bus.specs.Keeping.{Keeps};
-ghost use Rattle.packet_socket.specs.CallEffects.{CallsBy, IsLegalAnswer, KeepsRest, answer_in, request_of};
+ghost use Rattle.packet_socket.specs.CallEffects.{CallsBy, IsLegalAnswer, KeepsRest, answer_in, call_request};
 ghost use Rattle.packet_socket.specs.HostCalls.{host_at};
 
 use crate::Host;
@@ -27,7 +27,8 @@ pub enum HostCall<'a> {
     Leave([u8; 6]),
 }
 
-/// The answer of a call of a host. `F` is the frame that a socket returned; [`Host::call`] returns its size in bytes.
+/// The answer of a call of a host. `F` is the type of a returned frame. For [`Host::call`], it is the frame's size in
+/// bytes.
 #[derive(Debug, Drop)]
 pub enum HostAnswer<F> {
     /// The result of [`Host::send`].
@@ -44,9 +45,9 @@ pub enum HostAnswer<F> {
 
 impl Host {
     /// Makes a call. A frame that a socket returns is copied to the front of `into`. The bytes of `into` after the
-    /// frame don't change; if no frame is returned, no byte changes. `does` holds if the bus obeys the law, and the
-    /// host is ready with its transmit side set up. What holds over any bus is in the contract of the named call.
-    /// `bus` must have at least `layout().size()` bytes.
+    /// frame don't change; if no frame is returned, no byte changes. If the bus obeys the law, and the host is ready
+    /// with its transmit side set up, the call has the effect of its answer. `bus` must have at least `layout().size()`
+    /// bytes.
     #[inline(always)]
     pub fn call<B: Bus>(
         &mut self,
@@ -58,7 +59,7 @@ impl Host {
         ensures keeps { Keeps B.Bus bus.old bus.new }
         ensures legal { IsLegalAnswer result }
         ensures rest { KeepsRest result into.old into.new }
-        ensures does { CallsBy B.Bus (request_of call.entry) (answer_in into.new result)
+        ensures does { CallsBy B.Bus (call_request call.entry) (answer_in into.new result)
             (host_at bus.old self.old) (host_at bus.new self.new) }
     {
         match call {

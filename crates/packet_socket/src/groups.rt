@@ -1,4 +1,4 @@
-// A host joins and leaves multicast groups.
+// Joining and leaving multicast groups.
 
 ghost use Rattle.std.specs.Prelude.{◌≡◌, ◌≢◌, ◌<◌, ◌↔◌, ◌++◌, ◌∷◌, [], Err, length};
 ghost use Rattle.std.specs.Result.{OnErr, OnOk};
@@ -18,18 +18,18 @@ use bus::Bus;
 use joined_groups::GroupError;
 
 impl Host {
-    /// Joins a multicast group by [`Driver::join`](driver::Driver::join). From then on, frames to it pass the receive
+    /// Joins a multicast group by [`Driver::join`](driver::Driver::join), so that frames to the group pass the receive
     /// filter.
     ///
     /// # Errors
     ///
     /// E23 [`NotGroup`](GroupError::NotGroup) if the low bit of the address's first byte is clear, else E26
     /// [`Joined`](GroupError::Joined) if the group is joined already, else E24 [`GroupsFull`](GroupError::GroupsFull)
-    /// if 32 groups are joined; each without an access.
+    /// if 32 groups are joined. There is no access before an error.
     pub fn join<B: Bus>(&mut self, bus: &mut B, group: [u8; 6]) -> Result<(), GroupError>
         ensures keeps { Keeps B.Bus bus.old bus.new }
 
-        // What it does over any bus.
+        // Over any bus.
         ensures not_group { (result ≡ Err NotGroup) ↔ (¬ (IsGroup group)) }
         ensures joined { (result ≡ Err Joined) ↔ (IsGroup group × Contains self.old.driver.groups group) }
         ensures full { (result ≡ Err GroupsFull)
@@ -41,7 +41,7 @@ impl Host {
         ensures room { OnOk result (length self.old.driver.groups < MOST_GROUPS) }
         ensures quiet { HasNumber self.old.driver.groups group → bus.new ≡ bus.old }
 
-        // What it does over a bus that obeys the law.
+        // Over a bus that obeys the law.
         ensures joins { CallsOver B.Bus [] [] (host_at bus.old self.old) (host_at bus.new self.new)
             (JoinEffect group result) }
     {
@@ -57,7 +57,7 @@ impl Host {
     pub fn leave<B: Bus>(&mut self, bus: &mut B, group: [u8; 6]) -> Result<(), GroupError>
         ensures keeps { Keeps B.Bus bus.old bus.new }
 
-        // What it does over any bus.
+        // Over any bus.
         ensures not_group { (result ≡ Err NotGroup) ↔ (¬ (IsGroup group)) }
         ensures not_joined { (result ≡ Err NotJoined)
             ↔ (IsGroup group × (¬ (Contains self.old.driver.groups group))) }
@@ -67,7 +67,7 @@ impl Host {
         ensures left { OnOk result (Removes group self.old.driver.groups self.new.driver.groups) }
         ensures quiet { HasNumber self.new.driver.groups group → bus.new ≡ bus.old }
 
-        // What it does over a bus that obeys the law.
+        // Over a bus that obeys the law.
         ensures leaves { CallsOver B.Bus [] [] (host_at bus.old self.old) (host_at bus.new self.new)
             (LeaveEffect group result) }
     {

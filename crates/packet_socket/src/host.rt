@@ -1,4 +1,4 @@
-// A host: a driver with sockets above it.
+// A host: a driver with sockets.
 
 ghost use Rattle.std.specs.Prelude.{◌≡◌, ◌↔◌, ◌≤◌, ◌<◌, ◌+◌, ◌++◌, [], Err, IfErr, IfOk, IsTrue, length};
 ghost use Rattle.dma_memory.specs.Layout.{size_of};
@@ -10,7 +10,7 @@ ghost use Rattle.bring_up.specs.declared.init_error.InitError.TheVariants as Ini
 ghost use Rattle.registers.specs.Counting.{greatest_count};
 ghost use Rattle.bus.specs.Keeping.{Keeps};
 ghost use Rattle.driver_law.specs.DriverState.{owners};
-ghost use Rattle.driver.specs.Initialisation.{Initialises, Refuses};
+ghost use Rattle.driver.specs.Initialisation.{Initialises, RefusesInit};
 ghost use Rattle.driver.specs.SendSteps.{HasWrongLength, accepted_by, with_transmit_slots};
 ghost use Rattle.driver.specs.Parts.{AreFrames, buffers_of};
 ghost use Rattle.driver.specs.declared.transmit.SendError.TheVariants as SendError;
@@ -29,7 +29,7 @@ use driver::{Driver, SendError};
 use std::alloc::Global;
 use std::marker::Model;
 
-/// A host: a driver of an adapter, and the sockets that its frames go to.
+/// A host: a driver of an adapter, and the sockets to which received frames go.
 #[derive(Drop)]
 pub struct Host {
     pub(crate) driver: Driver,
@@ -49,13 +49,13 @@ impl Model for Host {
 }
 
 impl Host {
-    /// Initializes the adapter as `config` asks, and makes a host with these sockets. Each queue has room for all
-    /// buffers, so no later call allocates memory.
+    /// Initializes the adapter by `config`, and makes a host with these sockets. Each queue has room for all buffers,
+    /// so no later call allocates memory.
     ///
     /// # Errors
     ///
-    /// The errors of [`Driver::init`]. E10 also if there is no memory for the queues; then there is no access. After
-    /// each error the call may be made again.
+    /// The errors of [`Driver::init`]. E10 also if the memory for the queues can't be allocated; there is no access
+    /// before this error. After each error the call may be made again.
     pub fn new<B: Bus>(
         alloc: Global,
         bus: &mut B,
@@ -64,17 +64,17 @@ impl Host {
     ) -> Result<Host, InitError>
         ensures keeps { Keeps B.Bus bus.old bus.new }
 
-        // What it does over any bus.
+        // Over any bus.
         ensures config { (result ≡ Err InitError.Config) ↔ ¬ CanBeHad config.now (B.extent bus.old) }
         ensures unasked { IfErr result (λ error. IsBeforeAccess error → bus.new ≡ bus.old) }
         ensures ok { IfOk result (IsNewHost config.now kinds.items) }
         ensures had { IfOk result (λ host. CanBeHad config.now (B.extent bus.old)) }
 
-        // What it does over a bus that obeys the law.
+        // Over a bus that obeys the law.
         ensures initialises { B.honest bus.old
             → IfOk result (λ host. Initialises B.Bus config.now bus.old bus.new host.driver) }
         ensures ready { B.honest bus.old → IfOk result (λ host. HostReady host (B.world bus.new)) }
-        ensures refuses { B.honest bus.old → IfErr result (Refuses B.Bus bus.old bus.new) }
+        ensures refuses { B.honest bus.old → IfErr result (RefusesInit B.Bus bus.old bus.new) }
     {
         let layout = config.layout(bus.size())?;
         let sockets = Sockets::new(alloc, kinds, usize::from(layout.buffers()))?;
@@ -98,8 +98,8 @@ impl Host {
         self.sockets.len()
     }
 
-    /// The number of frames queued for a socket, or 0 if there is no such socket. No buffer has two owners at any
-    /// time; the queues count as owners.
+    /// The number of frames queued for a socket, or 0 if there is no such socket. Each queued frame has a legal size,
+    /// and no buffer has two owners; the queues count as owners.
     pub fn waiting(&self, socket: usize) -> usize
         ensures count { result ≡ length (queue_at self.now.queues socket) }
         ensures table { length self.now.queues ≡ length self.now.kinds }
@@ -110,15 +110,15 @@ impl Host {
         self.sockets.waiting(socket)
     }
 
-    /// The number of frames that went to no socket, up to the greatest `u64`.
+    /// The number of received frames that went to no socket; it saturates at the greatest `u64`.
     pub fn unclaimed(&self) -> u64
         ensures { result ≡ self.now.unclaimed }
     {
         self.sockets.unclaimed()
     }
 
-    /// The driver's sum of frames that the adapter missed, and whether the sum is exact. If it isn't, the adapter may
-    /// have missed more frames.
+    /// The driver's sum of missed frames, and whether this sum is exact. If it isn't exact, more frames may have been
+    /// missed.
     pub fn missed(&self) -> (u64, bool)
         ensures sum { result.0 ≡ self.now.driver.missed }
         ensures exact { result.1 ≡ self.now.driver.exact }
@@ -132,13 +132,14 @@ impl Host {
     /// # Errors
     ///
     /// E20 [`TooShort`](SendError::TooShort) if the frame has fewer than 14 bytes, E21 [`TooLong`](SendError::TooLong)
-    /// if it has more than 1,518; both without an access. E22 [`RingFull`](SendError::RingFull) only if all slots of
-    /// the transmit ring but one are still outstanding after the call has freed those whose descriptors have DD.
+    /// if the frame has more than 1,518 bytes; both without an access. E22 [`RingFull`](SendError::RingFull) only if
+    /// all slots of the transmit ring except one are still outstanding after the call has freed slots whose descriptors
+    /// have DD.
     pub fn send<B: Bus>(&mut self, bus: &mut B, frame: &[u8]) -> Result<(), SendError>
         requires memory { size_of self.old.driver.layout ≤ B.extent bus.old }
         ensures keeps { Keeps B.Bus bus.old bus.new }
 
-        // What it does over any bus.
+        // Over any bus.
         ensures others { self.new ≡ record self.old
             { driver = with_transmit_slots self.old.driver self.new.driver.oldest_transmit self.new.driver.sending } }
         ensures too_short { (result ≡ Err SendError.TooShort) ↔ (length frame.now < shortest_sent) }
@@ -146,7 +147,7 @@ impl Host {
         ensures nothing { HasWrongLength result → (bus.new ≡ bus.old) × (self.new ≡ self.old) }
         ensures full { result ≡ Err SendError.RingFull → self.new.driver.sending + 1 ≡ self.new.driver.layout.tx }
 
-        // What it does over a bus that obeys the law.
+        // Over a bus that obeys the law.
         ensures sends { CallsUp B.Bus [] (accepted_by result frame.now) (host_at bus.old self.old)
             (host_at bus.new self.new) (SendEffect frame.now result) }
     {

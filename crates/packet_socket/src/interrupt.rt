@@ -1,4 +1,4 @@
-// A host handles an interrupt.
+// The interrupt handler of a host.
 
 ghost use Rattle.std.specs.Prelude.{◌≡◌, ◌≤◌, []};
 ghost use Rattle.dma_memory.specs.Layout.{size_of};
@@ -13,19 +13,20 @@ use bus::Bus;
 use driver::Handled;
 
 impl Host {
-    /// Handles an interrupt by [`Driver::interrupt`](driver::Driver::interrupt). Each frame that it takes goes to the
-    /// end of its socket's queue; a frame without a socket is counted ([`unclaimed`](Host::unclaimed)). After the read
-    /// of ICR, causes are only added until the call ends. `bus` must have at least `layout().size()` bytes.
+    /// Handles an interrupt by [`Driver::interrupt`](driver::Driver::interrupt). Each frame that the driver takes goes
+    /// to the end of its socket's queue; a frame without a socket is counted ([`unclaimed`](Host::unclaimed)). If the
+    /// bus obeys the law and the host is ready, the call clears no cause that is recorded after its read of ICR. `bus`
+    /// must have at least `layout().size()` bytes.
     pub fn interrupt<B: Bus>(&mut self, bus: &mut B) -> Handled
         requires memory { size_of self.old.driver.layout ≤ B.extent bus.old }
         ensures keeps { Keeps B.Bus bus.old bus.new }
 
-        // What it does over any bus.
+        // Over any bus.
         ensures stays { IfNotMine result (self.new ≡ self.old) }
         ensures only_receives { OnlyReceives self.old.driver self.new.driver }
         ensures serves { IfHandled result (HostServes self.old self.new) }
 
-        // What it does over a bus that obeys the law.
+        // Over a bus that obeys the law.
         ensures handles { CallsOver B.Bus [] [] (host_at bus.old self.old) (host_at bus.new self.new)
             (InterruptEffect result) }
     {

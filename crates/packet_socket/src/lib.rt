@@ -1,4 +1,4 @@
-//! Packet sockets over a driver of the 82540EM: frames in and frames out, by EtherType.
+//! Packet sockets over a driver of the 82540EM: a host sends frames, and its sockets receive frames by EtherType.
 #![tactic(auto)]
 
 mod call;
@@ -13,7 +13,7 @@ mod sockets;
 
 pub use call::{HostAnswer, HostCall};
 pub use host::Host;
-pub use law::{host_stretches_join, hosts_go_on};
+pub use law::{host_intervals_join, hosts_go_on};
 pub use receive::RecvError;
 pub use socket_kind::SocketKind;
 pub use sockets::MOST_SOCKETS;

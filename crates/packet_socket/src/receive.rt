@@ -1,4 +1,4 @@
-// A host returns a frame of a socket.
+// Returning a frame of a socket.
 
 ghost use Rattle.std.specs.Prelude.{◌≡◌, ◌↔◌, ◌≤◌, ◌<◌, [], Err, IfErr, IfOk, length};
 ghost use Rattle.dma_memory.specs.Layout.{size_of};
@@ -13,7 +13,7 @@ use crate::Host;
 use bus::Bus;
 use thiserror::Error;
 
-/// Why no frame is returned.
+/// The reason why no frame is returned.
 #[derive(Clone, Copy, Debug, PartialEq, Eq, Error)]
 pub enum RecvError {
     /// The socket's queue is empty.
@@ -25,10 +25,10 @@ pub enum RecvError {
 }
 
 impl Host {
-    /// Removes the oldest entry of a socket's queue, and returns its length, 60 to 1,518 bytes. The bytes of `into`
-    /// after this length don't change. The entry's buffers go back to the driver, which refills its receive ring. If
-    /// the bus obeys the law and the host is ready, the bytes of `into` up to this length are then the entry's frame.
-    /// Everything else holds over any bus. `bus` must have at least `layout().size()` bytes.
+    /// Removes the oldest entry of a socket's queue, and returns its length, from 60 to 1,518 bytes. The entry's
+    /// buffers return to the driver, which refills its receive ring. The bytes of `into` after this length don't
+    /// change. If the bus obeys the law and the host is ready, the bytes of `into` up to this length are the entry's
+    /// frame. The other statements hold over any bus. `bus` must have at least `layout().size()` bytes.
     ///
     /// # Errors
     ///
@@ -43,14 +43,14 @@ impl Host {
         requires memory { size_of self.old.driver.layout ≤ B.extent bus.old }
         ensures keeps { Keeps B.Bus bus.old bus.new }
 
-        // What it does over any bus.
+        // Over any bus.
         ensures no_socket { (result ≡ Err RecvError.NoSocket) ↔ (length self.old.kinds ≤ socket) }
         ensures empty { (result ≡ Err RecvError.Empty)
             ↔ ((socket < length self.old.kinds) × (queue_at self.old.queues socket ≡ [])) }
         ensures err { IfErr result (λ error. (bus.new ≡ bus.old) × (self.new ≡ self.old) × (into.new ≡ into.old)) }
         ensures ok { IfOk result (Returns self.old self.new socket into.old into.new) }
 
-        // What it does over a bus that obeys the law.
+        // Over a bus that obeys the law.
         ensures receives { CallsOver B.Bus (given_by socket (frame_answer into.new result)) []
             (host_at bus.old self.old) (host_at bus.new self.new) (RecvEffect socket (frame_answer into.new result)) }
     {

@@ -1,4 +1,4 @@
-// A host resets its adapter in a run.
+// Resetting the adapter of a host.
 
 ghost use Rattle.std.specs.Prelude.{◌≡◌, ◌≤◌, Bool};
 ghost use Rattle.dma_memory.specs.Layout.{size_of};
@@ -17,7 +17,8 @@ impl Host {
         self.driver.oldest()
     }
 
-    /// Resets the adapter by [`Driver::reset`](driver::Driver::reset). The frames that are queued for sockets stay.
+    /// Resets the adapter by [`Driver::reset`](driver::Driver::reset). The frames that are queued for sockets remain
+    /// queued.
     pub fn reset<B: Bus>(&mut self, bus: &mut B)
         requires memory { size_of self.old.driver.layout ≤ B.extent bus.old }
         ensures keeps { Keeps B.Bus bus.old bus.new }

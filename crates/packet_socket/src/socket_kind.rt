@@ -6,9 +6,9 @@ ghost use Rattle.packet_socket.specs.SocketKinds as kinds;
 /// Which frames a socket takes.
 #[derive(Clone, Copy, Debug, Default, PartialEq, Eq)]
 pub enum SocketKind {
-    /// Frames of this EtherType (bytes 12 and 13), if no socket before it in the table has the same EtherType.
+    /// Frames of this EtherType (bytes 12 and 13), if no earlier socket in the table has the same EtherType.
     Ether(u16),
-    /// Frames that no `Ether` socket takes, if no socket before it in the table is an `All` socket.
+    /// Frames that no `Ether` socket takes, if no earlier socket in the table is an `All` socket.
     #[default]
     All,
 }
@@ -16,7 +16,7 @@ pub enum SocketKind {
 impl SocketKind {
     /// Whether the socket takes the frames of this EtherType, and no others.
     fn is_of(self, ether_type: u16) -> bool
-        ensures { result ≡ kinds.is_of ether_type self }
+        ensures { result ≡ kinds.is_of_type ether_type self }
     {
         match self {
             SocketKind::Ether(own) => own == ether_type,
@@ -35,9 +35,9 @@ impl SocketKind {
     }
 }
 
-/// The first socket of an EtherType.
+/// The first socket that takes only the frames of this EtherType.
 fn first_of(table: &[SocketKind], ether_type: u16) -> Option<usize>
-    ensures { result ≡ position (kinds.is_of ether_type) table.now }
+    ensures { result ≡ position (kinds.is_of_type ether_type) table.now }
 {
     table.iter().position(|kind| kind.is_of(ether_type))
 }
@@ -49,7 +49,8 @@ fn first_for_all(table: &[SocketKind]) -> Option<usize>
     table.iter().position(|kind| kind.takes_all())
 }
 
-/// The socket that takes the frames of an EtherType: the first of that EtherType, else the first that takes all frames.
+/// The socket that takes the frames of an EtherType: the first socket of this EtherType, else the first that takes all
+/// frames.
 pub(crate) fn socket_of(table: &[SocketKind], ether_type: u16) -> Option<usize>
     ensures socket { result ≡ kinds.socket_of table.now ether_type }
     ensures there { IfSome result (λ socket. socket < length table.now) }

@@ -23,7 +23,7 @@ pub(crate) struct Sockets {
     queues: Vec<HeapCircularBuffer<Received>>,
     /// The number of frames that each queue has room for.
     room: usize,
-    /// The number of frames that no socket took, up to the greatest `u64`.
+    /// The number of frames that no socket took; it saturates at the greatest `u64`.
     unclaimed: u64,
 }
 

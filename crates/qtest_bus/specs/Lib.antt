@@ -1,4 +1,3 @@
 pub mod QtestLaws
 pub mod QtestState
 pub mod Requests
-pub mod Statuses

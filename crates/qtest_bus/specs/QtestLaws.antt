@@ -40,6 +40,6 @@ asks_one access a b one = record {
   asked = λ none. subst (Appends a.written b.written) (sym (append-nil (request_of a.registers access))) (one.asked none);
 }
 
--- One access keeps the bus.
+-- One access changes none of the properties of the bus in `StaysWhole`.
 pub keeps_one : (access : Access) (a b : QtestState) → Asks access a b → StaysWhole memory_size AsksAll is_never is_never a b
 keeps_one access a b one = record { extent = one.same.memory; lent_stays = asks_one access a b one; honest = λ is. is; lively = λ is. is }

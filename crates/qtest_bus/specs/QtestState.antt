@@ -20,28 +20,29 @@ pub record QtestState : Type 0 where
 abbrev pub memory_size : QtestState → ℕ
 memory_size bus = bus.memory
 
--- Nothing is known of the other program, so it never counts as one that obeys the law of a bus, or that does anything by itself.
+-- Nothing is known of the other program. So the bus never counts as one that obeys the bus law, or that plays a tick of EEPROM and PHY
+-- before each access.
 abbrev pub is_never : QtestState → Type 0
 is_never bus = ⊥
 
--- The registers, the memory and the program are the same, and a fault stays.
+-- The address of the registers and the size of memory are the same, and a fault that is known remains known.
 pub record IsSameBus (old new : QtestState) : Type 0 where
   pub registers : new.registers ≡ old.registers
   pub memory : new.memory ≡ old.memory
   pub fault_stays : new.fault ≡ None → old.fault ≡ None
 
--- A request was written, or a part of one, and lines were read.
+-- Only the interrupt line and the bytes written may have changed.
 abbrev pub HasAsked : (old new : QtestState) → Type 0
 HasAsked old new = new ≡ record old { asserted = new.asserted; written = new.written }
 
--- One access. If no fault is known after it, exactly its request was written.
+-- One access. If no fault is known after the access, exactly the request of this access was written.
 pub record Asks (access : Access) (old new : QtestState) : Type 0 where
   pub same : IsSameBus old new
   pub asked : new.fault ≡ None → Appends old.written new.written (request_of old.registers access)
   -- After a fault nothing is written, and nothing is read.
   pub stopped : OnSome old.fault (new ≡ old)
 
--- Some accesses. If no fault is known after them, exactly their requests were written, in order.
+-- Some accesses. If no fault is known after these accesses, exactly their requests were written, in order.
 pub record AsksAll (old new : QtestState) : Type 0 where
   pub same : IsSameBus old new
   pub accesses : List Access

@@ -11,13 +11,13 @@ const LINE_FEED: u8 = 0x0A;
 /// The answer to a write.
 const DONE: &[u8] = b"OK";
 
-/// What an answer with a number or with bytes begins with.
+/// The beginning of an answer with a number or with bytes.
 const BYTES: &[u8] = b"OK 0x";
 
-/// The number of hexadecimal digits of a register's value in an answer: those of a number of 64 bits.
+/// The number of bytes of a register's value in an answer, each two hexadecimal digits: the value has 64 bits.
 const VALUE_BYTES: usize = 8;
 
-/// The answers, and the interrupt line as the lines before them report it.
+/// The reader of answers, and the level of the interrupt line as the lines before the answers reported it.
 #[derive(Drop)]
 pub(crate) struct Answers<R> {
     pub(crate) input: R,
@@ -64,7 +64,7 @@ fn take_bytes(answer: &[u8], into: &mut [u8]) -> bool
 }
 
 impl<R: BufRead> Answers<R> {
-    /// Reads the next line, which a line feed must end.
+    /// Reads the next line, which must end with a line feed.
     fn read_line(&mut self) -> Result<(), BusFault> {
         self.line.clear();
         match self.input.read_until(LINE_FEED, &mut self.line) {
@@ -78,7 +78,7 @@ impl<R: BufRead> Answers<R> {
         }
     }
 
-    /// Reads lines up to an answer, and notes the interrupt line.
+    /// Reads lines up to an answer, and stores the level of the interrupt line.
     fn next(&mut self) -> Result<(), BusFault> {
         for _count in 0..u64::MAX {
             self.read_line()?;
@@ -91,7 +91,7 @@ impl<R: BufRead> Answers<R> {
         Err(BusFault::Read)
     }
 
-    /// The answer to a write.
+    /// Reads the answer to a write.
     pub(crate) fn done(&mut self) -> Result<(), BusFault> {
         self.next()?;
         if self.line.as_slice() == DONE {
@@ -101,7 +101,7 @@ impl<R: BufRead> Answers<R> {
         }
     }
 
-    /// The answer to a read of bytes, which fills `into`.
+    /// Reads the answer to a read of bytes, and fills `into` with the bytes.
     pub(crate) fn bytes(&mut self, into: &mut [u8]) -> Result<(), BusFault>
         ensures length { length into.new ≡ length into.old }
     {
@@ -113,7 +113,7 @@ impl<R: BufRead> Answers<R> {
         }
     }
 
-    /// The answer to a read of a register: 16 digits. The first eight are 0.
+    /// Reads the answer to a read of a register: 16 digits, of which the first eight must be 0.
     pub(crate) fn value(&mut self) -> Result<u32, BusFault> {
         let mut bytes = [0; VALUE_BYTES];
         self.bytes(&mut bytes)?;

@@ -1,4 +1,4 @@
-//! A bus to an adapter in another program: requests and answers of QEMU's qtest protocol, one a line.
+//! A bus to an adapter in another program: requests and answers of QEMU's qtest protocol, one on each line.
 //!
 //! The adapter may be QEMU's, that of `nicbench serve`, or any other that answers `readl`, `writel`, `read` and
 //! `write`.

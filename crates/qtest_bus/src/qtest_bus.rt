@@ -15,11 +15,12 @@ use std::alloc::Global;
 use std::io::{BufRead, Write};
 use std::marker::Model;
 
-/// A bus to an adapter in another program, which answers requests of QEMU's qtest protocol, one a line.
+/// A bus to an adapter in another program, which answers requests of QEMU's qtest protocol, one on each line.
 ///
-/// Each access is one request: `readl` or `writel` for a register, `read` or `write` for bytes of memory. Lines before
-/// an answer that are none (`IRQ ..`, `frame ..`, `# ..`) are skipped; those with `IRQ` report the interrupt line. At
-/// the first fault it stops: the access that failed and all later ones read zeros, and nothing more is written.
+/// Each access is one request: `readl` or `writel` for a register, `read` or `write` for bytes of memory. Other lines
+/// before an answer (`IRQ ..`, `frame ..`, `arrived ..`, `# ..`) are skipped; a line with `IRQ` reports the level of
+/// the interrupt line. At the first fault the bus stops: the access that failed and all later accesses read zeros, and
+/// nothing more is written.
 #[derive(Drop)]
 pub struct QtestBus<R: BufRead, W: Write> {
     requests: Requests<W>,
@@ -43,9 +44,9 @@ impl<R: BufRead, W: Write> Model for QtestBus<R, W> {
 }
 
 impl<R: BufRead, W: Write> QtestBus<R, W> {
-    /// A bus to a program that reads its requests from `output` and whose answers come from `input`. Its registers
-    /// begin at the address `registers`, and a driver may use `memory` bytes from address 0 on. The interrupt line
-    /// counts as deasserted. The writer shouldn't have a buffer, because nothing flushes it.
+    /// A bus to a program. Requests are written to `output`, and answers are read from `input`. The registers begin at
+    /// the address `registers`, and a driver may use `memory` bytes from address 0. The interrupt line counts as
+    /// deasserted. The writer shouldn't have a buffer, because nothing flushes it.
     pub fn new(alloc: Global, input: R, output: W, registers: u64, memory: u64) -> QtestBus<R, W>
         ensures { result ≡ record {
           registers = registers;
@@ -71,7 +72,7 @@ impl<R: BufRead, W: Write> QtestBus<R, W> {
         }
     }
 
-    /// Whether the interrupt line is asserted, as the last line about it reported it.
+    /// Whether the interrupt line is asserted, as the last `IRQ` line reported.
     pub fn is_asserted(&self) -> bool
         ensures { result ≡ self.now.asserted }
     {
@@ -85,7 +86,7 @@ impl<R: BufRead, W: Write> QtestBus<R, W> {
         self.fault
     }
 
-    /// Reads a register, or stops.
+    /// Reads a register. If this fails, the bus stops.
     fn read_register(&mut self, offset: u32) -> u32
         ensures { Asks (Reads offset result) self.old self.new }
     {
@@ -101,7 +102,7 @@ impl<R: BufRead, W: Write> QtestBus<R, W> {
         }
     }
 
-    /// Asks for a register.
+    /// Asks for the value of a register.
     fn ask_register(&mut self, offset: u32) -> Result<u32, BusFault>
         requires { self.old.fault ≡ None }
         ensures same { HasAsked self.old self.new }
@@ -112,7 +113,7 @@ impl<R: BufRead, W: Write> QtestBus<R, W> {
         self.answers.value()
     }
 
-    /// Writes a register, or stops.
+    /// Writes a register. If this fails, the bus stops.
     fn write_register(&mut self, offset: u32, value: u32)
         ensures { Asks (Writes offset value) self.old self.new }
     {
@@ -135,7 +136,7 @@ impl<R: BufRead, W: Write> QtestBus<R, W> {
         self.answers.done()
     }
 
-    /// Loads bytes of memory, or zeros if it stops.
+    /// Loads bytes of memory. If this fails, the bus stops, and the bytes are zeros.
     fn load_bytes(&mut self, address: u64, into: &mut [u8])
         ensures asks { Asks (Loads address (length into.old)) self.old self.new }
         ensures length { length into.new ≡ length into.old }
@@ -162,7 +163,7 @@ impl<R: BufRead, W: Write> QtestBus<R, W> {
         self.answers.bytes(into)
     }
 
-    /// Stores bytes to memory, or stops.
+    /// Stores bytes to memory. If this fails, the bus stops.
     fn store_bytes(&mut self, address: u64, bytes: &[u8])
         ensures { Asks (Stores address bytes.now) self.old self.new }
     {

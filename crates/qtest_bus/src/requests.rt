@@ -23,7 +23,7 @@ fn push_number(text: &mut Vec<u8>, number: u64) -> Result<(), AllocError>
     text.extend_from_slice(&digits)
 }
 
-/// The program that answers: what its requests are written to, and where its registers begin.
+/// The program that answers: the writer of its requests, and the address of its registers.
 #[derive(Drop)]
 pub(crate) struct Requests<W> {
     pub(crate) output: W,
@@ -32,7 +32,7 @@ pub(crate) struct Requests<W> {
 }
 
 impl<W: Write> Requests<W> {
-    /// Writes a request, with one call of the writer if that takes all of it.
+    /// Writes a request, with one call of the writer if this call takes the whole request.
     fn send(&mut self, request: &[u8]) -> Result<(), BusFault>
         ensures sent { OnOk result (Appends (W.contents self.old.output) (W.contents self.new.output) request.now) }
         ensures registers { self.new.registers ≡ self.old.registers }
@@ -47,7 +47,7 @@ impl<W: Write> Requests<W> {
         self.registers.wrapping_add(u64::from(offset))
     }
 
-    /// Asks for a register.
+    /// Asks for the value of a register.
     pub(crate) fn read(&mut self, offset: u32) -> Result<(), BusFault>
         ensures sent { OnOk result (Appends (W.contents self.old.output) (W.contents self.new.output)
             (request_of self.old.registers (Reads offset 0))) }

@@ -1,4 +1,4 @@
--- Over a lively bus nothing arrives, and the adapter stays as `OwnTicks` says.
+-- Over a lively bus no frame arrives, and the adapter changes only by accesses and its own ticks.
 use Rattle.std.proofs.Common.{◌++◌, ◌∷◌, [], All, ℕ, List, refl, sym, ap, subst, ◌∙◌, arith}
 use Rattle.mdic_phy.specs.declared.phy.Link.{Link}
 use Rattle.adapter.specs.Outcomes.{FrameOutcome}
@@ -6,7 +6,7 @@ use Rattle.adapter.specs.World.{World}
 use Rattle.adapter.specs.declared.step.StepKind.{StepKind}
 use Rattle.adapter.specs.declared.step.StepKind.TheVariants.{TxTake, TxPut, RxData, RxDone, EepromTick, PhyTick}
 use Rattle.bus.specs.LivelyBuses.{IsQuietEvent, Lives, machine_world}
-use Rattle.bus.specs.PastOfStretch.{Past, joined}
+use Rattle.bus.specs.Pasts.{Past, joined}
 use Rattle.bus.specs.Settings.{NoArrival}
 use Rattle.bus.specs.StepsAndArrivals.{past_of_step}
 use Rattle.bus.specs.Trails.{Trail, past_of, world_after}
@@ -54,7 +54,7 @@ events-leave link (event ∷ later) a b quiet trail is =
     events-leave link later (world_after event a) b (all-tail IsQuietEvent event later quiet) trail.1
     (event-leaves link event a (all-head IsQuietEvent event later quiet) is)
 
--- What it reports.
+-- What happens over a lively bus.
 pub record IsAlone (a b : LivelyBus) (past : Past) : Type 0 where
   pub none : NoArrival past
   pub leaves : (link : Link) → IsAdapterOf link (machine_world a).adapter → IsAdapterOf link (machine_world b).adapter

@@ -1,4 +1,4 @@
--- A network that was brought up stands.
+-- `NetworkStands` holds for a new network.
 use Rattle.std.proofs.Common.{List, length, sym, ap, subst, ◌∙◌, arith}
 use Rattle.std.proofs.lemmas.Option.{slice_get_within}
 use Rattle.circular_buffer.proofs.Places.{slice_get-some}

@@ -1,4 +1,4 @@
--- What a call of a host says of each host.
+-- The happenings of a call, for each host.
 use Rattle.std.proofs.Common.{◌≡◌, ◌≢◌, ◌++◌, ℕ, [], Bool, List, Option, if◌then◌else◌, inl, inr, map, refl, sym, ap, subst, ◌∙◌}
 use Rattle.std.specs.List.{All}
 use Rattle.std.specs.Prelude.{Err, Ok}
@@ -15,7 +15,7 @@ use Rattle.stations.specs.declared.outcomes.Numbered.{Numbered}
 use Rattle.stations.specs.declared.tick.Tick.{Tick}
 use Rattle.delivery.proofs.ToldAround.{told-around_nothing}
 use Rattle.delivery.specs.Fates.{mark_by, marks}
-use Rattle.delivery.specs.Happenings.{Happening, happened_in, of_host, told, told_around}
+use Rattle.delivery.specs.Happenings.{Happening, happened_in, of_host, tick_happenings, tick_happenings_around}
 use Rattle.network_plan.specs.Answers.{FrameAnswer, event_answer}
 use Rattle.network_plan.specs.EventCalls.{EventCall}
 use Rattle.network_plan.specs.declared.reply.Answer.TheVariants.{NoHost}
@@ -31,17 +31,17 @@ use Rattle.host_calls.proofs.GroupsKept.{interrupt-stay, join-refused, leave-ref
 use Rattle.host_calls.specs.CallsInSteps.{InSteps}
 use Rattle.host_calls.specs.ConnectedHosts.{ConnectedHost, connected}
 use Rattle.wire.specs.Equations.{HostStands}
-use Rattle.wire.specs.Runs.{accepted_of, given_of, joined_of, kind_of, left_of, said_in_call}
+use Rattle.wire.specs.Runs.{accepted_by_answer, given_by_answer, joined_of, kind_of, left_by_answer, happenings_in_call}
 use Rattle.wire.proofs.Delivering.{Tells}
 use Rattle.wire.proofs.GroupsInForce.{Right, joined-right, left-right, stay-right}
 use Rattle.wire.proofs.Tellings.{around-list, joined-adds_none, left-adds_none, marks-recv, marks-send}
 use Rattle.wire.proofs.Tellings.{tells-call, tells-group, tells-recv, tells-send}
 
--- A call of a host that isn't there says what its ticks tell.
+-- The happenings of a call of a host that doesn't exist are those of its ticks.
 pub none-said : (host : ℕ) (request : Request) (ticks : List Tick) (outcomes : List Numbered)
-    → said_in_call host request NoHost ticks outcomes ≡ told ticks outcomes
+    → happenings_in_call host request NoHost ticks outcomes ≡ tick_happenings ticks outcomes
 none-said host (Sending frame) ticks outcomes = refl
-none-said host (Receiving socket) ticks outcomes = append-nil (told ticks outcomes)
+none-said host (Receiving socket) ticks outcomes = append-nil (tick_happenings ticks outcomes)
 none-said host Interrupting ticks outcomes = refl
 none-said host (Joining group) ticks outcomes = told-around_nothing ticks outcomes
 none-said host (Leaving group) ticks outcomes = told-around_nothing ticks outcomes
@@ -53,19 +53,19 @@ answer-some (Interrupted result) = λ none. absurd (cc)
 answer-some (Joined result) = λ none. absurd (cc)
 answer-some (Left result) = λ none. absurd (cc)
 
--- No answer of another kind has an effect.
+-- An answer of another kind has no effect.
 tells-request : (k host : ℕ) (request : Request) (result : HostAnswer (List ℕ)) (ticks : List Tick) (outcomes : List Numbered)
     (steps : List AtomicStep) (wires : ℕ → Option ℕ) (h h' : HostState) (Runs : HostAct → Type 0) (world : World)
-    → EffectOf request result h h' Runs world → told ticks outcomes ≡ happened_in steps
-    → Tells k (said_in_call host request (event_answer result) ticks outcomes) steps wires (of_host k host (given_in request result))
+    → EffectOf request result h h' Runs world → tick_happenings ticks outcomes ≡ happened_in steps
+    → Tells k (happenings_in_call host request (event_answer result) ticks outcomes) steps wires (of_host k host (given_in request result))
     (of_host k host (accepted_in request result))
 tells-request k host (Sending frame) (Sent result) ticks outcomes steps wires h h' Runs world does said =
-    subst (λ (list : List Happening). Tells k (accepted_of host frame (event_answer (Sent result)) ++ list) steps wires
+    subst (λ (list : List Happening). Tells k (accepted_by_answer host frame (event_answer (Sent result)) ++ list) steps wires
     (of_host k host []) (of_host k host (accepted_in (Sending frame) (Sent result)))) (sym said)
     (tells-send k host frame result steps wires)
 tells-request k host (Sending frame) _ ticks outcomes steps wires h h' Runs world does said = absurd does
 tells-request k host (Receiving socket) (Received result) ticks outcomes steps wires h h' Runs world does said =
-    subst (λ (list : List Happening). Tells k (list ++ given_of host socket (event_answer (Received result))) steps wires
+    subst (λ (list : List Happening). Tells k (list ++ given_by_answer host socket (event_answer (Received result))) steps wires
     (of_host k host (given_in (Receiving socket) (Received result))) (of_host k host [])) (sym said)
     (tells-recv k host socket result steps wires)
 tells-request k host (Receiving socket) _ ticks outcomes steps wires h h' Runs world does said = absurd does
@@ -78,19 +78,19 @@ tells-request k host (Joining group) (Joined result) ticks outcomes steps wires 
     tells-group k host middle ticks outcomes steps wires (joined-adds_none k host group (event_answer (Joined result)) wires) said
 tells-request k host (Joining group) _ ticks outcomes steps wires h h' Runs world does said = absurd does
 tells-request k host (Leaving group) (Left result) ticks outcomes steps wires h h' Runs world does said =
-    let middle = left_of host group (event_answer (Left result)) in
+    let middle = left_by_answer host group (event_answer (Left result)) in
     tells-group k host middle ticks outcomes steps wires (left-adds_none k host group (event_answer (Left result)) wires) said
 tells-request k host (Leaving group) _ ticks outcomes steps wires h h' Runs world does said = absurd does
 
 pub tells-said : (k : ℕ) (call : EventCall) (result : HostAnswer (List ℕ)) (steps : List AtomicStep) (wires : ℕ → Option ℕ)
     (h h' : HostState) (Runs : HostAct → Type 0) (world : World) → EffectOf call.request result h h' Runs world
-    → told call.ticks (noted_of 0 steps) ≡ happened_in steps
-    → Tells k (said_in_call call.host call.request (event_answer result) call.ticks (noted_of 0 steps)) steps wires
+    → tick_happenings call.ticks (noted_of 0 steps) ≡ happened_in steps
+    → Tells k (happenings_in_call call.host call.request (event_answer result) call.ticks (noted_of 0 steps)) steps wires
     (of_host k call.host (given_in call.request result)) (of_host k call.host (accepted_in call.request result))
 tells-said k call result steps wires h h' Runs world does said =
     tells-request k call.host call.request result call.ticks (noted_of 0 steps) steps wires h h' Runs world does said
 
--- What it says of groups.
+-- Groups that were joined or left
 
 pub of-others : {T : Type 0} (k host : ℕ) (list : List T) → k ≢ host → of_host k host list ≡ []
 of-others {T} k host list other =
@@ -103,21 +103,21 @@ joined-elsewhere : (k host : ℕ) (group : List ℕ) (answer : FrameAnswer) → 
 joined-elsewhere k host group (replied.Joined (Ok u)) other = append-nil _ ∙ of-others k host _ other
 joined-elsewhere k host group _ other = refl
 
-left-elsewhere : (k host : ℕ) (group : List ℕ) (answer : FrameAnswer) → k ≢ host → marks k (left_of host group answer) ≡ []
+left-elsewhere : (k host : ℕ) (group : List ℕ) (answer : FrameAnswer) → k ≢ host → marks k (left_by_answer host group answer) ≡ []
 left-elsewhere k host group (replied.Left (Ok u)) other = append-nil _ ∙ of-others k host _ other
 left-elsewhere k host group _ other = refl
 
--- Of another host it says nothing.
+-- The call itself has no happenings at another host.
 others-request : (k host : ℕ) (request : Request) (result : HostAnswer (List ℕ)) (ticks : List Tick) (outcomes : List Numbered)
     (steps : List AtomicStep) (h h' : HostState) (Runs : HostAct → Type 0) (world : World)
-    → EffectOf request result h h' Runs world → told ticks outcomes ≡ happened_in steps → k ≢ host
-    → marks k (said_in_call host request (event_answer result) ticks outcomes) ≡ marks k (happened_in steps)
+    → EffectOf request result h h' Runs world → tick_happenings ticks outcomes ≡ happened_in steps → k ≢ host
+    → marks k (happenings_in_call host request (event_answer result) ticks outcomes) ≡ marks k (happened_in steps)
 others-request k host (Sending frame) (Sent result) ticks outcomes steps h h' Runs world does said other =
-    ap (λ (list : List Happening). marks k (accepted_of host frame (event_answer (Sent result)) ++ list)) said
+    ap (λ (list : List Happening). marks k (accepted_by_answer host frame (event_answer (Sent result)) ++ list)) said
     ∙ marks-send k host frame result steps
 others-request k host (Sending frame) _ ticks outcomes steps h h' Runs world does said other = absurd does
 others-request k host (Receiving socket) (Received result) ticks outcomes steps h h' Runs world does said other =
-    ap (λ (list : List Happening). marks k (list ++ given_of host socket (event_answer (Received result)))) said
+    ap (λ (list : List Happening). marks k (list ++ given_by_answer host socket (event_answer (Received result)))) said
     ∙ marks-recv k host socket result steps
 others-request k host (Receiving socket) _ ticks outcomes steps h h' Runs world does said other = absurd does
 others-request k host Interrupting answer ticks outcomes steps h h' Runs world does said other = ap (marks k) said
@@ -126,49 +126,51 @@ others-request k host (Joining group) answer ticks outcomes steps h h' Runs worl
     (joined-elsewhere k host group (event_answer answer) other)
     ∙ ap (marks k) said
 others-request k host (Leaving group) answer ticks outcomes steps h h' Runs world does said other =
-    around-list (mark_by k) (left_of host group (event_answer answer)) ticks outcomes
+    around-list (mark_by k) (left_by_answer host group (event_answer answer)) ticks outcomes
     (left-elsewhere k host group (event_answer answer) other)
     ∙ ap (marks k) said
 
 pub others-said : (k : ℕ) (call : EventCall) (result : HostAnswer (List ℕ)) (steps : List AtomicStep)
     (h h' : HostState) (Runs : HostAct → Type 0) (world : World) → EffectOf call.request result h h' Runs world
-    → told call.ticks (noted_of 0 steps) ≡ happened_in steps → k ≢ call.host
-    → marks k (said_in_call call.host call.request (event_answer result) call.ticks (noted_of 0 steps)) ≡ marks k (happened_in steps)
+    → tick_happenings call.ticks (noted_of 0 steps) ≡ happened_in steps → k ≢ call.host
+    → marks k (happenings_in_call call.host call.request (event_answer result) call.ticks (noted_of 0 steps)) ≡ marks k (happened_in steps)
 others-said k call result steps h h' Runs world does said other =
     others-request k call.host call.request result call.ticks (noted_of 0 steps) steps h h' Runs world does said other
 
--- Of its own host the fates are right by the groups in force.
+-- The fates at its own host are right by the groups in force
 
 refused-right : (caller : ℕ) (ticks : List Tick) (steps : List AtomicStep) (a b : List StationState) (h h' : HostState)
     (given : List Given) → HostStands h (world_at a caller) → LeadsTo caller steps a b
-    → told ticks (noted_of 0 steps) ≡ happened_in steps
+    → tick_happenings ticks (noted_of 0 steps) ≡ happened_in steps
     → MakesNoAccess h h' (InSteps caller given steps (connected h a) (connected h' b))
-    → Right caller (told_around [] ticks (noted_of 0 steps)) a b h h'
+    → Right caller (tick_happenings_around [] ticks (noted_of 0 steps)) a b h h'
 refused-right caller ticks steps a b h h' given stands leads said it =
-    stay-right caller caller steps (told_around [] ticks (noted_of 0 steps)) a b h h' leads stands
+    stay-right caller caller steps (tick_happenings_around [] ticks (noted_of 0 steps)) a b h h' leads stands
     (none-stay caller given steps (connected h a) (connected h' b) it)
     (ap (marks caller) (told-around_nothing ticks (noted_of 0 steps) ∙ said))
 
 right-request : (caller : ℕ) (request : Request) (result : HostAnswer (List ℕ)) (ticks : List Tick) (steps : List AtomicStep)
     (a b : List StationState) (h h' : HostState) (given : List Given) → HostStands h (world_at a caller) → LeadsTo caller steps a b
     → without_go is_go (map tick_of steps) ≡ without_go is_go ticks
-    → told ticks (noted_of 0 steps) ≡ happened_in steps
+    → tick_happenings ticks (noted_of 0 steps) ≡ happened_in steps
     → EffectOf request result h h' (InSteps caller given steps (connected h a) (connected h' b)) (world_at a caller)
-    → Right caller (said_in_call caller request (event_answer result) ticks (noted_of 0 steps)) a b h h'
+    → Right caller (happenings_in_call caller request (event_answer result) ticks (noted_of 0 steps)) a b h h'
 right-request caller (Sending frame) (Sent result) ticks steps a b h h' given stands leads played said does =
-    stay-right caller caller steps (accepted_of caller frame (event_answer (Sent result)) ++ told ticks (noted_of 0 steps)) a b h h' leads
+    stay-right caller caller steps (accepted_by_answer caller frame (event_answer (Sent result))
+    ++ tick_happenings ticks (noted_of 0 steps)) a b h h' leads
     stands (send-stay frame result caller given steps (connected h a) (connected h' b) (world_at a caller) does)
-    (ap (λ (list : List Happening). marks caller (accepted_of caller frame (event_answer (Sent result)) ++ list)) said
+    (ap (λ (list : List Happening). marks caller (accepted_by_answer caller frame (event_answer (Sent result)) ++ list)) said
     ∙ marks-send caller caller frame result steps)
 right-request caller (Sending frame) _ ticks steps a b h h' given stands leads played said does = absurd does
 right-request caller (Receiving socket) (Received result) ticks steps a b h h' given stands leads played said does =
-    stay-right caller caller steps (told ticks (noted_of 0 steps) ++ given_of caller socket (event_answer (Received result))) a b h h' leads
+    stay-right caller caller steps (tick_happenings ticks (noted_of 0 steps)
+    ++ given_by_answer caller socket (event_answer (Received result))) a b h h' leads
     stands (recv-stay socket result caller given steps (connected h a) (connected h' b) (world_at a caller) does)
-    (ap (λ (list : List Happening). marks caller (list ++ given_of caller socket (event_answer (Received result)))) said
+    (ap (λ (list : List Happening). marks caller (list ++ given_by_answer caller socket (event_answer (Received result)))) said
     ∙ marks-recv caller caller socket result steps)
 right-request caller (Receiving socket) _ ticks steps a b h h' given stands leads played said does = absurd does
 right-request caller Interrupting (Interrupted result) ticks steps a b h h' given stands leads played said does =
-    stay-right caller caller steps (told ticks (noted_of 0 steps)) a b h h' leads stands
+    stay-right caller caller steps (tick_happenings ticks (noted_of 0 steps)) a b h h' leads stands
     (interrupt-stay result caller given steps (connected h a) (connected h' b) (world_at a caller) does) (ap (marks caller) said)
 right-request caller Interrupting _ ticks steps a b h h' given stands leads played said does = absurd does
 right-request caller (Joining group) (Joined (Ok u)) ticks steps a b h h' given stands leads played said does =
@@ -185,13 +187,13 @@ right-request caller (Leaving group) _ ticks steps a b h h' given stands leads p
 pub call-right : (call : EventCall) (result : HostAnswer (List ℕ)) (steps : List AtomicStep) (a b : List StationState) (h h' : HostState)
     (given : List Given) → HostStands h (world_at a call.host) → LeadsTo call.host steps a b
     → without_go is_go (map tick_of steps) ≡ without_go is_go call.ticks
-    → told call.ticks (noted_of 0 steps) ≡ happened_in steps
+    → tick_happenings call.ticks (noted_of 0 steps) ≡ happened_in steps
     → EffectOf call.request result h h' (InSteps call.host given steps (connected h a) (connected h' b)) (world_at a call.host)
-    → Right call.host (said_in_call call.host call.request (event_answer result) call.ticks (noted_of 0 steps)) a b h h'
+    → Right call.host (happenings_in_call call.host call.request (event_answer result) call.ticks (noted_of 0 steps)) a b h h'
 call-right call result steps a b h h' given stands leads played said does =
     right-request call.host call.request result call.ticks steps a b h h' given stands leads played said does
 
--- Its accesses are of its kind.
+-- The accesses of the call are those of its kind
 
 no-write : (k : ℕ) (given : List Given) (steps : List AtomicStep) (old new : ConnectedHost)
     → MakesNoAccess old.host new.host (InSteps k given steps old new) → All IsGroupWrite (past_at k steps).accesses

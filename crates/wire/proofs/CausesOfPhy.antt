@@ -1,4 +1,4 @@
--- Which causes are recorded over a lively bus, while its driver writes neither ICR nor ICS: those that ticks of the PHY record.
+-- Over a lively bus, while its driver writes neither ICR nor ICS, only causes of the PHY's ticks are recorded.
 use Rattle.std.specs.Prelude.{bit_and, nat_lt}
 use Rattle.std.proofs.Common.{◌≡◌, ◌||◌, ◌∷◌, [], ◌∙◌, Bool, true, false, ℕ, List, Option, Some, None, if◌then◌else◌, ap, refl, sym, subst}
 use Rattle.std.specs.List.{All}
@@ -14,7 +14,7 @@ use Rattle.adapter.specs.declared.register.Register.{Register}
 use Rattle.adapter.specs.declared.register.Register.TheVariants.{Ctrl, Eerd, Icr, Ics}
 use Rattle.adapter.specs.declared.step.StepKind.TheVariants.{EepromTick, PhyTick}
 use Rattle.bus.specs.LivelyBuses.{IsQuietEvent, Lives, machine_world}
-use Rattle.bus.specs.PastOfStretch.{Past}
+use Rattle.bus.specs.Pasts.{Past}
 use Rattle.bus.specs.Settings.{Write, writes_in}
 use Rattle.bus.specs.Trails.{Trail, past_of, past_of_event, world_after, world_after_access}
 use Rattle.bus.specs.declared.event.Access.{Access}
@@ -27,12 +27,12 @@ use Rattle.bus.proofs.Settings.{writes-append}
 use Rattle.bring_up.specs.SettingSteps.{IsNotOfCauses, RecordsNoCause, RecordsNone}
 use Rattle.wire.specs.HostsUp.{AreOfPhy, HasNoInterrupt}
 
--- What ticks record.
+-- Causes that ticks record
 
 pub none-told : AreOfPhy 0
 none-told = (record { link_changed = false; access_complete = false }, refl)
 
--- two ticks record what one could
+-- two ticks record causes that one tick could record
 union-told : (a b c d : Bool)
     → union (causes_told (record { link_changed = a; access_complete = b }))
     (causes_told (record { link_changed = c; access_complete = d }))
@@ -63,7 +63,7 @@ told-of_phy (Some ticked) adapter is = (
       ∙ union-told is.0.link_changed is.0.access_complete ticked.link_changed ticked.access_complete,
 )
 
--- Accesses.
+-- Accesses
 
 read-of_phy : (register : Option Register) (adapter : AdapterState) → AreOfPhy adapter.causes.recorded
     → AreOfPhy (left_by_read register adapter).causes.recorded
@@ -109,7 +109,7 @@ access-of_phy (Writes offset value) world others is =
 access-of_phy (Loads address size) world others is = is
 access-of_phy (Stores address bytes) world others is = is
 
--- Events.
+-- Events
 
 event-of_phy : (event : Event) (world : World) → IsQuietEvent event → All RecordsNone (writes_in (past_of_event event).accesses)
     → AreOfPhy world.adapter.causes.recorded → AreOfPhy (world_after event world).adapter.causes.recorded
@@ -135,7 +135,7 @@ pub lives-of_phy : (a b : LivelyBus) (past : Past) → Lives a b past → Record
 lives-of_phy a b past lives others is =
     events-of_phy lives.events (machine_world a) (machine_world b) lives.quiet (subst RecordsNoCause lives.past_is others) lives.trail is
 
--- The line.
+-- The interrupt line
 
 line-of_phy : (a b : Bool) → nat_lt 0 (bit_and (causes_told (record { link_changed = a; access_complete = b })) 0xD1) ≡ false
 line-of_phy true true = refl

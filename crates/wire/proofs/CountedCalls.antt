@@ -1,4 +1,4 @@
--- The ticks of a call are answered by counting, and its host can answer after it.
+-- The outcomes of a call's ticks follow from counts, and both sides of its host's adapter are enabled after it.
 use Rattle.std.proofs.Common.{◌≡◌, ◌<◌, ℕ, true, List, Option, Some, length, sym, ap, subst, ◌∙◌, arith, refl, ⊎_elim}
 use Rattle.std.specs.List.{All}
 use Rattle.std.specs.Prelude.{IfSome}
@@ -32,9 +32,9 @@ use Rattle.delivery.proofs.TailWrites.{sides-stay}
 use Rattle.delivery.proofs.Ticks.{counts-go, fault-never-comes, ticks-answered}
 use Rattle.delivery.specs.CountedHosts.{CanAnswer, IsCounted, IsNotControl, IsNotMdic, LeavesEnabled}
 use Rattle.delivery.specs.Counts.{HostCounts, counts_of}
-use Rattle.delivery.specs.StepAnswers.{AreAnswered, counts_at}
+use Rattle.delivery.specs.StepOutcomes.{AreAnswered, counts_at}
 
--- What an access of a call is: it can be counted, leaves both sides enabled, and resets nothing.
+-- An access of a call can be counted, enables or disables neither side, and isn't a reset.
 record Leaves (access : Access) : Type 0 where
   counted : IsCounted access
   enabled : LeavesEnabled access
@@ -76,7 +76,7 @@ all-counted : (counts : Counts) (accesses : List Access) → All (IsOfHost count
 all-counted counts accesses own =
     all-weaker (IsOfHost counts) IsCounted accesses (λ access is. (host-leaves counts access is).counted) own
 
--- A driver that is ready knows its rings: their heads and tails are slots.
+-- Heads and tails of the rings of a driver that is ready are indices of slots
 
 pub receive-valid : (h : HostState) (world : World) → HostReady h world → HasValidIndices (receive_ring world)
 receive-valid h world ready =
@@ -92,7 +92,7 @@ transmit-valid h world ready =
     let tail = place-below d.layout.tx d.oldest_transmit d.sending up.oldest_slot in
     record { head = omega (arith, up.knows.head_slot, up.knows.slots); tail = omega (arith, tail, up.knows.last, up.knows.slots) }
 
--- So a host that can answer before a call can after it.
+-- Both sides are enabled after a call if they were before.
 
 bit-set : (value place : ℕ) → HasBit value place → is_set value place ≡ true
 bit-set value place = eq-eqb _ _
@@ -115,7 +115,7 @@ can-behind events a b counts h can trail own ready =
       transmit = transmit-valid h b ready;
     }
 
--- Each tick is answered by counting, since both engines run at the end.
+-- The outcome of each tick follows from counts, because both engines run at the end.
 
 pub host-ticks : (caller k : ℕ) (steps : List AtomicStep) (a b : List StationState) (h : HostState) (counts : Counts)
     → LeadsTo caller steps a b → All (IsOfHost counts) (past_at k steps).accesses → HostReady h (world_at b k) → AreAnswered k a steps

@@ -1,4 +1,4 @@
--- The equations of one host, over one event and over several.
+-- The equations of one host, for one event and for several.
 use Rattle.std.proofs.Common.{◌≡◌, ◌≤◌, ◌<◌, ◌+◌, ◌^◌, ◌++◌, [], ℕ, IsTrue, List, Option, cond}
 use Rattle.std.proofs.Common.{map, refl, sym, ap, subst, ◌∙◌}
 use Rattle.std.specs.List.{flat_map}
@@ -13,7 +13,7 @@ use Rattle.adapter.specs.World.{World}
 use Rattle.stations.specs.AtomicSteps.{AtomicStep}
 use Rattle.stations.specs.Stations.{StationState, backlog_at, wire_at, world_at}
 use Rattle.stations.specs.AtomicRuns.{LeadsTo, past_at}
-use Rattle.packet_socket.specs.HostCalls.{Given, did, given_for, held_for_socket, socket_frames, waiting_frames, without_socket}
+use Rattle.packet_socket.specs.HostCalls.{Given, host_did, given_for, held_for_socket, socket_frames, waiting_frames, without_socket}
 use Rattle.packet_socket.specs.HostState.{HostState}
 use Rattle.packet_socket.specs.SocketKinds.{goes_to, has_none}
 use Rattle.packet_socket.specs.declared.socket_kind.SocketKind.{SocketKind}
@@ -26,11 +26,11 @@ use Rattle.delivery.specs.Fates.{Mark, marks}
 use Rattle.delivery.specs.Happenings.{Happening, accepted, given, happened_in, missed, put, reached, stored, stored_by, toward}
 use Rattle.delivery.specs.Reception.{ReceivesRightly}
 use Rattle.host_calls.specs.CallsOfHosts.{HostRuns}
-use Rattle.wire.specs.Equations.{CountsMisses, Delivers, KeepsCome, SendsDue, sum_of}
+use Rattle.wire.specs.Equations.{CountsMisses, MeetsEquations, KeepsCome, SendsDue, sum_of}
 use Rattle.host_calls.specs.ConnectedHosts.{connected}
 use Rattle.wire.proofs.GroupsInForce.{Right}
 
--- Counts of misses.
+-- Counts of missed frames.
 pub misses-of : (h : HostState) (a : World) (h' : HostState) (b : World) (misses : ℕ)
     → sum_of h' b ≤ sum_of h a + misses
     → (IsTrue h'.driver.exact → b.adapter.missed_packets < Rattle.registers.specs.Counting.greatest_count
@@ -90,7 +90,7 @@ in-turn p q m n o g h one two =
     ∙ ap (λ (list : List (List ℕ)). list ++ h) one
     ∙ append_assoc o g h
 
--- What is due.
+-- Frames due
 
 sends-join : (k : ℕ) (first later : List Happening) (a b c : World) → SendsDue k first a b → SendsDue k later b c
     → SendsDue k (first ++ later) a c
@@ -105,9 +105,9 @@ sends-join k first later a b c one two = record {
       ∙ ap (λ (frames : List (List ℕ)). put k first ++ frames) two.sent;
 }
 
--- What has come.
+-- Frames that have come
 
--- A socket's frames, by those that left the ring.
+-- A socket's frames, by the frames that left the ring.
 given-taken : (k : ℕ) (happened : List Happening) (h : HostState) (a : World) (h' : HostState) (b : World) → h'.kinds ≡ h.kinds
     → (keeps : KeepsCome k happened h a h' b) → (socket : ℕ)
     → given k socket happened ++ waiting_frames h' socket b ≡ waiting_frames h socket a ++ socket_frames h.kinds socket keeps.taken
@@ -162,10 +162,10 @@ come-join k first later h1 h2 h3 a b c kinds one two =
       };
     }
 
--- Over two stretches.
+-- Two consecutive intervals.
 pub delivers-join : (k : ℕ) (first later : List Happening) (a b c : List StationState) (h1 h2 h3 : HostState)
     → ((host : ℕ) → wire_at b host ≡ wire_at a host)
-    → Delivers k first a b h1 h2 → Delivers k later b c h2 h3 → Delivers k (first ++ later) a c h1 h3
+    → MeetsEquations k first a b h1 h2 → MeetsEquations k later b c h2 h3 → MeetsEquations k (first ++ later) a c h1 h3
 delivers-join k first later a b c h1 h2 h3 wires one two =
     let plan = one.plan_is_kept in
     let next = two.plan_is_kept in
@@ -194,7 +194,7 @@ delivers-join k first later a b c h1 h2 h3 wires one two =
           (missed-append k first later) one.misses_are_counted two.misses_are_counted;
     }
 
--- What happenings say of a host that gave and accepted these frames while these atomic steps were taken.
+-- The happenings at a host that returned and accepted these frames in these atomic steps.
 pub record Tells (k : ℕ) (happened : List Happening) (steps : List AtomicStep) (wires : ℕ → Option ℕ) (given_are : List Given)
     (accepted_are : List (List ℕ)) : Type 0 where
   pub put : put k happened ≡ put k (happened_in steps)
@@ -202,19 +202,19 @@ pub record Tells (k : ℕ) (happened : List Happening) (steps : List AtomicStep)
   pub toward : toward wires k happened ≡ toward wires k (happened_in steps)
   pub stored : stored k happened ≡ stored k (happened_in steps)
   pub missed : missed k happened ≡ missed k (happened_in steps)
-  -- none was given up
+  -- no frame was dropped by a reset
   pub sending : flat_map (sending_in_one k) happened ≡ []
   pub holding : flat_map (holding_in_one k) happened ≡ []
   pub accepted : map padded (accepted k happened) ≡ accepted_are
   pub given : (socket : ℕ) → given k socket happened ≡ given_for socket given_are
 
--- Over one event.
+-- One event.
 pub delivers-runs : (caller k : ℕ) (steps : List AtomicStep) (happened : List Happening) (a b : List StationState) (h h' : HostState)
     (taken : List (List ℕ)) (given_are : List Given) (accepted_are : List (List ℕ))
     → LeadsTo caller steps a b → Right k happened a b h h'
-    → HostRuns k steps (did taken given_are accepted_are) (connected h a) (connected h' b)
+    → HostRuns k steps (host_did taken given_are accepted_are) (connected h a) (connected h' b)
     → Tells k happened steps (wire_at a) given_are accepted_are
-    → Delivers k happened a b h h'
+    → MeetsEquations k happened a b h h'
 delivers-runs caller k steps happened a b h h' taken given_are accepted_are leads right runs tells =
     let moves = frames-move caller k steps a b leads in
     let flows = runs.flows.driver in
@@ -278,8 +278,8 @@ delivers-runs caller k steps happened a b h h' taken given_are accepted_are lead
           (stays, omega (arith, sum, missed_are)));
     }
 
--- Over nothing.
-pub delivers-none : (k : ℕ) (a : List StationState) (h : HostState) → Delivers k [] a a h h
+-- No event.
+pub delivers-none : (k : ℕ) (a : List StationState) (h : HostState) → MeetsEquations k [] a a h h
 delivers-none k a h = record {
   plan_is_kept = record { wire = refl; kinds = refl; layout = refl; filter = refl; kilobytes = refl };
   sent_is_accepted = record { due = frames_to_send (world_at a k); are = refl; sent = refl };

@@ -1,4 +1,4 @@
--- A drain of one host, as all hosts find it.
+-- A drain of one host, for all hosts.
 use Rattle.std.proofs.Common.{◌≡◌, ◌≤◌, ◌<◌, ◌^◌, ◌++◌, [], ℕ, List, Option, Some, None, ⊎_elim}
 use Rattle.std.proofs.Common.{length, replicate, slice_set, refl, sym, ap, subst, ◌∙◌, arith}
 use Rattle.std.proofs.lemmas.Bool.{cases_lt}
@@ -15,7 +15,7 @@ use Rattle.delivery.specs.Happenings.{Happening, Moved, happened_in, of_host}
 use Rattle.host_calls.specs.DrainedHosts.{CanBeDrained, Drains, DrainsInto, KeepsMisses}
 use Rattle.host_calls.specs.ConnectedHosts.{connected}
 use Rattle.wire.specs.DrainedNetworks.{KeepsCount, NetworkDrains, said_of_drain}
-use Rattle.wire.specs.Equations.{Delivers, HostStands, IsExact, NetworkStands, counted, sum_of}
+use Rattle.wire.specs.Equations.{MeetsEquations, HostStands, IsExact, NetworkStands, missed_count, sum_of}
 use Rattle.wire.specs.Runs.{HostsGo}
 use Rattle.host_calls.specs.Networks.{IsHost, NetworkState, OnlyHostChanges, connected_at, nth_host}
 use Rattle.host_calls.proofs.HostsOfNetworks.{host-there}
@@ -25,7 +25,7 @@ use Rattle.wire.proofs.GroupsInForce.{stay-right}
 use Rattle.wire.proofs.Standing.{caller-behind, each-right, each-runs, hosts-go}
 use Rattle.wire.proofs.Tellings.{gives, marks-given, tells-given}
 
--- A host that stands can be drained.
+-- A host for which `HostStands` holds can be drained.
 pub can-drain : (host : HostState) (world : World) → HostStands host world → CanBeDrained host world
 can-drain host world stands = record {
   ready = stands.ready;
@@ -35,7 +35,7 @@ can-drain host world stands = record {
   enabled = stands.can.receives;
 }
 
--- What it tells of each host.
+-- The happenings of a drain, for each host.
 tells-drain : (k host moves : ℕ) (list : List Given) (steps : List AtomicStep) (wires : ℕ → Option ℕ)
     → happened_in steps ≡ replicate moves (Moved host)
     → Tells k (said_of_drain host moves list) steps wires (of_host k host list) (of_host k host [])
@@ -48,9 +48,9 @@ marks-drain : (k host moves : ℕ) (list : List Given) (steps : List AtomicStep)
 marks-drain k host moves list steps moved =
     ap (λ (happened : List Happening). marks k (happened ++ gives host list)) (sym moved) ∙ marks-given k host list steps
 
--- A host that is there.
+-- A host that exists
 
-same-counted : (h : HostState) (a : World) (h' : HostState) (b : World) → KeepsMisses h a h' b → counted h' b ≡ counted h a
+same-counted : (h : HostState) (a : World) (h' : HostState) (b : World) → KeepsMisses h a h' b → missed_count h' b ≡ missed_count h a
 same-counted h a h' b keeps =
     ⊎_elim
     (λ (fits : sum_of h a < 2 ^ 64). let same = keeps.sum fits in omega (arith, same))
@@ -122,7 +122,7 @@ host-drained old new host steps before behind stands below only into =
     (set-drained old new.stations host steps (nth_host old host) (nth_host new host) before behind stands (host-there old host below) below
     into)
 
--- A host that isn't there.
+-- A host that doesn't exist.
 pub absent-drained : (old : NetworkState) (host : ℕ) (before : List Given) → NetworkStands old → length old.hosts ≤ host
     → NetworkDrains old host 0 before before old
 absent-drained old host before stands past =
@@ -139,7 +139,7 @@ absent-drained old host before stands past =
       others = record { count = refl; same = λ k other. refl };
       delivers = λ k was is first now.
           let same : is ≡ was = (let e : Some was ≡ Some is = sym first ∙ now in cc) in
-          subst (λ (n : ℕ). Delivers k (said_of_drain host n []) old.stations old.stations was is) (sym none)
-          (subst (λ (w : HostState). Delivers k [] old.stations old.stations was w) (sym same) (delivers-none k old.stations was));
+          subst (λ (n : ℕ). MeetsEquations k (said_of_drain host n []) old.stations old.stations was is) (sym none)
+          (subst (λ (w : HostState). MeetsEquations k [] old.stations old.stations was w) (sym same) (delivers-none k old.stations was));
       stands = stands;
     }

@@ -1,4 +1,4 @@
--- The fates of frames over a call, by the groups that its host has joined at each point.
+-- The fates of frames in a call, by the groups that its host has joined at each point.
 use Rattle.std.proofs.Common.{◌≡◌, ◌==◌, ◌<◌, ◌+◌, ◌*◌, ◌++◌, ◌∷◌, [], ℕ, Bool, true, List, map, refl, sym, ap, subst, ◌∙◌}
 use Rattle.std.proofs.Common.{append_assoc, arith, if◌then◌else◌, inl, inr, ⊎_elim}
 use Rattle.std.specs.List.{All}
@@ -13,7 +13,7 @@ use Rattle.rx_engine.specs.Registers.{FilterRegisters}
 use Rattle.adapter.specs.State.{AdapterState}
 use Rattle.adapter.specs.World.{World, world_after_write}
 use Rattle.bus.proofs.Lists.{all-head, all-none, all-tail, all-weaker}
-use Rattle.bus.specs.PastOfStretch.{Past}
+use Rattle.bus.specs.Pasts.{Past}
 use Rattle.bus.specs.TickGroups.{without_go}
 use Rattle.bus.specs.Trails.{past_of}
 use Rattle.bus.specs.declared.event.Access.{Access}
@@ -34,7 +34,7 @@ use Rattle.delivery.proofs.RightFates.{changes-alone, fates-right, filter-stays,
 use Rattle.delivery.proofs.ToldAround.{told-at_access, told-at_end}
 use Rattle.delivery.specs.DeliveryLaws.{ChangesGroups}
 use Rattle.delivery.specs.Fates.{Joins, Mark, Quits, marks}
-use Rattle.delivery.specs.Happenings.{Happening, Joined, Left, happened_by, happened_in, of_host, told_around}
+use Rattle.delivery.specs.Happenings.{Happening, Joined, Left, happened_by, happened_in, of_host, tick_happenings_around}
 use Rattle.delivery.specs.Reception.{LeavesReception, ReceivesRightly, SameButGroups}
 use Rattle.packet_socket.specs.HostActs.{IsOfDriver, IsTailWrite}
 use Rattle.packet_socket.specs.HostCalls.{Given}
@@ -47,14 +47,14 @@ use Rattle.host_calls.specs.CallsOfHosts.{EndsWithAccess, GroupsStay}
 use Rattle.host_calls.specs.ConnectedHosts.{connected}
 use Rattle.wire.specs.Equations.{HostStands}
 
--- From one state of host k to another, and what happened between them: fates are right, and the adapter has the driver's setup and the
--- groups' numbers at the end.
+-- Between two states of host k, the fates of frames are right, and the adapter has the driver's setup and the groups'
+-- bits at the end.
 pub record Right (k : ℕ) (happened : List Happening) (a b : List StationState) (h h' : HostState) : Type 0 where
   pub right : ReceivesRightly h.driver.groups (world_at a k).adapter (marks k happened) h'.driver.groups (world_at b k).adapter
   pub set_up : HasSetup h'.driver.setup (world_at b k).adapter
   pub table : HasTable h'.driver.groups (world_at b k)
 
--- Adapters whose filters are the same, except for MTA, have the same setup.
+-- Adapters whose filters are the same except MTA have the same setup.
 pub same-setup : (setup other : DriverSetup) (a b : AdapterState) → SameButGroups a.filter b.filter
     → b.receive_kilobytes ≡ a.receive_kilobytes → other ≡ setup → HasSetup setup a → HasSetup other b
 same-setup setup other a b filter kilobytes same has =
@@ -70,7 +70,7 @@ same-setup setup other a b filter kilobytes same has =
       allocation = kilobytes ∙ has.allocation;
     })
 
--- An access of a driver that is up leaves reception alone.
+-- A write of RDT or TDT doesn't change how a host receives.
 tail-leaves : (counts : Counts) (offset value : ℕ) → IsTailWrite counts offset value → LeavesReception (Writes offset value)
 tail-leaves counts offset value is = tails-leave_reception offset value
     (⊎_elim (λ (receive : (offset ≡ Rattle.adapter.specs.declared.offsets.TheConstants.RDT) × (value < counts.rx)). inl receive.0)
@@ -85,7 +85,7 @@ leaves counts (Stores address bytes) is = tt
 all-leave : (counts : Counts) (accesses : List Access) → All (IsOfDriver counts) accesses → All LeavesReception accesses
 all-leave counts accesses are = all-weaker (IsOfDriver counts) LeavesReception accesses (leaves counts) are
 
--- Such accesses leave the table.
+-- Such accesses don't change the group table.
 same-table : (groups : List (List ℕ)) (caller k : ℕ) (steps : List AtomicStep) (a b : List StationState) → LeadsTo caller steps a b
     → All LeavesReception (past_at k steps).accesses → HasTable groups (world_at a k) → HasTable groups (world_at b k)
 same-table groups caller k steps a b leads leave has =
@@ -96,7 +96,7 @@ same-table groups caller k steps a b leads leave has =
       words = subst AreWords (sym same) has.words;
     }
 
--- Without a join or a leave.
+-- An interval without a join or a leave.
 pub stay-right : (caller k : ℕ) (steps : List AtomicStep) (happened : List Happening) (a b : List StationState) (h h' : HostState)
     → LeadsTo caller steps a b → HostStands h (world_at a k) → GroupsStay k steps (connected h a) (connected h' b)
     → marks k happened ≡ marks k (happened_in steps) → Right k happened a b h h'
@@ -117,9 +117,9 @@ stay-right caller k steps happened a b h h' leads stands stay same =
           (same-table groups caller k steps a b leads leave stands.groups);
     }
 
--- Steps of a call with at most one access.
+-- Steps of a call with at most one access
 
--- what the first steps leave, the later ones begin with
+-- the later steps begin where the first steps end
 leads-behind : (caller : ℕ) (first later : List AtomicStep) (a m b : List StationState) → LeadsTo caller (first ++ later) a b
     → LeadsTo caller first a m → LeadsTo caller later m b
 leads-behind caller [] later a m b all one = subst (λ (s : List StationState). LeadsTo caller later s b) (sym one) all
@@ -160,7 +160,7 @@ none-behind [] (next ∷ later) step ends are = absurd (never next later ends ar
 none-behind (first ∷ []) later step ends are = none-behind [] later step ends are
 none-behind (first ∷ next ∷ early) later step ends are = none-behind (next ∷ early) later step ends are
 
--- The only access among these steps, which is the last of them.
+-- This is the only access among these steps, and the last step.
 record OnlyAccess (caller : ℕ) (steps : List AtomicStep) (a b : List StationState) (access : Access) : Type 0 where
   early : List AtomicStep
   middle : List StationState
@@ -198,7 +198,7 @@ only-access caller steps a b access leads made ends =
       then_it = subst (λ (list : List AtomicStep). LeadsTo caller (step ∷ list) one.middle b) last behind;
     }
 
--- A call that joined or left a group.
+-- A call that joined or left a group
 
 below-words : (group : List ℕ) → word_of group < 128
 below-words group = omega arith
@@ -210,7 +210,7 @@ around-marks k mark first middle last is =
     ∙ ap (λ (list : List Mark). marks k first ++ list) (marks-append k middle last)
     ∙ ap (λ (list : List Mark). marks k first ++ (list ++ marks k last)) is
 
--- By a write: the ticks before it, the write, and the ticks after it.
+-- With a write: the ticks before the write, the write, and the ticks after it.
 written-right : (caller : ℕ) (mark : Mark) (middle : List Happening) (ticks : List Tick) (steps first rest : List AtomicStep)
     (a m b : List StationState) (h h' : HostState) (group : List ℕ) (made : List Access)
     → HostStands h (world_at a caller) → h'.driver.setup ≡ h.driver.setup → ChangesGroups mark h.driver.groups h'.driver.groups
@@ -219,7 +219,7 @@ written-right : (caller : ℕ) (mark : Mark) (middle : List Happening) (ticks : 
     → without_go is_go (map tick_of steps) ≡ without_go is_go ticks
     → (past_at caller first).accesses ≡ made → (past_at caller rest).accesses ≡ [] → EndsWithAccess first
     → WritesWord group h'.driver.groups made → HasTable h'.driver.groups (world_at m caller)
-    → Right caller (told_around middle ticks (noted_of 0 steps)) a b h h'
+    → Right caller (tick_happenings_around middle ticks (noted_of 0 steps)) a b h h'
 written-right caller mark middle ticks steps first rest a m b h h' group made stands setup changes says split leads later played made_are
     quiet ends writes has =
     let g = h.driver.groups in
@@ -246,11 +246,11 @@ written-right caller mark middle ticks steps first rest a m b h h' group made st
     let behind = fates-right caller caller rest m b g' later leave enabled has.numbers in
     let whole : steps ≡ one.early ++ step ∷ rest =
     split ∙ ap (λ (list : List AtomicStep). list ++ rest) one.split ∙ append_assoc one.early (step ∷ []) rest in
-    let said : told_around middle ticks (noted_of 0 steps) ≡ happened_in one.early ++ (middle ++ happened_in rest) =
-    ap (λ (list : List AtomicStep). told_around middle ticks (noted_of 0 list)) whole
+    let said : tick_happenings_around middle ticks (noted_of 0 steps) ≡ happened_in one.early ++ (middle ++ happened_in rest) =
+    ap (λ (list : List AtomicStep). tick_happenings_around middle ticks (noted_of 0 list)) whole
     ∙ told-at_access caller ticks access one.early rest middle one.ticks after_ticks
     (ap (λ (list : List AtomicStep). without_go is_go (map tick_of list)) (sym whole) ∙ played) in
-    let right : ReceivesRightly g (world_at a caller).adapter (marks caller (told_around middle ticks (noted_of 0 steps))) g'
+    let right : ReceivesRightly g (world_at a caller).adapter (marks caller (tick_happenings_around middle ticks (noted_of 0 steps))) g'
     (world_at b caller).adapter =
     subst (λ (all : List Mark). ReceivesRightly g (world_at a caller).adapter all g' (world_at b caller).adapter)
     (sym (ap (marks caller) said ∙ around-marks caller mark (happened_in one.early) middle (happened_in rest) says))
@@ -265,7 +265,7 @@ written-right caller mark middle ticks steps first rest a m b h h' group made st
       table = same-table g' caller caller rest m b later leave has;
     }
 
--- Without an access: all ticks, and then what is said of the group.
+-- Without an access: all ticks, and then the join or the leave.
 shared-right : (caller : ℕ) (mark : Mark) (middle : List Happening) (ticks : List Tick) (steps first rest : List AtomicStep)
     (a m b : List StationState) (h h' : HostState)
     → HostStands h (world_at a caller) → h'.driver.setup ≡ h.driver.setup → ChangesGroups mark h.driver.groups h'.driver.groups
@@ -274,7 +274,7 @@ shared-right : (caller : ℕ) (mark : Mark) (middle : List Happening) (ticks : L
     → without_go is_go (map tick_of steps) ≡ without_go is_go ticks
     → (past_at caller first).accesses ≡ [] → (past_at caller rest).accesses ≡ []
     → HasTable h'.driver.groups (world_at m caller)
-    → Right caller (told_around middle ticks (noted_of 0 steps)) a b h h'
+    → Right caller (tick_happenings_around middle ticks (noted_of 0 steps)) a b h h'
 shared-right caller mark middle ticks steps first rest a m b h h' stands setup changes says split leads later played none quiet has =
     let g = h.driver.groups in
     let g' = h'.driver.groups in
@@ -288,11 +288,11 @@ shared-right caller mark middle ticks steps first rest a m b h h' stands setup c
     let are : All IsTick steps =
     subst (λ (list : List AtomicStep). All IsTick list) (sym split)
     (All-append IsTick first rest (only-ticks caller first a m leads none) (only-ticks caller rest m b later quiet)) in
-    let said : told_around middle ticks (noted_of 0 steps) ≡ (happened_in first ++ happened_in rest) ++ middle =
+    let said : tick_happenings_around middle ticks (noted_of 0 steps) ≡ (happened_in first ++ happened_in rest) ++ middle =
     told-at_end ticks steps middle are played
     ∙ ap (λ (list : List AtomicStep). happened_in list ++ middle) split
     ∙ ap (λ (list : List Happening). list ++ middle) (flat_map-append happened_by first rest) in
-    let right : ReceivesRightly g (world_at a caller).adapter (marks caller (told_around middle ticks (noted_of 0 steps))) g'
+    let right : ReceivesRightly g (world_at a caller).adapter (marks caller (tick_happenings_around middle ticks (noted_of 0 steps))) g'
     (world_at b caller).adapter =
     subst (λ (all : List Mark). ReceivesRightly g (world_at a caller).adapter all g' (world_at b caller).adapter)
     (sym (ap (marks caller) said ∙ marks-append caller (happened_in first ++ happened_in rest) middle
@@ -317,7 +317,7 @@ changed : (caller : ℕ) (mark : Mark) (middle : List Happening) (ticks : List T
     → marks caller middle ≡ mark ∷ [] → without_go is_go (map tick_of steps) ≡ without_go is_go ticks
     → SetsTable kept group h'.driver.groups made
     → InSteps caller given steps (connected h a) (connected h' b) (groups_act h h' made)
-    → Right caller (told_around middle ticks (noted_of 0 steps)) a b h h'
+    → Right caller (tick_happenings_around middle ticks (noted_of 0 steps)) a b h h'
 changed caller mark middle ticks steps a b h h' given kept group made stands leads setup changes says played sets runs =
     let stage = runs.stages in
     let later = leads-behind caller stage.first stage.rest a stage.middle b
@@ -338,7 +338,7 @@ pub joined-right : (caller : ℕ) (group : List ℕ) (ticks : List Tick) (steps 
     (h h' : HostState) (given : List Given) → HostStands h (world_at a caller) → LeadsTo caller steps a b
     → without_go is_go (map tick_of steps) ≡ without_go is_go ticks
     → JoinsGroup group h h' (InSteps caller given steps (connected h a) (connected h' b))
-    → Right caller (told_around (Joined caller group ∷ []) ticks (noted_of 0 steps)) a b h h'
+    → Right caller (tick_happenings_around (Joined caller group ∷ []) ticks (noted_of 0 steps)) a b h h'
 joined-right caller group ticks steps a b h h' given stands leads played it =
     changed caller (Joins group) (Joined caller group ∷ []) ticks steps a b h h' given h.driver.groups group it.accesses stands leads
     (ap (λ (host : HostState). host.driver.setup) it.joined) (ap (λ (host : HostState). host.driver.groups) it.joined)
@@ -348,7 +348,7 @@ pub left-right : (caller : ℕ) (group : List ℕ) (ticks : List Tick) (steps : 
     (h h' : HostState) (given : List Given) → HostStands h (world_at a caller) → LeadsTo caller steps a b
     → without_go is_go (map tick_of steps) ≡ without_go is_go ticks
     → LeavesGroup group h h' (InSteps caller given steps (connected h a) (connected h' b))
-    → Right caller (told_around (Left caller group ∷ []) ticks (noted_of 0 steps)) a b h h'
+    → Right caller (tick_happenings_around (Left caller group ∷ []) ticks (noted_of 0 steps)) a b h h'
 left-right caller group ticks steps a b h h' given stands leads played it =
     changed caller (Quits group) (Left caller group ∷ []) ticks steps a b h h' given h'.driver.groups group it.accesses stands leads
     (ap (λ (host : HostState). host.driver.setup) it.others) it.left (append-nil _ ∙ itself caller (Quits group ∷ [])) played it.sets

@@ -1,4 +1,4 @@
--- A host is brought up over a bus of its own.
+-- A host is initialized over its own lively bus.
 use Rattle.std.proofs.Common.{◌≡◌, ◌≢◌, ◌<◌, ◌+◌, ◌-◌, [], ◌∙◌}
 use Rattle.std.proofs.Common.{true, false, ℕ, List, length, replicate, refl, sym, ap, subst, arith}
 use Rattle.std.proofs.Common.{length-append}
@@ -17,7 +17,7 @@ use Rattle.rx_engine.specs.Addresses.{IsAddress}
 use Rattle.adapter.specs.Registers.{new_adapter}
 use Rattle.adapter.specs.State.{AdapterState, IsAdapter}
 use Rattle.adapter.specs.World.{World, receive_ring, transmit_ring}
-use Rattle.bus.specs.PastOfStretch.{Past}
+use Rattle.bus.specs.Pasts.{Past}
 use Rattle.bus.specs.Settings.{settings_of, writes_in}
 use Rattle.bus.proofs.Lists.{all-left, all-right}
 use Rattle.bus.proofs.Settings.{writes-append}
@@ -49,7 +49,7 @@ use Rattle.wire.proofs.CausesOfPhy.{lives-of_phy, no-interrupt, none-told}
 use Rattle.wire.proofs.OwnTicks.{IsAdapterOf, IsPhyOf}
 use Rattle.wire.proofs.PlansFilters.{Controls, controls, plans-filter}
 
--- what a lively bus shows of itself
+-- the ghost members of a lively bus
 abbrev pub lively : Ghosts LivelyBus
 lively = record {
   extent = machine_bytes;
@@ -60,14 +60,14 @@ lively = record {
   lent_stays = IsSameMachine;
 }
 
--- a host on a wire, at whose end nothing waits
+-- a station on a wire, at whose end no frame waits
 abbrev pub station_on : (wire : ℕ) → World → StationState
 station_on wire world = record { world = world; wire = wire; backlog = [] }
 
 valid : (ring : Ring) (count tail : ℕ) → count_of ring ≡ count → ring.head < count → ring.tail ≡ tail → tail < count → HasValidIndices ring
 valid ring count tail slots head is below = record { head = omega (arith, slots, head); tail = omega (arith, slots, is, below) }
 
--- Both sides are enabled, and heads and tails are slots.
+-- Both sides are enabled, and heads and tails are indices of slots.
 can-answer : (plan : HostPlan) (size : ℕ) (d : DriverState) (world : World) → CanBeHad plan.config size
     → d.layout ≡ configured_counts plan.config
     → Ready d world → IsConfigured plan.config (address_bytes plan.image) (settings_of world.adapter) → CanAnswer world.adapter
@@ -89,7 +89,7 @@ can-answer plan size d world had counts ready configured =
           (omega (arith, tx, had.counts.tx.least));
     }
 
--- What bring-up begins with, and what is known after it.
+-- What is known before and after the initialization of a host.
 pub record IsBroughtUp (plan : HostPlan) (old new : LivelyBus) (host : HostState) : Type 0 where
   pub size : ℕ
   pub had : CanBeHad plan.config size
@@ -104,13 +104,13 @@ pub record IsBroughtUp (plan : HostPlan) (old new : LivelyBus) (host : HostState
   pub initialises : Initialises lively plan.config old new host.driver
   pub ready : HostReady host (machine_world new)
 
--- a link that is up isn't one that never comes up
+-- a link that is up isn't set to be never up
 link-comes : (link : Link) (phy : PhyState) → IsPhyOf link phy → link_is_up phy ≡ true → link ≢ Never
 link-comes link phy is up = λ never.
     let down : link_is_up phy ≡ false = ap is_complete (is.never never) in
     cc
 
--- What bring-up leaves of the adapter.
+-- What initialization doesn't change of the adapter.
 left-alone : (plan : HostPlan) (old new : LivelyBus) (host : HostState) → IsBroughtUp plan old new host
     → IsAdapterOf plan.link (machine_world new).adapter
 left-alone plan old new host is =
@@ -162,7 +162,7 @@ no-frames plan old new host wire is =
       };
     }
 
--- After the write of RCTL an access was made. Before it the EEPROM took a step, which is one of an adapter.
+-- After the write of RCTL an access was made, and before this access the EEPROM took a step, so `IsAdapter` holds.
 still-adapter : (plan : HostPlan) (old new : LivelyBus) (host : HostState) → IsBroughtUp plan old new host
     → IsAdapter (machine_world new).adapter
 still-adapter plan old new host is =

@@ -31,8 +31,16 @@ use Rattle.stations.specs.AtomicSteps.{AtomicStep}
 use Rattle.delivery.specs.Fates.{AreRightFates, Came, Emptied, IsRightFate, Joins, Mark, Quits, Reception, SwitchedOff, SwitchedOn, Went}
 use Rattle.delivery.specs.Fates.{in_force, mark_by, marks}
 use Rattle.delivery.specs.Happenings.{Accepted, Disabled, Enabled, Given, GivenUp, Happening, Joined as HasJoined, Left as HasLeft, Moved}
-use Rattle.delivery.specs.Happenings.{Put, Reached, accepted, accepted_in_one, put, put_by, reached, reached_by, share_wire}
-use Rattle.delivery.specs.Happenings.{told, told_alone, told_around, told_of, told_where, toward, toward_by}
+use Rattle.delivery.specs.Happenings.{Put, Reached, accepted, accepted_in_one, put, put_in_one, reached, reached_by, share_wire}
+use Rattle.delivery.specs.Happenings.{
+  tick_happenings,
+  lone_tick_happenings,
+  tick_happenings_around,
+  outcome_happenings,
+  tick_happenings_where,
+  toward,
+  toward_by,
+}
 use Rattle.delivery.specs.Lists.{AreDue, padded_in_one, sending_in_one}
 use Rattle.network_plan.specs.Answers.{FrameAnswer, event_answer}
 use Rattle.network_plan.specs.EventCalls.{Alone, ByCall, ByReset, EventKind, in_event}
@@ -42,13 +50,24 @@ use Rattle.network_plan.specs.declared.reply.Answer.TheVariants as answers
 use Rattle.network_plan.specs.declared.reply.Reply.{Reply}
 use Rattle.host_calls.specs.ConnectedHosts.{connected}
 use Rattle.host_calls.specs.Networks.{IsHost, NetworkState}
-use Rattle.wire.specs.Equations.{Delivers}
+use Rattle.wire.specs.Equations.{MeetsEquations}
 use Rattle.wire.specs.Laws.{HasLegalFrames, IsNotIllegal}
-use Rattle.wire.specs.NewNetworks.{IsMade}
-use Rattle.wire.specs.Runs.{EventRuns, IsAnswer, IsReply, ResetAnswer, RunsTo, StatesRun, accepted_of, caller_in, given_of, happenings}
-use Rattle.wire.specs.Runs.{joined_of, left_of, reset_answer, said, said_in_call, said_in_reset, said_of}
+use Rattle.wire.specs.NewNetworks.{IsMadeByPlan}
+use Rattle.wire.specs.Runs.{
+  EventRuns,
+  IsEventAnswer,
+  IsReply,
+  ResetAnswer,
+  RunsTo,
+  StatesRun,
+  accepted_by_answer,
+  caller_in,
+  given_by_answer,
+  happenings,
+}
+use Rattle.wire.specs.Runs.{joined_of, left_by_answer, reset_answer, said, happenings_in_call, said_in_reset, kind_happenings}
 
--- What events tell: each frame that was accepted is sendable.
+-- Each frame that was accepted is sendable
 
 abbrev SentRight : Happening → Type 0
 SentRight (Accepted host frame) = IsSendable frame
@@ -61,54 +80,63 @@ either : (b : Bool) (xs ys : List Happening) → All SentRight xs → All SentRi
 either true xs ys one other = one
 either false xs ys one other = other
 
-by-outcome : (host : ℕ) (one : FrameOutcome) → All SentRight (told_of host one)
+by-outcome : (host : ℕ) (one : FrameOutcome) → All SentRight (outcome_happenings host one)
 by-outcome host (outcome.Put frame) = All-cons SentRight (Put host frame) [] tt none
 by-outcome host (outcome.Delivered frame fate) = All-cons SentRight (Reached host frame fate) [] tt none
 by-outcome host outcome.Moved = All-cons SentRight (Moved host) [] tt none
 by-outcome host _ = none
 
-by-ticks : (ticks : List Tick) (outcomes : List Numbered) → All SentRight (told ticks outcomes)
+by-ticks : (ticks : List Tick) (outcomes : List Numbered) → All SentRight (tick_happenings ticks outcomes)
 by-ticks [] outcomes = none
 by-ticks (Go ∷ ticks) outcomes = by-ticks ticks outcomes
 by-ticks (Step host kind ∷ ticks) [] = none
 by-ticks (Step host kind ∷ ticks) (one ∷ outcomes) =
-    All-append SentRight (told_of host one.outcome) (told ticks outcomes) (by-outcome host one.outcome) (by-ticks ticks outcomes)
+    All-append SentRight (outcome_happenings host one.outcome) (tick_happenings ticks outcomes) (by-outcome host one.outcome)
+    (by-ticks ticks outcomes)
 by-ticks (Deliver host ∷ ticks) [] = none
 by-ticks (Deliver host ∷ ticks) (one ∷ outcomes) =
-    All-append SentRight (told_of host one.outcome) (told ticks outcomes) (by-outcome host one.outcome) (by-ticks ticks outcomes)
+    All-append SentRight (outcome_happenings host one.outcome) (tick_happenings ticks outcomes) (by-outcome host one.outcome)
+    (by-ticks ticks outcomes)
 
-such-ticks : (is_such : ℕ → Bool) (ticks : List Tick) (outcomes : List Numbered) → All SentRight (told_where is_such ticks outcomes)
+such-ticks : (is_such : ℕ → Bool) (ticks : List Tick) (outcomes : List Numbered)
+    → All SentRight (tick_happenings_where is_such ticks outcomes)
 such-ticks is_such [] outcomes = none
 such-ticks is_such (Go ∷ ticks) outcomes = such-ticks is_such ticks outcomes
 such-ticks is_such (Step host kind ∷ ticks) [] = none
 such-ticks is_such (Step host kind ∷ ticks) (one ∷ outcomes) =
-    All-append SentRight (if is_such one.accesses then told_of host one.outcome else []) (told_where is_such ticks outcomes)
-    (either (is_such one.accesses) (told_of host one.outcome) [] (by-outcome host one.outcome) none) (such-ticks is_such ticks outcomes)
+    All-append SentRight (if is_such one.accesses then outcome_happenings host one.outcome else [])
+    (tick_happenings_where is_such ticks outcomes)
+    (either (is_such one.accesses) (outcome_happenings host one.outcome) [] (by-outcome host one.outcome) none)
+    (such-ticks is_such ticks outcomes)
 such-ticks is_such (Deliver host ∷ ticks) [] = none
 such-ticks is_such (Deliver host ∷ ticks) (one ∷ outcomes) =
-    All-append SentRight (if is_such one.accesses then told_of host one.outcome else []) (told_where is_such ticks outcomes)
-    (either (is_such one.accesses) (told_of host one.outcome) [] (by-outcome host one.outcome) none) (such-ticks is_such ticks outcomes)
+    All-append SentRight (if is_such one.accesses then outcome_happenings host one.outcome else [])
+    (tick_happenings_where is_such ticks outcomes)
+    (either (is_such one.accesses) (outcome_happenings host one.outcome) [] (by-outcome host one.outcome) none)
+    (such-ticks is_such ticks outcomes)
 
 around-ticks : (middle : List Happening) (ticks : List Tick) (outcomes : List Numbered) → All SentRight middle
-    → All SentRight (told_around middle ticks outcomes)
+    → All SentRight (tick_happenings_around middle ticks outcomes)
 around-ticks middle [] outcomes all = all
 around-ticks middle (Go ∷ ticks) outcomes all = around-ticks middle ticks outcomes all
 around-ticks middle (Step host kind ∷ ticks) [] all = all
 around-ticks middle (Step host kind ∷ ticks) (one ∷ outcomes) all =
-    either (one.accesses == 0) (told_of host one.outcome ++ told_around middle ticks outcomes)
-    (middle ++ told (Step host kind ∷ ticks) (one ∷ outcomes))
-    (All-append SentRight (told_of host one.outcome) (told_around middle ticks outcomes) (by-outcome host one.outcome)
+    either (one.accesses == 0) (outcome_happenings host one.outcome ++ tick_happenings_around middle ticks outcomes)
+    (middle ++ tick_happenings (Step host kind ∷ ticks) (one ∷ outcomes))
+    (All-append SentRight (outcome_happenings host one.outcome) (tick_happenings_around middle ticks outcomes) (by-outcome host one.outcome)
     (around-ticks middle ticks outcomes all))
-    (All-append SentRight middle (told (Step host kind ∷ ticks) (one ∷ outcomes)) all (by-ticks (Step host kind ∷ ticks) (one ∷ outcomes)))
+    (All-append SentRight middle (tick_happenings (Step host kind ∷ ticks) (one ∷ outcomes)) all
+    (by-ticks (Step host kind ∷ ticks) (one ∷ outcomes)))
 around-ticks middle (Deliver host ∷ ticks) [] all = all
 around-ticks middle (Deliver host ∷ ticks) (one ∷ outcomes) all =
-    either (one.accesses == 0) (told_of host one.outcome ++ told_around middle ticks outcomes)
-    (middle ++ told (Deliver host ∷ ticks) (one ∷ outcomes))
-    (All-append SentRight (told_of host one.outcome) (told_around middle ticks outcomes) (by-outcome host one.outcome)
+    either (one.accesses == 0) (outcome_happenings host one.outcome ++ tick_happenings_around middle ticks outcomes)
+    (middle ++ tick_happenings (Deliver host ∷ ticks) (one ∷ outcomes))
+    (All-append SentRight (outcome_happenings host one.outcome) (tick_happenings_around middle ticks outcomes) (by-outcome host one.outcome)
     (around-ticks middle ticks outcomes all))
-    (All-append SentRight middle (told (Deliver host ∷ ticks) (one ∷ outcomes)) all (by-ticks (Deliver host ∷ ticks) (one ∷ outcomes)))
+    (All-append SentRight middle (tick_happenings (Deliver host ∷ ticks) (one ∷ outcomes)) all
+    (by-ticks (Deliver host ∷ ticks) (one ∷ outcomes)))
 
-of-given : (host socket : ℕ) (answer : FrameAnswer) → All SentRight (given_of host socket answer)
+of-given : (host socket : ℕ) (answer : FrameAnswer) → All SentRight (given_by_answer host socket answer)
 of-given host socket (answers.Received (Ok frame)) = All-cons SentRight (Given host socket frame) [] tt none
 of-given host socket _ = none
 
@@ -116,16 +144,17 @@ of-joined : (host : ℕ) (group : List ℕ) (answer : FrameAnswer) → All SentR
 of-joined host group (answers.Joined (Ok u)) = All-cons SentRight (HasJoined host group) [] tt none
 of-joined host group _ = none
 
-of-left : (host : ℕ) (group : List ℕ) (answer : FrameAnswer) → All SentRight (left_of host group answer)
+of-left : (host : ℕ) (group : List ℕ) (answer : FrameAnswer) → All SentRight (left_by_answer host group answer)
 of-left host group (answers.Left (Ok u)) = All-cons SentRight (HasLeft host group) [] tt none
 of-left host group _ = none
 
--- a frame that was accepted, if it is sendable where the answer is that of a send that returned Ok
+-- a frame is sendable if the answer is that of a send that returned Ok
 abbrev SendsRight : List ℕ → FrameAnswer → Type 0
 SendsRight frame (answers.Sent (Ok u)) = IsSendable frame
 SendsRight frame other = ⊤
 
-accepts : (host : ℕ) (frame : List ℕ) (answer : FrameAnswer) → SendsRight frame answer → All SentRight (accepted_of host frame answer)
+accepts : (host : ℕ) (frame : List ℕ) (answer : FrameAnswer) → SendsRight frame answer
+    → All SentRight (accepted_by_answer host frame answer)
 accepts host frame (answers.Sent (Ok u)) right = All-cons SentRight (Accepted host frame) [] right none
 accepts host frame _ right = none
 
@@ -134,16 +163,18 @@ AsksRight (Sending frame) answer = SendsRight frame answer
 AsksRight other answer = ⊤
 
 in-call : (host : ℕ) (request : Request) (answer : FrameAnswer) (ticks : List Tick) (outcomes : List Numbered) → AsksRight request answer
-    → All SentRight (said_in_call host request answer ticks outcomes)
+    → All SentRight (happenings_in_call host request answer ticks outcomes)
 in-call host (Sending frame) answer ticks outcomes right =
-    All-append SentRight (accepted_of host frame answer) (told ticks outcomes) (accepts host frame answer right) (by-ticks ticks outcomes)
+    All-append SentRight (accepted_by_answer host frame answer) (tick_happenings ticks outcomes) (accepts host frame answer right)
+    (by-ticks ticks outcomes)
 in-call host (Receiving socket) answer ticks outcomes right =
-    All-append SentRight (told ticks outcomes) (given_of host socket answer) (by-ticks ticks outcomes) (of-given host socket answer)
+    All-append SentRight (tick_happenings ticks outcomes) (given_by_answer host socket answer) (by-ticks ticks outcomes)
+    (of-given host socket answer)
 in-call host Interrupting answer ticks outcomes right = by-ticks ticks outcomes
 in-call host (Joining group) answer ticks outcomes right =
     around-ticks (joined_of host group answer) ticks outcomes (of-joined host group answer)
 in-call host (Leaving group) answer ticks outcomes right =
-    around-ticks (left_of host group answer) ticks outcomes (of-left host group answer)
+    around-ticks (left_by_answer host group answer) ticks outcomes (of-left host group answer)
 
 in-reset : (host : ℕ) (answer : Option ResetAnswer) (ticks : List Tick) (outcomes : List Numbered)
     → All SentRight (said_in_reset host answer ticks outcomes)
@@ -156,11 +187,11 @@ in-reset host (Some answer) ticks outcomes =
     (All-append SentRight _ _ (such-ticks _ ticks outcomes)
     (All-cons SentRight (Enabled host) _ tt (such-ticks _ ticks outcomes))))))
 
-alone : (tick : Tick) (outcomes : List Numbered) → All SentRight (told_alone tick outcomes)
+alone : (tick : Tick) (outcomes : List Numbered) → All SentRight (lone_tick_happenings tick outcomes)
 alone tick [] = none
 alone tick (one ∷ outcomes) = by-outcome _ one.outcome
 
--- The frame of a send that returned Ok is sendable, as its effect says.
+-- The frame of a send that returned Ok is sendable, by the effect of the send.
 by-effect : (frame : List ℕ) (answer : FrameAnswer) (result : HostAnswer (List ℕ)) → answer ≡ event_answer result
     → (h h' : HostState) (Runs : HostAct → Type 0) (world : World) → EffectOf (Sending frame) result h h' Runs world
     → SendsRight frame answer
@@ -202,8 +233,8 @@ there-or-not {A} hosts k there absent = from (slice_get hosts k) refl
 sent-by : (kind : EventKind) (reply : Reply) (steps : List AtomicStep) (old new : NetworkState) → length new.hosts ≡ length old.hosts
     → IsReply kind reply steps old new
     → ((h h' : HostState) → IsHost old (caller_in kind) h → IsHost new (caller_in kind) h'
-    → IsAnswer kind reply.answer steps (connected h old.stations) (connected h' new.stations))
-    → All SentRight (said_of kind reply)
+    → IsEventAnswer kind reply.answer steps (connected h old.stations) (connected h' new.stations))
+    → All SentRight (kind_happenings kind reply)
 sent-by (ByCall call) reply steps old new hosts replied answered =
     in-call call.host call.request reply.answer call.ticks reply.outcomes.list (there-or-not old.hosts call.host
     (λ below.
@@ -230,7 +261,7 @@ accepted-right k (one ∷ later) all =
     All-append IsSendable (accepted_in_one k one) (accepted k later) (one-accepted k one (all-head SentRight one later all))
     (accepted-right k later (all-tail SentRight one later all))
 
--- Frames that are due are legal.
+-- Frames that are due are legal
 
 pads : (frames : List (List ℕ)) → All IsSendable frames → All IsLegal (map padded frames)
 pads [] all = all-none IsLegal
@@ -249,21 +280,21 @@ due-legal k begin (one ∷ later) due are all sent =
     (pads (accepted_in_one k one) (all-left IsSendable (accepted_in_one k one) (accepted k later) sent)))))
     (all-right IsSendable (accepted_in_one k one) (accepted k later) sent)
 
--- Frames that come toward a host are legal.
+-- Frames that are put toward a host are legal
 
 shares : (mine other : Option ℕ) → share_wire mine other ≡ true → other ≢ None
 shares None other is none = absurd (cc)
 shares (Some wire) None is none = absurd (cc)
 shares (Some wire) (Some other) is none = absurd (cc)
 
-put-here : (host : ℕ) (frame : List ℕ) → All IsLegal (put_by host (Put host frame)) → IsLegal frame
+put-here : (host : ℕ) (frame : List ℕ) → All IsLegal (put_in_one host (Put host frame)) → IsLegal frame
 put-here host frame all = elim (eqb_tells host host) [
   | inl same ↦ all-head IsLegal frame [] (subst (λ (b : Bool). All IsLegal (if b then frame ∷ [] else [])) same.0 all)
   | inr differs ↦ absurd (differs.1 refl)
 ]
 
 toward-one : (wires : ℕ → Option ℕ) (k : ℕ) (one : Happening)
-    → ((j : ℕ) → wires j ≢ None → All IsLegal (put_by j one)) → All IsLegal (toward_by wires k one)
+    → ((j : ℕ) → wires j ≢ None → All IsLegal (put_in_one j one)) → All IsLegal (toward_by wires k one)
 toward-one wires k (Put host frame) puts = chosen (not (k == host)) (share_wire (wires k) (wires host)) refl
   where
     chosen : (other shared : Bool) → share_wire (wires k) (wires host) ≡ shared
@@ -278,10 +309,10 @@ toward-legal : (wires : ℕ → Option ℕ) (k : ℕ) (happened : List Happening
 toward-legal wires k [] puts = all-none IsLegal
 toward-legal wires k (one ∷ later) puts =
     All-append IsLegal (toward_by wires k one) (toward wires k later)
-    (toward-one wires k one (λ j there. all-left IsLegal (put_by j one) (put j later) (puts j there)))
-    (toward-legal wires k later (λ j there. all-right IsLegal (put_by j one) (put j later) (puts j there)))
+    (toward-one wires k one (λ j there. all-left IsLegal (put_in_one j one) (put j later) (puts j there)))
+    (toward-legal wires k later (λ j there. all-right IsLegal (put_in_one j one) (put j later) (puts j there)))
 
--- A legal frame doesn't meet the fate Illegal.
+-- A legal frame doesn't have the fate Illegal
 
 not-illegal : (filter : ReceiveFilter) (room : ℕ) (enabled : Bool) (buffered : List (List ℕ)) (frame : List ℕ) (fate : Fate)
     → IsRightFate filter room enabled buffered frame fate → IsLegal frame → fate ≢ Illegal
@@ -347,7 +378,7 @@ none-illegal registers room now final k (one ∷ later) right legal =
     All-cons (IsNotIllegal k) one later (one-judged registers room now final k one later right legal)
     (none-illegal registers room next.0 final k later next.1 (all-right IsLegal (reached_by k one) (reached k later) legal))
 
--- An event.
+-- One event
 
 abbrev StaysLegal : (old new : NetworkState) → List Happening → Type 0
 StaysLegal old new happened = HasLegalFrames new × ((k : ℕ) → k < length old.hosts → All (IsNotIllegal k) happened)
@@ -367,7 +398,7 @@ module _ (old new : NetworkState) (event : Event) (reply : Reply) (runs : EventR
   hosts = runs.go.hosts
 
   one-delivers : (k : ℕ) → k < length old.hosts
-      → (h h' : HostState) × Delivers k happened old.stations new.stations h h'
+      → (h h' : HostState) × MeetsEquations k happened old.stations new.stations h h'
   one-delivers k below =
       let h = slice_get-some old.hosts k below in
       let h' = slice_get-some new.hosts k (omega (arith, below, hosts)) in
@@ -399,7 +430,7 @@ module _ (old new : NetworkState) (event : Event) (reply : Reply) (runs : EventR
         (all-left IsLegal (reached k happened) (backlog_at new.stations k) (comes k below)),
   )
 
--- A run.
+-- A run
 
 states-legal : (old : NetworkState) (events : List Event) (replies : List Reply) (new : NetworkState) → StatesRun old events replies new
     → HasLegalFrames old → StaysLegal old new (happenings events replies)
@@ -418,8 +449,8 @@ pub runs-legal : (old new : NetworkState) (events : List Event) (before behind :
     → HasLegalFrames old → StaysLegal old new (happenings events runs.replies)
 runs-legal old new events before behind runs legal = states-legal old events runs.replies new runs.states legal
 
--- A network that a plan made has no frame.
-pub made-legal : (plans : List HostPlan) (network : NetworkState) → IsMade plans network → HasLegalFrames network
+-- A network that a plan made has no frames.
+pub made-legal : (plans : List HostPlan) (network : NetworkState) → IsMadeByPlan plans network → HasLegalFrames network
 made-legal plans network made = record {
   to_send = λ k below. subst (All IsLegal) (sym (up k below).0) (all-none IsLegal);
   waiting = λ k below. subst (All IsLegal) (sym (up k below).1) (all-none IsLegal);

@@ -1,4 +1,5 @@
--- What accesses and the ticks of EEPROM and PHY leave of an adapter: when its link comes up, and that RNBC, GPRC and GPTC count nothing.
+-- What accesses and the ticks of EEPROM and PHY don't change of an adapter: the setting of its link, and RNBC, GPRC and
+-- GPTC.
 use Rattle.std.specs.Prelude.{bit_and}
 use Rattle.std.proofs.Common.{◌≡◌, ◌==◌, ◌&&◌, Bool, true, false, ℕ, Option, Some, None, if◌then◌else◌, ap, refl, ◌∙◌}
 use Rattle.mdic_phy.specs.declared.mdic.Operation.{Operation}
@@ -23,7 +24,7 @@ use Rattle.bus.specs.Trails.{world_after_access}
 use Rattle.bus.specs.declared.event.Access.{Access}
 use Rattle.bus.specs.declared.event.Access.TheVariants.{Loads, Reads, Stores, Writes}
 
--- A PHY's link comes up when it should, and one that never does isn't negotiated.
+-- The link has the wanted setting, and negotiation of a link that is never up isn't complete.
 pub record ComesAs (wanted link : Link) (negotiation : Negotiation) : Type 0 where
   pub link_is : link ≡ wanted
   pub never : wanted ≡ Never → negotiation ≡ NotStarted
@@ -40,7 +41,7 @@ abbrev pub IsAdapterOf : Link → AdapterState → Type 0
 IsAdapterOf wanted adapter =
     IsPhyOf wanted adapter.phy × CountNothing adapter.no_receive_buffers adapter.received_packets adapter.transmitted_packets
 
--- The PHY.
+-- The PHY
 
 one-of : (wanted : Link) (b : Bool) (one other : PhyState) → IsPhyOf wanted one → IsPhyOf wanted other
     → IsPhyOf wanted (if b then one else other)
@@ -78,7 +79,7 @@ told-leaves wanted (Some tells) adapter is =
 pub phy-tick-leaves : (wanted : Link) (adapter : AdapterState) → IsAdapterOf wanted adapter → IsAdapterOf wanted (after_phy_tick adapter)
 phy-tick-leaves wanted adapter is = told-leaves wanted (told adapter.mdic adapter.phy) adapter is
 
--- Accesses.
+-- Accesses
 
 read-leaves : (wanted : Link) (register : Option Register) (adapter : AdapterState) → IsAdapterOf wanted adapter
     → IsAdapterOf wanted (left_by_read register adapter)

@@ -1,4 +1,4 @@
--- The registers that bring-up sets stand for the filter of the plan.
+-- The registers after initialization are those of the plan's filter.
 use Rattle.std.proofs.Common.{◌≡◌, ◌+◌, ◌↔◌, ◌∷◌, Bool, true, false, ℕ, List, replicate, refl, sym, subst, inl, inr, arith}
 use Rattle.std.proofs.lemmas.List.{length-replicate}
 use Rattle.eeprom.specs.Image.{address_bytes}
@@ -14,7 +14,7 @@ use Rattle.bus.specs.Settings.{Settings}
 use Rattle.network_plan.specs.declared.plan.HostPlan.{HostPlan}
 use Rattle.wire.specs.Filters.{plans_filter}
 
--- What a word of RCTL says of the filter, and that it lets frames in.
+-- The bits of RCTL for the filter, with EN.
 pub record Controls (promiscuous by_vlan : Bool) (rctl : ℕ) : Type 0 where
   pub receives : HasBit rctl rctl_en
   pub shift : shift_of (group_offset_of (field rctl rctl_mo 2)) ≡ 4
@@ -57,7 +57,7 @@ controls false false = record {
   broadcasts = refl;
 }
 
--- one exact address
+-- one receive address
 abbrev IsOnlyEntry : (ral rah address : List ℕ) → Type 0
 IsOnlyEntry ral rah address = (other : List ℕ) → HasEntry ral rah other ↔ (other ≡ address)
 

@@ -1,4 +1,4 @@
--- Calls of hosts that are there, and of hosts that aren't.
+-- Calls of hosts that exist, and of hosts that don't.
 use Rattle.std.proofs.Common.{◌≡◌, ◌≢◌, ◌≤◌, ◌<◌, ◌∷◌, [], ℕ, List, Some, None, length, map, slice_get, slice_set}
 use Rattle.std.proofs.Common.{refl, sym, ap, subst, ◌∙◌, arith}
 use Rattle.std.specs.List.{All}
@@ -8,7 +8,7 @@ use Rattle.bus.specs.TickGroups.{without_go}
 use Rattle.bus.specs.declared.event.Event.TheVariants.{Accesses, Arrives, Steps}
 use Rattle.circular_buffer.proofs.Places.{slice_get-set_other}
 use Rattle.packet_socket.specs.HostState.{HostState}
-use Rattle.packet_socket.specs.HostCalls.{Given, did}
+use Rattle.packet_socket.specs.HostCalls.{Given, host_did}
 use Rattle.stations.specs.AtomicRunLaws.{steps_told_noted}
 use Rattle.stations.specs.AtomicRuns.{IsTick, LeadsTo, counted_by, is_go, noted_of, steps_told}
 use Rattle.stations.specs.AtomicSteps.{At, AtomicStep, Idles, tick_of, watched}
@@ -38,18 +38,18 @@ use Rattle.network_plan.specs.Answers.{event_answer}
 use Rattle.network_plan.specs.EventCalls.{EventCall}
 use Rattle.host_calls.specs.ConnectedHosts.{ConnectedHost, PlayedCall, connected, played_call}
 use Rattle.wire.specs.Equations.{NetworkStands}
-use Rattle.wire.specs.Runs.{AnswersCall, HostsGo, said_by, said_in_call}
+use Rattle.wire.specs.Runs.{AnswersCall, HostsGo, call_happenings, happenings_in_call}
 use Rattle.wire.specs.PlayedCalls.{AbsentTold, CallPlayed}
 use Rattle.host_calls.specs.Networks.{IsHost, NetworkState, OnlyHostChanges, connected_at, nth_host}
 use Rattle.host_calls.proofs.HostsOfNetworks.{host-there}
-use Rattle.wire.specs.RunObservers.{AreOfTicks, EventTold, Replies, TellsReply, ending, played_ticks, tick_in}
+use Rattle.wire.specs.RunObservers.{AreOfTicks, EventTold, StatesEnding, TellsReply, ending, played_ticks, tick_in}
 use Rattle.wire.proofs.Delivering.{Tells}
 use Rattle.wire.proofs.Calls.{answer-some, call-own, call-right, none-said, others-said, tells-said}
 use Rattle.wire.proofs.GroupsInForce.{Right, stay-right}
 use Rattle.wire.proofs.Standing.{caller-behind, each-right, each-runs, hosts-go}
 use Rattle.wire.proofs.Tellings.{tells-steps}
 
--- What the call of a host that is there tells of all hosts.
+-- The call of a host that exists, for all hosts.
 pub call-goes : (caller : ℕ) (ticks : List Tick) (old : NetworkState) (stations : List StationState) (heard : List TickTold → Type 0)
     (accesses : ℕ) (h h' : HostState) (given : List Given) (accepted : List (List ℕ)) (happened : List Happening)
     → NetworkStands old → IsHost old caller h
@@ -70,7 +70,7 @@ call-goes caller ticks old stations heard accesses h h' given accepted happened 
     (stands.each k was then))
     tells
 
--- An observer of a call is told of the ticks that are played, in order.
+-- The observer of a call is told the ticks that are played, in order.
 pub told-ticks : (caller n : ℕ) (steps : List AtomicStep) (a b : List StationState) → LeadsTo caller steps a b
     → map tick_in (steps_told n steps) ≡ without_go is_go (map tick_of steps)
 told-ticks caller n [] a b leads = refl
@@ -102,35 +102,35 @@ pub told-of_call : {given : List Given} {accepted : List (List ℕ)} (event : Ev
 told-of_call event call old new ticks runs =
     told-ticks call.caller 0 runs.steps old.stations new.stations runs.of_call.leads ∙ runs.of_call.played ∙ ticks
 
--- what the outcomes of a reply are
+-- the outcomes of a reply
 pub outcomes-are : (accesses : ℕ) (answer : FrameAnswer) (steps : List AtomicStep) (reply : Reply)
-    → Replies (ending accesses answer (steps_told 0 steps)) reply → reply.outcomes.list ≡ noted_of 0 steps
+    → StatesEnding (ending accesses answer (steps_told 0 steps)) reply → reply.outcomes.list ≡ noted_of 0 steps
 outcomes-are accesses answer steps reply replies = replies.outcomes ∙ steps_told_noted 0 steps
 
--- What a call says follows from its answer and its outcomes.
+-- The happenings of a call follow from its answer and its outcomes.
 said-as : (Holds : List Happening → Type 0) (call : EventCall) (accesses : ℕ) (answer : FrameAnswer) (steps : List AtomicStep)
     (reply : Reply)
-    → Replies (ending accesses answer (steps_told 0 steps)) reply
-    → Holds (said_in_call call.host call.request answer call.ticks (noted_of 0 steps)) → Holds (said_by call reply)
+    → StatesEnding (ending accesses answer (steps_told 0 steps)) reply
+    → Holds (happenings_in_call call.host call.request answer call.ticks (noted_of 0 steps)) → Holds (call_happenings call reply)
 said-as Holds call accesses answer steps reply replies holds =
-    let happened : FrameAnswer → List Numbered → List Happening = λ a list. said_in_call call.host call.request a call.ticks list in
+    let happened : FrameAnswer → List Numbered → List Happening = λ a list. happenings_in_call call.host call.request a call.ticks list in
     subst (λ (a : FrameAnswer). Holds (happened a reply.outcomes.list)) (sym replies.answer)
     (subst (λ (list : List Numbered). Holds (happened answer list)) (sym (outcomes-are accesses answer steps reply replies)) holds)
 
--- A network whose hosts are these.
+-- A network with these hosts.
 pub hosts-as : (Holds : NetworkState → Type 0) (n : NetworkState) (hosts : List HostState) → n.hosts ≡ hosts
     → (let network : NetworkState = record { hosts = hosts; stations = n.stations } in Holds network) → Holds n
 hosts-as Holds n hosts is holds =
     subst (λ (list : List HostState). let network : NetworkState = record { hosts = list; stations = n.stations } in Holds network)
     (sym is) holds
 
--- It answers, and its outcomes are numbered. Its host was set.
+-- The call's answer and its numbered outcomes, if its host was replaced.
 set-played : (call : EventCall) (old : NetworkState) (stations : List StationState) (heard : List TickTold → Type 0)
     (accesses : ℕ) (result : HostAnswer (List ℕ)) (h h' : HostState) (reply : Reply)
     → NetworkStands old → IsHost old call.host h → call.host < length old.hosts
     → (calls : MakesCall (played_call call.host call.ticks heard accesses) call.request result (connected h old.stations)
     (connected h' stations))
-    → Replies (ending accesses (event_answer result) (steps_told 0 calls.runs.steps)) reply
+    → StatesEnding (ending accesses (event_answer result) (steps_told 0 calls.runs.steps)) reply
     → CallPlayed call reply old (record { hosts = slice_set old.hosts call.host h'; stations = stations })
 set-played call old stations heard accesses result h h' reply stands there below calls replies =
     let caller = call.host in
@@ -140,7 +140,7 @@ set-played call old stations heard accesses result h h' reply stands there below
     let accepted = accepted_in call.request result in
     let new : NetworkState = record { hosts = slice_set old.hosts caller h'; stations = stations } in
     let noted = outcomes-are accesses answer runs.steps reply replies in
-    let happened = said_in_call caller call.request answer call.ticks (noted_of 0 runs.steps) in
+    let happened = happenings_in_call caller call.request answer call.ticks (noted_of 0 runs.steps) in
     record {
       steps = runs.steps;
       go = said-as (λ (list : List Happening). HostsGo caller list runs.steps old new) call accesses answer runs.steps reply replies
@@ -175,28 +175,28 @@ set-played call old stations heard accesses result h h' reply stands there below
           }));
     }
 
--- The same, of networks.
+-- The same, for networks.
 pub call-played : (call : EventCall) (old new : NetworkState) (heard : List TickTold → Type 0) (accesses : ℕ)
     (result : HostAnswer (List ℕ)) (reply : Reply)
     → NetworkStands old → call.host < length old.hosts → OnlyHostChanges call.host old new
     → (calls : MakesCall (played_call call.host call.ticks heard accesses) call.request result (connected_at old call.host)
     (connected_at new call.host))
-    → Replies (ending accesses (event_answer result) (steps_told 0 calls.runs.steps)) reply → CallPlayed call reply old new
+    → StatesEnding (ending accesses (event_answer result) (steps_told 0 calls.runs.steps)) reply → CallPlayed call reply old new
 call-played call old new heard accesses result reply stands below only calls replies =
     hosts-as (CallPlayed call reply old) new _ only
     (set-played call old new.stations heard accesses result (nth_host old call.host) (nth_host new call.host) reply stands
     (host-there old call.host below) below calls replies)
 
--- Ticks that are played in no call.
+-- Ticks outside calls
 
 ticks-run : (k : ℕ) (steps : List AtomicStep) (old : NetworkState) (stations : List StationState) (was is : HostState) → NetworkStands old
     → All IsTick steps
     → LeadsTo k steps old.stations stations → slice_get old.hosts k ≡ Some was
     → slice_get old.hosts k ≡ Some is
-    → HostRuns k steps (did [] [] []) (connected was old.stations) (connected is stations)
+    → HostRuns k steps (host_did [] [] []) (connected was old.stations) (connected is stations)
 ticks-run k steps old stations was is stands are leads then now =
     let same : is ≡ was = let e : Some was ≡ Some is = sym then ∙ now in cc in
-    subst (λ (w : HostState). HostRuns k steps (did [] [] []) (connected was old.stations) (connected w stations)) (sym same)
+    subst (λ (w : HostState). HostRuns k steps (host_did [] [] []) (connected was old.stations) (connected w stations)) (sym same)
     (runs-alone k steps old.stations stations was (stands.each k was then).ready
     (happens-alone k k steps old.stations stations are leads) (none-alone k steps are))
 
@@ -216,7 +216,7 @@ ticks-go caller happened steps old stations stands are leads said =
     (λ k. subst (λ (list : List Happening). Tells k list steps (wire_at old.stations) [] []) (sym said)
     (tells-steps k steps (wire_at old.stations)))
 
--- A call for a host that isn't there plays ticks.
+-- A call of a host that doesn't exist plays its ticks.
 absent-ticked : {O : Type 0} {g : OfObserver O} {ran : O → O → List Event → List Reply → Type 0} (call : EventCall) (event : Event)
     (old : NetworkState) (stations : List StationState) (from to : O)
     → NetworkStands old → length old.hosts ≤ call.host
@@ -232,7 +232,7 @@ absent-ticked call event old stations from to stands past absent =
     let noted = outcomes-are 0 NoHost plays.steps reply replies in
     let tells = outcomes-tell caller ticks [] [] plays.steps old.stations old.stations stations
     (record { leads = refl; are_ticks = plays.are; ends = plays.leads caller; played = refl; waited = plays.played }) in
-    let happened = said_in_call caller call.request NoHost ticks (noted_of 0 plays.steps) in
+    let happened = happenings_in_call caller call.request NoHost ticks (noted_of 0 plays.steps) in
     let said : happened ≡ happened_in plays.steps = none-said caller call.request ticks (noted_of 0 plays.steps) ∙ tells.said in
     let none : (was : HostState) → slice_get old.hosts caller ≡ Some was → ⊥ = λ was then.
     let gone = slice_get_past old.hosts caller past in

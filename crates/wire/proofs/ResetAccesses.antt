@@ -1,5 +1,5 @@
--- The accesses of a reset, as its stretches list them: what holds of each write beyond RCTL, and of each read, load and store, holds of
--- almost all.
+-- The accesses of a reset, part by part: almost all are reads, loads, stores, or writes of registers with offsets
+-- beyond RCTL.
 use Rattle.std.specs.Bool.{⊤}
 use Rattle.std.proofs.Common.{◌<◌, ◌+◌, ◌-◌, ◌*◌, ◌/◌, ◌%◌, ◌++◌, ◌∷◌, [], ℕ, List, arith, length, suc, zero}
 use Rattle.std.specs.List.{All}
@@ -15,14 +15,14 @@ use Rattle.bus.specs.declared.event.Access.TheVariants.{Loads, Reads, Stores, Wr
 use Rattle.bring_up.specs.ClearedDescriptors.{clears, clears_from}
 use Rattle.bring_up.specs.DriverSteps.{accesses_of}
 use Rattle.bring_up.specs.FilterTables.{address_writes, empty_entries, entry_writes, table_writes}
-use Rattle.bring_up.specs.RingRegisters.{ring_writes, transmit_control, transmit_writes}
-use Rattle.bring_up.specs.WrittenRegisters.{allocation_writes, link_control, link_writes, register_limit, write_at}
+use Rattle.bring_up.specs.RingRegisters.{ring_setup_writes, transmit_control, transmit_writes}
+use Rattle.bring_up.specs.WrittenRegisters.{allocation_writes, link_control, enable_link_writes, register_limit, write_at}
 use Rattle.driver_law.specs.Calls.{stores_from}
 use Rattle.driver_law.specs.ReadyDrivers.{empty_descriptor}
 use Rattle.driver_law.specs.DriverState.{DriverSetup, buffer_at, receive_slot}
 use Rattle.driver.specs.Resetting.{free_accesses, quiet_writes}
 
--- a read, a load, a store, or a write beyond RCTL
+-- a read, a load, a store, or a write of an offset beyond RCTL
 abbrev pub IsBeyond : Access → Type 0
 IsBeyond (Reads offset value) = ⊤
 IsBeyond (Writes offset value) = RCTL < offset
@@ -54,7 +54,7 @@ address-beyond address =
     All-append WritesBeyond (entry_writes 0 (low_word address) (high_word address + alone rah_av)) (empty_entries 1 15)
     (entry-beyond 0 (low_word address) (high_word address + alone rah_av)) (entries-beyond 1 15)
 
-ring-beyond : (offset base bytes : ℕ) → RCTL < offset → All WritesBeyond (ring_writes offset base bytes)
+ring-beyond : (offset base bytes : ℕ) → RCTL < offset → All WritesBeyond (ring_setup_writes offset base bytes)
 ring-beyond offset base bytes far =
     let five = write_at (offset + 0x18) 0 ∷ [] in
     let four = write_at (offset + 0x10) 0 ∷ five in
@@ -66,7 +66,7 @@ ring-beyond offset base bytes far =
     (All-cons WritesBeyond (write_at (offset + 0x10) 0) five (omega (arith, far))
     (All-cons WritesBeyond (write_at (offset + 0x18) 0) [] (omega (arith, far)) (all-none WritesBeyond)))))
 
--- What holds of each such access.
+-- A statement that holds for each such access
 module _ (P : Access → Type 0) (so : (access : Access) → IsBeyond access → P access) where
   pub all-both : (xs ys : List Access) → All P xs → All P ys → All P (xs ++ ys)
   all-both xs ys one two = All-append P xs ys one two
@@ -104,11 +104,11 @@ module _ (P : Access → Type 0) (so : (access : Access) → IsBeyond access →
   pub quiet-hold : (setup : DriverSetup) (counts : Counts) (groups vlans : List ℕ) → P (Writes CTRL link_control)
       → All P (quiet_writes setup counts groups vlans)
   quiet-hold setup counts groups vlans linked =
-      let link = accesses_of link_writes in
+      let link = accesses_of enable_link_writes in
       let vlan = table_writes VFTA vlans in
       let addresses = address_writes setup.address in
       let tables = table_writes MTA groups ++ (vlan ++ addresses) in
-      let ring = ring_writes RDBAL 0 (16 * counts.rx) in
+      let ring = ring_setup_writes RDBAL 0 (16 * counts.rx) in
       all-both (accesses_of (allocation_writes setup.rxa)) (link ++ (accesses_of tables ++ accesses_of ring))
       (one-beyond (Writes PBA setup.rxa) (omega arith))
       (all-both link (accesses_of tables ++ accesses_of ring) (All-cons P (Writes CTRL link_control) [] linked (all-none P))
@@ -118,9 +118,9 @@ module _ (P : Access → Type 0) (so : (access : Access) → IsBeyond access →
       (All-append WritesBeyond vlan addresses (table-beyond VFTA vlans (omega arith)) (address-beyond setup.address))))
       (writes-hold ring (ring-beyond RDBAL 0 (16 * counts.rx) (omega arith)))))
 
-  pub transmit-hold : (base bytes : ℕ) → All P (accesses_of (ring_writes TDBAL base bytes ++ transmit_writes))
+  pub transmit-hold : (base bytes : ℕ) → All P (accesses_of (ring_setup_writes TDBAL base bytes ++ transmit_writes))
   transmit-hold base bytes =
-      let ring = ring_writes TDBAL base bytes in
+      let ring = ring_setup_writes TDBAL base bytes in
       writes-hold (ring ++ transmit_writes)
       (All-append WritesBeyond ring transmit_writes (ring-beyond TDBAL base bytes (omega arith))
       (All-cons WritesBeyond (write_at TCTL transmit_control) [] (omega arith) (all-none WritesBeyond)))

@@ -1,4 +1,4 @@
--- The fates of frames over a reset of their host.
+-- The fates of frames in a reset of their host.
 use Rattle.std.proofs.Common.{◌≡◌, ◌<◌, ◌+◌, ◌*◌, ◌/◌, ◌%◌, ◌++◌, ◌∷◌, [], ℕ, Bool, false, List, Option, Some, None}
 use Rattle.std.proofs.Common.{refl, sym, ap, subst, ◌∙◌, arith, if◌then◌else◌, suc, zero}
 use Rattle.std.specs.Bool.{⊤}
@@ -33,11 +33,11 @@ use Rattle.delivery.proofs.RightFates.{fates-right, filter-stays}
 use Rattle.delivery.specs.Fates.{AreRightFates, Emptied, Mark, Reception, SwitchedOff, SwitchedOn, mark_by, marks, reception}
 use Rattle.delivery.specs.Happenings.{happened_in}
 use Rattle.delivery.specs.Reception.{LeavesReception}
-use Rattle.delivery.specs.StepAnswers.{stations_behind}
+use Rattle.delivery.specs.StepOutcomes.{stations_behind}
 use Rattle.bring_up.proofs.Setups.{setups-agree}
 use Rattle.bring_up.specs.ClearedDescriptors.{clears, clears_from}
 use Rattle.bring_up.specs.DriverSteps.{accesses_of}
-use Rattle.bring_up.specs.RingRegisters.{receive_control, ring_writes, transmit_control, transmit_writes}
+use Rattle.bring_up.specs.RingRegisters.{receive_control, ring_setup_writes, transmit_control, transmit_writes}
 use Rattle.bring_up.specs.WrittenRegisters.{handled_causes, link_control, mask_writes, register_limit}
 use Rattle.driver_law.specs.DriverState.{DriverSetup, DriverState}
 use Rattle.driver.specs.Resetting.{free_accesses, later_accesses, quiet_writes}
@@ -54,22 +54,22 @@ use Rattle.wire.specs.Equations.{HostStands}
 use Rattle.wire.proofs.ResetTold.{reset_said}
 use Rattle.wire.specs.Runs.{ResetAnswer}
 
--- One write.
+-- One write
 
 abbrev written : (k offset value : ℕ) → AtomicStep
 written k offset value = At k (Accesses (Writes offset value))
 
--- what it leaves of its host
+-- the world of the host after the write
 world-written : (k offset value : ℕ) (later : List AtomicStep) (a b : List StationState) → LeadsTo k (written k offset value ∷ later) a b
     → world_at (after (written k offset value) a) k ≡ world_after_access (Writes offset value) (world_at a k)
 world-written k offset value later a b leads = world-here a k (Accesses (Writes offset value)) (eq-eqb k k refl) leads.0
 
--- RCTL is written with 0,
+-- RCTL is written with 0.
 disabled : (world : World) → IsOff (world_after_access (Writes RCTL 0) world)
 unfolding register_at
 disabled world = λ on. absurd (omega (arith, on))
 
--- CTRL with RST,
+-- CTRL is written with RST.
 emptied : (world : World) → (world_after_access (Writes CTRL (alone ctrl_rst)) world).adapter.receiver.buffer ≡ []
 unfolding register_at
 emptied world = refl
@@ -78,13 +78,13 @@ reset-off : (world : World) → IsOff (world_after_access (Writes CTRL (alone ct
 unfolding register_at
 reset-off world = λ on. absurd (omega (arith, on))
 
--- and RCTL again.
+-- RCTL is written again.
 buffer-stays : (value : ℕ) (world : World)
     → (world_after_access (Writes RCTL value) world).adapter.receiver.buffer ≡ world.adapter.receiver.buffer
 unfolding register_at
 buffer-stays value world = refl
 
--- Steps, and then others.
+-- Steps, and then further steps.
 leads-first : (caller : ℕ) (first later : List AtomicStep) (a b : List StationState) → LeadsTo caller (first ++ later) a b
     → LeadsTo caller first a (stations_behind first a) × LeadsTo caller later (stations_behind first a) b
 leads-first caller [] later a b leads = (refl, leads)
@@ -96,7 +96,8 @@ leads-first caller (step ∷ first) later a b leads =
 abbrev reset_marks : (early stopping resting later : List Mark) → List Mark
 reset_marks early stopping resting later = early ++ SwitchedOff ∷ (stopping ++ Emptied ∷ (resting ++ SwitchedOn ∷ later))
 
--- They are right where those of each part are: while the receive side is disabled, from any frames in the packet buffer.
+-- The marks of a reset have right fates if those of each part have; while the receive side is disabled, for any frames
+-- in the packet buffer.
 marks-right : (filter : FilterRegisters) (bytes : ℕ) (groups from cut to : List (List ℕ)) (early stopping resting later : List Mark)
     → AreRightFates filter bytes (reception groups from) early (reception groups cut)
     → ((buffered : List (List ℕ)) → (let off : Reception = record { groups = groups; buffered = buffered; enabled = false } in
@@ -114,7 +115,7 @@ marks-right filter bytes groups from cut to early stopping resting later first s
     (fates-append filter bytes off off end stopping (Emptied ∷ (resting ++ SwitchedOn ∷ later)) (stops cut)
     (fates-append filter bytes empty empty end resting (SwitchedOn ∷ later) (rests []) last))
 
--- What is known of a reset's stretches: which accesses they make, and that the filter and the room are the same at the end.
+-- What is known of a reset's parts: their accesses, and that the filter and the room are the same at the end.
 pub record CanBeJudged (k control : ℕ) (groups : List (List ℕ)) (early stopping resting later : List AtomicStep)
     (a last enabled b : List StationState) : Type 0 where
   pub stops : LeadsTo k (early ++ written k RCTL 0 ∷ stopping) a last
@@ -177,9 +178,9 @@ judged k control groups early stopping resting later a last enabled b can =
     (λ buffered. stops.fates from.filter (room from) groups buffered) (λ buffered. rests.fates from.filter (room from) groups buffered)
     behind
 
--- The accesses of a reset.
+-- The accesses of a reset
 
--- it isn't a write of RCTL
+-- the access isn't a write of RCTL
 abbrev LeavesControl : Access → Type 0
 LeavesControl (Reads offset value) = ⊤
 LeavesControl (Writes offset value) = IsNotReceiveControl (register_at offset)
@@ -234,7 +235,7 @@ clears-leave first (suc k) =
     All-append LeavesReception (clears_from first k) (clears (first + 16 * k) ∷ []) (clears-leave first k)
     (All-cons LeavesReception (clears (first + 16 * k)) [] tt (all-none LeavesReception))
 
-transmit-leaves : (base bytes : ℕ) → All LeavesReception (accesses_of (ring_writes TDBAL base bytes ++ transmit_writes))
+transmit-leaves : (base bytes : ℕ) → All LeavesReception (accesses_of (ring_setup_writes TDBAL base bytes ++ transmit_writes))
 unfolding register_at
 transmit-leaves base bytes =
     let seven = accesses_of transmit_writes in
@@ -257,11 +258,11 @@ later-leave : (counts : Counts) → All LeavesReception (later_accesses counts)
 later-leave counts =
     let base = 16 * counts.rx in
     let clear = clears_from base counts.tx in
-    let ring = accesses_of (ring_writes TDBAL base (16 * counts.tx) ++ transmit_writes) in
+    let ring = accesses_of (ring_setup_writes TDBAL base (16 * counts.tx) ++ transmit_writes) in
     All-append LeavesReception (clear ++ ring) (accesses_of mask_writes)
     (All-append LeavesReception clear ring (clears-leave base counts.tx) (transmit-leaves base (16 * counts.tx))) masked-leaves
 
--- What a reset says.
+-- The happenings of a reset
 
 own-mark : (k : ℕ) (marks_are : List Mark) → of_host k k marks_are ≡ marks_are
 own-mark k marks_are = ap (λ (here : Bool). if here then marks_are else []) (eq-eqb k k refl)

@@ -1,4 +1,4 @@
--- A reset of one host, as all hosts find it.
+-- A reset of one host, for all hosts.
 use Rattle.std.proofs.Common.{◌≡◌, ◌≢◌, [], ℕ, List, Some, inl, inr, length, refl, slice_get, slice_set, sym, ap, subst, ◌∙◌, arith}
 use Rattle.std.proofs.lemmas.Bool.Decides.{eqb_tells}
 use Rattle.std.proofs.lemmas.List.{length-set}
@@ -12,7 +12,7 @@ use Rattle.stations.specs.AtomicRuns.{LeadsTo, events_at, past_at}
 use Rattle.bring_up.specs.ConfiguredAdapters.{HasSetup}
 use Rattle.driver_law.specs.DriverState.{DriverSetup, DriverState}
 use Rattle.joined_groups.specs.Groups.{HasTable}
-use Rattle.packet_socket.specs.HostCalls.{did}
+use Rattle.packet_socket.specs.HostCalls.{host_did}
 use Rattle.packet_socket.specs.HostState.{HostState}
 use Rattle.delivery.proofs.Ticks.{absent-nothing}
 use Rattle.delivery.specs.Fates.{mark_by, marks}
@@ -26,7 +26,7 @@ use Rattle.host_calls.specs.CallsOfHosts.{HostRuns}
 use Rattle.host_calls.specs.ConnectedHosts.{connected}
 use Rattle.host_calls.specs.Networks.{IsHost, NetworkState}
 use Rattle.host_calls.specs.ResetsInSteps.{GivesUp, ResetsInSteps}
-use Rattle.wire.specs.Equations.{Delivers, HostStands, NetworkStands}
+use Rattle.wire.specs.Equations.{MeetsEquations, HostStands, NetworkStands}
 use Rattle.wire.specs.Runs.{HostsGo, ResetAnswer}
 use Rattle.wire.proofs.Calls.{of-others}
 use Rattle.wire.proofs.CountedCalls.{host-counts, host-ticks}
@@ -45,9 +45,9 @@ pub record ResetKnown (k : ℕ) (answer : ResetAnswer) (steps : List AtomicStep)
   pub right : ReceivesRightly h.driver.groups (world_at a k).adapter (marks k (reset_said k answer resets.parts)) h'.driver.groups
       (world_at b k).adapter
 
--- What another host finds.
+-- What is known of another host.
 record Elsewhere (n : ℕ) (happened : List Happening) (steps : List AtomicStep) (was : HostState) (a b : List StationState) : Type 0 where
-  runs : HostRuns n steps (did [] [] []) (connected was a) (connected was b)
+  runs : HostRuns n steps (host_did [] [] []) (connected was a) (connected was b)
   right : Right n happened a b was was
   tells : Tells n happened steps (wire_at a) [] []
 
@@ -69,7 +69,7 @@ elsewhere k n answer steps h h' was a b other known stands =
           (reset-tells n k answer setup parts (wire_at a) (of-others n k answer.sending other) (of-others n k answer.holding other));
     }
 
--- Its own host stands again.
+-- `HostStands` holds for the host after its reset.
 reset-stands : (k : ℕ) (answer : ResetAnswer) (steps : List AtomicStep) (h h' : HostState) (a b : List StationState)
     → ResetKnown k answer steps h h' a b → HostStands h (world_at a k) → HostStands h' (world_at b k)
 reset-stands k answer steps h h' a b known stands =
@@ -104,21 +104,21 @@ reset-goes k answer steps h h' old stations stands there known =
                 let was_is = own was (subst (λ (m : ℕ). slice_get old.hosts m ≡ Some was) same.1 first) in
                 let is_is = caller-behind old.hosts k h h' is there
                 (subst (λ (m : ℕ). slice_get (slice_set old.hosts k h') m ≡ Some is) same.1 now) in
-                subst (λ (m : ℕ). Delivers m happened a stations was is) (sym same.1)
-                (subst (λ (w : HostState). Delivers k happened a stations w is) (sym was_is)
-                (subst (λ (w : HostState). Delivers k happened a stations h w) (sym is_is)
+                subst (λ (m : ℕ). MeetsEquations m happened a stations was is) (sym same.1)
+                (subst (λ (w : HostState). MeetsEquations k happened a stations w is) (sym was_is)
+                (subst (λ (w : HostState). MeetsEquations k happened a stations h w) (sym is_is)
                 (reset-delivers k answer steps h h' a stations known.resets known.leads known.gives known.right)))
             | inr differ ↦
                 let stays : is ≡ was = other-behind old.hosts k n was h' is differ.1 first now in
                 let here = elsewhere k n answer steps h h' was a stations differ.1 known (stands.each n was first) in
-                subst (λ (w : HostState). Delivers n happened a stations was w) (sym stays)
+                subst (λ (w : HostState). MeetsEquations n happened a stations was w) (sym stays)
                 (delivers-runs k n steps happened a stations was was [] [] [] known.leads here.right here.runs here.tells)
           ];
       ticks = record {
         there = λ n was first.
             elim (eqb_tells n k) [
               | inl same ↦
-                  subst (λ (m : ℕ). Rattle.delivery.specs.StepAnswers.AreAnswered m a steps) (sym same.1)
+                  subst (λ (m : ℕ). Rattle.delivery.specs.StepOutcomes.AreAnswered m a steps) (sym same.1)
                   (reset-ticks k steps (connected h a) (connected h' stations) known.leads known.resets)
               | inr differ ↦
                   let here = elsewhere k n answer steps h h' was a stations differ.1 known (stands.each n was first) in
@@ -132,7 +132,7 @@ reset-goes k answer steps h h' old stations stands there known =
             elim (eqb_tells n k) [
               | inl same ↦
                   subst (λ (m : ℕ). Rattle.delivery.specs.Counts.counts_of (world_at stations m).adapter
-                  ≡ Rattle.delivery.specs.StepAnswers.counts_at a steps m) (sym same.1)
+                  ≡ Rattle.delivery.specs.StepOutcomes.counts_at a steps m) (sym same.1)
                   (reset-counts k steps (connected h a) (connected h' stations) known.leads known.resets)
               | inr differ ↦
                   host-counts k n steps a stations was.driver.layout known.leads

@@ -8,7 +8,7 @@ use Rattle.std.proofs.lemmas.List.{append-nil}
 use Rattle.std.proofs.lemmas.List.Sums.{sum_by-append, sum_by-cons}
 use Rattle.descriptors.specs.Frames.{padded}
 use Rattle.adapter.specs.HostFrames.{frames_held, frames_to_send}
-use Rattle.bus.specs.PastOfStretch.{Past}
+use Rattle.bus.specs.Pasts.{Past}
 use Rattle.driver_law.specs.DriverState.{DriverSetup, DriverState}
 use Rattle.stations.specs.AtomicRunLaws.{past_join}
 use Rattle.stations.specs.AtomicRuns.{LeadsTo, past_at}
@@ -22,14 +22,26 @@ use Rattle.delivery.proofs.Laws.{frames-move}
 use Rattle.delivery.proofs.Lists.{accepted-padded, goes-join, goes-without_drops}
 use Rattle.delivery.specs.Fates.{marks}
 use Rattle.delivery.specs.Happenings.{Disabled, Enabled, GivenUp, Happening, accepted_in_one, given, given_in_one, happened_by}
-use Rattle.delivery.specs.Happenings.{happened_in, missed, missed_of, of_host, put, put_by, reached, reached_by, stored, stored_by, toward}
+use Rattle.delivery.specs.Happenings.{
+  happened_in,
+  missed,
+  missed_of,
+  of_host,
+  put,
+  put_in_one,
+  reached,
+  reached_by,
+  stored,
+  stored_by,
+  toward,
+}
 use Rattle.delivery.specs.Happenings.{toward_by}
-use Rattle.delivery.specs.Lists.{AreDue, Goes, HaveCome, holding_in_one, padded_in_one, sending_in_one}
+use Rattle.delivery.specs.Lists.{AreDue, ListGoes, HaveCome, holding_in_one, padded_in_one, sending_in_one}
 use Rattle.delivery.specs.Reception.{ReceivesRightly}
 use Rattle.host_calls.specs.ConnectedHosts.{connected}
 use Rattle.host_calls.specs.ResetSteps.{ResetParts, at_rest, before_reset, disable_of, enable_of, whole_reset}
 use Rattle.host_calls.specs.ResetsInSteps.{GivesUp, ResetsInSteps}
-use Rattle.wire.specs.Equations.{CountsMisses, Delivers, KeepsCome, SendsDue}
+use Rattle.wire.specs.Equations.{CountsMisses, MeetsEquations, KeepsCome, SendsDue}
 use Rattle.wire.specs.Runs.{ResetAnswer}
 use Rattle.wire.proofs.Delivering.{Tells, misses-of}
 use Rattle.wire.proofs.ResetTold.{reset_said}
@@ -109,7 +121,7 @@ pub reset-tells : (n k : ℕ) (answer : ResetAnswer) (setup : DriverSetup) (part
 reset-tells n k answer setup parts wires sending holding =
     let steps = whole_reset k setup parts in
     record {
-      put = reset-list (put_by n) k answer setup parts refl refl refl;
+      put = reset-list (put_in_one n) k answer setup parts refl refl refl;
       reached = reset-list (reached_by n) k answer setup parts refl refl refl;
       toward = reset-list (toward_by wires n) k answer setup parts refl refl refl;
       stored = reset-list (stored_by n) k answer setup parts refl refl refl;
@@ -147,18 +159,18 @@ come-grows k list more steps is =
 -- the reset takes off the end what it gives up
 reset-goes_down : (adds drops : Happening → List (List ℕ)) (k : ℕ) (answer : ResetAnswer) (parts : ResetParts)
     (begin first before left middle end gone : List (List ℕ))
-    → Goes adds drops begin (happened_in parts.early) first → adds (Disabled k) ≡ [] → drops (Disabled k) ≡ []
-    → Goes adds drops first (happened_in parts.stopping) before
+    → ListGoes adds drops begin (happened_in parts.early) first → adds (Disabled k) ≡ [] → drops (Disabled k) ≡ []
+    → ListGoes adds drops first (happened_in parts.stopping) before
     → adds (GivenUp k answer.sending answer.holding) ≡ [] → drops (GivenUp k answer.sending answer.holding) ≡ gone → before ≡ left ++ gone
-    → Goes adds drops left (happened_in parts.resting) middle → adds (Enabled k) ≡ [] → drops (Enabled k) ≡ []
-    → Goes adds drops middle (happened_in parts.later) end
-    → Goes adds drops begin (reset_said k answer parts) end
+    → ListGoes adds drops left (happened_in parts.resting) middle → adds (Enabled k) ≡ [] → drops (Enabled k) ≡ []
+    → ListGoes adds drops middle (happened_in parts.later) end
+    → ListGoes adds drops begin (reset_said k answer parts) end
 reset-goes_down adds drops k answer parts begin first before left middle end gone early no_add no_drop stopping none given_up is resting
     no_more no_less later =
     let up = GivenUp k answer.sending answer.holding in
-    let last : Goes adds drops middle (Enabled k ∷ happened_in parts.later) end =
+    let last : ListGoes adds drops middle (Enabled k ∷ happened_in parts.later) end =
     (middle, ap (λ (list : List (List ℕ)). middle ++ list) (no_more ∙ sym no_less), later) in
-    let behind : Goes adds drops before (up ∷ (happened_in parts.resting ++ Enabled k ∷ happened_in parts.later)) end = (
+    let behind : ListGoes adds drops before (up ∷ (happened_in parts.resting ++ Enabled k ∷ happened_in parts.later)) end = (
       left,
       ap (λ (list : List (List ℕ)). before ++ list) none ∙ append-nil before ∙ is
           ∙ ap (λ (list : List (List ℕ)). left ++ list) (sym given_up),
@@ -183,7 +195,7 @@ reset-sends k answer steps h h' a b resets leads gives =
     let rests = resets.rests in
     let restarts = resets.restarts in
     let put_are : put k (reset_said k answer parts) ≡ before =
-    reset-list (put_by k) k answer setup parts refl refl refl
+    reset-list (put_in_one k) k answer setup parts refl refl refl
     ∙ ap (λ (list : List AtomicStep). put k (happened_in list)) (sym resets.split)
     ∙ put-told k k steps a b leads
     ∙ ap (λ (list : List AtomicStep). (past_at k list).put) resets.split
@@ -278,7 +290,7 @@ pub reset-delivers : (k : ℕ) (answer : ResetAnswer) (steps : List AtomicStep) 
     → GivesUp answer.sending answer.holding k h.driver.oldest_receive resets.parts (world_at a k) (world_at resets.last k)
     → ReceivesRightly h.driver.groups (world_at a k).adapter (marks k (reset_said k answer resets.parts)) h'.driver.groups
     (world_at b k).adapter
-    → Delivers k (reset_said k answer resets.parts) a b h h'
+    → MeetsEquations k (reset_said k answer resets.parts) a b h h'
 reset-delivers k answer steps h h' a b resets leads gives right =
     let setup = h.driver.setup in
     let parts = resets.parts in

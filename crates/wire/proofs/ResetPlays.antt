@@ -26,7 +26,7 @@ use Rattle.packet_socket.specs.CallEffects.{Interrupting}
 use Rattle.packet_socket.specs.HostState.{HostState}
 use Rattle.delivery.proofs.HostLists.{put-told, stored-told}
 use Rattle.delivery.proofs.ToldByNumber.{more-counted, told-by_number}
-use Rattle.delivery.specs.Happenings.{Happening, happened_by, happened_in, put, stored, told_where}
+use Rattle.delivery.specs.Happenings.{Happening, happened_by, happened_in, put, stored, tick_happenings_where}
 use Rattle.delivery.specs.TickNumbers.{noted_numbers, numbers}
 use Rattle.network_plan.specs.Answers.{FrameAnswer}
 use Rattle.network_plan.specs.EventCalls.{EventCall}
@@ -40,7 +40,7 @@ use Rattle.host_calls.specs.ResetSteps.{ResetParts, at_rest, before_reset, disab
 use Rattle.host_calls.specs.ResetsInSteps.{MakesReset, ResetsInSteps}
 use Rattle.wire.specs.Equations.{NetworkStands}
 use Rattle.wire.specs.PlayedCalls.{AbsentTold, ResetPlayed}
-use Rattle.wire.specs.RunObservers.{AreOfTicks, EventTold, Replies, TellsReply, ending, played_ticks}
+use Rattle.wire.specs.RunObservers.{AreOfTicks, EventTold, StatesEnding, TellsReply, ending, played_ticks}
 use Rattle.wire.specs.Runs.{AnswersReset, HostsGo, ResetAnswer, reset_answer, said_in_reset}
 use Rattle.wire.proofs.Playing.{absent-played, hosts-as, outcomes-are, told-ticks}
 use Rattle.wire.proofs.ResetFates.{reset-fates}
@@ -90,7 +90,7 @@ not-below_three number above = lt-leb (suc number) 3 (omega (arith, above))
 told-before : (k : ℕ) (ticks : List Tick) (setup : DriverSetup) (parts : ResetParts) (a b : List StationState) (on_after : ℕ)
     → PartsCounted parts on_after → LeadsTo k (whole_reset k setup parts) a b
     → without_go is_go (map tick_of (whole_reset k setup parts)) ≡ without_go is_go ticks
-    → told_where (λ number. nat_lt number 3) ticks (noted_of 0 (whole_reset k setup parts)) ≡ happened_in (before_reset k parts)
+    → tick_happenings_where (λ number. nat_lt number 3) ticks (noted_of 0 (whole_reset k setup parts)) ≡ happened_in (before_reset k parts)
 told-before k ticks setup parts a b on_after counted leads played =
     told-by_number (λ number. nat_lt number 3) k ticks (whole_reset k setup parts) a b leads played
     ∙ parts-chosen (λ number. nat_lt number 3) k setup parts on_after true true false false counted (record {
@@ -121,14 +121,15 @@ reset-answers k ticks full answer steps h h' a b known is counted played on_afte
       is = is;
       sending =
           ap (λ (list : List (List ℕ)). list ++ answer.sending)
-          (ap (λ (list : List AtomicStep). put k (told_where (λ number. nat_lt number 3) ticks (noted_of 0 list))) resets.split
+          (ap (λ (list : List AtomicStep). put k (tick_happenings_where (λ number. nat_lt number 3) ticks (noted_of 0 list))) resets.split
           ∙ ap (put k) (told-before k ticks setup parts a b answer.on_after counted leads same)
           ∙ put-told k k (before_reset k parts) a resets.last resets.stops.leads)
           ∙ known.gives.sending_since;
       holding =
           known.gives.holding_since
           ∙ ap (λ (list : List (List ℕ)). frames_held h.driver.oldest_receive (world_at a k) ++ list)
-          (sym (ap (λ (list : List AtomicStep). stored k (told_where (λ number. number == 0) ticks (noted_of 0 list))) resets.split
+          (sym (ap (λ (list : List AtomicStep). stored k (tick_happenings_where (λ number. number == 0) ticks (noted_of 0 list)))
+          resets.split
           ∙ ap (stored k) (told-early k ticks setup parts a b answer.on_after counted leads same)
           ∙ stored-told k k parts.early a first.0 first.1));
       on_after = on_after;
@@ -144,7 +145,7 @@ set-reset : (host : ℕ) (ticks : List Tick) (old : NetworkState) (stations : Li
     → (makes : MakesReset (played_call host ticks heard accesses) answer.sending answer.holding answer.on_after
     (connected h old.stations) (connected h' stations))
     → answer.on_after ≡ 302 + h.driver.layout.rx
-    → Replies (ending accesses full (steps_told 0 makes.runs.steps)) reply
+    → StatesEnding (ending accesses full (steps_told 0 makes.runs.steps)) reply
     → ResetPlayed host ticks reply old (record { hosts = slice_set old.hosts host h'; stations = stations })
 set-reset host ticks old stations heard accesses full answer h h' reply stands there below is some makes on_after replies =
     let a = old.stations in

@@ -1,4 +1,4 @@
--- The ticks of a reset are answered by counting, and its host can answer after it.
+-- The outcomes of a reset's ticks follow from counts, and both sides of the adapter are enabled after it.
 use Rattle.std.proofs.Common.{◌≡◌, ◌<◌, ◌+◌, ◌*◌, ◌++◌, ◌∷◌, [], ℕ, Bool, List, None, Option, Some}
 use Rattle.std.proofs.Common.{append_assoc, arith, false, suc, true, zero, if◌then◌else◌, inl, inr, refl, sym, ap, subst, ◌∙◌}
 use Rattle.std.specs.List.{All}
@@ -20,7 +20,7 @@ use Rattle.adapter.specs.declared.step.StepKind.{StepKind}
 use Rattle.adapter.specs.declared.step.StepKind.TheVariants.{EepromTick, PhyTick, RxData, RxDone, TxPut, TxTake}
 use Rattle.bus.proofs.Lists.{all-none, all-weaker}
 use Rattle.bus.specs.Accesses.{IsNoReset, ResetsNothing}
-use Rattle.bus.specs.PastOfStretch.{Past}
+use Rattle.bus.specs.Pasts.{Past}
 use Rattle.bus.specs.StepsAndArrivals.{past_of_step}
 use Rattle.bus.specs.TrailFaults.{EnginesRun}
 use Rattle.bus.specs.Trails.{past_of}
@@ -35,7 +35,7 @@ use Rattle.stations.specs.AtomicSteps.{At, AtomicStep, after}
 use Rattle.stations.specs.Stations.{StationState, world_at}
 use Rattle.bring_up.specs.ClearedDescriptors.{clears, clears_from}
 use Rattle.bring_up.specs.DriverSteps.{accesses_of}
-use Rattle.bring_up.specs.RingRegisters.{receive_control, ring_writes, transmit_writes}
+use Rattle.bring_up.specs.RingRegisters.{receive_control, ring_setup_writes, transmit_writes}
 use Rattle.bring_up.specs.WrittenRegisters.{handled_causes, link_control, mask_writes}
 use Rattle.driver_law.specs.DriverState.{DriverSetup}
 use Rattle.driver.specs.Resetting.{free_accesses, later_accesses, quiet_writes}
@@ -46,8 +46,8 @@ use Rattle.delivery.proofs.TailWrites.{sides-stay}
 use Rattle.delivery.proofs.Ticks.{counts-go, faultless-around-reset, ticks-answered}
 use Rattle.delivery.specs.AnswersLaws.{MeetsNoFault}
 use Rattle.delivery.specs.CountedHosts.{CanAnswer, IsCounted, IsNotMdic, LeavesEnabled}
-use Rattle.delivery.specs.Counts.{HostCounts, after_outcome, after_write, counts_after, counts_behind, counts_of, emptied}
-use Rattle.delivery.specs.StepAnswers.{AreAnswered, counts_at}
+use Rattle.delivery.specs.Counts.{HostCounts, after_outcome, counts_after_write, counts_after, counts_behind, counts_of, emptied}
+use Rattle.delivery.specs.StepOutcomes.{AreAnswered, counts_at}
 use Rattle.host_calls.specs.ConnectedHosts.{ConnectedHost}
 use Rattle.host_calls.specs.ResetSteps.{PartsAccess, ResetParts, ResetValues, at_rest, before_reset, disable_of, enable_of, reset_of}
 use Rattle.host_calls.specs.ResetSteps.{whole_reset}
@@ -56,7 +56,7 @@ use Rattle.wire.proofs.CountedCalls.{receive-valid, set-bit, transmit-valid}
 use Rattle.wire.proofs.PlansFilters.{controls}
 use Rattle.wire.proofs.ResetAccesses.{IsBeyond, clears-hold, free-hold, quiet-hold, transmit-hold}
 
--- The outcome of an access is counted, and it resets nothing.
+-- The access can be counted, and isn't a reset.
 record Leaves (access : Access) : Type 0 where
   counted : IsCounted access
   no_reset : IsNoReset access
@@ -78,7 +78,7 @@ beyond-leaves (Writes offset value) beyond =
 beyond-leaves (Loads address size) beyond = record { counted = tt; no_reset = tt }
 beyond-leaves (Stores address bytes) beyond = record { counted = tt; no_reset = tt }
 
--- Writes of RCTL, IMC and IMS, and of CTRL without RST, are such.
+-- Writes of RCTL, IMC and IMS, and of CTRL without RST, are such accesses
 
 control-leaves : (value : ℕ) → Leaves (Writes RCTL value)
 unfolding register_at
@@ -96,7 +96,7 @@ link-leaves : Leaves (Writes CTRL link_control)
 unfolding register_at
 link-leaves = record { counted = tt; no_reset = refl }
 
--- one with RST is counted
+-- a write of CTRL with RST can be counted
 reset-counted : IsCounted (Writes CTRL (alone ctrl_rst))
 unfolding register_at
 reset-counted = tt
@@ -112,12 +112,12 @@ later-leave : (counts : Counts) → All Leaves (later_accesses counts)
 later-leave counts =
     let base = 16 * counts.rx in
     let clear = clears_from base counts.tx in
-    let ring = accesses_of (ring_writes TDBAL base (16 * counts.tx) ++ transmit_writes) in
+    let ring = accesses_of (ring_setup_writes TDBAL base (16 * counts.tx) ++ transmit_writes) in
     both (clear ++ ring) (accesses_of mask_writes)
     (both clear ring (clears-hold Leaves beyond-leaves base counts.tx) (transmit-hold Leaves beyond-leaves base (16 * counts.tx)))
     (one (Writes IMS handled_causes) (mask-leaves handled_causes))
 
--- Atomic steps whose accesses are such.
+-- Atomic steps with such accesses
 
 past-leaves : (k : ℕ) (first later : List AtomicStep) → All Leaves (past_at k first).accesses → All Leaves (past_at k later).accesses
     → All Leaves (past_at k (first ++ later)).accesses
@@ -145,7 +145,7 @@ first-leaves k counts setup values parts are =
     (own-leaves k (Writes RCTL 0) parts.stopping (control-leaves 0)
     (subst (All Leaves) (sym are.stopping) (one (Reads MPC values.misses) (beyond-leaves (Reads MPC values.misses) tt))))
 
--- and after it
+-- after CTRL.RST is written
 abbrev after_steps : (k : ℕ) → DriverSetup → ResetParts → List AtomicStep
 after_steps k setup parts = (parts.resting ++ enable_of k setup ∷ []) ++ parts.later
 
@@ -192,12 +192,12 @@ accesses-counted k steps old new resets =
     subst (λ (list : List AtomicStep). All IsCounted (past_at k list).accesses) (sym resets.split)
     (reset-accesses k old.host.driver.layout old.host.driver.setup resets.values resets.parts resets.accesses)
 
--- The ticks of a reset.
+-- The ticks of a reset
 
 engines : (h : HostState) (world : World) → HostReady h world → EnginesRun world.adapter
 engines h world ready = record { receiver = ready.ready.law.runs.receiver_runs; transmitter = ready.ready.law.runs.transmitter_runs }
 
--- No fault comes in it: both engines run when CTRL.RST is written, and at the end.
+-- No step is a fault, because both engines run right before CTRL.RST is written and at the end.
 no-fault : (k : ℕ) (counts : Counts) (setup : DriverSetup) (values : ResetValues) (parts : ResetParts)
     (a last enabled b : List StationState)
     → PartsAccess k counts setup values parts → LeadsTo k (before_reset k parts) a last → LeadsTo k (at_rest k setup parts) last enabled
@@ -211,7 +211,7 @@ no-fault k counts setup values parts a last enabled b are first rest behind run_
     (leads_join k (parts.resting ++ enable_of k setup ∷ []) parts.later (after (reset_of k) last) enabled b rest.2 behind)
     (none-resets (past_at k later_steps).accesses (later-leaves k counts setup values parts are)) run
 
--- Each tick of the host is answered by counting,
+-- The outcome of each tick of the host follows from counts.
 pub reset-ticks : (k : ℕ) (steps : List AtomicStep) (old new : ConnectedHost) → LeadsTo k steps old.stations new.stations
     → ResetsInSteps k steps old new → AreAnswered k old.stations steps
 reset-ticks k steps old new leads resets =
@@ -225,13 +225,13 @@ reset-ticks k steps old new leads resets =
     ticks-answered k k steps old.stations new.stations leads (accesses-counted k steps old new resets)
     (subst (λ (list : List AtomicStep). MeetsNoFault k list old.stations) (sym resets.split) faultless)
 
--- and so are its counts at the end.
+-- The counts of the host at the end follow from counts.
 pub reset-counts : (k : ℕ) (steps : List AtomicStep) (old new : ConnectedHost) → LeadsTo k steps old.stations new.stations
     → ResetsInSteps k steps old new → counts_of (world_at new.stations k).adapter ≡ counts_at old.stations steps k
 reset-counts k steps old new leads resets =
     counts-go k k steps old.stations new.stations leads (accesses-counted k steps old new resets)
 
--- TCTL.EN, by the accesses.
+-- TCTL.EN, by the accesses
 
 abbrev written : Option Register → ℕ → Bool → Bool
 written (Some Ctrl) value enabled = if is_set value ctrl_rst then false else enabled
@@ -259,7 +259,7 @@ reset-or true counts = refl
 reset-or false counts = refl
 
 write-transmits : (found : Option Register) (value : ℕ) (counts : HostCounts)
-    → (after_write found value counts).transmit.is_enabled ≡ written found value counts.transmit.is_enabled
+    → (counts_after_write found value counts).transmit.is_enabled ≡ written found value counts.transmit.is_enabled
 write-transmits None value counts = refl
 write-transmits (Some Ctrl) value counts = reset-or (is_set value ctrl_rst) counts
 write-transmits (Some Rctl) value counts = refl
@@ -288,7 +288,7 @@ events-transmit (Steps kind wire_free answer ∷ later) counts =
 events-transmit (Arrives frame fate ∷ later) counts = events-transmit later (counts_after (Arrives frame fate) counts)
 events-transmit (Accesses (Reads offset value) ∷ later) counts = events-transmit later counts
 events-transmit (Accesses (Writes offset value) ∷ later) counts =
-    events-transmit later (after_write (register_at offset) value counts)
+    events-transmit later (counts_after_write (register_at offset) value counts)
     ∙ ap (accessed (past_of later).accesses) (write-transmits (register_at offset) value counts)
 events-transmit (Accesses (Loads address size) ∷ later) counts = events-transmit later counts
 events-transmit (Accesses (Stores address bytes) ∷ later) counts = events-transmit later counts
@@ -299,7 +299,7 @@ accessed-clears first (suc k) enabled =
     accessed-append (clears_from first k) (clears (first + 16 * k) ∷ []) enabled ∙ accessed-clears first k enabled
 
 accessed-last : (base bytes : ℕ) (enabled : Bool)
-    → accessed (accesses_of (ring_writes TDBAL base bytes ++ transmit_writes) ++ accesses_of mask_writes) enabled ≡ true
+    → accessed (accesses_of (ring_setup_writes TDBAL base bytes ++ transmit_writes) ++ accesses_of mask_writes) enabled ≡ true
 unfolding register_at
 accessed-last base bytes enabled = refl
 
@@ -307,13 +307,13 @@ later-transmits : (counts : Counts) (enabled : Bool) → accessed (later_accesse
 later-transmits counts enabled =
     let base = 16 * counts.rx in
     let clear = clears_from base counts.tx in
-    let ring = accesses_of (ring_writes TDBAL base (16 * counts.tx) ++ transmit_writes) in
+    let ring = accesses_of (ring_setup_writes TDBAL base (16 * counts.tx) ++ transmit_writes) in
     ap (λ (list : List Access). accessed list enabled) (append_assoc clear ring (accesses_of mask_writes))
     ∙ accessed-append clear (ring ++ accesses_of mask_writes) enabled
     ∙ ap (accessed (ring ++ accesses_of mask_writes)) (accessed-clears base counts.tx enabled)
     ∙ accessed-last base (16 * counts.tx) enabled
 
--- Both sides are enabled at the end, and heads and tails are slots.
+-- Both sides are enabled at the end, and heads and tails are indices of slots.
 pub reset-can : (k : ℕ) (steps : List AtomicStep) (old new : ConnectedHost) → ResetsInSteps k steps old new
     → CanAnswer (world_at new.stations k).adapter
 reset-can k steps old new resets =

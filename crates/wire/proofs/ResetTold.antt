@@ -1,4 +1,4 @@
--- What a reset says is what happened in its parts, with what the reset itself did between them.
+-- The happenings of a reset are those of its parts, with what the reset itself did between them.
 use Rattle.std.proofs.Common.{◌≡◌, ◌==◌, ◌&&◌, ◌≤◌, ◌<◌, ◌+◌, ◌++◌, ◌∷◌, [], ℕ, Bool, true, false, List, Some, length, min, map}
 use Rattle.std.proofs.Common.{append_assoc, refl, sym, ap, arith, if◌then◌else◌, inl, inr, suc, ◌∙◌}
 use Rattle.std.specs.Prelude.{nat_le, nat_lt}
@@ -18,12 +18,12 @@ use Rattle.stations.specs.declared.tick.Tick.{Tick}
 use Rattle.delivery.proofs.HostLists.{none-chosen}
 use Rattle.delivery.proofs.ToldByNumber.{more-counted, told-by_number, where-all, where-append, where-none}
 use Rattle.delivery.specs.DeliveryLaws.{happened_where}
-use Rattle.delivery.specs.Happenings.{Disabled, Enabled, GivenUp, Happening, happened_in, told_where}
+use Rattle.delivery.specs.Happenings.{Disabled, Enabled, GivenUp, Happening, happened_in, tick_happenings_where}
 use Rattle.host_calls.proofs.FirstAccess.{tick-accesses}
 use Rattle.host_calls.specs.ResetSteps.{ResetParts, at_rest, disable_of, enable_of, whole_reset}
 use Rattle.wire.specs.Runs.{ResetAnswer, said_in_reset}
 
--- How many accesses steps make.
+-- The number of accesses of some steps.
 pub count-accesses : (caller n : ℕ) (steps : List AtomicStep) (a b : List StationState) → LeadsTo caller steps a b → n ≤ most_accesses
     → counted_of n steps ≡ min (n + length (past_at caller steps).accesses) most_accesses
 count-accesses caller n [] a b leads within = omega (arith, within)
@@ -45,14 +45,14 @@ count-accesses caller n (Idles tick ∷ later) a b leads within =
     count-accesses caller n later _ b leads.2 within
     ∙ ap (λ (list : List Access). min (n + length list) most_accesses) (sym (tick-accesses caller (Idles tick) later leads.1))
 
--- How many accesses come before each part.
+-- The numbers of accesses before the parts.
 pub record PartsCounted (parts : ResetParts) (on_after : ℕ) : Type 0 where
   pub early : counted_of 0 parts.early ≡ 0
   pub stopping : counted_of 1 parts.stopping ≡ 2
   pub resting : counted_of 3 parts.resting + 1 ≡ on_after
   pub within : on_after ≤ most_accesses
 
--- What happened in the parts, of some numbers.
+-- The happenings in the parts whose numbers of accesses pass a test.
 parts-where : (is_such : ℕ → Bool) (k : ℕ) (setup : DriverSetup) (parts : ResetParts) (on_after : ℕ) → PartsCounted parts on_after
     → happened_where is_such 0 (whole_reset k setup parts)
     ≡ happened_where is_such 0 parts.early
@@ -85,7 +85,7 @@ parts-where is_such k setup parts on_after counted =
     ∙ ap (λ (list : List Happening). happened_where is_such 1 stopping ++ list)
     (ap (λ (n : ℕ). happened_where is_such n behind) counted.stopping ∙ at_two ∙ at_three))
 
--- Which numbers are such.
+-- Numbers that pass a test
 
 in-range : (low high m : ℕ) → low ≤ m → m < high → (nat_le low m && nat_lt m high) ≡ true
 in-range low high m least most = rw (le-leb low m least) (lt-ltb m high most)
@@ -116,14 +116,14 @@ four w x y z w' x' y' z' one two three last =
     ∙ ap (λ (list : List Happening). w' ++ (x' ++ (list ++ z))) three
     ∙ ap (λ (list : List Happening). w' ++ (x' ++ (y' ++ list))) last
 
--- What is such in each part.
+-- Whether the numbers in each part pass the test.
 pub record Chosen (is_such : ℕ → Bool) (on_after : ℕ) (first second third last : Bool) : Type 0 where
   pub at_zero : (m : ℕ) → m ≤ 0 → is_such m ≡ first
   pub to_reset : (m : ℕ) → 1 ≤ m → m < 3 → is_such m ≡ second
   pub to_enabled : (m : ℕ) → 3 ≤ m → m < on_after → is_such m ≡ third
   pub behind : (m : ℕ) → on_after ≤ m → is_such m ≡ last
 
--- the happenings of a part, if its numbers are such
+-- the happenings of a part, if its numbers pass the test
 abbrev pub chosen : Bool → List AtomicStep → List Happening
 chosen is steps = if is then happened_in steps else []
 
@@ -147,7 +147,7 @@ parts-chosen is_such k setup parts on_after first second third last counted is =
     (part-told is_such 3 parts.resting third (omega arith) (λ m low high. is.to_enabled m low (omega (arith, high, resting))))
     (part-told is_such on_after parts.later last counted.within (λ m low high. is.behind m low))
 
--- The parts of a reset, with what it did itself between them.
+-- The happenings of a reset's parts, with what the reset itself did between them.
 abbrev pub reset_said : (k : ℕ) → ResetAnswer → ResetParts → List Happening
 reset_said k answer parts =
     happened_in parts.early ++ Disabled k ∷ (happened_in parts.stopping
@@ -156,7 +156,7 @@ reset_said k answer parts =
 pub told-early : (caller : ℕ) (ticks : List Tick) (setup : DriverSetup) (parts : ResetParts) (a b : List StationState) (on_after : ℕ)
     → PartsCounted parts on_after → LeadsTo caller (whole_reset caller setup parts) a b
     → without_go is_go (map tick_of (whole_reset caller setup parts)) ≡ without_go is_go ticks
-    → told_where (λ number. number == 0) ticks (noted_of 0 (whole_reset caller setup parts)) ≡ happened_in parts.early
+    → tick_happenings_where (λ number. number == 0) ticks (noted_of 0 (whole_reset caller setup parts)) ≡ happened_in parts.early
 told-early caller ticks setup parts a b on_after counted leads played =
     told-by_number (λ number. number == 0) caller ticks (whole_reset caller setup parts) a b leads played
     ∙ parts-chosen (λ number. number == 0) caller setup parts on_after true false false false counted (record {
@@ -175,7 +175,7 @@ reset-says caller ticks setup parts a b answer counted leads played =
     let steps = whole_reset caller setup parts in
     let least = (more-counted 3 parts.resting (omega arith)).0 in
     let some : 4 ≤ on = let count = counted.resting in omega (arith, count, least) in
-    let two : told_where (λ number. nat_le 1 number && nat_lt number 3) ticks (noted_of 0 steps) ≡ happened_in parts.stopping =
+    let two : tick_happenings_where (λ number. nat_le 1 number && nat_lt number 3) ticks (noted_of 0 steps) ≡ happened_in parts.stopping =
     told-by_number (λ number. nat_le 1 number && nat_lt number 3) caller ticks steps a b leads played
     ∙ parts-chosen (λ number. nat_le 1 number && nat_lt number 3) caller setup parts on false true false false counted (record {
       at_zero = λ m high. below-range 1 3 m (omega (arith, high));
@@ -183,7 +183,7 @@ reset-says caller ticks setup parts a b answer counted leads played =
       to_enabled = λ m low high. above-range 1 3 m low;
       behind = λ m low. above-range 1 3 m (omega (arith, low, some));
     }) ∙ append-nil _ in
-    let three : told_where (λ number. nat_le 3 number && nat_lt number on) ticks (noted_of 0 steps) ≡ happened_in parts.resting =
+    let three : tick_happenings_where (λ number. nat_le 3 number && nat_lt number on) ticks (noted_of 0 steps) ≡ happened_in parts.resting =
     told-by_number (λ number. nat_le 3 number && nat_lt number on) caller ticks steps a b leads played
     ∙ parts-chosen (λ number. nat_le 3 number && nat_lt number on) caller setup parts on false false true false counted (record {
       at_zero = λ m high. below-range 3 on m (omega (arith, high));
@@ -191,7 +191,7 @@ reset-says caller ticks setup parts a b answer counted leads played =
       to_enabled = λ m low high. in-range 3 on m low high;
       behind = λ m low. above-range 3 on m low;
     }) ∙ append-nil _ in
-    let last : told_where (λ number. nat_le on number) ticks (noted_of 0 steps) ≡ happened_in parts.later =
+    let last : tick_happenings_where (λ number. nat_le on number) ticks (noted_of 0 steps) ≡ happened_in parts.later =
     told-by_number (λ number. nat_le on number) caller ticks steps a b leads played
     ∙ parts-chosen (λ number. nat_le on number) caller setup parts on false false false true counted (record {
       at_zero = λ m high. lt-leb on m (omega (arith, high, some));
@@ -200,15 +200,17 @@ reset-says caller ticks setup parts a b answer counted leads played =
       behind = λ m low. le-leb on m low;
     }) in
     ap (λ (list : List Happening). list ++ Disabled caller
-    ∷ (told_where (λ number. nat_le 1 number && nat_lt number 3) ticks (noted_of 0 steps)
-    ++ GivenUp caller answer.sending answer.holding ∷ (told_where (λ number. nat_le 3 number && nat_lt number on) ticks (noted_of 0 steps)
-    ++ Enabled caller ∷ told_where (λ number. nat_le on number) ticks (noted_of 0 steps))))
+    ∷ (tick_happenings_where (λ number. nat_le 1 number && nat_lt number 3) ticks (noted_of 0 steps)
+    ++ GivenUp caller answer.sending answer.holding ∷ (tick_happenings_where (λ number. nat_le 3 number && nat_lt number on) ticks
+    (noted_of 0 steps)
+    ++ Enabled caller ∷ tick_happenings_where (λ number. nat_le on number) ticks (noted_of 0 steps))))
     (told-early caller ticks setup parts a b on counted leads played)
     ∙ ap (λ (list : List Happening). happened_in parts.early ++ Disabled caller ∷ (list
-    ++ GivenUp caller answer.sending answer.holding ∷ (told_where (λ number. nat_le 3 number && nat_lt number on) ticks (noted_of 0 steps)
-    ++ Enabled caller ∷ told_where (λ number. nat_le on number) ticks (noted_of 0 steps)))) two
+    ++ GivenUp caller answer.sending answer.holding ∷ (tick_happenings_where (λ number. nat_le 3 number && nat_lt number on) ticks
+    (noted_of 0 steps)
+    ++ Enabled caller ∷ tick_happenings_where (λ number. nat_le on number) ticks (noted_of 0 steps)))) two
     ∙ ap (λ (list : List Happening). happened_in parts.early ++ Disabled caller ∷ (happened_in parts.stopping
     ++ GivenUp caller answer.sending answer.holding ∷ (list
-    ++ Enabled caller ∷ told_where (λ number. nat_le on number) ticks (noted_of 0 steps)))) three
+    ++ Enabled caller ∷ tick_happenings_where (λ number. nat_le on number) ticks (noted_of 0 steps)))) three
     ∙ ap (λ (list : List Happening). happened_in parts.early ++ Disabled caller ∷ (happened_in parts.stopping
     ++ GivenUp caller answer.sending answer.holding ∷ (happened_in parts.resting ++ Enabled caller ∷ list))) last

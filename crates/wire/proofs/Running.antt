@@ -8,13 +8,13 @@ use Rattle.packet_socket.specs.HostState.{HostState}
 use Rattle.stations.specs.Stations.{StationState, wire_at}
 use Rattle.stations.specs.declared.tick.Tick.{Tick}
 use Rattle.delivery.proofs.Waiting.{wires-stay}
-use Rattle.delivery.specs.Happenings.{Happening, told_alone}
+use Rattle.delivery.specs.Happenings.{Happening, lone_tick_happenings}
 use Rattle.network_plan.specs.declared.event.Event.{Event}
 use Rattle.network_plan.specs.EventCalls.{Alone, ByCall, ByReset, EventCall, EventKind, in_event}
 use Rattle.network_plan.specs.declared.reply.Reply.{Reply}
-use Rattle.wire.specs.Equations.{Delivers, NetworkStands}
-use Rattle.wire.specs.Runs.{EventRuns, HostsGo, IsAnswer, IsReply, RunTold, RunsTo, StatesRun}
-use Rattle.wire.specs.Runs.{caller_in, caller_of, happenings, said, said_of}
+use Rattle.wire.specs.Equations.{MeetsEquations, NetworkStands}
+use Rattle.wire.specs.Runs.{EventRuns, HostsGo, IsEventAnswer, IsReply, RunTold, RunsTo, StatesRun}
+use Rattle.wire.specs.Runs.{caller_in, caller_of, happenings, said, kind_happenings}
 use Rattle.wire.specs.PlayedCalls.{CallPlayed, ResetPlayed, TickPlayed}
 use Rattle.host_calls.specs.ConnectedHosts.{connected}
 use Rattle.host_calls.specs.Networks.{IsHost, NetworkState}
@@ -23,17 +23,17 @@ use Rattle.wire.specs.RunObservers.{ComposesRuns, EventTold}
 use Rattle.wire.proofs.Delivering.{delivers-join, delivers-none}
 use Rattle.wire.proofs.Playing.{ticks-go}
 
--- Events. What is said of each is said of its call, or of its tick.
+-- Events: the happenings of each are those of its call or its tick
 
 pub call-event : (old new : NetworkState) (event : Event) (call : EventCall) (reply : Reply) → in_event event ≡ ByCall call
     → CallPlayed call reply old new → NetworkStands old → EventRuns old event reply new
 call-event old new event call reply is played stood = record {
   stood = stood;
   steps = played.steps;
-  go = subst (λ (part : EventKind). HostsGo (caller_in part) (said_of part reply) played.steps old new) (sym is) played.go;
+  go = subst (λ (part : EventKind). HostsGo (caller_in part) (kind_happenings part reply) played.steps old new) (sym is) played.go;
   replied = subst (λ (part : EventKind). IsReply part reply played.steps old new) (sym is) played.replied;
   answer = subst (λ (part : EventKind). (h h' : HostState) → IsHost old (caller_in part) h → IsHost new (caller_in part) h'
-      → IsAnswer part reply.answer played.steps (connected h old.stations) (connected h' new.stations)) (sym is) played.answer;
+      → IsEventAnswer part reply.answer played.steps (connected h old.stations) (connected h' new.stations)) (sym is) played.answer;
 }
 
 pub reset-event : (old new : NetworkState) (event : Event) (host : ℕ) (ticks : List Tick) (reply : Reply)
@@ -41,10 +41,10 @@ pub reset-event : (old new : NetworkState) (event : Event) (host : ℕ) (ticks :
 reset-event old new event host ticks reply is played stood = record {
   stood = stood;
   steps = played.steps;
-  go = subst (λ (part : EventKind). HostsGo (caller_in part) (said_of part reply) played.steps old new) (sym is) played.go;
+  go = subst (λ (part : EventKind). HostsGo (caller_in part) (kind_happenings part reply) played.steps old new) (sym is) played.go;
   replied = subst (λ (part : EventKind). IsReply part reply played.steps old new) (sym is) played.replied;
   answer = subst (λ (part : EventKind). (h h' : HostState) → IsHost old (caller_in part) h → IsHost new (caller_in part) h'
-      → IsAnswer part reply.answer played.steps (connected h old.stations) (connected h' new.stations)) (sym is) played.answer;
+      → IsEventAnswer part reply.answer played.steps (connected h old.stations) (connected h' new.stations)) (sym is) played.answer;
 }
 
 pub tick-event : (old : NetworkState) (stations : List StationState) (event : Event) (tick : Tick) (reply : Reply)
@@ -52,19 +52,20 @@ pub tick-event : (old : NetworkState) (stations : List StationState) (event : Ev
     → EventRuns old event reply (record { hosts = old.hosts; stations = stations })
 tick-event old stations event tick reply is stands played =
     let new : NetworkState = record { hosts = old.hosts; stations = stations } in
-    let go = ticks-go 0 (told_alone tick reply.outcomes.list) played.steps old stations stands played.are played.leads played.said in
+    let go = ticks-go 0 (lone_tick_happenings tick reply.outcomes.list) played.steps old stations stands played.are played.leads
+    played.said in
     let replied = played.replied old.hosts in
     record {
       stood = stands;
       steps = played.steps;
-      go = subst (λ (part : EventKind). HostsGo (caller_in part) (said_of part reply) played.steps old new) (sym is) go;
+      go = subst (λ (part : EventKind). HostsGo (caller_in part) (kind_happenings part reply) played.steps old new) (sym is) go;
       replied = subst (λ (part : EventKind). IsReply part reply played.steps old new) (sym is) replied;
       answer = subst (λ (part : EventKind). (h h' : HostState) → IsHost old (caller_in part) h → IsHost new (caller_in part) h'
-          → IsAnswer part reply.answer played.steps (connected h old.stations) (connected h' stations)) (sym is)
+          → IsEventAnswer part reply.answer played.steps (connected h old.stations) (connected h' stations)) (sym is)
           (λ was is then now. replied.answer);
     }
 
--- Runs.
+-- Runs
 
 states-more : (old : NetworkState) (events : List Event) (replies : List Reply) (middle : NetworkState) (event : Event) (reply : Reply)
     (new : NetworkState)
@@ -87,7 +88,7 @@ happenings-more old (first ∷ events) (one ∷ replies) middle event reply stat
     ap (λ (list : List Happening). said first one ++ list) (happenings-more states.0 events replies middle event reply states.2)
     ∙ sym (append_assoc (said first one) (happenings events replies) (said event reply))
 
--- the wires of all stations stay
+-- the wires of all stations don't change
 wires-of : (old : NetworkState) (events : List Event) (replies : List Reply) (new : NetworkState) → StatesRun old events replies new
     → (host : ℕ) → wire_at new.stations host ≡ wire_at old.stations host
 wires-of old [] [] new states host = ap (λ (network : NetworkState). wire_at network.stations host) states
@@ -105,7 +106,7 @@ runs-none old before = record {
   hosts = refl;
   delivers = λ k was is then now.
       let same : is ≡ was = let e : Some was ≡ Some is = sym then ∙ now in cc in
-      subst (λ (host : HostState). Delivers k [] old.stations old.stations was host) (sym same)
+      subst (λ (host : HostState). MeetsEquations k [] old.stations old.stations was host) (sym same)
       (delivers-none k old.stations was);
 }
 
@@ -123,14 +124,14 @@ runs-more old events before behind middle event reply last new runs one is = rec
       let some = slice_get-some middle.hosts k
       (let below = slice_get_within old.hosts k was then in
       let same = runs.hosts in omega (arith, below, same)) in
-      subst (λ (happened : List Happening). Delivers k happened old.stations new.stations was now)
+      subst (λ (happened : List Happening). MeetsEquations k happened old.stations new.stations was now)
       (sym (happenings-more old events runs.replies middle event reply runs.states))
       (delivers-join k (happenings events runs.replies) (said event reply) old.stations middle.stations new.stations was some.0 now
       (wires-of old events runs.replies middle runs.states) (runs.delivers k was some.0 then some.1)
       (one.go.delivers k some.0 now some.1 here));
 }
 
--- What an observer is told of them.
+-- What an observer is told of runs
 
 pub told-none : {O : Type 0} {heard : O → O → List TickTold → Type 0} {ran : O → O → List Event → List Reply → Type 0}
     {ready : O → Event → Type 0} → ComposesRuns heard ran ready → ComposesTold heard → (old : NetworkState) (from : O)
@@ -161,7 +162,7 @@ told-more runs events event old mid new from to later told one = record {
   runs = runs-more old events [] told.replies mid event one.reply (told.replies ++ one.reply ∷ []) new told.runs one.holds refl;
 }
 
--- Runs join.
+-- Runs join
 
 states-join : (old : NetworkState) (events : List Event) (replies : List Reply) (middle : NetworkState) (later : List Event)
     (more : List Reply) (new : NetworkState)
@@ -195,7 +196,7 @@ runs-join a b c events later before between behind one two = record {
       let some = slice_get-some b.hosts k
       (let below = slice_get_within a.hosts k was then in
       let same = one.hosts in omega (arith, below, same)) in
-      subst (λ (happened : List Happening). Delivers k happened a.stations c.stations was now)
+      subst (λ (happened : List Happening). MeetsEquations k happened a.stations c.stations was now)
       (sym (happenings-join a events one.replies b later two.replies one.states))
       (delivers-join k (happenings events one.replies) (happenings later two.replies) a.stations b.stations c.stations was some.0 now
       (wires-of a events one.replies b one.states) (one.delivers k was some.0 then some.1) (two.delivers k some.0 now some.1 here));

@@ -1,4 +1,4 @@
--- Hosts stand after each event.
+-- `HostStands` holds for each host after each event.
 use Rattle.std.proofs.Common.{◌≡◌, ◌≢◌, ◌<◌, [], ℕ, Bool, List, Some, inl, inr}
 use Rattle.std.proofs.Common.{length, slice_get}
 use Rattle.std.proofs.Common.{sym, subst, ◌∙◌, arith, if◌then◌else◌, slice_set}
@@ -14,7 +14,7 @@ use Rattle.stations.proofs.HostTrails.{trail-of}
 use Rattle.stations.specs.AtomicRuns.{LeadsTo, events_at, past_at}
 use Rattle.driver_law.proofs.FramesCounted.{slots_have_frames}
 use Rattle.driver_law.specs.Calls.{HasNoForgottenWork, IsRefilled}
-use Rattle.packet_socket.specs.HostCalls.{Given, HostReady, did, driver_of}
+use Rattle.packet_socket.specs.HostCalls.{Given, HostReady, host_did, driver_of}
 use Rattle.packet_socket.specs.HostState.{HostState}
 use Rattle.stations.proofs.Lengths.{length-stays}
 use Rattle.delivery.specs.Fates.{marks}
@@ -36,7 +36,7 @@ use Rattle.wire.proofs.CountedCalls.{can-behind, host-counts, host-ticks}
 use Rattle.wire.proofs.Delivering.{Tells, delivers-runs}
 use Rattle.wire.proofs.GroupsInForce.{Right, stay-right}
 
--- A host that is ready, with no work forgotten, refilled and able to answer, stands.
+-- `HostStands` holds for a host that is ready, with no work forgotten, its ring refilled, and both sides enabled.
 pub stands-with : (h : HostState) (world : World) → HostReady h world → HasNoForgottenWork h.driver world → IsRefilled h.driver
     → h.driver.staged ≡ [] → HasSetup h.driver.setup world.adapter → HasTable h.driver.groups world → CanAnswer world.adapter
     → (h.driver.missed < greatest_count → IsTrue h.driver.exact) → HostStands h world
@@ -60,10 +60,11 @@ stands-with h world ready work refilled offered set_up groups can exactly = reco
   };
 }
 
--- A host that stood stands.
+-- `HostStands` holds after an event if it held before.
 pub stands-behind : (caller k : ℕ) (steps : List AtomicStep) (a b : List StationState) (h h' : HostState) (taken : List (List ℕ))
     (given : List Given) (accepted : List (List ℕ))
-    → LeadsTo caller steps a b → HostStands h (world_at a k) → HostRuns k steps (did taken given accepted) (connected h a) (connected h' b)
+    → LeadsTo caller steps a b → HostStands h (world_at a k) → HostRuns k steps (host_did taken given accepted) (connected h a)
+    (connected h' b)
     → HasSetup h'.driver.setup (world_at b k).adapter → HasTable h'.driver.groups (world_at b k) → HostStands h' (world_at b k)
 stands-behind caller k steps a b h h' taken given accepted leads stands runs set_up groups =
     stands-with h' (world_at b k)
@@ -73,7 +74,7 @@ stands-behind caller k steps a b h h' taken given accepted leads stands runs set
     runs.accesses (ready-behind h (world_at a k) h' (world_at b k) taken given accepted (past_at k steps) runs.flows))
     (runs.flows.driver.misses.small stands.exact.reads)
 
--- Which host is which.
+-- The hosts of both states
 
 same-host : (hosts : List HostState) (k : ℕ) (h h' : HostState) → slice_get hosts k ≡ Some h → slice_get hosts k ≡ Some h' → h' ≡ h
 same-host hosts k h h' one two = let e : Some h ≡ Some h' = sym one ∙ two in cc
@@ -90,15 +91,15 @@ other-behind hosts caller k h h' h'' other is new =
     let set = slice_get-set_other hosts caller k h' other in
     let e : Some h ≡ Some h'' = sym is ∙ (sym set ∙ new) in cc
 
--- A call of one host, as all hosts find it.
+-- A call of one host, for all hosts
 
 -- what each host does
 pub each-runs : (caller k : ℕ) (steps : List AtomicStep) (a b : List StationState) (hosts : List HostState) (h h' was is : HostState)
     (taken : List (List ℕ)) (given : List Given) (accepted : List (List ℕ))
     → LeadsTo caller steps a b → slice_get hosts caller ≡ Some h
-    → HostRuns caller steps (did taken given accepted) (connected h a) (connected h' b)
+    → HostRuns caller steps (host_did taken given accepted) (connected h a) (connected h' b)
     → slice_get hosts k ≡ Some was → slice_get (slice_set hosts caller h') k ≡ Some is → HostReady was (world_at a k)
-    → HostRuns k steps (did (of_host k caller taken) (of_host k caller given) (of_host k caller accepted)) (connected was a)
+    → HostRuns k steps (host_did (of_host k caller taken) (of_host k caller given) (of_host k caller accepted)) (connected was a)
     (connected is b)
 each-runs caller k steps a b hosts h h' was is taken given accepted leads there runs old new ready =
     elim (eqb_tells k caller) [
@@ -107,18 +108,18 @@ each-runs caller k steps a b hosts h h' was is taken given accepted leads there 
           let behind : is ≡ h' = caller-behind hosts caller h h' is there
           (subst (λ (n : ℕ). slice_get (slice_set hosts caller h') n ≡ Some is) same.1 new) in
           subst (λ (here : Bool). HostRuns k steps
-          (did (if here then taken else []) (if here then given else []) (if here then accepted else [])) (connected was a)
+          (host_did (if here then taken else []) (if here then given else []) (if here then accepted else [])) (connected was a)
           (connected is b)) (sym same.0)
-          (subst (λ (n : ℕ). HostRuns n steps (did taken given accepted) (connected was a) (connected is b)) (sym same.1)
-          (subst (λ (w : HostState). HostRuns caller steps (did taken given accepted) (connected w a) (connected is b)) (sym before)
-          (subst (λ (w : HostState). HostRuns caller steps (did taken given accepted) (connected h a) (connected w b)) (sym behind)
+          (subst (λ (n : ℕ). HostRuns n steps (host_did taken given accepted) (connected was a) (connected is b)) (sym same.1)
+          (subst (λ (w : HostState). HostRuns caller steps (host_did taken given accepted) (connected w a) (connected is b)) (sym before)
+          (subst (λ (w : HostState). HostRuns caller steps (host_did taken given accepted) (connected h a) (connected w b)) (sym behind)
           runs)))
       | inr differ ↦
           let stays : is ≡ was = other-behind hosts caller k was h' is differ.1 old new in
           subst (λ (here : Bool). HostRuns k steps
-          (did (if here then taken else []) (if here then given else []) (if here then accepted else [])) (connected was a)
+          (host_did (if here then taken else []) (if here then given else []) (if here then accepted else [])) (connected was a)
           (connected is b)) (sym differ.0)
-          (subst (λ (w : HostState). HostRuns k steps (did [] [] []) (connected was a) (connected w b)) (sym stays)
+          (subst (λ (w : HostState). HostRuns k steps (host_did [] [] []) (connected was a) (connected w b)) (sym stays)
           (others-run caller k steps a b was differ.1 leads ready))
     ]
 
@@ -144,12 +145,12 @@ each-right caller k steps happened a b hosts h h' was is leads there right other
           (stay-alone k steps (connected was a) (connected is b) stays (none-elsewhere caller k steps a b differ.1 leads)) (others differ.1)
     ]
 
--- So all hosts go by the equations, and stand.
+-- All hosts satisfy the equations and `HostStands`.
 pub hosts-go : (caller : ℕ) (happened : List Happening) (steps : List AtomicStep) (old new : NetworkState)
     (taken : ℕ → List (List ℕ)) (given : ℕ → List Given) (accepted : ℕ → List (List ℕ))
     → NetworkStands old → LeadsTo caller steps old.stations new.stations → length new.hosts ≡ length old.hosts
     → ((k : ℕ) (was is : HostState) → IsHost old k was → IsHost new k is
-    → HostRuns k steps (did (taken k) (given k) (accepted k)) (connected was old.stations) (connected is new.stations))
+    → HostRuns k steps (host_did (taken k) (given k) (accepted k)) (connected was old.stations) (connected is new.stations))
     → ((k : ℕ) (was is : HostState) → IsHost old k was → IsHost new k is → Right k happened old.stations new.stations was is)
     → ((k : ℕ) → Tells k happened steps (wire_at old.stations) (given k) (accepted k))
     → HostsGo caller happened steps old new

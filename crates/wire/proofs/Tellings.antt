@@ -1,4 +1,4 @@
--- What each kind of event tells of each host.
+-- The happenings of each kind of event, for each host.
 use Rattle.std.proofs.Common.{◌≡◌, ◌==◌, ◌&&◌, ◌++◌, ◌∷◌, [], ℕ, Bool, true, false, List, Option, if◌then◌else◌, map}
 use Rattle.std.proofs.Common.{refl, sym, ap, ◌∙◌, arith}
 use Rattle.std.specs.Prelude.{Err, Ok, Result}
@@ -15,7 +15,17 @@ use Rattle.delivery.proofs.Laws.{lists-append}
 use Rattle.delivery.proofs.ToldAround.{around_ticks}
 use Rattle.delivery.specs.Fates.{Mark, marks}
 use Rattle.delivery.specs.Happenings.{Accepted, Given as WasGiven, Happening, accepted, given, happened_in, missed, of_host, put, reached}
-use Rattle.delivery.specs.Happenings.{accepted_in_one, given_in_one, missed_of, put_by, reached_by, stored, stored_by, told, told_around}
+use Rattle.delivery.specs.Happenings.{
+  accepted_in_one,
+  given_in_one,
+  missed_of,
+  put_in_one,
+  reached_by,
+  stored,
+  stored_by,
+  tick_happenings,
+  tick_happenings_around,
+}
 use Rattle.delivery.specs.Happenings.{toward, toward_by}
 use Rattle.stations.specs.declared.outcomes.Numbered.{Numbered}
 use Rattle.stations.specs.declared.tick.Tick.{Tick}
@@ -25,10 +35,10 @@ use Rattle.std.proofs.lemmas.List.Sums.{sum_by-append}
 use Rattle.network_plan.specs.Answers.{FrameAnswer}
 use Rattle.network_plan.specs.declared.reply.Answer.TheVariants.{Joined, Left, Received, Sent}
 use Rattle.packet_socket.specs.HostEffects.{given_by}
-use Rattle.wire.specs.Runs.{accepted_of, given_of, joined_of, left_of}
+use Rattle.wire.specs.Runs.{accepted_by_answer, given_by_answer, joined_of, left_by_answer}
 use Rattle.wire.proofs.Delivering.{Tells}
 
--- Ticks alone.
+-- Only ticks.
 pub tells-steps : (k : ℕ) (steps : List AtomicStep) (wires : ℕ → Option ℕ) → Tells k (happened_in steps) steps wires [] []
 tells-steps k steps wires = record {
   put = refl;
@@ -42,7 +52,7 @@ tells-steps k steps wires = record {
   given = λ socket. given-none k socket steps;
 }
 
--- Ticks of a call.
+-- Ticks of a call
 
 none-of : {T : Type 0} (here : Bool) → (let none : List T = [] in none) ≡ (if here then [] else [])
 none-of true = refl
@@ -62,7 +72,7 @@ tells-call k host steps wires = record {
   given = λ s. given-none k s steps ∙ ap (given_for s) (none-of (k == host));
 }
 
--- A frame that was accepted comes before them.
+-- A frame that was accepted comes before the happenings of ticks
 
 accepted-one : (here : Bool) (frame : List ℕ) (behind : List (List ℕ)) → behind ≡ []
     → map padded (((if here then frame ∷ [] else []) ++ []) ++ behind) ≡ (if here then padded frame ∷ [] else [])
@@ -70,7 +80,7 @@ accepted-one true frame behind none = ap (λ (list : List (List ℕ)). padded fr
 accepted-one false frame behind none = ap (map padded) none
 
 pub tells-send : (k host : ℕ) (frame : List ℕ) (answer : SendAnswer) (steps : List AtomicStep) (wires : ℕ → Option ℕ)
-    → Tells k (accepted_of host frame (Sent answer) ++ happened_in steps) steps wires (of_host k host [])
+    → Tells k (accepted_by_answer host frame (Sent answer) ++ happened_in steps) steps wires (of_host k host [])
     (of_host k host (accepted_by answer frame))
 tells-send k host frame (Ok u) steps wires =
     let lists = lists-append k (Accepted host frame ∷ []) (happened_in steps) in
@@ -88,7 +98,7 @@ tells-send k host frame (Ok u) steps wires =
     }
 tells-send k host frame (Err error) steps wires = tells-call k host steps wires
 
--- Frames that were given come after them.
+-- Frames that were returned come after the happenings of ticks
 
 abbrev pub gives : ℕ → List Given → List Happening
 gives host list = map (λ (one : Given). WasGiven host one.socket one.frame) list
@@ -196,15 +206,15 @@ tells-given k host list steps wires =
     }
 
 pub tells-recv : (k host socket : ℕ) (answer : Result (List ℕ) RecvError) (steps : List AtomicStep) (wires : ℕ → Option ℕ)
-    → Tells k (happened_in steps ++ given_of host socket (Received answer)) steps wires (of_host k host (given_by socket answer))
+    → Tells k (happened_in steps ++ given_by_answer host socket (Received answer)) steps wires (of_host k host (given_by socket answer))
     (of_host k host [])
 tells-recv k host socket (Ok frame) steps wires = tells-given k host (record { socket = socket; frame = frame } ∷ []) steps wires
 tells-recv k host socket (Err error) steps wires = tells-given k host [] steps wires
 
--- What comes to the packet buffer of any host, and which groups it joins and leaves, the steps tell alone.
+-- The marks of a host follow from the atomic steps only
 
 pub marks-send : (k host : ℕ) (frame : List ℕ) (answer : SendAnswer) (steps : List AtomicStep)
-    → marks k (accepted_of host frame (Sent answer) ++ happened_in steps) ≡ marks k (happened_in steps)
+    → marks k (accepted_by_answer host frame (Sent answer) ++ happened_in steps) ≡ marks k (happened_in steps)
 marks-send k host frame (Ok u) steps = (lists-append k (Accepted host frame ∷ []) (happened_in steps)).marks
 marks-send k host frame (Err error) steps = refl
 
@@ -215,14 +225,14 @@ marks-given k host list steps =
     ∙ ap (λ (later : List Mark). marks k (happened_in steps) ++ later) (gives-marks k host list) ∙ append-nil _
 
 pub marks-recv : (k host socket : ℕ) (answer : Result (List ℕ) RecvError) (steps : List AtomicStep)
-    → marks k (happened_in steps ++ given_of host socket (Received answer)) ≡ marks k (happened_in steps)
+    → marks k (happened_in steps ++ given_by_answer host socket (Received answer)) ≡ marks k (happened_in steps)
 marks-recv k host socket (Ok frame) steps = marks-given k host (record { socket = socket; frame = frame } ∷ []) steps
 marks-recv k host socket (Err error) steps = marks-given k host [] steps
 
--- A group that was joined or left stands among them, and adds to no list of frames.
+-- A group that was joined or left is among the happenings, and adds to no list of frames
 
 pub around-list : {X : Type 0} (f : Happening → List X) (middle : List Happening) (ticks : List Tick) (outcomes : List Numbered)
-    → flat_map f middle ≡ [] → flat_map f (told_around middle ticks outcomes) ≡ flat_map f (told ticks outcomes)
+    → flat_map f middle ≡ [] → flat_map f (tick_happenings_around middle ticks outcomes) ≡ flat_map f (tick_happenings ticks outcomes)
 around-list {X} f middle ticks outcomes none =
     let between = around_ticks middle ticks outcomes in
     ap (flat_map f) between.all ∙ flat_map-append f between.before (middle ++ between.behind)
@@ -231,7 +241,7 @@ around-list {X} f middle ticks outcomes none =
     ∙ sym (flat_map-append f between.before between.behind) ∙ sym (ap (flat_map f) between.ticks)
 
 around-missed : (k : ℕ) (middle : List Happening) (ticks : List Tick) (outcomes : List Numbered)
-    → missed k middle ≡ 0 → missed k (told_around middle ticks outcomes) ≡ missed k (told ticks outcomes)
+    → missed k middle ≡ 0 → missed k (tick_happenings_around middle ticks outcomes) ≡ missed k (tick_happenings ticks outcomes)
 around-missed k middle ticks outcomes none =
     let between = around_ticks middle ticks outcomes in
     let whole = sum_by-append (missed_of k) between.before (middle ++ between.behind) in
@@ -252,12 +262,12 @@ pub record IsOfGroups (k : ℕ) (wires : ℕ → Option ℕ) (middle : List Happ
   pub given : (socket : ℕ) → given k socket middle ≡ []
 
 pub tells-group : (k host : ℕ) (middle : List Happening) (ticks : List Tick) (outcomes : List Numbered) (steps : List AtomicStep)
-    (wires : ℕ → Option ℕ) → IsOfGroups k wires middle → told ticks outcomes ≡ happened_in steps
-    → Tells k (told_around middle ticks outcomes) steps wires (of_host k host []) (of_host k host [])
+    (wires : ℕ → Option ℕ) → IsOfGroups k wires middle → tick_happenings ticks outcomes ≡ happened_in steps
+    → Tells k (tick_happenings_around middle ticks outcomes) steps wires (of_host k host []) (of_host k host [])
 tells-group k host middle ticks outcomes steps wires none said =
     let alone = tells-call k host steps wires in
     record {
-      put = around-list (put_by k) middle ticks outcomes none.put ∙ ap (put k) said;
+      put = around-list (put_in_one k) middle ticks outcomes none.put ∙ ap (put k) said;
       reached = around-list (reached_by k) middle ticks outcomes none.reached ∙ ap (reached k) said;
       toward = around-list (toward_by wires k) middle ticks outcomes none.toward ∙ ap (toward wires k) said;
       stored = around-list (stored_by k) middle ticks outcomes none.stored ∙ ap (stored k) said;
@@ -295,7 +305,7 @@ joined-adds_none k host group _ wires = record {
 }
 
 pub left-adds_none : (k host : ℕ) (group : List ℕ) (answer : FrameAnswer) (wires : ℕ → Option ℕ)
-    → IsOfGroups k wires (left_of host group answer)
+    → IsOfGroups k wires (left_by_answer host group answer)
 left-adds_none k host group (Left (Ok u)) wires = record {
   put = refl;
   reached = refl;

@@ -1,12 +1,12 @@
--- A tick outside a call.
+-- Ticks outside calls.
 use Rattle.std.proofs.Common.{◌≡◌, ◌≢◌, ◌∷◌, [], false, List, refl, sym, ap, subst, ◌∙◌}
 use Rattle.std.proofs.lemmas.List.Elements.{All-cons}
 use Rattle.bus.proofs.Lists.{all-none}
 use Rattle.bus.specs.declared.event.Event.TheVariants.{Accesses, Arrives, Steps}
 use Rattle.bus.specs.TickGroups.{without_go}
-use Rattle.stations.specs.AtomicSteps.{At, AtomicStep, Idles, Plays, outcome_of}
+use Rattle.stations.specs.AtomicSteps.{At, AtomicStep, Idles, PlaysTick, step_outcome}
 use Rattle.stations.specs.ToldTicks.{tick_told}
-use Rattle.wire.specs.RunObservers.{Replies, ending}
+use Rattle.wire.specs.RunObservers.{StatesEnding, ending}
 use Rattle.stations.specs.Stations.{StationState}
 use Rattle.stations.specs.declared.outcomes.Numbered.{Numbered}
 use Rattle.adapter.specs.Outcomes.{FrameOutcome}
@@ -15,15 +15,15 @@ use Rattle.stations.specs.declared.tick.Tick.{Tick}
 use Rattle.stations.specs.declared.tick.Tick.TheVariants.{Deliver, Go, Step}
 use Rattle.stations.specs.AtomicRuns.{IsTick, counted_of, is_go, noted_of}
 use Rattle.delivery.proofs.Telling.{leads-alone, said-alone}
-use Rattle.delivery.specs.Happenings.{told_alone}
+use Rattle.delivery.specs.Happenings.{lone_tick_happenings}
 use Rattle.delivery.specs.TickNumbers.{noted_numbers}
 use Rattle.host_calls.proofs.HostTrails.{none-alone}
-use Rattle.network_plan.specs.declared.reply.Answer.TheVariants.{Ticked}
+use Rattle.network_plan.specs.declared.reply.Answer.TheVariants.{NoCall}
 use Rattle.network_plan.specs.declared.reply.Reply.{Reply}
 use Rattle.wire.specs.Runs.{AreOutcomesAlone}
 use Rattle.wire.specs.PlayedCalls.{TickPlayed}
 
-noted-tick : (step : AtomicStep) → IsTick step → noted_of 0 (step ∷ []) ≡ record { accesses = 0; outcome = outcome_of step } ∷ []
+noted-tick : (step : AtomicStep) → IsTick step → noted_of 0 (step ∷ []) ≡ record { accesses = 0; outcome = step_outcome step } ∷ []
 noted-tick (At host (Steps kind wire_free answer)) is = refl
 noted-tick (At host (Arrives frame fate)) is = refl
 noted-tick (At host (Accesses access)) is = absurd (cc)
@@ -42,7 +42,7 @@ alone (Step host kind) steps outcomes not is = is
 alone (Deliver host) steps outcomes not is = is
 
 pub tick-played : (tick : Tick) (old new : List StationState) (outcome : FrameOutcome) (reply : Reply) → is_go tick ≡ false
-    → Plays old tick outcome new → Replies (ending 0 Ticked (tick_told tick 0 outcome ∷ [])) reply → TickPlayed tick reply old new
+    → PlaysTick old tick outcome new → StatesEnding (ending 0 NoCall (tick_told tick 0 outcome ∷ [])) reply → TickPlayed tick reply old new
 tick-played tick old new outcome reply not plays replies =
     let step = plays.step in
     let leads = leads-alone old new tick outcome plays not in
@@ -52,7 +52,7 @@ tick-played tick old new outcome reply not plays replies =
       steps = step ∷ [];
       are = are;
       leads = leads.leads;
-      said = ap (told_alone tick) one ∙ said-alone old new tick outcome plays;
+      said = ap (lone_tick_happenings tick) one ∙ said-alone old new tick outcome plays;
       replied = λ hosts. record {
         played = ap (λ (t : Tick). without_go is_go (t ∷ [])) plays.tick_is;
         accesses = λ k. none-alone k (step ∷ []) are;
@@ -68,7 +68,7 @@ tick-played tick old new outcome reply not plays replies =
     }
 
 -- Go does nothing.
-go-alone : (old : List StationState) (reply : Reply) → Replies (ending 0 Ticked (tick_told Go 0 Nothing ∷ [])) reply
+go-alone : (old : List StationState) (reply : Reply) → StatesEnding (ending 0 NoCall (tick_told Go 0 Nothing ∷ [])) reply
     → TickPlayed Go reply old old
 go-alone old reply replies =
     let one : reply.outcomes.list ≡ record { accesses = 0; outcome = Nothing } ∷ [] = replies.outcomes in
@@ -76,7 +76,7 @@ go-alone old reply replies =
       steps = [];
       are = all-none IsTick;
       leads = λ caller. refl;
-      said = ap (told_alone Go) one;
+      said = ap (lone_tick_happenings Go) one;
       replied = λ hosts. record {
         played = refl;
         accesses = λ k. none-alone k [] (all-none IsTick);
@@ -89,7 +89,7 @@ go-alone old reply replies =
     }
 
 pub go-played : (tick : Tick) (old : List StationState) (reply : Reply) → tick ≡ Go
-    → Replies (ending 0 Ticked (tick_told tick 0 Nothing ∷ [])) reply → TickPlayed tick reply old old
+    → StatesEnding (ending 0 NoCall (tick_told tick 0 Nothing ∷ [])) reply → TickPlayed tick reply old old
 go-played tick old reply go replies =
     subst (λ (t : Tick). TickPlayed t reply old old) (sym go)
     (go-alone old reply (record { answer = replies.answer; accesses = replies.accesses; outcomes = replies.outcomes }))

@@ -1,4 +1,4 @@
--- What a collector of replies stores (our choice).
+-- What the collector of replies stores (our choice).
 use Rattle.std.proofs.Common.{◌≡◌, ◌<◌, ◌++◌, [], ℕ, List, is_some, length, true, vec_capacity, refl, sym, ap, ◌∙◌, append_assoc}
 use Rattle.std.proofs.lemmas.List.{append-nil}
 use Rattle.stations.specs.Outcomes.{Collects, room_of}
@@ -9,23 +9,23 @@ use Rattle.network_plan.specs.declared.reply.Reply.{Reply}
 use Rattle.wire.specs.RunObservers.{ComposesRuns}
 use Rattle.wire.specs.declared.collector.Collector.{Collector}
 
--- There is a place for one more reply, and room for its frame.
+-- The collector has room for one more reply and for its frame.
 pub record HasPlaceForReply (now : Collector) : Type 0 where
   pub place : length now.replies.items < vec_capacity now.replies
   pub frame : is_some now.frame ≡ true
 
--- Ticks are collected for the next reply.
+-- The outcomes of these ticks were collected for the next reply.
 pub record CollectsTicks (old new : Collector) (ticks : List TickTold) : Type 0 where
   pub outcomes : Collects old.outcomes new.outcomes ticks
   pub replies : new.replies.items ≡ old.replies.items
   pub keeps_room : HasPlaceForReply old → HasPlaceForReply new
 
--- Replies are collected. No outcome is left for the next reply.
+-- These replies were appended. No outcome is left for the next reply.
 pub record AppendsReplies (replies : List Reply) (old new : Collector) : Type 0 where
   pub appended : new.replies.items ≡ old.replies.items ++ replies
   pub none_left : new.outcomes.list ≡ []
 
--- Replies are collected, if no outcome was left over at the beginning.
+-- These replies were appended, if no outcome was left at the beginning.
 abbrev pub CollectsReplies : Collector → Collector → List Event → List Reply → Type 0
 CollectsReplies old new events replies = old.outcomes.list ≡ [] → AppendsReplies replies old new
 

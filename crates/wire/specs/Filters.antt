@@ -1,4 +1,4 @@
--- The receive filter that a plan asks for (3.2.1 "Packet Address Filtering" and chapter 9, "802.1q VLAN Support").
+-- The receive filter of a plan (3.2.1 "Packet Address Filtering" and chapter 9, "802.1q VLAN Support").
 use Rattle.std.specs.Prelude.{⊤, ◌≡◌, false, true}
 use Rattle.std.specs.List.{Contains}
 use Rattle.eeprom.specs.Image.{address_bytes}
@@ -13,8 +13,9 @@ use Rattle.bring_up.specs.Configuration.{vlans_of}
 use Rattle.bring_up.specs.ConfiguredAdapters.{names_vlans}
 use Rattle.network_plan.specs.declared.plan.HostPlan.{HostPlan}
 
--- The image's address only; the configured groups by RCTL.MO 00; the configured VLANs, or all if none is named; every address if the host
--- is promiscuous; and broadcasts in any case.
+-- The receive filter of a plan passes frames to the address in the EEPROM, to the numbers of the configured groups
+-- (RCTL.MO 00), and broadcast frames. If the host is promiscuous, the filter passes frames to any address. If the
+-- configuration has a list of VLANs, a tagged frame passes only if its VLAN is in this list.
 abbrev pub plans_filter : HostPlan → ReceiveFilter
 plans_filter plan = record {
   addresses = λ address. address ≡ address_bytes plan.image;
@@ -28,6 +29,6 @@ plans_filter plan = record {
   broadcasts = ⊤;
 }
 
--- The registers stand for these sets.
+-- The registers are those of the plan's receive filter.
 abbrev pub HasPlansFilter : HostPlan → FilterRegisters → Type 0
 HasPlansFilter plan registers = SameSets (filter_of registers) (plans_filter plan)

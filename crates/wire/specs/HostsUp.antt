@@ -1,4 +1,4 @@
--- A host that its network has initialized (our choice).
+-- A host after its initialization by `Lan::new` (our choice).
 use Rattle.std.specs.Prelude.{⊤, ◌≡◌, ◌≢◌, ◌<◌, ◌*◌, ◌↔◌, ℕ, false, true, IsTrue, List, [], Some, String, length, replicate, slice_get}
 use Rattle.std.specs.Prelude.{string_eq}
 use Rattle.std.specs.List.{position_or_len}
@@ -30,9 +30,9 @@ use Rattle.network_plan.specs.declared.plan_error.PlanError.{PlanError}
 use Rattle.network_plan.specs.declared.plan_error.PlanError.TheVariants as refused
 use Rattle.wire.specs.Filters.{HasPlansFilter}
 
--- No frame was counted.
+-- All counts of the host are 0.
 pub record CountsNothing (host : HostState) (world : World) : Type 0 where
-  -- the driver's sum of misses is 0
+  -- the driver's sum of missed frames is 0
   pub missed : host.driver.missed ≡ 0
   -- this sum is exact
   pub exact : host.driver.exact ≡ true
@@ -47,7 +47,7 @@ pub record CountsNothing (host : HostState) (world : World) : Type 0 where
   -- no frame without a socket was counted
   pub unclaimed : host.unclaimed ≡ 0
 
--- No frame is anywhere, and none was counted.
+-- The host has no frames, no frame waits for it, and all its counts are 0.
 pub record HostHasNoFrames (host : HostState) (station : StationState) : Type 0 where
   -- no frame is to be sent
   pub to_send : frames_to_send station.world ≡ []
@@ -55,9 +55,9 @@ pub record HostHasNoFrames (host : HostState) (station : StationState) : Type 0 
   pub held : frames_held host.driver.oldest_receive station.world ≡ []
   -- every socket's queue is empty
   pub queues : host.queues ≡ replicate (length host.kinds) []
-  -- no frame waits at its end of the wire
+  -- no frame waits at the host's end of the wire
   pub backlog : station.backlog ≡ []
-  -- nothing was counted
+  -- all counts are 0
   pub counts : CountsNothing host station.world
 
 -- The host's driver is ready, no work is forgotten, the ring is refilled, and both sides of its adapter are enabled.
@@ -66,79 +66,79 @@ pub record IsReadyToRun (host : HostState) (world : World) : Type 0 where
   pub ready : HostReady host world
   -- no work is forgotten
   pub work : HasNoForgottenWork host.driver world
-  -- no buffer is free, or all slots but one are offered
+  -- no buffer is free, or all slots except one are outstanding
   pub refilled : IsRefilled host.driver
   -- no slot is staged
   pub offered : host.driver.staged ≡ []
-  -- both sides of its adapter are enabled
+  -- both sides of the adapter are enabled
   pub can : CanAnswer world.adapter
 
--- The host's rings, buffers, sockets, packet buffer, filter and groups are the plan's, and its memory ends with its
--- last buffer.
+-- The host's rings, buffers, sockets, packet buffer, filter and groups are those of its plan, and its memory ends with
+-- the last buffer.
 pub record HasPlansSizes (plan : HostPlan) (host : HostState) (world : World) : Type 0 where
-  -- its rings and buffers have the plan's sizes
+  -- rings and buffers have the plan's sizes
   pub layout : host.driver.layout ≡ configured_counts plan.config
-  -- its memory ends with its last buffer
+  -- the memory ends with the last buffer
   pub memory : length world.memory ≡ size_of (configured_counts plan.config)
-  -- its sockets are the plan's
+  -- the sockets are the plan's
   pub kinds : host.kinds ≡ plan.sockets.items
   -- PBA.RXA is the plan's
   pub allocation : world.adapter.receive_kilobytes ≡ plan.config.rxa
-  -- its receive filter is the plan's
+  -- the receive filter is the plan's
   pub filter : HasPlansFilter plan world.adapter.filter
-  -- its adapter has the setup that its driver keeps
+  -- the adapter has the driver's setup
   pub set_up : HasSetup host.driver.setup world.adapter
-  -- the groups that its configuration names are joined, each once
+  -- the groups of the configuration are joined, each once
   pub groups : AreNamedOnce plan.config.groups.items host.driver.groups
-  -- MTA has exactly the bits of their numbers
+  -- MTA has exactly the bits of the joined groups
   pub table : HasTable host.driver.groups world
 
--- The host's EEPROM is the plan's, with a right checksum. Its link has the plan's setting, and is up now.
+-- The host's EEPROM is the plan's, with a right checksum. The link has the plan's setting, and is up.
 pub record HasPlansDevices (plan : HostPlan) (world : World) : Type 0 where
-  -- its EEPROM has the plan's words
+  -- the EEPROM has the plan's words
   pub image : world.adapter.image ≡ plan.image
-  -- their checksum is right
+  -- the checksum is right
   pub sum : HasRightSum plan.image
-  -- its link has the plan's setting
+  -- the link has the plan's setting
   pub link_is : world.adapter.phy.link ≡ plan.link
-  -- its link comes up after some number of ticks
+  -- the setting isn't that of a link that is never up
   pub comes : plan.link ≢ Never
-  -- its link is up
+  -- the link is up
   pub link : HasLink world
 
--- the causes that ticks of the PHY record: LSC, MDAC, both or neither
+-- these are causes that ticks of the PHY record: LSC, MDAC, both or neither
 abbrev pub AreOfPhy : ℕ → Type 0
 AreOfPhy causes = (ticked : Ticked) × (causes ≡ causes_told ticked)
 
--- Of the causes in ICR, only LSC and MDAC can be set. IMS enables neither, so the interrupt line isn't asserted.
+-- No causes except LSC and MDAC are recorded, and the interrupt line isn't asserted.
 pub record HasNoInterrupt (world : World) : Type 0 where
-  -- no cause but LSC and MDAC is recorded
+  -- no causes except LSC and MDAC are recorded
   pub recorded : AreOfPhy world.adapter.causes.recorded
   -- the interrupt line isn't asserted
   pub line : is_asserted world.adapter ≡ false
 
--- A host and its station after initialization by its plan. What holds of every adapter holds of its adapter.
+-- A host and its station after initialization by its plan.
 pub record ComesUp (plan : HostPlan) (host : HostState) (station : StationState) : Type 0 where
-  -- the host is ready, and nothing waits for it
+  -- the host is ready, no work is forgotten, and the ring is refilled
   pub ready : IsReadyToRun host station.world
-  -- its sizes, its filter and its groups are the plan's
+  -- the host's sizes, filter and groups are the plan's
   pub sizes : HasPlansSizes plan host station.world
-  -- its EEPROM and its link are the plan's
+  -- the host's EEPROM and link are the plan's
   pub devices : HasPlansDevices plan station.world
-  -- no frame is anywhere
+  -- the host has no frames
   pub no_frames : HostHasNoFrames host station
   -- the host has no interrupt
   pub no_interrupt : HasNoInterrupt station.world
-  -- what holds of every adapter holds of its adapter
+  -- its adapter has values that are possible in an adapter
   pub adapter : IsAdapter station.world.adapter
 
--- A link that comes up within this number of ticks is found: its state is read up to `most_reads` (1,000) times, each time by two accesses,
--- and a tick of the PHY comes before each access.
+-- A link that needs at most this number of ticks is found. The PHY's status is read up to `most_reads` (1,000) times,
+-- each time by two accesses. A tick of the PHY comes before each access.
 abbrev pub most_link_ticks : ℕ
 most_link_ticks = 2 * most_reads
 
--- Why a host isn't initialized, other than that memory is refused: its EEPROM's checksum is wrong; or it is right, and the link needs more
--- than 2,000 ticks or never comes up.
+-- The error is right for this plan. Checksum: the EEPROM's checksum is wrong. NoLink: the checksum is right, and the
+-- link needs more than 2,000 ticks or is never up.
 abbrev pub IsDevices : HostPlan → InitError → Type 0
 IsDevices plan Checksum = ¬ (HasRightSum plan.image)
 IsDevices plan NoLink = HasRightSum plan.image × NeedsMoreThan most_link_ticks plan.link
@@ -148,9 +148,9 @@ abbrev pub IsReason : HostPlan → InitError → Type 0
 IsReason plan Memory = ⊤
 IsReason plan error = IsDevices plan error
 
--- All hosts.
+-- All hosts
 
--- a wire's number is the number of the first host that names it
+-- the number of a wire: the number of the first host whose plan names it
 abbrev pub wire_number : List HostPlan → String Global → ℕ
 wire_number plans wire = position_or_len (λ (plan : HostPlan). string_eq plan.wire wire) plans
 
@@ -176,18 +176,18 @@ ShareWires plans stations =
     → slice_get stations j ≡ Some a → slice_get stations k ≡ Some b
     → (a.wire ≡ b.wire) ↔ IsTrue (string_eq one.wire other.wire)
 
--- Each of the first `count` hosts has a right checksum, and a link that comes up after some number of ticks, which
--- isn't stated here.
+-- Each of the first `count` hosts has a right checksum, and a link that isn't set to be never up.
 abbrev pub CanComeUp : List HostPlan → ℕ → Type 0
 CanComeUp plans count =
     (k : ℕ) (plan : HostPlan) → k < count → slice_get plans k ≡ Some plan → HasRightSum plan.image × (plan.link ≢ Never)
 
--- This host of the plan can't be initialized, for this reason, and those before it can.
+-- This host of the plan can't be initialized, for the reason that this error states, and `CanComeUp` holds for the
+-- hosts before it.
 abbrev pub IsNotUp : List HostPlan → ℕ → InitError → Type 0
 IsNotUp plans number error =
     (plan : HostPlan) × (slice_get plans number ≡ Some plan) × IsDevices plan error × CanComeUp plans number
 
--- Why the hosts of a plan can't be initialized.
+-- The error is right for the hosts of this plan.
 abbrev pub IsRefusal : List HostPlan → PlanError → Type 0
 IsRefusal plans refused.Memory = ⊤
 IsRefusal plans (refused.Init number error) = IsNotUp plans number error

@@ -1,4 +1,4 @@
--- The laws of runs.
+-- Laws of runs.
 use Rattle.std.specs.Prelude.{⊤, ◌≡◌, ◌≢◌, ◌<◌, ◌++◌, ℕ, All, List, length}
 use Rattle.descriptors.specs.Frames.{IsLegal}
 use Rattle.rx_engine.specs.declared.arrival.Fate.TheVariants.{Illegal}
@@ -9,7 +9,7 @@ use Rattle.network_plan.specs.declared.event.Event.{Event}
 use Rattle.network_plan.specs.declared.plan.HostPlan.{HostPlan}
 use Rattle.network_plan.specs.declared.reply.Reply.{Reply}
 use Rattle.host_calls.specs.Networks.{NetworkState}
-use Rattle.wire.specs.NewNetworks.{IsMade}
+use Rattle.wire.specs.NewNetworks.{IsMadeByPlan}
 use Rattle.wire.specs.Runs.{RunsTo, happenings}
 
 -- If one run ends where the next begins, both together are one run.
@@ -18,23 +18,25 @@ RunsJoin =
     (a b c : NetworkState) (events later : List Event) (before between behind : List Reply)
     → RunsTo a events before between b → RunsTo b later between behind c → RunsTo a (events ++ later) before behind c
 
--- Each frame that a host has to send is legal, and each that waits at the end of a host's wire: it has 60 to 1,518 bytes.
+-- Each frame that a host has to send, and each frame that waits at an end of a wire, has a legal size of 60 to 1,518
+-- bytes.
 pub record HasLegalFrames (network : NetworkState) : Type 0 where
-  -- the frames that a host has to send
+  -- each frame that a host has to send is legal
   pub to_send : (k : ℕ) → k < length network.hosts → All IsLegal (frames_to_send (world_at network.stations k))
-  -- the frames that wait at the end of a host's wire
+  -- each frame that waits at a host's end of its wire is legal
   pub waiting : (k : ℕ) → k < length network.hosts → All IsLegal (backlog_at network.stations k)
 
--- In this happening no frame met the fate Illegal at host k.
+-- This happening isn't the arrival of a frame at host k with the fate Illegal.
 abbrev pub IsNotIllegal : (k : ℕ) → Happening → Type 0
 IsNotIllegal k (Reached host frame fate) = k ≡ host → fate ≢ Illegal
 IsNotIllegal k other = ⊤
 
--- A network that a plan made has only legal frames: it has none.
+-- A network that `Lan::new` made has only legal frames, because it has no frames.
 abbrev pub NewNetworksAreLegal : Type 0
-NewNetworksAreLegal = (plans : List HostPlan) (network : NetworkState) → IsMade plans network → HasLegalFrames network
+NewNetworksAreLegal = (plans : List HostPlan) (network : NetworkState) → IsMadeByPlan plans network → HasLegalFrames network
 
--- If a network has only legal frames, no frame meets the fate Illegal in a run, and the network has only legal frames afterwards.
+-- If a network has only legal frames, no frame has the fate Illegal in a run, and the network has only legal frames
+-- after the run.
 abbrev pub RunsStayLegal : Type 0
 RunsStayLegal =
     (old new : NetworkState) (events : List Event) (before behind : List Reply) (runs : RunsTo old events before behind new)

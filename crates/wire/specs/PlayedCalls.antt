@@ -1,8 +1,9 @@
 -- The contracts of the private functions that play one event: a call or a reset with its ticks, or a tick outside a
--- call (our choice). None of this is part of the contract of `Lan::run`: an `EventRuns` (specs/Runs) is built from it.
+-- call (our choice). The contract of `Lan::run` doesn't use these definitions; its `EventRuns` (specs/Runs) follows
+-- from them.
 use Rattle.std.specs.Prelude.{◌≡◌, ℕ, All, List}
 use Rattle.bus.specs.TickGroups.{without_go}
-use Rattle.packet_socket.specs.CallEffects.{request_of}
+use Rattle.packet_socket.specs.CallEffects.{call_request}
 use Rattle.packet_socket.specs.HostState.{HostState}
 use Rattle.stations.specs.AtomicRuns.{IsTick, LeadsTo, is_go, steps_told}
 use Rattle.stations.specs.AtomicSteps.{AtomicStep, Watched, watched}
@@ -10,7 +11,7 @@ use Rattle.stations.specs.PlayedTicks.{PlaysTicks}
 use Rattle.stations.specs.Stations.{StationState}
 use Rattle.stations.specs.declared.observer.Observer.{Ghosts as OfObserver}
 use Rattle.stations.specs.declared.tick.Tick.{Tick}
-use Rattle.delivery.specs.Happenings.{happened_in, told_alone}
+use Rattle.delivery.specs.Happenings.{happened_in, lone_tick_happenings}
 use Rattle.network_plan.specs.EventCalls.{Alone, ByCall, ByReset, EventCall, EventKind}
 use Rattle.network_plan.specs.declared.event.Event.{Event}
 use Rattle.network_plan.specs.declared.reply.Answer.TheVariants.{NoHost}
@@ -18,29 +19,29 @@ use Rattle.network_plan.specs.declared.reply.Reply.{Reply}
 use Rattle.host_calls.specs.ConnectedHosts.{connected}
 use Rattle.host_calls.specs.Networks.{IsHost, NetworkState}
 use Rattle.wire.specs.RunObservers.{TellsReply, ending}
-use Rattle.wire.specs.Runs.{AnswersCall, AnswersReset, HostsGo, IsCallReply, IsTickReply, reset_answer, said_by, said_in_reset}
+use Rattle.wire.specs.Runs.{AnswersCall, AnswersReset, HostsGo, IsCallReply, IsTickReply, reset_answer, call_happenings, said_in_reset}
 use Rattle.wire.specs.declared.events.Call.{Call}
 use Rattle.wire.specs.declared.events.Part.{Part}
 use Rattle.wire.specs.declared.events.Part.TheVariants as parts
 
--- the values that a `Call` and a `Part` of the code stand for
+-- the values of a `Call` and of a `Part` in contracts
 abbrev pub call_in : Call → EventCall
-call_in call = record { host = call.host; request = request_of call.call; ticks = call.ticks.now }
+call_in call = record { host = call.host; request = call_request call.call; ticks = call.ticks.now }
 
 abbrev pub part_in : Part → EventKind
 part_in (parts.Call call) = ByCall (call_in call)
 part_in (parts.Reset reset) = ByReset reset.host reset.ticks.now
 part_in (parts.Tick tick) = Alone tick
 
--- A call was made, and `reply` is its reply.
+-- A call was made, with the reply `reply`.
 pub record CallPlayed (call : EventCall) (reply : Reply) (old new : NetworkState) : Type 0 where
   pub steps : List AtomicStep
-  pub go : HostsGo call.host (said_by call reply) steps old new
+  pub go : HostsGo call.host (call_happenings call reply) steps old new
   pub replied : IsCallReply call.host call.ticks reply steps old new
   pub answer : (h h' : HostState) → IsHost old call.host h → IsHost new call.host h'
       → AnswersCall call reply.answer steps (connected h old.stations) (connected h' new.stations)
 
--- A reset was made, and `reply` is its reply.
+-- A reset was made, with the reply `reply`.
 pub record ResetPlayed (host : ℕ) (ticks : List Tick) (reply : Reply) (old new : NetworkState) : Type 0 where
   pub steps : List AtomicStep
   pub go : HostsGo host (said_in_reset host (reset_answer reply.answer) ticks reply.outcomes.list) steps old new
@@ -48,19 +49,20 @@ pub record ResetPlayed (host : ℕ) (ticks : List Tick) (reply : Reply) (old new
   pub answer : (h h' : HostState) → IsHost old host h → IsHost new host h'
       → AnswersReset host ticks reply.answer steps (connected h old.stations) (connected h' new.stations)
 
--- The ticks of a call or a reset for a host that isn't there were played, and the observer was told that there is no such host.
+-- The ticks of a call or a reset for a host that doesn't exist were played, and the observer was told the answer
+-- NoHost.
 pub record AbsentTold {O : Type 0} (observers : OfObserver O) (ran : O → O → List Event → List Reply → Type 0) (event : Event)
     (ticks : List Tick) (old new : Watched O) : Type 0 where
   pub ticked : O
   pub plays : PlaysTicks observers (without_go is_go ticks) 0 old (watched new.stations ticked)
   pub tells : TellsReply ran event (ending 0 NoHost (steps_told 0 plays.steps)) old.observer new.observer
 
--- A tick was played outside a call.
+-- A tick was played outside a call, with the reply `reply`.
 pub record TickPlayed (tick : Tick) (reply : Reply) (old new : List StationState) : Type 0 where
   pub steps : List AtomicStep
   pub are : All IsTick steps
   pub leads : (caller : ℕ) → LeadsTo caller steps old new
-  pub said : told_alone tick reply.outcomes.list ≡ happened_in steps
-  -- whatever hosts there are
+  pub said : lone_tick_happenings tick reply.outcomes.list ≡ happened_in steps
+  -- this holds for any hosts
   pub replied : (hosts : List HostState)
       → IsTickReply tick reply steps (record { hosts = hosts; stations = old }) (record { hosts = hosts; stations = new })

@@ -1,4 +1,4 @@
-// The observer of a run that collects its replies.
+// The observer with which `Lan::run` collects replies.
 
 ghost use Rattle.std.specs.Prelude.{◌≡◌, IsOk};
 
@@ -8,14 +8,14 @@ use network_plan::{Answer, Event, Reply};
 use stations::{HeapFrame, Observer, Outcomes, Tick};
 use std::alloc::{AllocError, Global};
 
-/// Collects a reply for each event of a run.
+/// An observer that collects a reply for each event of a run.
 #[derive(Drop)]
 pub(crate) struct Collector {
     pub(crate) alloc: Global,
     pub(crate) replies: Vec<Reply>,
-    /// The outcomes of the event's ticks.
+    /// The outcomes of the ticks of the current event.
     pub(crate) outcomes: Outcomes,
-    /// Room for a frame that a socket returns.
+    /// An empty place for a frame that a socket returns.
     pub(crate) frame: Option<HeapFrame>,
 }
 
@@ -23,7 +23,7 @@ impl Collector {
     ghost use Rattle.std.specs.Prelude.{◌≡◌, ◌≤◌, [], IfOk};
     ghost use Rattle.wire.specs.Collecting.{CollectsTicks, HasPlaceForReply};
 
-    /// Appends replies to these.
+    /// A collector that appends replies to these.
     pub(crate) fn new(alloc: Global, replies: Vec<Reply>) -> Collector
         ensures replies { result.replies ≡ replies }
         ensures none { result.outcomes.list ≡ [] }
@@ -36,7 +36,7 @@ impl Collector {
         }
     }
 
-    /// Makes room for the reply to an event with this many ticks.
+    /// Makes room for the reply to an event with `ticks` ticks.
     ///
     /// # Errors
     ///

@@ -1,4 +1,4 @@
-// What a network counts of its hosts.
+// The counts of a host.
 
 ghost use Rattle.std.specs.Prelude.{◌≤◌, ◌↔◌, IfSome, IsNone, length};
 ghost use Rattle.packet_socket.specs.HostState.{HostState};
@@ -9,28 +9,29 @@ ghost use Rattle.wire.specs.Equations.{NetworkStands};
 
 use crate::Lan;
 
-/// What was counted of a host.
+/// The counts of a host.
 #[derive(Clone, Copy, Debug, PartialEq, Eq)]
 pub struct Counts {
-    /// Frames that its adapter missed because the receive packet buffer was full: the sum of what its driver read from
-    /// MPC, plus MPC's value now, saturated.
+    /// The number of frames that the adapter missed because the receive packet buffer had no room. It is the sum of the
+    /// values that the driver read from MPC, plus MPC, up to the greatest `u64`.
     pub missed: u64,
-    /// Whether `missed` is exact; if not, there were more. It is always exact below 0xFFFF_FFFF.
+    /// Whether `missed` is exact; if not, there may have been more missed frames. A value of `missed` below 0xFFFF_FFFF
+    /// is always exact.
     pub exact: bool,
-    /// RNBC: frames that came while no descriptor was free.
+    /// RNBC: the number of frames that were stored or missed while RDH was equal to RDT.
     pub without_descriptor: u32,
-    /// GPRC: frames whose descriptor was written back.
+    /// GPRC: the number of received frames whose last descriptor was written back.
     pub received: u32,
-    /// GPTC: frames that were put onto the wire.
+    /// GPTC: the number of frames that were put onto the wire.
     pub transmitted: u32,
-    /// Frames that went to no socket, up to the greatest `u64`.
+    /// The number of received frames that went to no socket; it saturates at the greatest `u64`.
     pub unclaimed: u64,
 }
 
 impl Lan {
-    /// The counts of a host, or `None` if the host isn't there. Nothing is cleared.
+    /// The counts of a host, or `None` if there is no such host. No count is cleared.
     ///
-    /// - `stands`: each host stands. It does between any two calls of this network.
+    /// - `stands`: `HostStands` holds for each host of the network.
     pub fn counts(&self, host: usize) -> Option<Counts>
         ensures none { IsNone result ↔ (length self.now.hosts ≤ host) }
         ensures counts { (state : HostState) → IsHost self.now host state

@@ -8,13 +8,13 @@ ghost use Rattle.wire.specs.DrainedNetworks.{NetworkDrains};
 ghost use Rattle.host_calls.specs.Networks.{IsHost};
 
 use crate::Lan;
-use host_calls::Outlet;
+use host_calls::FrameSink;
 use rx_engine::MOST_FRAMES;
 
 impl Lan {
-    /// The number of frames for which a [`drain`](Lan::drain) of a host needs room: its receive buffers, and the
-    /// [`MOST_FRAMES`] frames (614) that its packet buffer may hold. A host never has more for its sockets. It is 0 if
-    /// the host isn't there.
+    /// The number of frames for which a [`drain`](Lan::drain) of a host needs room: the number of its receive buffers,
+    /// plus [`MOST_FRAMES`] (614) for its packet buffer. A host never holds more frames than this number. Returns 0 if
+    /// there is no such host.
     pub fn drain_room(&self, host: usize) -> usize
         ensures there { (state : HostState) → IsHost self.now host state
             → result ≡ state.driver.layout.buffers + MOST_FRAMES }
@@ -28,15 +28,15 @@ impl Lan {
         usize::from(host.layout().buffers()) + usize::from(MOST_FRAMES)
     }
 
-    /// Drains a host: passes each frame that it has for its sockets to `sink`, with the socket's number, and returns
-    /// the number of steps, which is 0 if the host isn't there. No memory is allocated. `sink` must have the room that
-    /// [`drain_room`](Lan::drain_room) returns; it keeps the room that it doesn't need.
+    /// Drains a host: passes each frame that the host holds for its sockets to `sink`, with the socket's number, and
+    /// returns the number of steps. If there is no such host, nothing changes, and the result is 0. No memory is
+    /// allocated. `sink` must have room for the number of frames that [`drain_room`](Lan::drain_room) returns.
     ///
     /// Each step is the first of these that applies. If a piece of a frame is in progress, the host's adapter writes
-    /// back its descriptor. If the interrupt line is asserted, the host handles an interrupt. If a frame waits for a
-    /// socket, the first such socket returns its oldest. If the receive packet buffer has a frame, the adapter moves
-    /// its next piece to the ring.
-    pub fn drain<S: Outlet>(&mut self, host: usize, sink: &mut S) -> u64
+    /// back the descriptor of the piece. If the interrupt line is asserted, the host handles an interrupt. If a frame
+    /// is queued for a socket, the first such socket returns its oldest frame. If the receive packet buffer contains a
+    /// frame, the adapter moves the next piece of the oldest frame to memory.
+    pub fn drain<S: FrameSink>(&mut self, host: usize, sink: &mut S) -> u64
         requires room { (state : HostState) → IsHost self.old host state
             → state.driver.layout.buffers + MOST_FRAMES ≤ S.room_left sink.old }
         ensures drains { NetworkDrains self.old host result (S.frames sink.old) (S.frames sink.new) self.new }

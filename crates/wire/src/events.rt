@@ -34,7 +34,7 @@ pub(crate) struct Reset<'a> {
     pub(crate) ticks: &'a [Tick],
 }
 
-/// What an event is: a call with its ticks, a reset with its ticks, or a tick outside a call.
+/// An event as one of three kinds: a call with its ticks, a reset with its ticks, or a tick outside a call.
 #[derive(Clone, Copy, Drop)]
 pub(crate) enum Part<'a> {
     Call(Call<'a>),
@@ -87,7 +87,7 @@ impl<'a> Part<'a> {
     }
 }
 
-/// The answer that ends the event of a call, without its frame, and the size of the frame in bytes; 0 without a frame.
+/// The answer of the event of a call, without its frame, and the size of the frame in bytes; 0 if there is no frame.
 fn ending_of(answer: HostAnswer<usize>) -> (Answer<()>, usize)
     requires legal { IsLegalAnswer answer }
     ensures short { result.1 ≤ 1518 }
@@ -104,7 +104,7 @@ fn ending_of(answer: HostAnswer<usize>) -> (Answer<()>, usize)
     }
 }
 
-/// Answers a call for a host that isn't there: only its ticks are played.
+/// Plays the ticks of a call for a host that doesn't exist, and answers `NoHost`.
 #[inline(never)]
 fn no_host<O: RunObserver>(network: &mut Network, event: &Event, ticks: &[Tick], observer: &mut O)
     requires answer { O.ready observer.old event.now }
@@ -119,7 +119,7 @@ fn no_host<O: RunObserver>(network: &mut Network, event: &Event, ticks: &[Tick],
 }
 
 /// Makes the call of an event, while its ticks are played. A frame that a socket returns is copied to the front of
-/// `given`, and is lent to the observer.
+/// `given`, and lent to the observer.
 #[inline(always)]
 pub(crate) fn make_call<O: RunObserver>(
     network: &mut Network,
@@ -144,12 +144,12 @@ pub(crate) fn make_call<O: RunObserver>(
     observer.answer(event, called.accesses, answer, &given[..size]);
 }
 
-/// Resets the adapter of the host of an event, while its ticks are played. The observer gets the frames that are given
-/// up.
+/// Resets the adapter of the host of an event, while its ticks are played. The observer gets the frames that the reset
+/// drops.
 ///
 /// # Errors
 ///
-/// Only if memory for these frames is refused. Then nothing has changed.
+/// Only if memory for these frames can't be allocated. After this error, nothing has changed.
 #[inline(never)]
 pub(crate) fn make_reset<O: RunObserver>(
     network: &mut Network,
@@ -184,8 +184,8 @@ pub(crate) fn make_reset<O: RunObserver>(
 
 /// Plays a tick outside a call. `Go` changes nothing, and its outcome is `Nothing`.
 ///
-/// The network would play `Go` to the same outcome. But there it counts as an atomic step of its own, and in a reply it
-/// is none.
+/// `Network::play` would play `Go` with the same outcome, but as an atomic step of its own. In the steps of an event,
+/// `Go` is no atomic step.
 #[inline(always)]
 pub(crate) fn tick<O: RunObserver>(
     network: &mut Network,
@@ -204,5 +204,5 @@ pub(crate) fn tick<O: RunObserver>(
         Tick::Go => observer.note(tick, 0, Outcome::Nothing, &[]),
         _ => network.play(tick, 0, observer),
     }
-    observer.answer(event, 0, Answer::Ticked, &[]);
+    observer.answer(event, 0, Answer::NoCall, &[]);
 }

@@ -1,4 +1,4 @@
-// A host is initialized by its plan.
+// Initialization of a host by its plan.
 
 ghost use Rattle.std.specs.Prelude.{◌≡◌, ◌≤◌, [], ℕ, IfErr, IfOk, length};
 ghost use Rattle.adapter.specs.Registers.{new_adapter};
@@ -19,9 +19,9 @@ use network_plan::{HostPlan, MOST_SOCKETS};
 use packet_socket::{Host, SocketKind};
 use std::alloc::Global;
 
-/// Makes a host's adapter, and its memory of the layout's size, and initializes the adapter. Before each access of the
-/// initialization, the EEPROM and the PHY take a step, and no frame arrives. Then the host can be connected to any
-/// wire.
+/// Makes a host's adapter, and its memory with the layout's size, and initializes the adapter. Before each access of
+/// the initialization, the EEPROM and the PHY take a step, and no frame arrives. The host isn't connected to a wire
+/// yet.
 ///
 /// # Errors
 ///
@@ -39,11 +39,11 @@ pub fn bring_up_host(alloc: Global, plan: &HostPlan) -> Result<(Host, Machine), 
 }
 
 /// Initializes the adapter of a new machine. Before each access of the initialization, the EEPROM and the PHY take a
-/// step, and no frame arrives. After an error the machine may be in any state, and [`bring_up_host`] drops it.
+/// step, and no frame arrives. After an error, the machine may be in any state.
 ///
 /// # Errors
 ///
-/// As [`bring_up_host`].
+/// Those of [`bring_up_host`].
 fn host_over(alloc: Global, plan: &HostPlan, machine: &mut Machine) -> Result<Host, InitError>
     requires config { HasConfig plan.now }
     requires adapter { machine.old.world.adapter ≡ new_adapter plan.now.image plan.now.link }
@@ -52,7 +52,7 @@ fn host_over(alloc: Global, plan: &HostPlan, machine: &mut Machine) -> Result<Ho
         → ComesUp plan.now host (record { world = machine.new.world; wire = wire; backlog = [] })) }
     ensures why { IfErr result (IsReason plan.now) }
 {
-    // The address has six bytes, so that `comes_up` may say what the filter does with it.
+    // With this call, the proof knows that the address has six bytes. The clause `comes_up` needs this.
     let _address = address_of(&plan.image);
     let table = table_of(plan.sockets.as_slice());
     let mut bus = LivelyBus {
@@ -63,7 +63,7 @@ fn host_over(alloc: Global, plan: &HostPlan, machine: &mut Machine) -> Result<Ho
     Ok(host)
 }
 
-/// A new adapter with the plan's EEPROM and link, and a memory of the size of the plan's layout.
+/// A new adapter with the plan's EEPROM and link, and a memory with the size of the plan's layout.
 ///
 /// # Errors
 ///
@@ -81,7 +81,7 @@ fn machine_of(alloc: Global, plan: &HostPlan) -> Result<Machine, InitError>
     Ok(Machine::new(adapter, memory))
 }
 
-/// The address in an EEPROM.
+/// The Ethernet address in an EEPROM.
 fn address_of(image: &Image) -> [u8; 6]
     ensures address { result ≡ address_bytes image.now }
     ensures is { IsAddress result }
@@ -89,7 +89,7 @@ fn address_of(image: &Image) -> [u8; 6]
     image.address()
 }
 
-/// A table of these sockets.
+/// The table of these sockets.
 fn table_of(kinds: &[SocketKind]) -> ArrayVec<SocketKind, MOST_SOCKETS>
     requires { length kinds.now ≤ MOST_SOCKETS }
     ensures { result.items ≡ kinds.now }

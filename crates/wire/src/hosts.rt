@@ -1,4 +1,4 @@
-// All hosts of a plan are initialized.
+// Initialization of all hosts of a plan.
 
 ghost use Rattle.std.specs.Prelude.{◌≡◌, ◌≢◌, ◌<◌, ℕ, [], IfErr, IfOk, Some, length, position, slice_get};
 ghost use Rattle.std.specs.Prelude.{string_eq};
@@ -17,13 +17,13 @@ use network_plan::{HostPlan, Plan, PlanError};
 use packet_socket::Host;
 use std::alloc::Global;
 
-/// Initializes all hosts of a plan, in order, each with its own adapter and memory. Hosts that name one wire are on it.
-/// Its number is the number of the first host that names it.
+/// Initializes all hosts of a plan, in order, each with its own adapter and memory. Hosts whose plans name the same
+/// wire are on the same wire. The number of a wire is the number of the first host whose plan names it.
 ///
 /// # Errors
 ///
-/// [`Memory`](PlanError::Memory) if memory is refused. [`Init`](PlanError::Init) with the number of the first host
-/// whose EEPROM's checksum is wrong, or whose link needs more than 2,000 ticks or is never up.
+/// [`Memory`](PlanError::Memory) if memory can't be allocated. [`Init`](PlanError::Init) with the number of the first
+/// host whose EEPROM's checksum is wrong, or whose link needs more than 2,000 ticks or is never up.
 pub fn bring_up(alloc: Global, plan: &Plan) -> Result<Network, PlanError>
     requires { HasConfigs plan.now.hosts.items }
     ensures up { IfOk result (λ network. AreUp plan.now.hosts.items (length plan.now.hosts.items) network.hosts
@@ -43,8 +43,8 @@ pub fn bring_up(alloc: Global, plan: &Plan) -> Result<Network, PlanError>
     Ok(network)
 }
 
-/// Initializes one host of a plan, if those before it can be initialized. It isn't connected yet, so this holds
-/// whichever wire it will be on. An error gets the host's number.
+/// Initializes one host of a plan, after the hosts before it. The host isn't connected to a wire yet. An error contains
+/// the host's number.
 fn bring_up_one(
     alloc: Global,
     plans: &[HostPlan],
@@ -63,7 +63,7 @@ fn bring_up_one(
     }
 }
 
-/// The error of a plan whose host wasn't initialized.
+/// The error of a plan, if the initialization of a host failed with this error.
 fn refusal(number: usize, error: InitError) -> PlanError
     ensures memory { error ≡ InitError.Memory → result ≡ PlanError.Memory }
     ensures device { error ≢ InitError.Memory → result ≡ PlanError.Init number error }
@@ -74,14 +74,14 @@ fn refusal(number: usize, error: InitError) -> PlanError
     }
 }
 
-/// The first host that names a wire.
+/// The first host whose plan names a wire.
 fn first_on(plans: &[HostPlan], wire: &String) -> Option<usize>
     ensures { result ≡ position (λ plan. string_eq plan.wire wire.now) plans.now }
 {
     plans.iter().position(|plan| plan.wire == *wire)
 }
 
-/// The number of a wire: that of the first host that names it.
+/// The number of a wire: the number of the first host whose plan names it.
 fn wire_number(plans: &[HostPlan], wire: &String) -> usize
     ensures { result ≡ up.wire_number plans.now wire.now }
 {

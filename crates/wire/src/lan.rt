@@ -10,13 +10,13 @@ use std::marker::Model;
 
 /// Hosts on wires.
 ///
-/// In contracts it is a `NetworkState`, plain data that `specs/Networks.antt` of `host_calls` lists.
+/// In contracts, the value is a `NetworkState` (`specs/Networks.antt` of `host_calls`).
 #[derive(Drop)]
 pub struct Lan {
-    /// Lists of the frames that a reset gives up are allocated by it.
+    /// The allocator of the lists of frames that a reset drops.
     pub(crate) alloc: Global,
     pub(crate) network: Network,
-    /// The bytes of the last frame that a socket returned, which are lent to the observer.
+    /// The bytes of the frame that a socket returned last. They are lent to the observer.
     pub(crate) given: [u8; 1518],
 }
 
@@ -38,11 +38,12 @@ impl Lan {
     ghost use Rattle.network_plan.specs.EventCalls.{in_event};
     ghost use Rattle.wire.specs.Runs.{EventRuns, IsResetOf, RunTold, RunsTo, StopsAt};
 
-    /// Runs one event. The observer has room for all that comes of it.
+    /// Runs one event. The observer must have room for the outcomes of the event's ticks, and for its answer.
     ///
     /// # Errors
     ///
-    /// Only if it is a reset, and memory for the frames that it gives up is refused. Then nothing has changed.
+    /// Only if the event is a reset, and memory for the frames that it drops can't be allocated. After this error,
+    /// nothing has changed.
     #[inline(always)]
     fn event<O: RunObserver>(&mut self, event: &Event, observer: &mut O) -> Result<(), AllocError>
         requires room { HasRoomForEvent O.ready O.room_left event.now observer.old }
@@ -66,13 +67,13 @@ impl Lan {
         }
     }
 
-    /// Runs events in order. Before each event the observer is asked to make room for it. Then it is told the outcome
-    /// of each tick, and the answer.
+    /// Runs events in order. Before each event, the observer is asked to make room for it. During the event, the
+    /// observer is told the outcome of each tick, and at its end the answer.
     ///
     /// # Errors
     ///
-    /// Only if the observer refuses to make room for an event, or if memory for the frames that a reset gives up is
-    /// refused. The events before that one were run and told, and it changed nothing in the network.
+    /// Only if the observer refuses to make room for an event, or if memory for the frames that a reset drops can't be
+    /// allocated. The events before this event were run and told, and this event changed nothing in the network.
     #[inline(always)]
     pub fn play<O: RunObserver>(
         &mut self,
@@ -98,18 +99,19 @@ impl Lan {
     }
 
     /// Runs events in order, and appends a reply for each. Whatever the events are, each socket returns the frames for
-    /// it in order, each at most once: `delivers` of `RunsTo` states it of the whole run, and
-    /// [`runs_join`](crate::runs_join) of several. Before and after each event, each buffer has one owner. A frame is
-    /// lost only if its size is illegal (fewer than 60 or more than 1,518 bytes), the filter rejects it, the receive
-    /// packet buffer has no room for it, no socket takes it, or a reset gives it up or disables the receiver. In a
-    /// network that [`new`](Lan::new) made, no frame is illegal ([`frames_are_legal`](crate::frames_are_legal)).
-    /// Missed frames and frames without a socket are counted, until a count saturates; replies report the other losses.
+    /// it in order, each once, or the host still holds them, or a reset dropped them. `delivers` of `RunsTo` states
+    /// this for the whole run, and [`runs_join`](crate::runs_join) for several runs. Before and after each event, each
+    /// buffer has one owner. A frame is lost only if its size is illegal (fewer than 60 or more than 1,518 bytes), the
+    /// filter rejects it, the receive packet buffer has no room for it, or no socket takes it. A frame is also lost if
+    /// a reset drops it, or disables the receiver before it arrives. In runs that follow each other, the first from a
+    /// network that [`new`](Lan::new) made, no frame is illegal ([`frames_are_legal`](crate::frames_are_legal)). Missed
+    /// frames and frames without a socket are counted, until a count saturates; replies report the other losses.
     ///
     /// # Errors
     ///
-    /// If memory for the reply of an event, or for the frames that a reset gives up, is refused. The first `done`
-    /// events were run and answered, and this event changed nothing. A contract can't name the allocator's answers, so
-    /// no clause states that this is the only reason.
+    /// If memory for the reply to an event, or for the frames that a reset drops, can't be allocated. The first `done`
+    /// events were run and have replies, and the next event changed nothing. A contract can't name the results of an
+    /// allocator, so no clause states that this is the only reason.
     pub fn run(
         &mut self,
         alloc: Global,

@@ -1,16 +1,17 @@
-// The laws of runs.
+// Laws of runs.
 
 ghost use Rattle.wire.specs.Laws.{NewNetworksAreLegal, RunsJoin, RunsStayLegal};
 
-/// A run and a run that begins where it ended are together one run of the events of both.
+/// A run, and a second run that begins where the first run ended, form one run of the events of both.
 pub fn runs_join()
     ensures { RunsJoin }
 {}
 
-/// No frame is illegal in a network that [`new`](crate::Lan::new) made. A frame is legal if it has 60 to 1,518 bytes.
-/// - `made`: a network that a plan made has only legal frames, as it has none.
-/// - `stays`: if a network has only legal frames, then no frame meets the fate Illegal in a run, and the network has
-///   only legal frames afterwards.
+/// In runs that follow each other, the first from a network that [`new`](crate::Lan::new) made, no frame is illegal. A
+/// frame is legal if it has 60 to 1,518 bytes.
+/// - `made`: a network that [`new`](crate::Lan::new) made has only legal frames, because it has no frames.
+/// - `stays`: if a network has only legal frames before a run, no frame has the fate Illegal in the run. The network
+/// has only legal frames after the run.
 pub fn frames_are_legal()
     ensures made { NewNetworksAreLegal }
     ensures stays { RunsStayLegal }

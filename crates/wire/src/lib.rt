@@ -1,5 +1,5 @@
-//! Hosts on wires, each initialized by its plan, and runs of calls, interrupts, adapter steps and deliveries over them,
-//! interleaved at every access.
+//! Networks of hosts on wires, initialized by a plan, and runs of events: calls, resets, adapter steps and deliveries.
+//! Steps and deliveries may also come between any two accesses of a call.
 #![tactic(auto)]
 
 mod collector;
@@ -16,7 +16,7 @@ mod run_observer;
 
 pub use counts::Counts;
 pub use host::bring_up_host;
-pub use host_calls::Outlet;
+pub use host_calls::FrameSink;
 pub use hosts::bring_up;
 pub use lan::Lan;
 pub use law::{frames_are_legal, runs_join};

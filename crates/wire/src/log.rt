@@ -9,11 +9,11 @@ use descriptors::Frame;
 use stations::LOG_ENTRIES;
 
 impl Lan {
-    /// The log of a host's wire: the frames that hosts put on the wire, in order, each with the number of its sender.
-    /// It has at most 1,024 entries. If it is full when a host puts a frame, the entries that each other end has read
-    /// are dropped. The log of a host that isn't there is empty.
+    /// The log of a host's wire: frames that hosts put on the wire, in order, each with the number of its sender. The
+    /// log has at most 1,024 entries. If the log is full when a host puts a frame, entries that all ends except their
+    /// senders' have read are dropped. If there is no such host, the result is empty.
     ///
-    /// - `waits`: the frames that wait at the host's end are the last ones in the log that other hosts put.
+    /// - `waits`: the frames that wait at the host's end are the last entries of other senders in the log.
     pub fn log(&self, host: usize) -> &[(usize, Frame)]
         ensures waits { backlog_at self.now.stations host
             ≡ last_of_others host (length (backlog_at self.now.stations host)) result.now }

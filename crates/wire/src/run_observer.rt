@@ -1,4 +1,4 @@
-// The observer of a run.
+// Observers of runs.
 
 ghost use Rattle.std.specs.Bool.{OnFalse, OnTrue};
 ghost use Rattle.std.specs.Prelude.{◌≡◌, ◌≤◌, [], List, length};
@@ -12,21 +12,23 @@ ghost use Rattle.wire.specs.RunObservers.{AreOfTicks, ComposesRuns, HasRoomForEv
 use network_plan::{Answer, Event};
 use stations::Observer;
 
-/// Is told what comes of a run: the outcome of each tick, as any [`Observer`], and the answer that ends an event.
+/// An observer of a run. It is told the outcome of each tick, as any [`Observer`], and the answer of each event.
 ///
-/// The contract of a run states `ran` of its observer. A run ends early only before an event for which the observer
-/// may refuse room (`refuses`), or before a reset, if memory for the frames that the reset gives up is refused.
+/// The contract of a run states `ran` of its observer. A run ends early only before an event for which the observer may
+/// refuse room (`refuses`), or before a reset. Before a reset, the run ends if memory for the frames that the reset
+/// drops can't be allocated.
 pub trait RunObserver: Observer {
-    /// Between these two of its states, it was told what is in these replies, one reply for each event, in order.
+    /// Between these two states of the observer, it was told the contents of these replies, one for each of these
+    /// events, in order.
     ghost ran: { Self → Self → List Event → List Reply → Type 0 };
 
-    /// This state of the observer has room for the answer of this event.
+    /// The observer, in this state, has room for the answer of this event.
     ghost ready: { Self → Event → Type 0 };
 
-    /// This state of the observer may refuse to make room for this event.
+    /// The observer, in this state, may refuse to make room for this event.
     ghost refuses: { Self → Event → Type 0 };
 
-    /// Makes room for the outcomes and the answer of an event with this many ticks, before its first tick. Returns
+    /// Makes room for the answer of an event, and for the outcomes of its `ticks` ticks, before the first tick. Returns
     /// whether there is room.
     fn make_room(&mut self, event: &Event, ticks: usize) -> bool
         requires count { ticks ≡ length (ticks_of event.now) }
@@ -34,15 +36,15 @@ pub trait RunObserver: Observer {
         ensures room { OnTrue result (HasRoomForEvent ready Self.room_left event.now self.new) }
         ensures refused { OnFalse result (refuses self.old event.now) };
 
-    /// The answer that ends an event, and how many accesses its call made. `frame` is the one that a socket returned,
-    /// at most 1,518 bytes. If the answer has no frame, `frame` may be any bytes.
+    /// Reports to the observer the answer of an event, and the number of accesses of its call. `frame` is the frame
+    /// that a socket returned, of at most 1,518 bytes; it has no meaning for other answers.
     fn answer(&mut self, event: &Event, accesses: u64, answer: Answer<()>, frame: &[u8])
         requires room { ready self.old event.now }
         requires fits { length frame.now ≤ longest_frame }
         ensures { (begin : Self) (ticks : List TickTold) → Self.heard begin self.old ticks → AreOfTicks event.now ticks
             → TellsReply ran event.now (ending accesses (answer_with frame.now answer) ticks) begin self.new };
 
-    /// What it was told in two consecutive intervals is what it was told in both together. Ticks don't use its room for
-    /// an answer.
+    /// In two consecutive intervals together, the observer was told the replies of both, in order. Ticks don't use its
+    /// room for an answer.
     ghost composes_runs: { ComposesRuns Self.heard ran ready };
 }

@@ -1,7 +1,7 @@
-//! How many steps it takes to drain a host, and that a drain takes no memory. Which frames it gives, in which order, is
-//! played on the built program.
+//! Tests of the number of steps of a drain, and that a drain allocates no memory. Tests of the built program check
+//! which frames a drain returns, and in which order.
 
-use crate::outlet::Taken;
+use crate::frame_sink::Taken;
 use crate::texts::prepared;
 use network_plan::PlanError;
 use std::alloc::Global;
@@ -11,44 +11,45 @@ use wire::Lan;
 /// Two hosts on one wire.
 const HOSTS: &str = "host a 02:00:00:00:00:01 w\nhost b 02:00:00:00:00:02 w\n";
 
-/// A socket of b for all frames.
+/// A socket of host `b` for all frames.
 const ALL: &str = "socket b all\n";
 
-/// A socket of b for frames of ARP, and one for all others.
+/// A socket of host `b` for frames of ARP, and a socket for all other frames.
 const TWO: &str = "socket b 0806\nsocket b all\n";
 
-/// A frame of a comes to b's packet buffer.
+/// A frame of host `a` reaches the packet buffer of host `b`.
 const BROUGHT: &str =
     "send a 02000000000202000000000188b5\ntick txtake:a\ntick txput:a\ntick deliver:b\n";
 
-/// One of ARP does.
+/// A frame of ARP from host `a` reaches the packet buffer of host `b`.
 const ASKED: &str =
     "send a 0200000000020200000000010806\ntick txtake:a\ntick txput:a\ntick deliver:b\n";
 
-/// The oldest frame of b is finished in memory.
+/// The adapter of host `b` moves its oldest frame to memory, and finishes the frame.
 const FINISHED: &str = "tick rxdata:b\ntick rxdone:b\n";
 
-/// b sends a frame.
+/// Host `b` sends a frame.
 const SENT: &str = "send b ffffffffffff02000000000288b5\ntick txtake:b\ntick txput:b\n";
 
-/// The beginning of a line by which a sends a frame.
+/// The beginning of a line by which host `a` sends a frame.
 const SEND: &str = "send a ";
 
-/// 60 bytes of a broadcast.
+/// 60 bytes of 0xFF.
 const FF: &str = "ffffffffffffffffffffffffffffffffffffffffffffffffffffffffffff\
 ffffffffffffffffffffffffffffffffffffffffffffffffffffffffffff";
 
-/// The frame that a sent comes to b's packet buffer.
+/// The end of a line by which host `a` sends a frame, and the ticks that move this frame to the packet buffer of host
+/// `b`.
 const COMES: &str = "\ntick txtake:a\ntick txput:a\ntick deliver:b\n";
 
-/// What is played, and the number of steps that drain b after it.
+/// The lines that are played, and the number of steps of the drain of host `b` after them.
 const ROWS: [(&[&str], u64); 6] = [
     (&[ALL, BROUGHT, BROUGHT, BROUGHT], 12),
-    // b has to handle that it sent, too.
+    // One of these steps is an interrupt for TXDW, which the frame of host `b` recorded.
     (&[ALL, BROUGHT, BROUGHT, BROUGHT, SENT], 13),
     (&[BROUGHT], 3),
     (&[TWO, BROUGHT, "tick rxdata:b\n", BROUGHT, ASKED], 11),
-    // Frames wait in both queues; one is in work; and one is in the packet buffer.
+    // A frame is in each queue, one frame is in progress, and one frame is in the packet buffer.
     (
         &[
             TWO,
@@ -88,8 +89,8 @@ fn played(rt: &impl Abort, alloc: Global, lines: &[&str]) -> Option<Lan> {
     Some(lan)
 }
 
-/// Only the first drain of b takes steps. Where memory is refused from some allocation on, all calls after the run
-/// succeed nevertheless, if there is room for the frames.
+/// Only the first drain of host `b` takes steps. All calls succeed even if every allocation after that of the room
+/// for the frames is refused.
 #[test]
 fn drains_take_these_steps_and_no_memory(rt: HostRuntime) {
     let alloc = rt.alloc();

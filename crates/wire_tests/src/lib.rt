@@ -1,14 +1,14 @@
-//! Tests of hosts on wires, over the public calls of `wire` and of what it stands on.
+//! Tests of hosts on wires, through the public calls of `wire` and of the crates that it uses.
 #![tactic(auto)]
 
 #[cfg(test)]
 mod drains;
 #[cfg(test)]
+mod frame_sink;
+#[cfg(test)]
 mod logs;
 #[cfg(test)]
 mod memory_tests;
-#[cfg(test)]
-mod outlet;
 #[cfg(test)]
 mod readme;
 #[cfg(test)]

@@ -1,17 +1,19 @@
-//! The log of a wire: how many entries it has, and which frames wait.
+//! Tests of the log of a wire: the number of its entries, and which frames wait.
 
 use crate::texts::prepared;
 use std::process::Abort;
 use std::test::Fail;
 use wire::Lan;
 
-/// How many frames a puts on the wire.
+/// The number of frames that host `a` puts on the wire.
 const FRAMES: u32 = 2000;
 
-/// How many events bring a frame to the wire.
+/// The number of events at the beginning of `TEXT` by which host `b` puts its frame on the wire: a send, TxTake and
+/// TxPut.
 const PUT: usize = 3;
 
-/// b puts a frame on the wire, which waits at a. Then a puts one, which is delivered to b.
+/// Host `b` puts a frame on the wire, and this frame waits at host `a`. Then host `a` puts a frame, which is delivered
+/// to host `b`.
 const TEXT: &str = "host a 02:00:00:00:00:01 w
 host b 02:00:00:00:00:02 w
 send b 02000000000102000000000288b5
@@ -23,8 +25,8 @@ tick txput:a
 tick deliver:b
 ";
 
-/// While a frame of b waits at a, a puts 2,000 frames. The log has 1,024 entries when the 1,024th of them is put. Then
-/// it keeps the frame that waits, and drops the others. So it has 978 entries at last.
+/// While a frame of host `b` waits at host `a`, host `a` puts 2,000 frames. When the log has 1,024 entries, the next
+/// put drops all entries except the frame that waits. So the log has 978 entries at the end.
 #[test]
 fn a_full_log_keeps_what_waits(rt: HostRuntime) -> Result<(), Fail> {
     let alloc = rt.alloc();

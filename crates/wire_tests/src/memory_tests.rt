@@ -1,12 +1,13 @@
-//! A run goes on after an allocation was refused.
+//! A test that a run continues after an allocation was refused.
 
 use crate::texts::prepared;
 use network_plan::PlanError;
 use std::process::Abort;
 use wire::Lan;
 
-/// Two frames go from a to b, whose socket returns the first; the second waits in b's ring. A third is given up by a
-/// reset of a. Ticks are played inside sends, an interrupt, calls of a socket, and the reset.
+/// Two frames go from host `a` to host `b`. A socket of `b` returns the first frame; the second waits in the ring of
+/// `b`. A reset of `a` gives up a third frame. Ticks are played inside sends, an interrupt, calls of a socket, and the
+/// reset.
 const TEXT: &str = "host a 02:00:00:00:00:01 w
 host b 02:00:00:00:00:02 w
 socket b all
@@ -22,8 +23,8 @@ send a 02000000000202000000000188b503
 reset a / deliver:b
 ";
 
-/// For each event: how many accesses it makes, and how many of its ticks have an outcome. The reset makes 309 accesses,
-/// and one for each of 16 descriptors.
+/// For each event, the number of its accesses, and the number of its ticks that have an outcome. The reset makes 309
+/// accesses, and one more for each of 16 descriptors.
 const COUNTS: [(u64, usize); 10] = [
     (3, 2),
     (0, 1),
@@ -37,9 +38,8 @@ const COUNTS: [(u64, usize); 10] = [
     (325, 1),
 ];
 
-/// Refused memory is the one refusal that is allowed here, so that each allocation can be made to fail in turn. After
-/// it, a network can be made, or the events that weren't done can be run. What a run leaves is stated by its contract,
-/// whether it ends early or not.
+/// The test passes whichever allocation is refused. After the refusal, a network can be made, or the events that
+/// weren't done can be run. The contract of `run` states the network after the run, also if the run stops early.
 #[test]
 fn a_refused_allocation_is_memory(rt: HostRuntime) {
     let alloc = rt.alloc();
@@ -64,7 +64,7 @@ fn a_refused_allocation_is_memory(rt: HostRuntime) {
     for (reply, counts) in replies.iter().zip(&COUNTS) {
         assert_eq!(rt; (reply.accesses, reply.outcomes.as_slice().len()), *counts);
     }
-    // GPTC of a, which its reset cleared, and GPRC of b
+    // GPTC of host `a`, which its reset cleared, and GPRC of host `b`
     assert_eq!(rt; lan.counts(0).map(|counts| counts.transmitted), Some(0));
     assert_eq!(rt; lan.counts(1).map(|counts| counts.received), Some(2));
 }

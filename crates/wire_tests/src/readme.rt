@@ -1,6 +1,6 @@
 //! The code of READMEs, word for word.
 
-use crate::outlet::Taken;
+use crate::frame_sink::Taken;
 use adapter::offsets::EERD;
 use adapter::{Adapter, Outcome, StepKind};
 use arrayvec::ArrayVec;
@@ -46,7 +46,7 @@ fn the_code_of_the_readme_of_wire(rt: HostRuntime) -> Result<(), Fail> {
     lan.run(rt.alloc(), &events, &mut replies)?;
     let handled = Answer::Interrupted(Handled::Handled { taken: 1 });
     assert!(rt; replies.last().is_some_and(|reply| reply.answer == handled));
-    // It is given when host 1 is drained, in one step.
+    // A drain of host 1 returns the frame, in one step.
     let mut taken = Taken::with_room(rt.alloc(), lan.drain_room(1))?;
     assert_eq!(rt; lan.drain(1, &mut taken), 1);
     assert_eq!(rt; taken.list.len(), 1);
@@ -58,7 +58,7 @@ fn the_code_of_the_readme_of_network_plan(rt: HostRuntime) -> Result<(), Fail> {
     let mut plan = Plan {
         hosts: Vec::new(rt.alloc()),
     };
-    assert_eq!(rt; plan.check(), Err(PlanError::Hosts)); // there are less than two
+    assert_eq!(rt; plan.check(), Err(PlanError::Hosts)); // fewer than two hosts
     for (name, last) in [("a", 1), ("b", 2)] {
         let host = HostPlan {
             name: name.to_string(rt.alloc())?,

@@ -2,10 +2,10 @@ use Rattle.std.proofs.Common.{⊎_elim, ◌≡◌, ◌++◌, ℕ, List, Result, 
 use Rattle.std.proofs.lemmas.Bool.{false≢true}
 use Rattle.std.proofs.lemmas.Result.{err_from_is_err_and}
 use Rattle.eeprom.specs.Image.{HasRightSum}
-use Rattle.bus.specs.PastOfStretch.{joined}
+use Rattle.bus.specs.Pasts.{joined}
 use Rattle.bring_up.specs.Device.{FindsDevice}
 use Rattle.bring_up.specs.Link.{NeedsMoreThan}
-use Rattle.bring_up.specs.WrittenRegisters.{allocation_writes, link_writes, reset_writes}
+use Rattle.bring_up.specs.WrittenRegisters.{allocation_writes, enable_link_writes, reset_writes}
 use Rattle.bring_up.specs.declared.init_error.InitError.{InitError}
 use Rattle.bring_up.specs.declared.init_error.InitError.TheVariants.{EepromTimeout, NoLink, PhyTimeout}
 use Rattle.bring_up.proofs.Devices.{device-image, device-link, is-read, is-set, still-ready}
@@ -134,7 +134,7 @@ returns-in_err-await_link-clause-finds g c honest =
         right,
         subst (NeedsMoreThan 2000)
             (device-link (world start) (world c.negotiate.new.bus)
-            (reset_writes ++ (allocation_writes c.args.kilobytes ++ link_writes)) still.settings)
+            (reset_writes ++ (allocation_writes c.args.kilobytes ++ enable_link_writes)) still.settings)
             (waits.slow (LivesOn lively) asked.started.0 (ap Err none)),
       );
     }))

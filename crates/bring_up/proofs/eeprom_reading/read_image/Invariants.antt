@@ -3,7 +3,7 @@ use Rattle.bus.specs.Keeping.{Keeps}
 use Rattle.bring_up.proofs.EepromImages.{FirstWords}
 use Rattle.bring_up.proofs.eeprom_reading.read_image.Given as goal
 
--- The words up to here are the adapter's.
+-- The words read so far are those of the adapter's EEPROM.
 abbrev pub invariant-loop-address : goal.invariant-loop-address
 invariant-loop-address g l = record {
   keeps : Keeps g.B.Bus l.fn.bus l.bus;

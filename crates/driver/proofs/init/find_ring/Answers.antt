@@ -1,11 +1,11 @@
 use Rattle.std.proofs.Common.{◌≡◌, ◌≤◌, ◌*◌, ℕ, List, length, ap, subst, ◌∙◌, sym, arith}
 use Rattle.dma_memory.specs.Layout.{Counts, ReceiveRing}
 use Rattle.dma_memory.specs.LayoutLaws.{place-below_size}
-use Rattle.bus.specs.PastOfStretch.{joined}
+use Rattle.bus.specs.Pasts.{joined}
 use Rattle.bring_up.specs.Configuration.{configured_counts, vlans_of}
 use Rattle.eeprom.specs.Image.{address_bytes}
 use Rattle.bring_up.specs.RestingRings.{HasNewRings, HasReceiveRing, SetsAtRest}
-use Rattle.bring_up.specs.RingRegisters.{ring_writes}
+use Rattle.bring_up.specs.RingRegisters.{ring_setup_writes}
 use Rattle.bring_up.specs.declared.ring_registers.RingPlace.{RingPlace}
 use Rattle.bring_up.specs.FilterSetting.{SetsFilter}
 use Rattle.bring_up.proofs.CausesLeft.{filter-causes, joined-causes, receive_ring-causes, sets-causes}
@@ -31,7 +31,7 @@ returns-clause-finds g c honest =
     let bytes : c.place_of.result.bytes ≡ 16 * config.rx =
     ap (λ (ring : RingPlace). ring.bytes) c.place_of.ensures ∙ ap (λ (n : ℕ). 16 * n) slots in
     let Rests : ℕ → ℕ → Type 0 = λ b n.
-    SetsAtRest g.B.Bus (ring_writes 0x2800 b n) (HasNewRings config.rx) (HasReceiveRing config.rx) b2 b3 in
+    SetsAtRest g.B.Bus (ring_setup_writes 0x2800 b n) (HasNewRings config.rx) (HasReceiveRing config.rx) b2 b3 in
     let ring : Rests 0 (16 * config.rx) =
     subst (Rests 0) bytes (subst (λ (b : ℕ). Rests b c.place_of.result.bytes) base
     (c.set_receive_ring.ensures.rests config.rx h2 c.requires.had.counts.rx base bytes)) in
@@ -55,7 +55,7 @@ returns-clause-finds g c honest =
           (finds-ring g.B.Bus b0 b1 b2 b3 config (g.B.Bus.extent b0) c.in_ok-image.image c.requires.had room finds.found filter ring);
       no_cause = joined-causes one (joined two three) finds.no_cause
           (joined-causes two three (filter-causes g.B.Bus config.groups.items (vlans_of config.vlans) _ b1 b2 filter)
-          (sets-causes g.B.Bus b2 b3 (ring_writes 0x2800 0 (16 * config.rx)) ring.sets (receive_ring-causes 0 (16 * config.rx))));
+          (sets-causes g.B.Bus b2 b3 (ring_setup_writes 0x2800 0 (16 * config.rx)) ring.sets (receive_ring-causes 0 (16 * config.rx))));
       why = tt;
       why_lively = λ lively. tt;
     }

@@ -1,7 +1,7 @@
 use Rattle.std.proofs.Common.{◌≡◌, ◌≤◌, ◌*◌, ℕ, false, ap, sym, subst, ◌∙◌, arith}
 use Rattle.bring_up.specs.ClearedDescriptors.{clears_from}
 use Rattle.bring_up.specs.DriverSteps.{SetsTransmitRing}
-use Rattle.bring_up.specs.RingRegisters.{ring_writes}
+use Rattle.bring_up.specs.RingRegisters.{ring_setup_writes}
 use Rattle.bring_up.specs.declared.ring_registers.RingPlace.{RingPlace}
 use Rattle.dma_memory.specs.Layout.{Counts, IsAllowed}
 use Rattle.driver_law.specs.Calls.{Ran, at, only}
@@ -29,7 +29,7 @@ returns-clause-ran g c d is counts oldest none new =
     sets-transmitter g.B.Bus g.met.B.Bus.composes.joins b0 b1 b2 c.enable_transmitter.new.bus
     d layout counts oldest none (omega (arith, c.requires.allowed.tx.least)) new cleared
     (λ there still.
-    subst (λ (ring : RingPlace). SetsTransmitRing g.B.Bus (ring_writes 0x3800 ring.base ring.bytes) d b1 b2) place
+    subst (λ (ring : RingPlace). SetsTransmitRing g.B.Bus (ring_setup_writes 0x3800 ring.base ring.bytes) d b1 b2) place
     (c.set_transmit_ring.ensures.ran d (record { honest = h1; ready = there }) (record {
       oldest = oldest;
       new = still;

@@ -1,5 +1,5 @@
 use Rattle.driver_law.proofs.Steps.{goes-happens}
-use Rattle.driver_law.proofs.Stretches.{work_kept}
+use Rattle.driver_law.proofs.Intervals.{work_kept}
 use Rattle.driver_law.proofs.law.drivers_go_on.Goals as goal
 
 pub returns : goal.returns

@@ -1,4 +1,4 @@
-use Rattle.packet_socket.proofs.Stretches.{host-happens}
+use Rattle.packet_socket.proofs.Intervals.{host-happens}
 use Rattle.packet_socket.proofs.law.hosts_go_on.Goals as goal
 
 pub returns : goal.returns

@@ -2,7 +2,7 @@ use Rattle.std.proofs.Common.{refl, Bool, ◌&&◌, ◌≡◌, ◌<◌, ◌-◌,
 use Rattle.bus.specs.declared.event.Access.TheVariants.{Reads}
 use Rattle.driver_law.proofs.RegisterAccesses.{ran_by-misses}
 use Rattle.driver_law.specs.DriverState.{DriverState, holding}
-use Rattle.driver.specs.InsideDriver.{state_of}
+use Rattle.driver.specs.InsideDriver.{driver_state_of}
 use Rattle.driver.proofs.driver.Driver.count_missed.Given.{Over}
 use Rattle.driver.proofs.driver.Driver.count_missed.Goals as goal
 use Rattle.driver.proofs.driver.Driver.count_missed.Goals.{then-self, else-self}
@@ -22,10 +22,10 @@ is_exact g c =
 
 -- What it leaves.
 left : (g : Over) (c : goal.After-self-2-1 g)
-    → state_of (record c.self.inside { missed = c.saturating_add-self-inside.result; exact = c.if-self.self })
-    ≡ with_missed c.read-value.result (state_of c.self.inside)
+    → driver_state_of (record c.self.inside { missed = c.saturating_add-self-inside.result; exact = c.if-self.self })
+    ≡ with_missed c.read-value.result (driver_state_of c.self.inside)
 left g c =
-    let shape : ℕ → Bool → DriverState = λ missed exact. record (state_of c.self.inside) { missed = missed; exact = exact } in
+    let shape : ℕ → Bool → DriverState = λ missed exact. record (driver_state_of c.self.inside) { missed = missed; exact = exact } in
     let sum : c.saturating_add-self-inside.result
     ≡ min (c.self.inside.missed + c.read-value.result) (2 ^ 64 - 1) = omega
     (arith, c.saturating_add-self-inside.ensures, c.from.ensures) in
@@ -37,7 +37,7 @@ returns-clause-others g c = rw (← c.self.view_is) (left g c)
 
 pub returns-clause-ran : goal.returns-clause-ran
 returns-clause-ran g c = rw (← c.self.view_is) (λ up held is.
-    let d = holding held (state_of c.self.inside) in
+    let d = holding held (driver_state_of c.self.inside) in
     let new = c.read-value.new.self in
     let below : c.self.inside.missed < 2 ^ 64 = omega arith in
     subst (λ (s : DriverState). Ran g.B.Bus up (only (Reads 0x4010 c.read-value.result ∷ [])) (at c.args.bus.now d)

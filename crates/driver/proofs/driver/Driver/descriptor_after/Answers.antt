@@ -4,7 +4,7 @@ use Rattle.driver_law.proofs.ReceiveAccesses.{ran_by-looks}
 use Rattle.driver_law.specs.Calls.{at}
 use Rattle.driver_law.specs.DriverState.{holding, receive_slot}
 use Rattle.driver_law.specs.OldestSlot.{LooksAtSlot, slot_after_oldest}
-use Rattle.driver.specs.InsideDriver.{state_of}
+use Rattle.driver.specs.InsideDriver.{driver_state_of}
 use Rattle.driver.proofs.BufferQueue.{queue-split}
 use Rattle.driver_law.proofs.Places.{place-sum}
 use Rattle.driver.proofs.driver.Driver.descriptor_after.Goals as goal
@@ -25,7 +25,7 @@ overflow_add-slot g c =
 
 pub returns-clause-looks : goal.returns-clause-looks
 returns-clause-looks g c = rw (← c.self.view_is) (λ up held is.
-    let d = holding held (state_of c.self.inside) in
+    let d = holding held (driver_state_of c.self.inside) in
     let old = c.args.bus.now in
     let new = c.load.new.self in
     let below = rw (← c.self.view_is) at c.requires.outstanding in

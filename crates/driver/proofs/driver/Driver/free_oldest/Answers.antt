@@ -7,7 +7,7 @@ use Rattle.driver_law.specs.Calls.{Ran, at, only}
 use Rattle.driver_law.specs.TransmitSteps.{with_freed}
 use Rattle.driver.proofs.FreedSlots.{frees-none, frees-oldest, sending-freed, waits-oldest}
 use Rattle.driver.specs.SendSteps.{oldest_loads}
-use Rattle.driver.specs.InsideDriver.{IsSending, state_of}
+use Rattle.driver.specs.InsideDriver.{IsSending, driver_state_of}
 use Rattle.driver.proofs.driver.Driver.free_oldest.Goals as goal
 
 pub returns-then-self-eq0-clause-looks : goal.returns-then-self-eq0-clause-looks
@@ -53,7 +53,7 @@ returns-clause-looks g c held is =
     c.load.new.into slot (omega (arith, same, c.if-self-eq0.false)) (sym c.shows_done.ensures
     ∙ c.if-not-shows_done.false) (c.load.ensures.acts is.honest) is.ready in
     let freed = sym (ap (λ (state : DriverState). with_freed (holding held state)) c.self.view_is)
-    ∙ ap (λ (n : ℕ). let state : DriverState = record (holding held (state_of s))
+    ∙ ap (λ (n : ℕ). let state : DriverState = record (holding held (driver_state_of s))
     { oldest_transmit = (s.oldest_transmit + 1) % n; sending = s.sending - 1 } in state) (sym c.tx.ensures.count) in
     record {
       ran = subst (λ (state : DriverState). Ran g.B.Bus true (only (oldest_loads d (min d.sending 1))) (at c.args.bus.now d)

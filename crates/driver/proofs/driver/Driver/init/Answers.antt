@@ -13,9 +13,9 @@ use Rattle.driver_law.specs.Beginnings.{new_driver}
 use Rattle.driver_law.specs.DriverState.{DriverSetup, DriverState, owners}
 use Rattle.driver_law.specs.Calls.{Ran, at, only}
 use Rattle.bus.proofs.Keeping.{keeps-on}
-use Rattle.bus.specs.PastOfStretch.{nothing}
+use Rattle.bus.specs.Pasts.{nothing}
 use Rattle.joined_groups.specs.Groups.{AreNamedOnce}
-use Rattle.driver.specs.Initialisation.{OffersFirst, Refuses, transmit_accesses}
+use Rattle.driver.specs.Initialisation.{OffersFirst, RefusesInit, transmit_accesses}
 use Rattle.driver.specs.InsideSetup.{setup_in}
 use Rattle.driver.proofs.Initialisation.{initialises, new-still, stays-quiet, vlans-named}
 use Rattle.driver.proofs.FirstSlots.{offering, owners-offered}
@@ -26,14 +26,14 @@ pub returns-in_err-layout-clause-refuses : goal.returns-in_err-layout-clause-ref
 returns-in_err-layout-clause-refuses g c honest =
     let told = err_from_is_err_and c.from_residual.result c.from_residual.ensures.1 in
     let is : c.from_residual.result ≡ Err errors.Config = told.1 ∙ ap Err (told.2 ∙ c.in_err-layout.ensures.err) in
-    subst (λ result. IfErr result (Refuses g.B.Bus c.args.bus.now c.args.bus.now)) (sym is)
+    subst (λ result. IfErr result (RefusesInit g.B.Bus c.args.bus.now c.args.bus.now)) (sym is)
     (record { past = nothing; reports = g.met.B.Bus.composes.stays c.args.bus.now; why = refl; why_lively = λ lively. tt })
 
 pub returns-in_err-driver-clause-refuses : goal.returns-in_err-driver-clause-refuses
 returns-in_err-driver-clause-refuses g c honest =
     let told = err_from_is_err_and c.from_residual-in_err-driver.result c.from_residual-in_err-driver.ensures.1 in
     let is : c.from_residual-in_err-driver.result ≡ Err Memory = told.1 ∙ ap Err told.2 in
-    subst (λ result. IfErr result (Refuses g.B.Bus c.args.bus.now c.args.bus.now)) (sym is)
+    subst (λ result. IfErr result (RefusesInit g.B.Bus c.args.bus.now c.args.bus.now)) (sym is)
     (record { past = nothing; reports = g.met.B.Bus.composes.stays c.args.bus.now; why = refl; why_lively = λ lively. tt })
 
 -- The driver that is made, with the adapter's address.

@@ -2,11 +2,11 @@ use Rattle.std.proofs.Common.{ℕ, ◌≡◌, Bool, List, length, length-set, re
 use Rattle.std.proofs.Common.{◌∙◌, arith}
 use Rattle.std.specs.Prelude.{IsTrue}
 use Rattle.bus.proofs.Keeping.{keeps-here, keeps-on}
-use Rattle.driver_law.specs.Calls.{IsReady, at, held_at}
+use Rattle.driver_law.specs.Calls.{IsReadyOver, at, held_at}
 use Rattle.driver_law.specs.DriverState.{DriverState, HandedOut, holding}
 use Rattle.adapter.specs.HostFrames.{finished_pieces}
 use Rattle.driver.specs.declared.look.Run.{Run}
-use Rattle.driver.specs.InsideDriver.{state_of}
+use Rattle.driver.specs.InsideDriver.{driver_state_of}
 use Rattle.driver.specs.declared.driver.Driver.TheInside.{Inside}
 use Rattle.driver.proofs.BufferQueue.{Receives, queue-split}
 use Rattle.driver.proofs.SeenSlots.{IsAdded, LoadsNext, NextSeen, fills-added, finds-all_seen, finds-frame, finds-unfinished}
@@ -35,7 +35,7 @@ loop-run-init g c =
 
 -- What a load shows.
 next : (g : Over) (c : After-descriptor_after-descriptor g) (up : Bool) (held : List HandedOut)
-    → IsReady g.B.Bus up (held_at held (at c.args.bus.now c.args.self.now))
+    → IsReadyOver g.B.Bus up (held_at held (at c.args.bus.now c.args.self.now))
     → LoadsNext g.B.Bus c.loop-run.run c.descriptor_after-descriptor.result up (holding held c.args.self.now) c.args.bus.now
     c.descriptor_after-descriptor.new.bus
 next g c up held is =
@@ -47,7 +47,7 @@ next g c up held is =
     (record { honest = i.keeps.honest is.honest; ready = sees.ran.goes.flows.ready }))
 
 -- How many slots are outstanding.
-outstanding : (inside : Inside) (d : DriverState) (all staged : ℕ) → Receives inside → state_of inside ≡ d
+outstanding : (inside : Inside) (d : DriverState) (all staged : ℕ) → Receives inside → driver_state_of inside ≡ d
     → all ≡ length inside.buffers.items → staged ≡ inside.staged → all - staged ≡ length d.buffers
 outstanding inside d all staged receives shown long some =
     omega (arith, (queue-split inside receives).outstanding, ap (λ (s : DriverState). length s.buffers) shown, long, some)
@@ -76,7 +76,7 @@ added g c =
     a.count a.length
 
 shown : (g : Over) (c : After-add g) (up : Bool) (held : List HandedOut)
-    → (is : IsReady g.B.Bus up (held_at held (at c.args.bus.now c.args.self.now)))
+    → (is : IsReadyOver g.B.Bus up (held_at held (at c.args.bus.now c.args.self.now)))
     → NextSeen (finished_pieces c.args.self.now.oldest_receive (g.B.Bus.world c.descriptor_after-descriptor.new.bus))
     (next g (loaded g c) up held is).sees.seen c.descriptor_after-descriptor.result
 shown g c up held is =
@@ -84,7 +84,7 @@ shown g c up held is =
     c.descriptor_after-descriptor.new.bus (next g (loaded g c) up held is) (sym c.if-not-is_done.ensures)
 
 whole : (g : Over) (c : After-add g) (up : Bool) (held : List HandedOut)
-    → IsReady g.B.Bus up (held_at held (at c.args.bus.now c.args.self.now)) → IsTrue c.add.new.self.whole
+    → IsReadyOver g.B.Bus up (held_at held (at c.args.bus.now c.args.self.now)) → IsTrue c.add.new.self.whole
 whole g c up held is = c.add.ensures.whole.1 ((shown g c up held is).sound, (next g (loaded g c) up held is).sees.whole)
 
 -- What holds of the run with it, whether a frame ends in it or not.

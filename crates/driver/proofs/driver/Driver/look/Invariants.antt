@@ -1,7 +1,7 @@
 use Rattle.std.proofs.Common.{◌-◌, ◌≡◌, ◌*◌, ◌≤◌, Bool, List, length, sum, take}
 use Rattle.std.specs.Prelude.{IsTrue}
 use Rattle.bus.specs.Keeping.{Keeps}
-use Rattle.driver_law.specs.Calls.{IsReady, at, held_at}
+use Rattle.driver_law.specs.Calls.{IsReadyOver, at, held_at}
 use Rattle.driver_law.specs.DriverState.{HandedOut, holding}
 use Rattle.driver.specs.Parts.{AreFull}
 use Rattle.driver.proofs.SeenSlots.{SeesSlots}
@@ -16,7 +16,7 @@ invariant-loop-run g l = record {
   sum_is : l.run.length ≡ sum (take l.run.count l.run.lengths);
   full : IsTrue l.run.whole → AreFull (take l.run.count l.run.lengths);
   keeps : Keeps g.B.Bus l.initial.bus l.bus;
-  sees : (up : Bool) (held : List HandedOut) → IsReady g.B.Bus up (held_at held (at l.initial.bus l.self))
+  sees : (up : Bool) (held : List HandedOut) → IsReadyOver g.B.Bus up (held_at held (at l.initial.bus l.self))
       → SeesSlots g.B.Bus l.run up (holding held l.self) l.initial.bus l.bus;
 }
 

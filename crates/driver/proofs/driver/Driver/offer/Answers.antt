@@ -5,7 +5,7 @@ use Rattle.driver_law.proofs.Accesses.{ran_by-stays}
 use Rattle.driver_law.proofs.ReceiveAccesses.{ran_by-offers}
 use Rattle.driver_law.specs.Calls.{Ran, at, only, tail_write}
 use Rattle.driver_law.specs.DriverState.{DriverState, holding, next_receive}
-use Rattle.driver.specs.InsideDriver.{state_of}
+use Rattle.driver.specs.InsideDriver.{driver_state_of}
 use Rattle.driver.proofs.BufferQueue.{no_second-inside, none-staged, owners-offered, offered-inside, queue-split, tail_write-none}
 use Rattle.driver.proofs.BufferQueue.{tail_write-some}
 use Rattle.driver.proofs.driver.Driver.offer.Goals as goal
@@ -27,15 +27,15 @@ returns-clause-ran g c =
     let new = c.write.new.self in
     let receives = c.self.invariant.receives in
     let split = queue-split d receives in
-    let last = next_receive (state_of d) in
+    let last = next_receive (driver_state_of d) in
     rw (← c.self.view_is) (λ up held is.
-    let some : tail_write last (state_of d).staged ≡ Writes 0x2818 last
-    ∷ [] = tail_write-some last (state_of d).staged (λ none. c.if-self-eq0.false (sym split.staged ∙ none)) in
-    subst (λ (list : List Access). Ran g.B.Bus up (only list) (at old (holding held (state_of d)))
-    (at new (holding held (state_of (record d { staged = 0 }))))) (sym some)
-    (subst (λ (s : DriverState). Ran g.B.Bus up (only (Writes 0x2818 last ∷ [])) (at old (holding held (state_of d)))
+    let some : tail_write last (driver_state_of d).staged ≡ Writes 0x2818 last
+    ∷ [] = tail_write-some last (driver_state_of d).staged (λ none. c.if-self-eq0.false (sym split.staged ∙ none)) in
+    subst (λ (list : List Access). Ran g.B.Bus up (only list) (at old (holding held (driver_state_of d)))
+    (at new (holding held (driver_state_of (record d { staged = 0 }))))) (sym some)
+    (subst (λ (s : DriverState). Ran g.B.Bus up (only (Writes 0x2818 last ∷ [])) (at old (holding held (driver_state_of d)))
     (at new (holding held s))) (sym (offered-inside d receives))
-    (ran_by-offers g.B.Bus old new (holding held (state_of d)) c.from.result (c.from.ensures
+    (ran_by-offers g.B.Bus old new (holding held (driver_state_of d)) c.from.result (c.from.ensures
     ∙ split.next) (c.write.ensures.acts is.honest) is.ready)))
 
 pub returns-then-self-eq0-clause-one_owner : goal.returns-then-self-eq0-clause-one_owner

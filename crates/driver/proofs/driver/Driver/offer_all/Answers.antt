@@ -3,7 +3,7 @@ use Rattle.bus.specs.declared.event.Access.TheVariants.{Writes}
 use Rattle.driver_law.proofs.ReceiveAccesses.{ran_by-offers}
 use Rattle.driver_law.specs.Calls.{Ran, at, only}
 use Rattle.driver_law.specs.DriverState.{DriverState, holding, next_receive}
-use Rattle.driver.specs.InsideDriver.{state_of}
+use Rattle.driver.specs.InsideDriver.{driver_state_of}
 use Rattle.driver.proofs.BufferQueue.{offered-inside, queue-split}
 use Rattle.driver.proofs.driver.Driver.offer_all.Goals as goal
 
@@ -14,9 +14,9 @@ returns-clause-ran g c =
     let new = c.write.new.self in
     let receives = c.self.invariant.receives in
     let split = queue-split d receives in
-    let last = next_receive (state_of d) in
+    let last = next_receive (driver_state_of d) in
     rw (← c.self.view_is) (λ up held is.
-    subst (λ (s : DriverState). Ran g.B.Bus up (only (Writes 0x2818 last ∷ [])) (at old (holding held (state_of d)))
+    subst (λ (s : DriverState). Ran g.B.Bus up (only (Writes 0x2818 last ∷ [])) (at old (holding held (driver_state_of d)))
     (at new (holding held s))) (sym (offered-inside d receives))
-    (ran_by-offers g.B.Bus old new (holding held (state_of d)) c.from.result (c.from.ensures
+    (ran_by-offers g.B.Bus old new (holding held (driver_state_of d)) c.from.result (c.from.ensures
     ∙ split.next) (c.write.ensures.acts is.honest) is.ready))

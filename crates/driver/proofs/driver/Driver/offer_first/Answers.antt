@@ -1,6 +1,6 @@
 use Rattle.std.proofs.Common.{◌≡◌, ◌<◌, ◌-◌, ◌*◌, ◌∷◌, [], ℕ, false, ap, sym, subst, ◌∙◌, arith}
 use Rattle.bring_up.specs.ClearedDescriptors.{clears}
-use Rattle.driver_law.specs.Calls.{IsReady, Ran, at, only}
+use Rattle.driver_law.specs.Calls.{IsReadyOver, Ran, at, only}
 use Rattle.driver_law.specs.DriverState.{DriverState}
 use Rattle.driver.specs.Initialisation.{OffersFirst}
 use Rattle.driver.specs.RefillSteps.{Stages}
@@ -18,7 +18,7 @@ returns-clause-offers g c =
     let slot : c.receive_slot.result ≡ 16 * (d.layout.rx - 1) = c.receive_slot.ensures ∙ ap (λ (n : ℕ). 16 * (n - 1)) rx in
     let Clears : DriverState → ℕ → Type 0 = λ s address.
     Ran g.B.Bus false (only (clears address ∷ [])) (at c.stage_all.new.bus s) (at c.clear_descriptor.new.bus s) in
-    let clearing : (s : DriverState) → IsReady g.B.Bus false (at c.stage_all.new.bus s) → s.oldest_receive ≡ 0
+    let clearing : (s : DriverState) → IsReadyOver g.B.Bus false (at c.stage_all.new.bus s) → s.oldest_receive ≡ 0
     → d.layout.rx ≡ s.layout.rx
     → Clears s (16 * (d.layout.rx - 1)) = λ s is first same.
     subst (Clears s) slot (c.clear_descriptor.ensures.received false s is first (slot ∙ ap (λ (n : ℕ). 16 * (n - 1)) same)) in

@@ -15,7 +15,7 @@ use Rattle.bus.proofs.Lists.{all-none}
 use Rattle.rx_engine.specs.Addresses.{IsGroup}
 use Rattle.bring_up.specs.DriverSteps.{LetsFramesIn}
 use Rattle.bring_up.specs.RestingRings.{HasNewRings, HasReceiveRing, SetsAtRest}
-use Rattle.bring_up.specs.RingRegisters.{receive_writes, ring_writes}
+use Rattle.bring_up.specs.RingRegisters.{receive_writes, ring_setup_writes}
 use Rattle.bring_up.specs.declared.ring_registers.RingPlace.{RingPlace}
 use Rattle.driver_law.proofs.Accesses.{ran_by-join}
 use Rattle.driver_law.specs.Calls.{IsRefilled, Ran, at, only, with_missed}
@@ -162,7 +162,7 @@ returns-clause-resets g c up held is =
     let bytes : c.place_of.result.bytes ≡ 16 * config.rx =
     ap (λ (ring : RingPlace). ring.bytes) c.place_of.ensures ∙ ap (λ (n : ℕ). 16 * n) slots in
     let Rests : ℕ → ℕ → Type 0 = λ b n.
-    SetsAtRest bus (ring_writes 0x2800 b n) (HasNewRings config.rx) (HasReceiveRing config.rx) b6 b7 in
+    SetsAtRest bus (ring_setup_writes 0x2800 b n) (HasNewRings config.rx) (HasReceiveRing config.rx) b6 b7 in
     let ring : Rests 0 (16 * config.rx) =
     subst (Rests 0) bytes (subst (λ (b : ℕ). Rests b c.place_of.result.bytes) base
     (c.set_receive_ring.ensures.rests config.rx h6 had.counts.rx base bytes)) in

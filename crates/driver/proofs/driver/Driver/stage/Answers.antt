@@ -6,7 +6,7 @@ use Rattle.driver_law.proofs.ReceiveAccesses.{ran_by-stages}
 use Rattle.driver_law.specs.Calls.{Ran, at, only, stores_from}
 use Rattle.driver_law.specs.DriverState.{DriverState, buffer_at, holding, next_receive}
 use Rattle.driver_law.specs.ReadyDrivers.{empty_descriptor}
-use Rattle.driver.specs.InsideDriver.{state_of}
+use Rattle.driver.specs.InsideDriver.{driver_state_of}
 use Rattle.driver.proofs.BufferQueue.{queue-split, staged-inside}
 use Rattle.driver.proofs.driver.Driver.stage.Goals as goal
 
@@ -57,9 +57,9 @@ returns-clause-stages g c =
     let bytes : c.to_bytes.result ≡ empty_descriptor (buffer_at d.layout m) =
     c.to_bytes.ensures ∙ c.descriptor_of-descriptor.ensures
     ∙ ap empty_descriptor (c.receive_buffer.ensures.start ∙ ap (buffer_at d.layout) c.number.ensures) in
-    let slot_is : c.receive_slot.result ≡ 16 * next_receive (state_of d) = c.receive_slot.ensures
+    let slot_is : c.receive_slot.result ≡ 16 * next_receive (driver_state_of d) = c.receive_slot.ensures
     ∙ ap (λ (slot : ℕ). 16 * slot) split.next in
-    let fits : length (state_of d).buffers + length (state_of d).staged + 1 < d.layout.rx = omega
+    let fits : length (driver_state_of d).buffers + length (driver_state_of d).staged + 1 < d.layout.rx = omega
     (arith, room, split.outstanding, split.staged) in
     rw (← c.self.view_is) (
       m,
@@ -67,10 +67,10 @@ returns-clause-stages g c =
         others = staged.view;
         pool = c.in-Some.ensures.taken;
         ran = λ up held is.
-            subst (λ (s : DriverState). Ran g.B.Bus up (only (stores_from d.layout (next_receive (state_of d)) (m ∷ [])))
-            (at old (holding held (state_of d))) (at new (holding held s))) (sym staged.view)
+            subst (λ (s : DriverState). Ran g.B.Bus up (only (stores_from d.layout (next_receive (driver_state_of d)) (m ∷ [])))
+            (at old (holding held (driver_state_of d))) (at new (holding held s))) (sym staged.view)
             (ran_by-stages g.B.Bus old new
-            (holding held (state_of d)) m c.receive_slot.result c.take.new.self.free c.to_bytes.result fits
+            (holding held (driver_state_of d)) m c.receive_slot.result c.take.new.self.free c.to_bytes.result fits
             (omega (arith, c.in-Some.ensures.known, receives.buffers)) c.in-Some.ensures.taken slot_is bytes
             (c.store.ensures.acts is.honest) is.ready);
       },

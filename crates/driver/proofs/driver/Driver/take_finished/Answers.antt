@@ -1,6 +1,6 @@
 use Rattle.std.proofs.Common.{Bool, ◌≡◌, ◌+◌, ◌++◌, ◌∷◌, [], length, sum, ap, sym, subst, ◌∙◌, arith}
 use Rattle.bus.proofs.Keeping.{keeps-here, keeps-on}
-use Rattle.driver.specs.HandlerSteps.{run_of, whole_frames}
+use Rattle.driver.specs.HandlerSteps.{run_with, whole_frames}
 use Rattle.driver.specs.Parts.{FitIntoBuffers, pieces_of}
 use Rattle.driver.proofs.SeenSlots.{fills-fit}
 use Rattle.driver.proofs.ShownRuns.{slots-few, slots-one_owner}
@@ -15,8 +15,8 @@ loop-run-init g c = record {
 }
 
 -- The run that was found, in parts.
-pub hand_on-requires-clause-parts : goal.hand_on-requires-clause-parts
-hand_on-requires-clause-parts g c =
+pub pass_on-requires-clause-parts : goal.pass_on-requires-clause-parts
+pass_on-requires-clause-parts g c =
     let found = c.in-Some.ensures.finds in
     let lengths = c.take_run-parts.ensures.leaves.lengths in
     record {
@@ -28,20 +28,20 @@ hand_on-requires-clause-parts g c =
 
 -- A run was shown, or it was bad.
 
-pub loop-run-preserved-then-hand_on : goal.loop-run-preserved-then-hand_on
-loop-run-preserved-then-hand_on g c =
+pub loop-run-preserved-then-pass_on : goal.loop-run-preserved-then-pass_on
+loop-run-preserved-then-pass_on g c =
     let l = c.loop-run.invariant in
     let look = c.in-Some.ensures in
-    let h = c.hand_on.ensures in
-    let same : c.loop-run.taken + length (whole_frames (run_of c.take_run-parts.result c.hand_on.result ∷ [])) ≡ c.loop-run.taken + 1 =
-    ap (λ (b : Bool). c.loop-run.taken + length (whole_frames (run_of c.take_run-parts.result b ∷ []))) c.if-hand_on.true ∙ omega arith in
+    let h = c.pass_on.ensures in
+    let same : c.loop-run.taken + length (whole_frames (run_with c.take_run-parts.result c.pass_on.result ∷ [])) ≡ c.loop-run.taken + 1 =
+    ap (λ (b : Bool). c.loop-run.taken + length (whole_frames (run_with c.take_run-parts.result b ∷ []))) c.if-pass_on.true ∙ omega arith in
     record {
       keeps = keeps-on g.B.Bus g.met.B.Bus.composes.lent_stays_on _ _ _ l.keeps
           (keeps-on g.B.Bus g.met.B.Bus.composes.lent_stays_on _ _ _ look.keeps h.keeps);
       walks = walks-next g.B.Bus g.R.Receiver g.met.B.Bus.composes.stays g.met.B.Bus.composes.joins
-          g.met.R.Receiver.joins c.args.bus.now c.loop-run.bus c.look.new.bus c.hand_on.new.bus
-          c.args.receiver.now c.loop-run.receiver c.hand_on.new.receiver c.args.self.now c.loop-run.self c.take_run-parts.new.self
-          c.hand_on.new.self c.loop-run.taken (c.loop-run.taken + 1) _ c.in-Some.run' c.take_run-parts.result c.hand_on.result same
+          g.met.R.Receiver.joins c.args.bus.now c.loop-run.bus c.look.new.bus c.pass_on.new.bus
+          c.args.receiver.now c.loop-run.receiver c.pass_on.new.receiver c.args.self.now c.loop-run.self c.take_run-parts.new.self
+          c.pass_on.new.self c.loop-run.taken (c.loop-run.taken + 1) _ c.in-Some.run' c.take_run-parts.result c.pass_on.result same
           l.keeps look.keeps l.walks look.finds look.looks c.take_run-parts.ensures.leaves h.others h.hands
           h.whole h.over;
     }
@@ -50,17 +50,17 @@ pub loop-run-preserved : goal.loop-run-preserved
 loop-run-preserved g c =
     let l = c.loop-run.invariant in
     let look = c.in-Some.ensures in
-    let h = c.hand_on.ensures in
-    let same : c.loop-run.taken + length (whole_frames (run_of c.take_run-parts.result c.hand_on.result ∷ [])) ≡ c.loop-run.taken =
-    ap (λ (b : Bool). c.loop-run.taken + length (whole_frames (run_of c.take_run-parts.result b ∷ []))) c.if-hand_on.false
+    let h = c.pass_on.ensures in
+    let same : c.loop-run.taken + length (whole_frames (run_with c.take_run-parts.result c.pass_on.result ∷ [])) ≡ c.loop-run.taken =
+    ap (λ (b : Bool). c.loop-run.taken + length (whole_frames (run_with c.take_run-parts.result b ∷ []))) c.if-pass_on.false
     ∙ omega arith in
     record {
       keeps = keeps-on g.B.Bus g.met.B.Bus.composes.lent_stays_on _ _ _ l.keeps
           (keeps-on g.B.Bus g.met.B.Bus.composes.lent_stays_on _ _ _ look.keeps h.keeps);
       walks = walks-next g.B.Bus g.R.Receiver g.met.B.Bus.composes.stays g.met.B.Bus.composes.joins
-          g.met.R.Receiver.joins c.args.bus.now c.loop-run.bus c.look.new.bus c.hand_on.new.bus
-          c.args.receiver.now c.loop-run.receiver c.hand_on.new.receiver c.args.self.now c.loop-run.self c.take_run-parts.new.self
-          c.hand_on.new.self c.loop-run.taken c.loop-run.taken _ c.in-Some.run' c.take_run-parts.result c.hand_on.result same
+          g.met.R.Receiver.joins c.args.bus.now c.loop-run.bus c.look.new.bus c.pass_on.new.bus
+          c.args.receiver.now c.loop-run.receiver c.pass_on.new.receiver c.args.self.now c.loop-run.self c.take_run-parts.new.self
+          c.pass_on.new.self c.loop-run.taken c.loop-run.taken _ c.in-Some.run' c.take_run-parts.result c.pass_on.result same
           l.keeps look.keeps l.walks look.finds look.looks c.take_run-parts.ensures.leaves h.others h.hands
           h.whole h.over;
     }

@@ -2,7 +2,7 @@ use Rattle.std.proofs.Common.{◌≡◌, ◌+◌, ◌%◌, ◌++◌, ℕ, List, 
 use Rattle.circular_buffer.specs.Buffer.{buffer}
 use Rattle.dma_memory.specs.Owners.{HasNoSecondOwner}
 use Rattle.driver_law.specs.DriverState.{DriverState, owners}
-use Rattle.driver.specs.InsideDriver.{state_of}
+use Rattle.driver.specs.InsideDriver.{driver_state_of}
 use Rattle.driver.specs.Parts.{buffers_in}
 use Rattle.driver.proofs.TakenBuffers.{HasTaken, taken-inside, with_queue}
 use Rattle.driver.proofs.driver.Driver.take_run.Goals as goal
@@ -17,7 +17,7 @@ next c = (c.self.inside.oldest_receive + c.args.run.now.count) % c.rx.result
 
 -- the buffers of the slots that remain
 abbrev others : goal.After-self-1 → List ℕ
-others c = (state_of (with_queue c.self.inside (next c) c.take_parts-parts.new.queue)).buffers
+others c = (driver_state_of (with_queue c.self.inside (next c) c.take_parts-parts.new.queue)).buffers
 
 taken : (c : goal.After-self-1) → HasTaken c.self.inside (next c) c.args.run.now.count c.take_parts-parts.new.queue
 taken c =
@@ -49,6 +49,6 @@ returns-clause-leaves c = rw (← c.self.view_is) (record {
 
 pub returns-clause-one_owner : goal.returns-clause-one_owner
 returns-clause-one_owner c =
-    subst (λ (list : List ℕ). HasNoSecondOwner c.self.inside.layout.buffers (list ++ owners (state_of
+    subst (λ (list : List ℕ). HasNoSecondOwner c.self.inside.layout.buffers (list ++ owners (driver_state_of
     (with_queue c.self.inside (next c) c.take_parts-parts.new.queue))))
     (sym (first c)) (taken c).one_owner

@@ -1,5 +1,5 @@
 use Rattle.std.proofs.Common.{rules, refl}
-use Rattle.packet_socket.specs.CallEffects.{EffectOf, accepted_in, answer_in, given_in, request_of}
+use Rattle.packet_socket.specs.CallEffects.{EffectOf, accepted_in, answer_in, given_in, call_request}
 use Rattle.packet_socket.proofs.Effects.{call-map}
 use Rattle.host_calls.specs.CallsInSteps.{MakesCall}
 use Rattle.host_calls.specs.ConnectedHosts.{played_call}
@@ -15,7 +15,7 @@ invariant_of-self g c =
     let hosts = c.self.inside.hosts.items in
     let old = c.self.inside.stations in
     let ends = c.finish.new.self in
-    let call = request_of c.args.call in
+    let call = call_request c.args.call in
     let answer = answer_in c.call-answer.new.into c.call-answer.result in
     let ready = ready-before hosts old c.args.self.now k h c.self.view_is c.requires.there c.index_mut.ensures.value c.requires.ready in
     let calls = lift-calls g.met.O.Observer.composes _ c.call-answer.new.bus ends h h' (given_in call answer) (accepted_in call answer)
@@ -31,7 +31,7 @@ returns-clause-does g c =
     let hosts = c.self.inside.hosts.items in
     let old = c.self.inside.stations in
     let ends = c.finish.new.self in
-    let call = request_of c.args.call in
+    let call = call_request c.args.call in
     let answer = answer_in c.call-answer.new.into c.call-answer.result in
     let ready = ready-before hosts old c.args.self.now k h c.self.view_is c.requires.there c.index_mut.ensures.value c.requires.ready in
     let calls = lift-calls g.met.O.Observer.composes _ c.call-answer.new.bus ends h h' (given_in call answer) (accepted_in call answer)

@@ -1,6 +1,6 @@
 use Rattle.std.proofs.Common.{◌≡◌, ◌+◌, ℕ, Bool, ap, arith, length, length-append, refl, subst, sym}
 use Rattle.stations.specs.Stations.{world_at}
-use Rattle.host_calls.specs.DrainSteps.{StepsInto, outlet, steps_of}
+use Rattle.host_calls.specs.DrainSteps.{StepsInto, frame_sink, steps_of}
 use Rattle.host_calls.specs.Networks.{connected_at, nth_host}
 use Rattle.host_calls.proofs.Endings.{drains-into, held-at_most, steps-fit}
 use Rattle.host_calls.proofs.HostsOfNetworks.{only-join, only-length, only-same}
@@ -12,7 +12,8 @@ loop-bytes-init g c =
     let n = c.args.self.now in
     let h = nth_host n c.args.number in
     record {
-      into = into-none c.args.number n.stations n.stations h h (g.S.Outlet.frames c.args.sink.now) (g.S.Outlet.room_left c.args.sink.now) 0
+      into = into-none c.args.number n.stations n.stations h h (g.S.FrameSink.frames c.args.sink.now)
+          (g.S.FrameSink.room_left c.args.sink.now) 0
           (steps-none c.args.number n.stations h c.requires.stands);
       stands = c.requires.stands;
       adapter = λ adapter. adapter;
@@ -35,8 +36,8 @@ overflow_add-steps g c =
     let into = c.loop-bytes.invariant.into in
     let step =
     subst (λ (stepped : Bool). StepsInto (steps_of stepped) c.args.number
-    (outlet (g.S.Outlet.frames c.loop-bytes.sink) (g.S.Outlet.room_left c.loop-bytes.sink))
-    (outlet (g.S.Outlet.frames c.step.new.sink) (g.S.Outlet.room_left c.step.new.sink))
+    (frame_sink (g.S.FrameSink.frames c.loop-bytes.sink) (g.S.FrameSink.room_left c.loop-bytes.sink))
+    (frame_sink (g.S.FrameSink.frames c.step.new.sink) (g.S.FrameSink.room_left c.step.new.sink))
     (connected_at c.loop-bytes.self c.args.number) (connected_at c.step.new.self c.args.number)) c.loop-bytes-test.true
     c.step.ensures.steps in
     let fit = steps-fit (nth_host c.args.self.now c.args.number) (world_at c.args.self.now.stations c.args.number) c.requires.stands
@@ -52,14 +53,16 @@ loop-bytes-preserved g c =
     let into = c.loop-bytes.invariant.into in
     let step =
     subst (λ (stepped : Bool). StepsInto (steps_of stepped) k
-    (outlet (g.S.Outlet.frames c.loop-bytes.sink) (g.S.Outlet.room_left c.loop-bytes.sink))
-    (outlet (g.S.Outlet.frames c.step.new.sink) (g.S.Outlet.room_left c.step.new.sink)) (connected_at here k) (connected_at last k))
+    (frame_sink (g.S.FrameSink.frames c.loop-bytes.sink) (g.S.FrameSink.room_left c.loop-bytes.sink))
+    (frame_sink (g.S.FrameSink.frames c.step.new.sink) (g.S.FrameSink.room_left c.step.new.sink)) (connected_at here k)
+    (connected_at last k))
     c.loop-bytes-test.true c.step.ensures.steps in
     record {
       into = into-join c.loop-bytes.steps 1 k first.stations here.stations last.stations (nth_host first k) (nth_host here k)
           (nth_host last k)
-          (g.S.Outlet.frames c.args.sink.now) (g.S.Outlet.frames c.loop-bytes.sink) (g.S.Outlet.frames c.step.new.sink)
-          (g.S.Outlet.room_left c.args.sink.now) (g.S.Outlet.room_left c.loop-bytes.sink) (g.S.Outlet.room_left c.step.new.sink) into step;
+          (g.S.FrameSink.frames c.args.sink.now) (g.S.FrameSink.frames c.loop-bytes.sink) (g.S.FrameSink.frames c.step.new.sink)
+          (g.S.FrameSink.room_left c.args.sink.now) (g.S.FrameSink.room_left c.loop-bytes.sink) (g.S.FrameSink.room_left c.step.new.sink)
+          into step;
       stands = stands-on 1 k here.stations last.stations (nth_host here k) (nth_host last k) step.given step.on
           c.loop-bytes.invariant.stands;
       adapter = λ adapter. c.loop-bytes.invariant.adapter c.step.ensures.adapter;
@@ -78,13 +81,14 @@ returns-clause-drains g c =
     let none : n + more ≡ n =
     subst (λ (stepped : Bool). n + steps_of stepped ≡ n) (sym c.loop-bytes-test.false) (omega arith) in
     drains-into n k first.stations last.stations (nth_host first k) (nth_host last k)
-    (g.S.Outlet.frames c.args.sink.now) (g.S.Outlet.frames c.step.new.sink) (g.S.Outlet.room_left c.args.sink.now)
-    (g.S.Outlet.room_left c.step.new.sink)
-    (subst (λ (m : ℕ). StepsInto m k (outlet (g.S.Outlet.frames c.args.sink.now) (g.S.Outlet.room_left c.args.sink.now))
-    (outlet (g.S.Outlet.frames c.step.new.sink) (g.S.Outlet.room_left c.step.new.sink)) (connected_at first k) (connected_at last k)) none
+    (g.S.FrameSink.frames c.args.sink.now) (g.S.FrameSink.frames c.step.new.sink) (g.S.FrameSink.room_left c.args.sink.now)
+    (g.S.FrameSink.room_left c.step.new.sink)
+    (subst (λ (m : ℕ). StepsInto m k (frame_sink (g.S.FrameSink.frames c.args.sink.now) (g.S.FrameSink.room_left c.args.sink.now))
+    (frame_sink (g.S.FrameSink.frames c.step.new.sink) (g.S.FrameSink.room_left c.step.new.sink)) (connected_at first k)
+    (connected_at last k)) none
     (into-join n more k first.stations here.stations last.stations (nth_host first k) (nth_host here k) (nth_host last k)
-    (g.S.Outlet.frames c.args.sink.now) (g.S.Outlet.frames c.loop-bytes.sink) (g.S.Outlet.frames c.step.new.sink)
-    (g.S.Outlet.room_left c.args.sink.now) (g.S.Outlet.room_left c.loop-bytes.sink) (g.S.Outlet.room_left c.step.new.sink) into
+    (g.S.FrameSink.frames c.args.sink.now) (g.S.FrameSink.frames c.loop-bytes.sink) (g.S.FrameSink.frames c.step.new.sink)
+    (g.S.FrameSink.room_left c.args.sink.now) (g.S.FrameSink.room_left c.loop-bytes.sink) (g.S.FrameSink.room_left c.step.new.sink) into
     c.step.ensures.steps))
     (c.step.ensures.ends c.loop-bytes-test.false) c.requires.stands
     (c.loop-bytes.invariant.adapter c.step.ensures.adapter)
@@ -99,8 +103,8 @@ returns-clause-left g c =
       two.room,
       ap length one.appended,
       ap length two.appended,
-      length-append (g.S.Outlet.frames c.args.sink.now) one.given,
-      length-append (g.S.Outlet.frames c.loop-bytes.sink) two.given,
+      length-append (g.S.FrameSink.frames c.args.sink.now) one.given,
+      length-append (g.S.FrameSink.frames c.loop-bytes.sink) two.given,
     )
 
 pub returns-clause-others : goal.returns-clause-others

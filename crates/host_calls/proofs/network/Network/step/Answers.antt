@@ -21,8 +21,8 @@ returns-then-line-clause-steps g c =
     let k = c.args.number in
     let h = nth_host c.args.self.now k in
     let h' = nth_host c.handle.new.self k in
-    into-none k c.args.self.now.stations c.handle.new.self.stations h h' (g.S.Outlet.frames c.args.sink.now)
-    (g.S.Outlet.room_left c.args.sink.now) 1
+    into-none k c.args.self.now.stations c.handle.new.self.stations h h' (g.S.FrameSink.frames c.args.sink.now)
+    (g.S.FrameSink.room_left c.args.sink.now) 1
     (steps-after c.finish.result 1 k c.args.self.now.stations c.finish.new.self.stations c.handle.new.self.stations h
     (nth_host c.finish.new.self k) h' [] c.if-finish.false c.finish.ensures.steps c.handle.ensures.steps)
 
@@ -51,7 +51,7 @@ give-requires-clause-room g c =
     let own = host-found c.self.inside.hosts.items c.self.inside.stations c.finish.new.self c.args.number c.index.result.now c.self.view_is
     there c.index.ensures ∙ ap (λ (list : List HostState). host_or_empty (slice_get list c.args.number)) c.finish.ensures.hosts in
     room-left (nth_host c.args.self.now c.args.number) (world_at c.args.self.now.stations c.args.number) c.in-Some.socket
-    (g.S.Outlet.room_left c.args.sink.now)
+    (g.S.FrameSink.room_left c.args.sink.now)
     (subst (λ (host : HostState). queue_at host.queues c.in-Some.socket ≢ []) own c.in-Some.ensures.some.1)
     (c.requires.room c.finish.ensures.adapter)
 
@@ -86,8 +86,8 @@ returns-clause-steps g c =
     let k = c.args.number in
     let h = nth_host c.args.self.now k in
     let h' = nth_host c.move_piece.new.self k in
-    into-none k c.args.self.now.stations c.move_piece.new.self.stations h h' (g.S.Outlet.frames c.args.sink.now)
-    (g.S.Outlet.room_left c.args.sink.now) (steps_of c.move_piece.result)
+    into-none k c.args.self.now.stations c.move_piece.new.self.stations h h' (g.S.FrameSink.frames c.args.sink.now)
+    (g.S.FrameSink.room_left c.args.sink.now) (steps_of c.move_piece.result)
     (steps-after c.finish.result (steps_of c.move_piece.result) k c.args.self.now.stations c.finish.new.self.stations
     c.move_piece.new.self.stations h (nth_host c.finish.new.self k) h' [] c.if-finish.false c.finish.ensures.steps
     c.move_piece.ensures.steps)

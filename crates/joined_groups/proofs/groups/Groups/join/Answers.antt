@@ -4,7 +4,7 @@ use Rattle.std.proofs.lemmas.Bool.Decides.{nat_tests}
 use Rattle.rx_engine.specs.Addresses.{IsGroup}
 use Rattle.rx_engine.specs.NumberTables.{numbers_of_groups}
 use Rattle.driver_law.specs.Calls.{at}
-use Rattle.joined_groups.specs.Groups.{AreJoined, ChangesJoined, HasNumber, number_of, with_groups}
+use Rattle.joined_groups.specs.Groups.{AreJoined, ChangesJoined, HasNumber, group_number_of, with_groups}
 use Rattle.joined_groups.proofs.Numbers.{elsewhere, group-added, shared-more}
 use Rattle.joined_groups.proofs.JoinedLists.{joined-more}
 use Rattle.joined_groups.proofs.Words.{changes-shared, changes-written}
@@ -52,14 +52,15 @@ returns-clause-changes g c up d is_ready =
           let never : true ≡ false = sym t ∙ w.if-not-shares.true in cc) in
           subst (λ x. ChangesJoined bus up old group (at b (with_groups old d)) (at x (with_groups new d))) (sym w.bus-is)
           (changes-written bus b w.write_word.new.bus d old old new group apart
-          (λ n other. elsewhere (numbers_of_groups old) (numbers_of_groups new) (number_of group) n more other)
+          (λ n other. elsewhere (numbers_of_groups old) (numbers_of_groups new) (group_number_of group) n more other)
           (rw (w.as_slice.ensures.value, list) at (w.write_word.ensures.rewrites up d is_ready)))
       | else-not-shares w ↦
           let shared : HasNumber old group = c.has_number-shares.ensures.0 w.if-not-shares.false in
           subst (λ x. ChangesJoined bus up old group (at b (with_groups old d)) (at x (with_groups new d))) (sym w.bus-is)
           (changes-shared bus g.met.B.Bus.composes.stays b d old old new group is_ready.ready shared
           (λ had. record {
-            numbers = shared-more (bus.world b).adapter.filter.mta (numbers_of_groups old) (numbers_of_groups new) (number_of group) more
+            numbers = shared-more (bus.world b).adapter.filter.mta (numbers_of_groups old) (numbers_of_groups new) (group_number_of group)
+                more
                 shared had.numbers;
             words = had.words;
           }))

@@ -4,7 +4,7 @@ use Rattle.std.specs.List.{remove}
 use Rattle.rx_engine.specs.NumberTables.{numbers_of_groups}
 use Rattle.rx_engine.specs.GroupLists.{Removes}
 use Rattle.driver_law.specs.Calls.{at}
-use Rattle.joined_groups.specs.Groups.{AreJoined, ChangesJoined, HasNumber, number_of, with_groups}
+use Rattle.joined_groups.specs.Groups.{AreJoined, ChangesJoined, HasNumber, group_number_of, with_groups}
 use Rattle.joined_groups.proofs.Numbers.{elsewhere, group-removed, shared-fewer, turned}
 use Rattle.joined_groups.proofs.JoinedLists.{joined-fewer, removed-at, removed-had}
 use Rattle.joined_groups.proofs.Words.{changes-shared, changes-written}
@@ -52,14 +52,15 @@ returns-clause-changes g c up d is_ready =
           let never : true ≡ false = sym t ∙ w.if-not-has_number.true in cc) in
           subst (λ x. ChangesJoined bus up new group (at b (with_groups old d)) (at x (with_groups new d))) (sym w.bus-is)
           (changes-written bus b w.write_word.new.bus d new old new group apart
-          (λ n other. turned (elsewhere (numbers_of_groups new) (numbers_of_groups old) (number_of group) n more other))
+          (λ n other. turned (elsewhere (numbers_of_groups new) (numbers_of_groups old) (group_number_of group) n more other))
           (rw w.as_slice-left.ensures.value at (w.write_word.ensures.rewrites up d is_ready)))
       | else-not-has_number w ↦
           let shared : HasNumber new group = c.has_number.ensures.0 w.if-not-has_number.false in
           subst (λ x. ChangesJoined bus up new group (at b (with_groups old d)) (at x (with_groups new d))) (sym w.bus-is)
           (changes-shared bus g.met.B.Bus.composes.stays b d new old new group is_ready.ready shared
           (λ had. record {
-            numbers = shared-fewer (bus.world b).adapter.filter.mta (numbers_of_groups new) (numbers_of_groups old) (number_of group) more
+            numbers = shared-fewer (bus.world b).adapter.filter.mta (numbers_of_groups new) (numbers_of_groups old) (group_number_of group)
+                more
                 shared had.numbers;
             words = had.words;
           }))

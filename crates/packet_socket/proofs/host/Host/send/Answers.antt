@@ -4,7 +4,7 @@ use Rattle.driver_law.specs.DriverState.{DriverState}
 use Rattle.packet_socket.specs.HostCalls.{driver_of, host_at}
 use Rattle.packet_socket.specs.InsideHost.{host_inside}
 use Rattle.packet_socket.proofs.SentFrames.{host-sends}
-use Rattle.packet_socket.proofs.Stretches.{with_driver}
+use Rattle.packet_socket.proofs.Intervals.{with_driver}
 use Rattle.packet_socket.proofs.host.Host.send.Goals as goal
 
 pub returns-clause-sends : goal.returns-clause-sends

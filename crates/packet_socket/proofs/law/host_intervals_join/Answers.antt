@@ -1,7 +1,7 @@
-use Rattle.driver_law.proofs.Stretches.{flows_join, goes_join}
+use Rattle.driver_law.proofs.Intervals.{flows_join, goes_join}
 use Rattle.driver_law.specs.Calls.{FlowsTo, GoesTo}
-use Rattle.packet_socket.proofs.Stretches.{host-join}
-use Rattle.packet_socket.proofs.law.host_stretches_join.Goals as goal
+use Rattle.packet_socket.proofs.Intervals.{host-join}
+use Rattle.packet_socket.proofs.law.host_intervals_join.Goals as goal
 
 pub returns-clause-flows : goal.returns-clause-flows
 returns-clause-flows c first_up up h1 h2 h3 one two first later flows more = host-join (FlowsTo first_up) (FlowsTo up)

@@ -1,5 +1,5 @@
-use Rattle.driver_law.proofs.Stretches.{flows_join, goes_join}
-use Rattle.driver_law.proofs.law.stretches_join.Goals as goal
+use Rattle.driver_law.proofs.Intervals.{flows_join, goes_join}
+use Rattle.driver_law.proofs.law.intervals_join.Goals as goal
 
 pub returns : goal.returns
 returns c = record {

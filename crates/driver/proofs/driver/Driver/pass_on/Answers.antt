@@ -1,13 +1,13 @@
 use Rattle.std.proofs.Common.{◌≡◌, ◌<◌, ◌^◌, ◌++◌, ◌∷◌, [], ℕ, List, sym, ap, subst, ◌∙◌, arith}
 use Rattle.dma_memory.specs.Owners.{copies}
 use Rattle.driver_law.specs.Calls.{Ran, at, ether_type_load, only}
-use Rattle.driver_law.specs.DriverState.{DriverState, holding, numbers_of, owners}
+use Rattle.driver_law.specs.DriverState.{DriverState, holding, piece_numbers, owners}
 use Rattle.driver.specs.HandlerSteps.{Shows}
 use Rattle.driver.specs.Parts.{buffers_in}
 use Rattle.driver.specs.declared.receiver.Received.{Received}
 use Rattle.driver.proofs.ShownRuns.{hands-bad, hands-shown, known-all}
 use Rattle.driver.proofs.TakenRuns.{buffers-pieces, received-same}
-use Rattle.driver.proofs.driver.Driver.hand_on.Goals as goal
+use Rattle.driver.proofs.driver.Driver.pass_on.Goals as goal
 
 pub returns-then-not-run-clause-hands : goal.returns-then-not-run-clause-hands
 returns-then-not-run-clause-hands g c =
@@ -49,7 +49,7 @@ returns-clause-over g c up held (first ∷ later) whole same long is =
     let new = c.ether_type-ether_type.new.bus in
     let read = c.ether_type-ether_type.ensures.shows up held later first is same long in
     let received = received-same first later c.args.parts _ _ same c.requires.parts.length_is read long in
-    let numbers : buffers_in c.args.parts ≡ numbers_of (first ∷ later) = ap buffers_in (sym same) ∙ buffers-pieces (first ∷ later) in
+    let numbers : buffers_in c.args.parts ≡ piece_numbers (first ∷ later) = ap buffers_in (sym same) ∙ buffers-pieces (first ∷ later) in
     record {
       shows = subst (λ (one : Received). Shows g.R.Receiver.took c.args.receiver.now c.show.new.receiver one d.pool
           c.show.new.self.pool) (sym received) c.show.ensures.shows;

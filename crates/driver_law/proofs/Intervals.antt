@@ -1,4 +1,4 @@
--- Two intervals of a driver's run join, and no work is forgotten in one.
+-- Two consecutive intervals of a driver's run join, and no work is forgotten in an interval.
 use Rattle.std.proofs.Common.{◌≡◌, ◌≤◌, ◌<◌, ◌^◌, ◌+◌, ◌++◌, [], ⊎_elim}
 use Rattle.std.proofs.Common.{Bool, IsTrue, ℕ, List, length, refl, inl, inr, subst, sym, ap}
 use Rattle.std.proofs.Common.{◌∙◌, add-zero, append_assoc, length-append, arith}
@@ -8,11 +8,11 @@ use Rattle.registers.specs.Bits.{HasBit}
 use Rattle.registers.specs.Counting.{greatest_count}
 use Rattle.adapter.specs.HostFrames.{frames_held, frames_to_send}
 use Rattle.adapter.specs.World.{World}
-use Rattle.bus.specs.PastOfStretch.{Past, joined, nothing}
+use Rattle.bus.specs.Pasts.{Past, joined, nothing}
 use Rattle.driver_law.specs.DriverState.{DriverState}
 use Rattle.driver_law.specs.Calls.{FlowsTo, GoesTo, HasNoForgottenWork, SumsMisses, driver_did, driver_in, frames_ended}
 
--- MPC isn't read: the driver's sum stays, and MPC counts the frames missed.
+-- If MPC isn't read, the driver's sum doesn't change, and MPC counts the frames missed.
 pub misses-counted : (d d' : DriverState) (a b : World) (past : Past) → d'.missed ≡ d.missed → d'.exact ≡ d.exact
     → (a.adapter.missed_packets + past.missed ≤ greatest_count → b.adapter.missed_packets ≡ a.adapter.missed_packets + past.missed)
     → b.adapter.missed_packets ≤ a.adapter.missed_packets + past.missed
@@ -29,7 +29,7 @@ misses-counted d d' a b past missed exact counts most below_greatest = record {
   small = λ was below. subst IsTrue (sym exact) (was (omega (arith, missed, below)));
 }
 
--- No frame is missed, and MPC isn't read.
+-- If no frame is missed and MPC isn't read, the sum and MPC don't change.
 pub misses-stay : (d d' : DriverState) (a b : World) → d'.missed ≡ d.missed → d'.exact ≡ d.exact
     → b.adapter.missed_packets ≡ a.adapter.missed_packets → SumsMisses (driver_in d a) (driver_in d' b) nothing
 misses-stay d d' a b missed exact packets =
@@ -118,7 +118,7 @@ joined-nothing past =
     } ≡ past = refl in
     rw (append-nil, append-nil, append-nil, add-zero, add-zero, add-zero) same
 
--- If ICR isn't read no work is forgotten.
+-- If no work was forgotten before an interval in which no recorded cause is cleared, no work is forgotten after it.
 pub work_kept : {up : Bool} (d d' : DriverState) (a b : World) (taken accepted : List (List ℕ)) (past : Past)
     → GoesTo up (driver_in d a) (driver_in d' b) (driver_did taken accepted) past → HasNoForgottenWork d a → HasNoForgottenWork d' b
 work_kept d d' a b taken accepted past goes work = record {

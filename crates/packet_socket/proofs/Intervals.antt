@@ -6,7 +6,7 @@ use Rattle.dma_memory.specs.Layout.{Counts}
 use Rattle.adapter.specs.HostFrames.{frames_held}
 use Rattle.adapter.specs.World.{World}
 use Rattle.bus.specs.Law.{Happens}
-use Rattle.bus.specs.PastOfStretch.{Past, joined}
+use Rattle.bus.specs.Pasts.{Past, joined}
 use Rattle.driver_law.proofs.Steps.{goes-happens}
 use Rattle.driver_law.specs.Calls.{DriverDid, DriverInWorld, FlowsTo, GoesTo, driver_did, driver_in}
 use Rattle.driver_law.specs.DriverState.{DriverState, HandedOut, holding}

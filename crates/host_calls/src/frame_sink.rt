@@ -1,23 +1,23 @@
-// Who takes the frames of a host that is drained.
+// Sinks, which take the frames of a host that is drained.
 
 ghost use Rattle.std.specs.Prelude.{◌≡◌, ◌≤◌, ◌<◌, ◌+◌, ◌++◌, ◌∷◌, [], ℕ, List};
 ghost use Rattle.packet_socket.specs.HostCalls.{Given};
 
 use descriptors::Frame;
 
-/// Takes the frames of a host that is drained, each with the number of the socket that it waited for.
-pub trait Outlet {
-    /// The frames that it has taken, in order.
+/// A sink takes the frames of a host that is drained, each with the number of the socket that returned it.
+pub trait FrameSink {
+    /// The frames that the sink has taken, in order.
     ghost frames: { Self → List Given };
 
-    /// The number of further frames for which it has room.
+    /// The number of further frames for which the sink has room.
     ghost room_left: { Self → ℕ };
 
-    /// The number of further frames for which it has room.
+    /// The number of further frames for which the sink has room.
     fn room(&self) -> usize
         ensures { result ≡ room_left self.now };
 
-    /// Appends a frame of a socket. At most one frame's room is used.
+    /// Appends a frame of a socket. Uses the room of at most one frame.
     fn take(&mut self, socket: usize, frame: &Frame)
         requires room { 0 < room_left self.old }
         ensures room { room_left self.old ≤ room_left self.new + 1 }

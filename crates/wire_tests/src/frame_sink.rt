@@ -1,13 +1,13 @@
-//! What a drained host gives, kept.
+//! A sink that keeps the frames of a drain.
 
 ghost use Rattle.std.specs.Prelude.{◌≤◌, ◌-◌, IfOk, length, map, vec_capacity};
 ghost use Rattle.packet_socket.specs.HostCalls.{Given};
 
 use descriptors::Frame;
 use std::alloc::{AllocError, Global};
-use wire::Outlet;
+use wire::FrameSink;
 
-/// A frame with its socket.
+/// A frame, with the number of the socket that returned it.
 #[derive(Drop)]
 pub(crate) struct TakenFrame {
     pub(crate) socket: usize,
@@ -30,7 +30,7 @@ impl Taken {
     }
 }
 
-impl Outlet for Taken {
+impl FrameSink for Taken {
     ghost frames = { λ taken. map (λ one. record { socket = one.socket; frame = one.frame }) taken.list.items };
 
     ghost room_left = { λ taken. vec_capacity taken.list - length taken.list.items };

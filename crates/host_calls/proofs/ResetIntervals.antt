@@ -1,4 +1,4 @@
--- The stretches of a reset, in atomic steps.
+-- The parts of a reset, in atomic steps.
 use Rattle.std.proofs.Common.{◌≡◌, ◌++◌, ◌∷◌, [], ℕ, Bool, List, Option, if◌then◌else◌, refl, sym, ap, subst, ◌∙◌}
 use Rattle.std.proofs.Common.{append_assoc}
 use Rattle.std.specs.List.{All}
@@ -15,7 +15,7 @@ use Rattle.adapter.specs.declared.register.Register.TheVariants.{Mpc, Rctl}
 use Rattle.adapter.specs.declared.offsets.TheConstants.{MPC, RCTL}
 use Rattle.bus.proofs.Settings.{happens-off}
 use Rattle.bus.specs.AdaptersAtRest.{NoFrame}
-use Rattle.bus.specs.PastOfStretch.{Past, joined, nothing}
+use Rattle.bus.specs.Pasts.{Past, joined, nothing}
 use Rattle.bus.specs.Settings.{IsOff, NoArrival}
 use Rattle.bus.specs.Trails.{Trail, past_of, world_after_access}
 use Rattle.bus.specs.declared.event.Access.{Access}
@@ -26,16 +26,16 @@ use Rattle.stations.proofs.HostTrails.{trail-of}
 use Rattle.stations.specs.AtomicRunLaws.{past_join}
 use Rattle.stations.specs.AtomicRuns.{IsTick, LeadsTo, events_at, past_at}
 use Rattle.stations.specs.AtomicSteps.{At, AtomicStep, after}
-use Rattle.stations.specs.Retelling.{Retells}
+use Rattle.stations.specs.LentBuses.{HappenedLent}
 use Rattle.stations.specs.Stations.{StationState, world_at}
 use Rattle.stations.specs.declared.lent_bus.LentBus.{LentBus}
 use Rattle.stations.specs.declared.observer.Observer.{Ghosts as OfObserver}
 use Rattle.host_calls.specs.CallsOfHosts.{EndsWithAccess}
 use Rattle.host_calls.proofs.HostTrails.{happens-alone}
-use Rattle.host_calls.proofs.Retellings.{retelling-ends}
+use Rattle.host_calls.proofs.LentIntervals.{lent_interval-ends}
 use Rattle.host_calls.proofs.SplitSteps.{split-steps, ticks-alone}
 
--- An access of the caller, alone.
+-- A single access of the caller
 
 events-own : (k : ℕ) (access : Access) → events_at k (At k (Accesses access) ∷ []) ≡ Accesses access ∷ []
 events-own k access = ap (λ (here : Bool). (if here then Accesses access ∷ [] else []) ++ []) (eq-eqb k k refl)
@@ -49,27 +49,27 @@ own-world k access a b leads =
 pub own-past : (k : ℕ) (access : Access) → past_at k (At k (Accesses access) ∷ []) ≡ record nothing { accesses = access ∷ [] }
 own-past k access = ap past_of (events-own k access)
 
--- What a bus tells of a stretch of a reset: these accesses were made, the last of the steps is one of them.
-pub record Stretch (k : ℕ) (made : List Access) (past : Past) (a b : List StationState) : Type 0 where
+-- A part of a reset: these accesses were made, and the last step is one of them.
+pub record Interval (k : ℕ) (made : List Access) (past : Past) (a b : List StationState) : Type 0 where
   pub steps : List AtomicStep
   pub leads : LeadsTo k steps a b
   pub past_is : past_at k steps ≡ past
   pub made_are : (past_at k steps).accesses ≡ made
   pub ends : EndsWithAccess steps
 
-abbrev pub stretch : {O : Type 0} {g : OfObserver O} (k : ℕ) (a b : LentBus O g) (past : Past) (made : List Access)
-    → a.host ≡ k → (retells : Retells a b past) → past.accesses ≡ made → Stretch k made past a.stations.now b.stations.now
-stretch k a b past made host retells made_are =
-    let same : past_at k retells.steps ≡ past = sym (retells.past_is ∙ ap (λ (n : ℕ). past_at n retells.steps) host) in
+abbrev pub interval : {O : Type 0} {g : OfObserver O} (k : ℕ) (a b : LentBus O g) (past : Past) (made : List Access)
+    → a.host ≡ k → (happened : HappenedLent a b past) → past.accesses ≡ made → Interval k made past a.stations.now b.stations.now
+interval k a b past made host happened made_are =
+    let same : past_at k happened.steps ≡ past = sym (happened.past_is ∙ ap (λ (n : ℕ). past_at n happened.steps) host) in
     record {
-      steps = retells.steps;
-      leads = subst (λ (n : ℕ). LeadsTo n retells.steps a.stations.now b.stations.now) host retells.leads;
+      steps = happened.steps;
+      leads = subst (λ (n : ℕ). LeadsTo n happened.steps a.stations.now b.stations.now) host happened.leads;
       past_is = same;
       made_are = ap (λ (p : Past). p.accesses) same ∙ made_are;
-      ends = retelling-ends a b past retells;
+      ends = lent_interval-ends a b past happened;
     }
 
--- No frame comes while RCTL is 0.
+-- No frame arrives while RCTL is 0
 
 pub arrivals-join : (first later : Past) → NoArrival first → NoArrival later → NoArrival (joined first later)
 arrivals-join first later one two = record {
@@ -84,7 +84,7 @@ frames-join first later one two = record {
   none_missed = rw (one.none_missed, two.none_missed) refl;
 }
 
--- Ticks leave RCTL.
+-- Ticks don't change RCTL.
 pub off-ticks : (k : ℕ) (steps : List AtomicStep) (a b : List StationState) → All IsTick steps → LeadsTo k steps a b
     → IsOff (world_at a k) → NoArrival (past_at k steps) × IsOff (world_at b k)
 off-ticks k steps a b are leads off =
@@ -101,12 +101,12 @@ off-written k a b leads =
     (sym (register_at-there Rctl tt)) (HasBit-zero rctl_en) in
     subst IsOff (sym (own-world k (Writes RCTL 0) a b leads)) off
 
--- A read of MPC leaves it.
+-- A read of MPC doesn't change RCTL.
 read-leaves : (misses : ℕ) (w : World) → IsOff w → IsOff (world_after_access (Reads MPC misses) w)
 read-leaves misses w off =
     subst (λ (found : Option Register). ¬ (HasBit (left_by_read found w.adapter).filter.rctl rctl_en)) (sym (register_at-there Mpc tt)) off
 
--- MPC is read in between.
+-- MPC is read among these steps.
 pub off-read : (k misses : ℕ) (steps : List AtomicStep) (a b : List StationState) → LeadsTo k steps a b
     → (past_at k steps).accesses ≡ Reads MPC misses ∷ [] → IsOff (world_at a k) → NoArrival (past_at k steps) × IsOff (world_at b k)
 off-read k misses steps a b leads is off =
@@ -132,7 +132,7 @@ off-read k misses steps a b leads is off =
       two.1,
     )
 
--- Steps one after the other, in another order of brackets.
+-- The parts of a list, in another order of brackets.
 pub regroup : {X : Type 0} (e t1 t2 s3 q s5 s6 : List X) (d r n : X)
     → ((e ++ d ∷ t1) ++ ((t2 ++ r ∷ []) ++ (s3 ++ ((q ++ n ∷ []) ++ s5)))) ++ s6
     ≡ (e ++ d ∷ (t1 ++ t2)) ++ ((r ∷ ((s3 ++ q) ++ n ∷ [])) ++ (s5 ++ s6))

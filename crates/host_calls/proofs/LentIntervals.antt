@@ -1,14 +1,14 @@
--- What a lent bus retells: two retellings are one, and the atomic steps of a retelling end with an access.
+-- `HappenedLent` of two consecutive intervals joins, and its atomic steps end with an access.
 use Rattle.std.proofs.Common.{◌≡◌, ◌++◌, ◌∷◌, [], ℕ, false, List, map, refl, sym, ap, subst, ◌∙◌}
 use Rattle.std.specs.Prelude.{⊤}
-use Rattle.bus.specs.PastOfStretch.{Past, joined}
+use Rattle.bus.specs.Pasts.{Past, joined}
 use Rattle.bus.specs.TickGroups.{behind_group, group_of, played_in}
 use Rattle.bus.specs.declared.event.Access.{Access}
 use Rattle.bus.specs.declared.event.Event.TheVariants.{Accesses, Arrives, Steps}
 use Rattle.stations.specs.AtomicRuns.{IsOfCall, LeadsTo, is_go}
 use Rattle.stations.specs.AtomicSteps.{At, AtomicStep, Idles, IsNoAccess, after, tick_of}
-use Rattle.stations.specs.Retelling.{Retells}
-use Rattle.stations.specs.RetellingLaws.{retells_join}
+use Rattle.stations.specs.LentBuses.{HappenedLent}
+use Rattle.stations.specs.LentBusLaws.{lent_happened_join}
 use Rattle.stations.specs.Stations.{StationState}
 use Rattle.stations.specs.ToldTicks.{ComposesTold}
 use Rattle.stations.specs.declared.lent_bus.LentBus.{LentBus}
@@ -17,14 +17,14 @@ use Rattle.stations.specs.declared.tick.Tick.{Tick}
 use Rattle.stations.specs.declared.tick.Tick.TheVariants.{Go}
 use Rattle.host_calls.specs.CallsOfHosts.{EndsWithAccess}
 
--- The steps of two retellings are those of both.
-pub retellings-join : {O : Type 0} {g : OfObserver O} → ComposesTold g.heard
-    → (a b c : LentBus O g) (first later : Past) (one : Retells a b first) (two : Retells b c later)
-    → ((both : Retells a c (joined first later)) × (both.steps ≡ one.steps ++ two.steps))
-unfolding retells_join
-retellings-join composes a b c first later one two = (retells_join composes a b c first later one two, refl)
+-- The steps of two consecutive intervals are those of both.
+pub lent_intervals-join : {O : Type 0} {g : OfObserver O} → ComposesTold g.heard
+    → (a b c : LentBus O g) (first later : Past) (one : HappenedLent a b first) (two : HappenedLent b c later)
+    → ((both : HappenedLent a c (joined first later)) × (both.steps ≡ one.steps ++ two.steps))
+unfolding lent_happened_join
+lent_intervals-join composes a b c first later one two = (lent_happened_join composes a b c first later one two, refl)
 
--- What is played ends with a Go.
+-- The ticks that are played end with a Go
 
 EndsWithGo : List Tick → Type 0
 EndsWithGo [] = ⊤
@@ -45,7 +45,7 @@ played-ends (access ∷ later) ticks =
     go-behind (group_of is_go ticks) (played_in is_go Go [] later (behind_group is_go ticks))
     (played-ends later (behind_group is_go ticks))
 
--- So the steps end with an access: no Go is played outside a call.
+-- The steps end with an access, because Go isn't an atomic step of a call
 
 access-at-go : (caller : ℕ) (step : AtomicStep) → IsOfCall caller step → tick_of step ≡ Go → ¬ IsNoAccess step
 access-at-go caller (At host (Steps kind wire_free answer)) of_call is = absurd (cc)
@@ -60,8 +60,8 @@ steps-end caller [] a b leads ends = tt
 steps-end caller (step ∷ []) a b leads ends = access-at-go caller step leads.1 ends
 steps-end caller (step ∷ next ∷ later) a b leads ends = steps-end caller (next ∷ later) (after step a) b leads.2 ends
 
-pub retelling-ends : {O : Type 0} {g : OfObserver O} (a b : LentBus O g) (past : Past) (retells : Retells a b past)
-    → EndsWithAccess retells.steps
-retelling-ends a b past retells =
-    steps-end a.host retells.steps a.stations.now b.stations.now retells.leads
-    (subst EndsWithGo (sym retells.played) (played-ends past.accesses a.ticks.now))
+pub lent_interval-ends : {O : Type 0} {g : OfObserver O} (a b : LentBus O g) (past : Past) (interval : HappenedLent a b past)
+    → EndsWithAccess interval.steps
+lent_interval-ends a b past interval =
+    steps-end a.host interval.steps a.stations.now b.stations.now interval.leads
+    (subst EndsWithGo (sym interval.played) (played-ends past.accesses a.ticks.now))
