@@ -123,8 +123,8 @@ bool nic82540em_new(struct nic82540em *nic, const struct nic82540em_options *opt
 /* Frees the adapter. Its handle may be used for nic82540em_new again. */
 void nic82540em_free(struct nic82540em *nic);
 
-/* Accesses of a driver: nic82540em_read, _write, _load and _store. Each is counted, and steps may be played before it
- * (nic82540em_schedule, nic82540em_interleave). */
+/* Accesses of a driver: nic82540em_read, _write, _load and _store. Each is counted. Steps may be played before it
+ * (nic82540em_schedule, nic82540em_interleave), and cycles of steps after it (nic82540em_pace). */
 
 /* Reads the register at an offset in bytes. Returns 0 at an offset without a register. */
 uint32_t nic82540em_read(struct nic82540em *nic, uint32_t offset);
@@ -145,18 +145,18 @@ bool nic82540em_store(struct nic82540em *nic, uint64_t address, const void *byte
 uint64_t nic82540em_accesses(struct nic82540em *nic);
 void nic82540em_recount(struct nic82540em *nic, uint64_t accesses);
 
-/* The numbers of frames in the packet buffer: frames that arrived (one of which pieces are moved counts until its last
- * piece is), and frames that were fetched and aren't on the wire yet. */
+/* The numbers of frames in the packet buffer: frames that arrived, each until its last piece is written to memory, and
+ * frames that were fetched and aren't on the wire yet. */
 uint32_t nic82540em_waiting_received(struct nic82540em *nic);
 uint32_t nic82540em_waiting_transmit(struct nic82540em *nic);
 
 /* Stores the address of the first byte of the host's memory in `into`, if memory has a byte, and returns its size in
  * bytes. Use it for rings and buffers that your driver accesses by pointers. The address stays the same until
- * nic82540em_free. Such an access is none of the accesses above: it isn't counted, and no step is played before it. */
+ * nic82540em_free. An access by this pointer isn't counted, and no step is played before it. */
 uint64_t nic82540em_memory(struct nic82540em *nic, void **into);
 
 /* Stores the value that a read of the register at an offset would return now in `into`, and returns true. Nothing else
- * changes: it is no access, and clears no register. */
+ * changes: the call isn't an access, and clears no register. */
 bool nic82540em_peek(struct nic82540em *nic, uint32_t offset, uint32_t *into);
 
 /* What the adapter and the wire do. */
@@ -177,7 +177,7 @@ uint32_t nic82540em_arrive(struct nic82540em *nic, const void *frame, size_t cou
  * fates. Returns false, and changes nothing, if memory is refused. */
 bool nic82540em_offer(struct nic82540em *nic, const void *frame, size_t count);
 
-/* From now on, the wire is full if `full` is true: no frame is put on it, even if fewer than 64 wait. */
+/* From now on, the wire is full if `full` is true: no frame is put on the wire, even if fewer than 64 wait. */
 void nic82540em_fill_wire(struct nic82540em *nic, bool full);
 
 /* Takes the oldest frame off the wire, if it has at most `room` bytes. Returns the frame's length in bytes, or 0 if no
@@ -187,8 +187,8 @@ size_t nic82540em_take_put(struct nic82540em *nic, void *into, size_t room);
 /* Whether the interrupt line is asserted. */
 bool nic82540em_line(struct nic82540em *nic);
 
-/* Lets all offered frames arrive, and plays rounds, each with one step of each kind. Stops after a round in which no step
- * did anything, or after 131,072 rounds. Returns the number of steps of the rounds that did something: all but those
+/* Lets all offered frames arrive, and plays cycles, each with one step of each kind. Stops after a cycle in which no step
+ * did anything, or after 131,072 cycles. Returns the number of steps of the cycles that did something: all but those
  * with the outcome NIC_NOTHING or NIC_WIREFULL. */
 uint64_t nic82540em_settle(struct nic82540em *nic);
 
@@ -197,20 +197,29 @@ uint64_t nic82540em_settle(struct nic82540em *nic);
  * if `count` is above 65,535. */
 bool nic82540em_interleave(struct nic82540em *nic, uint32_t count, uint64_t seed);
 
+/* From now on, up to `count` cycles are played after each access and each nic82540em_arrive, as in nic82540em_settle, but
+ * offered frames don't arrive; with 0, none. With 65,535, an adapter does all its work at once. Returns false, and
+ * changes nothing, if `count` is above 65,535. */
+bool nic82540em_pace(struct nic82540em *nic, uint32_t count);
+
+/* Returns a number below `limit`, or 0 if `limit` is 0: after nic82540em_interleave with a `count` above 0, a random one,
+ * else 0. So the seed also determines choices of a test, such as the next packet, as `choose` of `nicbench serve` does. */
+uint32_t nic82540em_choose(struct nic82540em *nic, uint32_t limit);
+
 /* Adds a step of this kind to the end of the schedule. Before each access, the first steps of the schedule whose
  * `access` is at most the number of the access are played, before random steps. So add steps in the order of their
  * accesses. Returns false, and changes nothing, if there is no such kind, or 4,096 steps wait. */
 bool nic82540em_schedule(struct nic82540em *nic, uint64_t access, uint32_t kind);
 
 /* From now on, a step NIC_EEPROM and then a step NIC_PHY are played before each access, before the steps of the schedule,
- * if `on` is true. So an EEPROM read or an MDIC command ends before the next access, and the link comes up after some
+ * if `on` is true. So an EEPROM read or an MDIC command ends before the next access, and the link is up after some
  * accesses. A new adapter has no such steps. */
 void nic82540em_ticks(struct nic82540em *nic, bool on);
 
 /* Events: what happened, also in steps before accesses and in nic82540em_settle. */
 
-/* From now on, events are kept, if `on` is true. At most 4,096 wait; while so many wait, a further event isn't kept. A new
- * adapter keeps none. */
+/* From now on, events are kept, if `on` is true. While 4,096 events wait, a further event isn't kept. A new adapter keeps
+ * none. */
 void nic82540em_events(struct nic82540em *nic, bool on);
 
 /* Takes the oldest event into `into`, and returns true. Returns false, and changes nothing, if none waits. */
@@ -219,8 +228,9 @@ bool nic82540em_take_event(struct nic82540em *nic, struct nic82540em_event *into
 /* States of an adapter. */
 
 /* Makes a copy of the adapter in the handle `into`, which has no adapter: with its memory, its wire, its schedule, its
- * random steps, its offered frames, its events and the number of accesses. The same calls on both have the same results. Returns false, and changes
- * nothing, if there is no adapter to copy, if `into` has an adapter, or if memory is refused. */
+ * random steps, its offered frames, its events and the number of accesses. The same calls on both have the same results.
+ * Returns false, and changes nothing, if there is no adapter to copy, if `into` has an adapter, or if memory is
+ * refused. */
 bool nic82540em_copy(struct nic82540em *nic, struct nic82540em *into);
 
 /* A digest of the adapter and its host's memory, as `digest` of `nicbench serve`. It doesn't cover the wire, the steps before
@@ -230,7 +240,7 @@ uint64_t nic82540em_digest(struct nic82540em *nic);
 
 /* A digest of the adapter's state by its contents: its registers, the frames in its packet buffer and the work in progress.
  * Adapters with the same state have equal digests for each seed. It covers neither the host's memory nor what
- * nic82540em_digest leaves out. */
+ * nic82540em_digest doesn't cover. */
 uint64_t nic82540em_state_digest(struct nic82540em *nic, uint64_t seed);
 
 #ifdef __cplusplus

@@ -1,10 +1,12 @@
 """Builds a wheel of the package `nic82540em` with the library libnic82540em.so, for pip (PEP 517).
 
-The setting `library` (pip install --config-settings library=FOLDER) or the environment variable NIC82540EM_LIB names the
-folder of the library. Otherwise it is in the folder lib of the release, or in .build/library/lib of the repository, or
-where `pkg-config` finds it.
-The wheel has the version of nic82540em.pc there. With the same files, the wheel has the same bytes.
+The setting `library` (pip install --config-settings library=FOLDER) or the environment variable NIC82540EM_LIB names
+the folder of the library. Otherwise it is in the folder lib of the release, or in .build/library/lib of the repository,
+or where `pkg-config` finds it. The wheel has the version of nic82540em.pc there. With the same files, the wheel has the
+same bytes.
 """
+
+from __future__ import annotations
 
 import base64
 import hashlib
@@ -12,18 +14,19 @@ import os
 import re
 import subprocess
 import zipfile
+from typing import Mapping, NoReturn, Optional
 
 NAME, FILE = "nic82540em", "libnic82540em.so"
 HERE = os.path.dirname(os.path.abspath(__file__))
 TOP = os.path.dirname(os.path.dirname(HERE))
 SUMMARY = "An Intel 82540EM and its host's memory in the process of a driver"
-# The library is built for x86-64 alone.
+# The library is built only for x86-64.
 TAG = "py3-none-linux_x86_64"
 # The first moment that a ZIP archive can hold
 MOMENT = (1980, 1, 1, 0, 0, 0)
 
 
-def of_pkg_config():
+def of_pkg_config() -> str:
     """The folder of the library that `pkg-config` knows, or nothing."""
     try:
         ran = subprocess.run(["pkg-config", "--variable=libdir", NAME], capture_output=True)
@@ -32,7 +35,7 @@ def of_pkg_config():
     return ran.stdout.decode().strip()
 
 
-def folder_of_library(settings):
+def folder_of_library(settings: Optional[Mapping[str, str]]) -> str:
     """The folder with the library. A folder that was named must have it."""
     named = (settings or {}).get("library") or os.environ.get("NIC82540EM_LIB")
     own = [os.path.join(TOP, "lib"), os.path.join(TOP, ".build", "library", "lib")]
@@ -44,26 +47,29 @@ def folder_of_library(settings):
                      "NIC82540EM_LIB=FOLDER/lib")
 
 
-def bytes_of(path):
+def bytes_of(path: str) -> bytes:
     with open(path, "rb") as file:
         return file.read()
 
 
-def version_of(folder):
+def version_of(folder: str) -> str:
     """The version of the library, as its file for pkg-config states it."""
-    return re.search(rb"^Version: (\S+)$", bytes_of(os.path.join(folder, "pkgconfig", f"{NAME}.pc")), re.M)[1].decode()
+    found = re.search(rb"^Version: (\S+)$", bytes_of(os.path.join(folder, "pkgconfig", f"{NAME}.pc")), re.M)
+    assert found, f"{NAME}.pc has no version"
+    return found[1].decode()
 
 
-def record_of(files, name):
+def record_of(files: Mapping[str, bytes], name: str) -> bytes:
     """The list of all files with their checksums, which a wheel has as its last file."""
-    def line(path, data):
+    def line(path: str, data: bytes) -> str:
         checksum = base64.urlsafe_b64encode(hashlib.sha256(data).digest()).decode().rstrip("=")
         return f"{path},sha256={checksum},{len(data)}\n"
 
     return "".join([*(line(path, data) for path, data in files.items()), f"{name},,\n"]).encode()
 
 
-def build_wheel(wheel_directory, config_settings=None, metadata_directory=None):
+def build_wheel(wheel_directory: str, config_settings: Optional[Mapping[str, str]] = None,
+                metadata_directory: Optional[str] = None) -> str:
     """Writes the wheel, and returns its name."""
     folder = folder_of_library(config_settings)
     version = version_of(folder)
@@ -86,6 +92,6 @@ def build_wheel(wheel_directory, config_settings=None, metadata_directory=None):
     return wheel
 
 
-def build_sdist(sdist_directory, config_settings=None):
+def build_sdist(sdist_directory: str, config_settings: Optional[Mapping[str, str]] = None) -> NoReturn:
     """A source archive would lack the library."""
     raise SystemExit("build a wheel: pip wheel bindings/python")

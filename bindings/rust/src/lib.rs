@@ -173,7 +173,7 @@ pub enum Error {
     OutOfRange,
     /// Memory is refused.
     NoMemory,
-    /// The number of steps before an access is above 65,535, or 4,096 steps wait for their accesses.
+    /// The number of steps before an access, or of cycles after one, is above 65,535; or 4,096 steps wait.
     TooManySteps,
 }
 
@@ -183,7 +183,7 @@ impl fmt::Display for Error {
             Error::New => "an option is out of range, or memory is refused",
             Error::OutOfRange => "some of the bytes are outside memory",
             Error::NoMemory => "memory is refused",
-            Error::TooManySteps => "the number of steps before an access is above 65,535, or 4,096 steps wait for their accesses",
+            Error::TooManySteps => "the number of steps before an access, or of cycles after one, is above 65,535; or 4,096 steps wait",
         })
     }
 }
@@ -292,6 +292,8 @@ extern "C" {
     fn nic82540em_line(nic: &mut Handle) -> bool;
     fn nic82540em_settle(nic: &mut Handle) -> u64;
     fn nic82540em_interleave(nic: &mut Handle, count: u32, seed: u64) -> bool;
+    fn nic82540em_pace(nic: &mut Handle, count: u32) -> bool;
+    fn nic82540em_choose(nic: &mut Handle, limit: u32) -> u32;
     fn nic82540em_schedule(nic: &mut Handle, access: u64, kind: u32) -> bool;
     fn nic82540em_ticks(nic: &mut Handle, on: bool);
     fn nic82540em_recount(nic: &mut Handle, accesses: u64);
@@ -433,6 +435,36 @@ impl Nic {
     pub fn interleave(&mut self, count: u32, seed: u64) -> Result<(), Error> {
         let is_done = unsafe { nic82540em_interleave(&mut self.handle, count, seed) };
         is_done.then_some(()).ok_or(Error::TooManySteps)
+    }
+
+    /// From now on, plays up to `count` cycles of steps after each access and each arrival, until one does nothing.
+    ///
+    /// ```
+    /// use nic82540em::{Nic, Options, registers};
+    ///
+    /// let mut nic = Nic::new(&Options::default()).unwrap();
+    /// nic.pace(65_535).unwrap();
+    /// nic.write(registers::EERD, 1);
+    /// assert_eq!(nic.read(registers::EERD) & 1 << 4, 1 << 4); // DONE: the word of the EEPROM is read
+    /// ```
+    pub fn pace(&mut self, count: u32) -> Result<(), Error> {
+        let is_done = unsafe { nic82540em_pace(&mut self.handle, count) };
+        is_done.then_some(()).ok_or(Error::TooManySteps)
+    }
+
+    /// Returns a number below `limit`, or 0 if `limit` is 0: a random one if random steps are played before accesses,
+    /// else 0. The seed of [`interleave`](Nic::interleave) determines it.
+    ///
+    /// ```
+    /// use nic82540em::{Nic, Options};
+    ///
+    /// let mut nic = Nic::new(&Options::default()).unwrap();
+    /// assert_eq!(nic.choose(7), 0);
+    /// nic.interleave(3, 1).unwrap();
+    /// assert!(nic.choose(7) < 7);
+    /// ```
+    pub fn choose(&mut self, limit: u32) -> u32 {
+        unsafe { nic82540em_choose(&mut self.handle, limit) }
     }
 
     /// Adds a step to the end of the schedule. It is played before the access with number `access`; the first access has

@@ -1,5 +1,5 @@
--- What is at an address in memory. Section 3.2.6 "Receive Descriptor Queue Structure" and 3.4 "Transmit Descriptor Ring
--- Structure" define where descriptors are; that the receive ring comes first if both have the address is our choice.
+-- The target at an address in memory. Sections 3.2.6 "Receive Descriptor Queue Structure" and 3.4 "Transmit Descriptor Ring Structure"
+-- define where descriptors are; that the receive ring comes first if both have the address is our choice.
 use Rattle.std.specs.Prelude.{◌&&◌, ◌+◌, ◌-◌, ◌/◌, ◌%◌, ℕ, Bool, Option, Some, None, if◌then◌else◌, nat_le, nat_lt}
 use Rattle.adapter.specs.Rings.{ring_of}
 use Rattle.adapter.specs.State.{AdapterState}
@@ -17,7 +17,7 @@ is_in_ring ring address = nat_le ring.base address && nat_lt address (ring.base 
 abbrev pub descriptor_at : Engine → ℕ → Target
 descriptor_at engine distance = Descriptor engine (distance / 16) (distance % 16)
 
--- the byte of an engine's ring that has this address, if one has
+-- the byte of an engine's ring at this address, if there is one
 abbrev pub target_in_ring : Engine → Ring → ℕ → Option Target
 target_in_ring engine ring address =
     if is_in_ring ring address then Some (descriptor_at engine (address - ring.base)) else None
@@ -27,7 +27,7 @@ abbrev pub or_else : Option Target → Target → Target
 or_else (Some target) other = target
 or_else None other = other
 
--- what is at this address
+-- the target at this address
 abbrev pub memory_target_in : AdapterState → ℕ → Target
 memory_target_in adapter address =
     or_else (target_in_ring Receive (ring_of adapter.receive_ring) address)

@@ -1,4 +1,4 @@
-// What is at an address in memory.
+// The target at an address in memory.
 
 ghost use Rattle.std.specs.Prelude.{◌≡◌};
 ghost use Rattle.engine_faults.specs.Rings.{ring_of_engine};
@@ -11,8 +11,8 @@ use engine_faults::{Engine, RingWords};
 
 const DESCRIPTOR_BYTES: u64 = RX_DESC_BYTES as u64;
 
-/// What an access at this address in memory reads or writes: a descriptor of the receive ring if the address is in
-/// this ring, else one of the transmit ring if it is in that one, else memory.
+/// The target of an access at this address in memory: a descriptor of the receive ring if the address is in this ring,
+/// else one of the transmit ring if the address is in that ring, else memory.
 pub fn memory_target(machine: &Machine, address: u64) -> Target
     ensures target { result ≡ memory_target_in machine.now.world.adapter address }
 {
@@ -25,7 +25,7 @@ pub fn memory_target(machine: &Machine, address: u64) -> Target
     Target::Memory(address)
 }
 
-/// The descriptor of an engine's ring that has this address, if one has.
+/// The descriptor of an engine's ring at this address, if there is one.
 fn target_in_ring(machine: &Machine, engine: Engine, address: u64) -> Option<Target>
     ensures target { result ≡ target_in_ring engine (ring_of_engine engine machine.now.world) address }
 {

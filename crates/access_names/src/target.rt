@@ -1,8 +1,8 @@
-// What accesses read and write.
+// The targets of accesses.
 
 use engine_faults::Engine;
 
-/// What an access reads or writes. Its `Display` is its name.
+/// The target that an access reads or writes. `Display` prints its name.
 #[derive(Clone, Copy, Debug, PartialEq, Eq)]
 pub enum Target {
     /// The register at this offset in bytes, such as `ICR`, `MTA[5]` or `RAL[0]`; `register[0x10]` if no register has
@@ -10,7 +10,7 @@ pub enum Target {
     Register(u32),
     /// A byte of a descriptor of a ring, such as `rx[1]+8`, or `tx[0]` for the first byte.
     Descriptor {
-        /// The engine whose ring it is.
+        /// The engine that owns the ring.
         ring: Engine,
         /// The number of the descriptor in its ring, from 0.
         index: u64,

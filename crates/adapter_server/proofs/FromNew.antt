@@ -1,5 +1,4 @@
 -- A new server, whose memory has some address.
-use denote.RawPtr.{Ptr}
 use Rattle.std.proofs.Common.{◌≡◌, ◌∙◌, ℕ, List, Option, Some, None, subst, sym}
 use Rattle.std.specs.Prelude.{Err, IfErr, IfSome, IsErrAnd, Ok, Result}
 use Rattle.step_schedules.specs.Players.{PlayerState}

@@ -7,3 +7,4 @@ pub mod Requests
 pub mod ServedLines
 pub mod ServedParts
 pub mod Slices
+mod Enabled

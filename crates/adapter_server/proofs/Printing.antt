@@ -1,16 +1,18 @@
 -- Answers in parts, and what was written where the server stopped.
-use Rattle.std.proofs.Common.{◌≡◌, ◌++◌, ◌∙◌, ℕ, List, [], Option, None, Some, append_assoc, ap, inl, inr, refl, subst, sym}
+use Rattle.std.proofs.Common.{◌≡◌, ◌++◌, ℕ, List, [], Option, None, ap, inl, inr, refl, subst, sym}
+use Rattle.std.specs.Io.KnownBytes.{Keeps}
 use Rattle.std.specs.Prelude.{Err, IsErr, Ok, OnOk, Result}
 use Rattle.played_adapter.specs.Told.{Told}
 use Rattle.played_adapter.specs.declared.choices.Move.{Move}
 use Rattle.played_adapter.specs.declared.player.PlayedAdapter.{PlayedAdapter}
 use Rattle.server_output.specs.Order.{Says, TellsPart}
-use Rattle.server_output.specs.Telling.{WroteText, kept_after, text_of}
+use Rattle.server_output.specs.Telling.{Ends, Heard, kept_after, text_of}
 use Rattle.server_output.specs.Texts.{Text, ok_line}
 use Rattle.server_output.specs.declared.answer_error.AnswerError.{AnswerError}
 use Rattle.server_output.specs.declared.kept.Kept.{Kept}
-use Rattle.server_output.proofs.PartsWritten.{part_so, part_then}
-use Rattle.server_output.proofs.Writing.{appends_none, appends_then, tells_so}
+use Rattle.server_output.proofs.Ending.{ended, unended}
+use Rattle.server_output.proofs.PartsWritten.{part_so}
+use Rattle.server_output.proofs.Writing.{appends_none, tells_so}
 use Rattle.adapter_server.specs.Answers.{Changes, OnSession, Played, Reaches, Replies, TellsAnswer}
 use Rattle.adapter_server.specs.declared.session.Session.{Session}
 use Rattle.adapter_server.specs.declared.snapshot.Server.{Server}
@@ -98,8 +100,9 @@ begun Happens moves known said a met b text same at played =
     (subst (λ (ms : List Move). Played (Happens ms) said a b text) same played)
 
 -- Something was played and told, and then comes the line of the answer.
-module _ (Happens : PlayedAdapter → PlayedAdapter → List Told → Type 0) (said : Text) (a : Session) (device : PlayedAdapter) (kept : Kept)
-    (told : List Told) (happens : Happens a.device device told) (line : Text) (Answers : Session → Text → Type 0) (f : Session → Session)
+module _ (Happens : PlayedAdapter → PlayedAdapter → List Told → Type 0) (said : Text) (a : Session) (device : PlayedAdapter)
+    (told : List Told)
+    (happens : Happens a.device device told) (line : Text) (Answers : Session → Text → Type 0) (f : Session → Session)
     (so : (b : Session) (text : Text) → Played Happens said a b text → Answers (f b) (text ++ line)) where
   -- the session after all that was told
   abbrev last : Session
@@ -111,53 +114,37 @@ module _ (Happens : PlayedAdapter → PlayedAdapter → List Told → Type 0) (s
   whole : Answers (f last) (written_text ++ line)
   whole = so last written_text (record { told = told; happens = happens; after = refl; text_is = refl })
 
-  -- Writing stopped before the line.
-  pub stopped : (error : AnswerError) (stop : Option AnswerError) (before now : Option (List ℕ)) → stop ≡ Some error
-      → WroteText None stop before now written_text → TellsPart before now (Reaches Answers)
-  stopped error None before now is wrote = absurd (cc)
-  stopped error (Some e) before now is wrote = record {
-    text = wrote.text;
-    holds = record {
-      text = written_text ++ line;
-      rest = wrote.holds.rest ++ line;
-      holds = inr (f last, whole);
-      text_is = ap (λ (t : Text). t ++ line) (sym wrote.holds.holds ∙ wrote.holds.text_is)
-          ∙ append_assoc wrote.text wrote.holds.rest line;
-    };
-    written = wrote.written;
-  }
-
-  -- All was written, but not the line.
-  pub unsaid : {T E : Type 0} (result : Result T E) (b : Session) (stop : Option AnswerError) (before now : Option (List ℕ)) → IsErr result
-      → stop ≡ None → WroteText None stop before now written_text → TellsAnswer result before now Answers b
-  unsaid result b (Some e) before now is running wrote = absurd (cc)
-  unsaid result b None before now is running wrote =
-      answer_again result Answers b before now is (record {
-        text = written_text;
-        holds = record { text = written_text ++ line; rest = line; holds = inr (f last, whole); text_is = refl };
-        written = wrote;
-      })
-
-  -- All was written, and then the line.
-  pub answered : {T E : Type 0} (result : Result T E) (stop : Option AnswerError) (before now after : Option (List ℕ)) → stop ≡ None
-      → WroteText None stop before now written_text → (stop ≡ None → kept ≡ kept_after told a.kept) → Says result now after line
+  tells_answer : {T E : Type 0} (result : Result T E) (kept : Kept) (before after : Option (List ℕ))
+      → Says result before after (written_text ++ line) × OnOk result (kept ≡ kept_after told a.kept)
       → TellsAnswer result before after Answers (f (record a { device = device; kept = kept }))
-  answered result (Some e) before now after running wrote kept_is said = absurd (cc)
-  answered (Ok value) None before now after running wrote kept_is says = record {
+  tells_answer (Ok value) kept before after ended = record {
     text = written_text ++ line;
     holds = so (record a { device = device; kept = kept }) written_text (record {
       told = told;
       happens = happens;
-      after = ap (λ (k : Kept). record a { device = device; kept = k }) (kept_is refl);
+      after = ap (λ (k : Kept). record a { device = device; kept = k }) ended.1;
       text_is = refl;
     });
-    written = appends_then before now after written_text line wrote says;
+    written = ended.0;
   }
-  answered (Err error) None before now after running wrote kept_is says =
-      part_then (λ (t : Text). t ≡ written_text) (λ (t : Text). t ≡ line) (Reaches Answers) before now after
-      (λ t l same other. inr (
-        f last,
-        subst (λ (one : Text). Answers (f last) (one ++ l)) (sym same)
-            (subst (λ (one : Text). Answers (f last) (written_text ++ one)) (sym other) whole),
-      ))
-      (record { text = written_text; holds = refl; written = wrote }) says
+  tells_answer (Err error) kept before after ended =
+      part_so (λ (t : Text). t ≡ written_text ++ line) (Reaches Answers) before after
+      (λ text same. inr (f last, subst (λ (t : Text). Answers (f last) t) (sym same) whole)) ended.0
+
+  -- All was written, and then the line.
+  pub answered : {T : Type 0} (result : Result T AnswerError) (said' : Text) (kept : Kept) (stop : Option AnswerError)
+      (before now after : Option (List ℕ)) → Heard said said' a.kept kept None stop before now told → Ends stop result now after line
+      → TellsAnswer result before after Answers (f (record a { device = device; kept = kept }))
+  answered result said' kept stop before now after heard ends =
+      tells_answer result kept before after
+      (ended result said said' a.kept kept stop before now after told line heard ends)
+
+  -- All was written, but not the line.
+  pub unsaid : {T : Type 0} (result : Result T AnswerError) (said' : Text) (kept : Kept) (stop : Option AnswerError) (b : Session)
+      (before now after : Option (List ℕ)) → Heard said said' a.kept kept None stop before now told → IsErr result × Keeps now after
+      → TellsAnswer result before after Answers b
+  unsaid (Ok value) said' kept stop b before now after heard none = absurd (cc)
+  unsaid (Err error) said' kept stop b before now after heard none =
+      part_so (λ (t : Text). t ≡ written_text ++ line) (Reaches Answers) before after
+      (λ text same. inr (f last, subst (λ (t : Text). Answers (f last) t) (sym same) whole))
+      (unended stop before now after written_text line heard.wrote none.1)

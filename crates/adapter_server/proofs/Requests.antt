@@ -1,6 +1,6 @@
 -- Requests to the adapter that is served.
 use Rattle.std.proofs.Common.{◌≡◌, ◌≢◌, ◌⊎◌, [], inl, inr, refl, subst, sym}
-use Rattle.adapter_server.specs.Answers.{Does, OnSession, SessionDoes}
+use Rattle.adapter_server.specs.Answers.{Does, OnSession, SessionDoes, request_said}
 use Rattle.server_output.specs.Texts.{Text}
 use Rattle.server_requests.specs.declared.request.Request.{Request}
 use Rattle.server_requests.specs.declared.request.Request.TheVariants as requests
@@ -9,24 +9,20 @@ use Rattle.adapter_server.specs.declared.session.Session.{Session}
 
 -- What the session does at a request other than `save` and `restore`, the server does.
 pub does_on : (request : Request) (said : Text) (a : Server) → request ≢ requests.Save → request ≢ requests.Restore
-    → (b : Server) (text : Text) → OnSession (SessionDoes request said) a b text → Does request said a b text
+    → (b : Server) (text : Text) → OnSession (SessionDoes request (request_said request said a.session)) a b text
+    → Does request said a b text
 does_on (requests.Read wanted address) said a not_save not_restore b text does = does
 does_on (requests.Write address bytes) said a not_save not_restore b text does = does
-does_on (requests.ReadPort width port) said a not_save not_restore b text does = does
+does_on (requests.Look look) said a not_save not_restore b text does = does
 does_on (requests.WritePort width port value) said a not_save not_restore b text does = does
-does_on requests.Endianness said a not_save not_restore b text does = does
 does_on (requests.Step kind) said a not_save not_restore b text does = does
 does_on (requests.Arrive frame) said a not_save not_restore b text does = does
 does_on requests.Settle said a not_save not_restore b text does = does
 does_on (requests.Set setting) said a not_save not_restore b text does = does
-does_on requests.Line said a not_save not_restore b text does = does
-does_on requests.Digest said a not_save not_restore b text does = does
 does_on (requests.ClockStep nanoseconds) said a not_save not_restore b text does = does
 does_on (requests.ClockSet time) said a not_save not_restore b text does = does
-does_on requests.Intercept said a not_save not_restore b text does = does
-does_on requests.Frames said a not_save not_restore b text does = does
-does_on requests.Faults said a not_save not_restore b text does = does
 does_on (requests.Offer frame) said a not_save not_restore b text does = does
+does_on (requests.Choose limit) said a not_save not_restore b text does = does
 does_on requests.Save said a not_save not_restore b text does = absurd (not_save refl)
 does_on requests.Restore said a not_save not_restore b text does = absurd (not_restore refl)
 

@@ -10,7 +10,7 @@ use Rattle.server_output.specs.Order.{Tells}
 use Rattle.server_requests.specs.Lines.{behind_line, first_line, lines_of, most_line_bytes}
 use Rattle.server_requests.specs.LinesRead.{AtEnd, BothKnown, IsLong, IsNextLine, IsWhole}
 use Rattle.adapter_server.specs.Serving.{AnswersNext, Serves, ServesFront, ServesTo, ServesWhole, Turns}
-use Rattle.adapter_server.specs.Statuses.{ended_by}
+use Rattle.adapter_server.specs.Causes.{ended_by}
 use Rattle.server_output.specs.Texts.{Text}
 use Rattle.server_output.specs.declared.answer_error.AnswerError.{AnswerError}
 use Rattle.server_output.specs.declared.answer_error.AnswerError.TheVariants as causes

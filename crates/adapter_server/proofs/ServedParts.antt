@@ -8,7 +8,7 @@ use Rattle.server_output.specs.Order.{Begins, Tells, TellsPart}
 use Rattle.server_requests.specs.Lines.{behind_line, first_line, lines_of}
 use Rattle.server_requests.specs.LinesRead.{BothKnown, IsLong, IsNextLine, IsWhole}
 use Rattle.adapter_server.specs.Serving.{AnswersNext, BeginsNext, ServesBegun, Turns}
-use Rattle.adapter_server.specs.Statuses.{ended_by}
+use Rattle.adapter_server.specs.Causes.{ended_by}
 use Rattle.server_output.specs.Texts.{Text}
 use Rattle.server_output.specs.declared.answer_error.AnswerError.{AnswerError}
 use Rattle.server_requests.specs.declared.line_reader.NextLine.{NextLine}

@@ -1,49 +1,83 @@
 -- The answer to each request, and the state after it (our choice; the words of answers are QEMU's, docs/devel/testing/qtest).
 use denote.RawPtr.{Ptr}
 use Rattle.std.specs.Prelude.{◌≡◌, ◌+◌, ◌^◌, ◌++◌, ◌∷◌, ◌⊎◌, ℕ, List, [], Option, Some, None, Result, Ok, Err, codes}
-use Rattle.std.specs.Prelude.{if◌then◌else◌, length, max, nat_lt, IsUtf8}
+use Rattle.std.specs.Prelude.{◌&&◌, Bool, if◌then◌else◌, length, max, nat_lt, IsUtf8}
 use Rattle.std.specs.Int.{to_le_bytes, w32}
+use Rattle.std.specs.List.{concat}
 use Rattle.adapter.specs.declared.outcome.Outcome.{Outcome}
+use Rattle.access_names.specs.Names.{target_text}
+use Rattle.adapter.specs.Steps.{TellsWork}
 use Rattle.adapter.specs.declared.step.StepKind.{StepKind}
+use Rattle.adapter.specs.declared.step.StepKind.TheVariants as kinds
 use Rattle.bus.specs.Digests.{digest_of}
 use Rattle.bus.specs.Machines.{is_asserted}
 use Rattle.bus.specs.declared.event.Access.{Access}
 use Rattle.bus.specs.declared.event.Access.TheVariants.{Loads, Reads}
+use Rattle.engine_faults.specs.Rings.{ring_from, ring_of_engine}
+use Rattle.engine_faults.specs.declared.engine_fault.Engine.TheVariants.{Receive, Transmit}
+use Rattle.engine_faults.specs.declared.ring_words.RingWords.{RingWords}
 use Rattle.pci_function.specs.Ports.{after_write, answer_at}
 use Rattle.pci_function.specs.declared.port_width.PortWidth.{PortWidth}
 use Rattle.played_adapter.specs.Order.{InOrder}
 use Rattle.played_adapter.specs.Playing.{Makes}
-use Rattle.played_adapter.specs.Requests.{ServesAccess, ServesArrival, ServesLoad, ServesSettle, ServesStep}
+use Rattle.played_adapter.specs.Requests.{ServesAccess, ServesArrival, ServesChoice, ServesLoad, ServesSettle, ServesStep}
 use Rattle.played_adapter.specs.Told.{Told}
 use Rattle.played_adapter.specs.declared.choices.Move.{Move}
 use Rattle.played_adapter.specs.declared.player.PlayedAdapter.{PlayedAdapter}
 use Rattle.rx_engine.specs.declared.arrival.Fate.{Fate}
 use Rattle.server_output.specs.Order.{Tells, TellsPart}
-use Rattle.server_output.specs.ReadLines.{answer_line}
+use Rattle.server_output.specs.Answers.{answer_line}
 use Rattle.server_output.specs.Telling.{kept_after, text_of}
-use Rattle.server_output.specs.Texts.{Text, decimal_line, fate_word, faults_line, frames_line, line_moved, number_line, ok_line}
+use Rattle.server_output.specs.Texts.{
+  Text,
+  decimal_line,
+  enabled_line,
+  rings_line,
+  fate_word,
+  faults_line,
+  frames_line,
+  line_moved,
+  number_line,
+  ok_line,
+}
 use Rattle.server_output.specs.Texts.{outcome_word, word_line}
+use Rattle.server_output.specs.declared.looking.EnabledSteps.{EnabledSteps}
 use Rattle.server_requests.specs.Reading.{request_in}
 use Rattle.server_requests.specs.Refusals.{refusal_line}
 use Rattle.server_requests.specs.Widths.{size_of}
 use Rattle.server_requests.specs.Words.{words_of}
 use Rattle.server_requests.specs.declared.refusal.Refusal.{Refusal}
 use Rattle.server_requests.specs.declared.refusal.Refusal.TheVariants as refusals
+use Rattle.server_requests.specs.declared.request.Look.{Look}
+use Rattle.server_requests.specs.declared.request.Look.TheVariants as looks
 use Rattle.server_requests.specs.declared.request.Request.{Request}
 use Rattle.server_requests.specs.declared.request.Request.TheVariants as requests
 use Rattle.server_requests.specs.declared.request.Wanted.{Wanted}
-use Rattle.step_schedules.specs.declared.deviation.Before.TheVariants.{Request as AnyRequest}
-use Rattle.adapter_server.specs.Sessions.{copied, meeting, met_before, moves_before, place_in, request_moves, with_setting, write_to}
+use Rattle.step_schedules.specs.declared.deviation.Before.TheVariants.{Choice, Request as AnyRequest}
+use Rattle.adapter_server.specs.Sessions.{
+  copied,
+  meeting,
+  met_before,
+  moves_before,
+  place_in,
+  request_moves,
+  target_at,
+  wanted_number,
+  with_setting,
+}
+use Rattle.adapter_server.specs.Sessions.{write_to}
+use Rattle.adapter_server.specs.declared.answering.Round.{Round}
+use Rattle.adapter_server.specs.declared.answering.Round.TheVariants as rounds
 use Rattle.adapter_server.specs.declared.session.Place.{Place}
 use Rattle.adapter_server.specs.declared.session.Place.TheVariants.{Register, Memory}
 use Rattle.adapter_server.specs.declared.session.Session.{Session}
 use Rattle.adapter_server.specs.declared.snapshot.Server.{Server}
 
--- Answers, whatever they are about.
+-- Answers of any kind.
 
--- What happens is printed, and then the line of the answer.
+-- The text about what happens is written, and then the line of the answer.
 pub record Answered (Happens : Text → Type 0) (line : Text) (text : Text) : Type 0 where
-  -- what was printed of what happened
+  -- the text about what happened
   pub told : Text
   -- it happened
   pub happens : Happens told
@@ -61,29 +95,29 @@ pub record Replies {S : Type 0} (line : Text) (b' b : S) (text : Text) : Type 0 
 abbrev pub Refuses : {S : Type 0} → Refusal → S → S → Text → Type 0
 Refuses refusal a b text = Replies (refusal_line refusal) a b text
 
--- nothing, or the whole answer
+-- no text, or a complete answer
 abbrev pub Reaches : {S : Type 0} → (Answers : S → Text → Type 0) → Text → Type 0
 Reaches {S} Answers text = (text ≡ []) ⊎ ((b : S) × Answers b text)
 
--- The answer was written. At an error, a beginning of it was written.
+-- The answer was written. At an error, a beginning of it was written, which may be empty.
 abbrev pub TellsAnswer : {T E S : Type 0} → Result T E → (before after : Option (List ℕ)) → (Answers : S → Text → Type 0) → S → Type 0
 TellsAnswer (Ok value) before after Answers b = Tells before after (Answers b)
 TellsAnswer (Err error) before after Answers b = TellsPart before after (Reaches Answers)
 
 -- Answers about the adapter and its memory.
 
--- Something happens to the adapter and its memory. It is written and kept, and nothing else changes.
+-- Something happens to the adapter and its memory. It is told to the observer `Lines`, and nothing else changes.
 pub record Played (Happens : PlayedAdapter → PlayedAdapter → List Told → Type 0) (said : Text) (a b : Session) (text : Text) : Type 0 where
-  -- what is told of it
+  -- what the observer is told
   pub told : List Told
   -- it happens
   pub happens : Happens a.device b.device told
-  -- what belongs to it is kept
+  -- only the adapter, its memory, and what is kept have changed
   pub after : b ≡ record a { device = b.device; kept = kept_after told a.kept }
-  -- and written
+  -- the text about what was told is written
   pub text_is : text ≡ text_of a.kept said told
 
--- The player meets an access. What comes before the access is played, the access happens, and rounds are played.
+-- The player meets an access. What comes before the access is played, the access happens, and cycles are played.
 abbrev pub Accessed : Access → (said : Text) → Session → Session → Text → Type 0
 Accessed access said a b text = Played (ServesAccess (moves_before access a) access) said (met_before access a) b text
 
@@ -103,26 +137,58 @@ abbrev pub ReadsMemory : (address : ℕ) → Wanted → (said : Text) → Sessio
 ReadsMemory address wanted said a b text =
     (bytes : List ℕ) × Answered (Loaded address (size_of wanted) bytes said a b) (answer_line wanted bytes) text
 
--- Four bytes at a register are one access of it. Other bytes are in memory.
+-- Four bytes at a register are one access of the register. Other bytes are read from memory.
 abbrev pub ReadsAt : Result Place Refusal → Wanted → (address : ℕ) → (said : Text) → Session → Session → Text → Type 0
 ReadsAt (Ok (Register offset)) wanted address said a b text = ReadsRegister offset wanted said a b text
 ReadsAt (Ok Memory) wanted address said a b text = ReadsMemory address wanted said a b text
 ReadsAt (Err refusal) wanted address said a b text = Refuses refusal a b text
 
--- Bytes are stored where a place was found; otherwise the request is refused.
+-- Bytes are written at this place. Without a place, the request is refused.
 abbrev pub WritesAt : Result Place Refusal → (address : ℕ) → List ℕ → (said : Text) → Session → Session → Text → Type 0
 WritesAt (Ok place) address bytes said a b text = Answered (Accessed (write_to place address bytes) said a b) ok_line text
 WritesAt (Err refusal) address bytes said a b text = Refuses refusal a b text
 
--- The player meets a request that begins a round. This happens after the moves of the player.
+-- The player meets a request that begins a round. What happens depends on the moves of the player.
 abbrev pub BeginsRound : (word : Text) → (Happens : List Move → PlayedAdapter → PlayedAdapter → List Told → Type 0) → (said : Text)
     → Session → Session → Text → Type 0
 BeginsRound word Happens said a b text = Played (Happens (request_moves word a)) said (meeting AnyRequest word a) b text
 
+-- A round is played. `Plays` is what it does, with the line of its answer.
+abbrev pub AnswersRound : (word : Text)
+    → (Plays : (line : Text) → List Move → PlayedAdapter → PlayedAdapter → List Told → Type 0) → (said : Text)
+    → Session → Session → Text → Type 0
+AnswersRound word Plays said a b text = (line : Text) × Answered (BeginsRound word (Plays line) said a b) line text
+
 -- A step is played, and its outcome is the answer.
-abbrev pub AnswersStep : StepKind → (said : Text) → Session → Session → Text → Type 0
-AnswersStep kind said a b text = (outcome : Outcome (Unit {0}))
-    × Answered (BeginsRound (codes "step") (λ moves. ServesStep moves kind outcome) said a b) (word_line (outcome_word outcome)) text
+abbrev pub PlaysStep : StepKind → (line : Text) → List Move → PlayedAdapter → PlayedAdapter → List Told → Type 0
+PlaysStep kind line moves a b told =
+    (outcome : Outcome (Unit {0})) × (line ≡ word_line (outcome_word outcome)) × ServesStep moves kind outcome a b told
+
+-- A frame arrives, and its fate is the answer.
+abbrev pub PlaysArrival : (frame : List ℕ) → (line : Text) → List Move → PlayedAdapter → PlayedAdapter → List Told → Type 0
+PlaysArrival frame line moves a b told =
+    (fate : Fate) × (line ≡ word_line (fate_word fate)) × ServesArrival moves frame fate a b told
+
+-- A settle answers the number of steps that did something.
+abbrev pub PlaysSettle : (line : Text) → List Move → PlayedAdapter → PlayedAdapter → List Told → Type 0
+PlaysSettle line moves a b told = (moved : ℕ) × (line ≡ number_line moved) × ServesSettle moves moved a b told
+
+-- what a round does, with the line of its answer
+abbrev pub PlaysRound : Round → (line : Text) → List Move → PlayedAdapter → PlayedAdapter → List Told → Type 0
+PlaysRound (rounds.Step kind) line moves a b told = PlaysStep kind line moves a b told
+PlaysRound (rounds.Arrive frame) line moves a b told = PlaysArrival frame.now line moves a b told
+PlaysRound rounds.Settle line moves a b told = PlaysSettle line moves a b told
+
+-- the first word of the request
+abbrev pub round_word : Round → Text
+round_word (rounds.Step kind) = codes "step"
+round_word (rounds.Arrive frame) = codes "arrive"
+round_word rounds.Settle = codes "settle"
+
+-- The player meets a request for a number below a limit. The number is the answer.
+abbrev pub AnswersChoice : (limit : ℕ) → (said : Text) → Session → Session → Text → Type 0
+AnswersChoice limit said a b text = (number : ℕ)
+    × Answered (Played (ServesChoice limit (wanted_number a) number) said (meeting Choice (codes "choose") a) b) (number_line number) text
 
 -- A frame arrives, and its fate is the answer.
 abbrev pub AnswersArrival : (frame : List ℕ) → (said : Text) → Session → Session → Text → Type 0
@@ -134,7 +200,7 @@ abbrev pub AnswersSettle : (said : Text) → Session → Session → Text → Ty
 AnswersSettle said a b text = (moved : ℕ)
     × Answered (BeginsRound (codes "settle") (λ moves. ServesSettle moves moved) said a b) (number_line moved) text
 
--- one more frame waits for its arrival
+-- the session with one more frame that waits for its arrival
 abbrev pub with_offered : List ℕ → Session → Session
 with_offered frame session = record session { device = record session.device { offered = session.device.offered ++ frame ∷ [] } }
 
@@ -142,16 +208,16 @@ with_offered frame session = record session { device = record session.device { o
 pub record Offers (frame : List ℕ) (said : Text) (a b : Session) (text : Text) : Type 0 where
   -- the session after the moves
   pub moved : Session
-  -- they are played
+  -- the moves are played
   pub plays : BeginsRound (codes "offer") (λ moves. InOrder Makes moves) said a moved text
-  -- the frame waits then
+  -- then the frame waits, too
   pub after : b ≡ with_offered frame moved
 
 -- 1 if the interrupt line is asserted, else 0
 abbrev pub line_number : PlayedAdapter → ℕ
 line_number device = if is_asserted device.machine.world.adapter then 1 else 0
 
--- The state changes in this way, and nothing is told.
+-- The session changes in this way, and the answer is `OK`.
 abbrev pub Changes : (change : Session → Session) → Session → Session → Text → Type 0
 Changes change a b text = Replies ok_line (change a) b text
 
@@ -163,37 +229,71 @@ with_port_written width port value session = record session { function = after_w
 abbrev pub AnswersLevel : Session → Session → Text → Type 0
 AnswersLevel a b text = Replies (number_line (line_number a.device)) a b text
 
--- The digest of the adapter and its memory is the answer.
-abbrev pub AnswersDigest : Session → Session → Text → Type 0
-AnswersDigest a b text = Replies (number_line (digest_of a.device.machine.world)) a b text
-
--- What is at an I/O port is the answer.
+-- The value at an I/O port is the answer.
 abbrev pub AnswersPort : PortWidth → (port : ℕ) → Session → Session → Text → Type 0
 AnswersPort width port a b text =
     Replies (number_line (answer_at port width (is_asserted a.device.machine.world.adapter) a.function)) a b text
 
--- The frames that were put while events weren't printed are the answer, and none is left.
+-- the kinds of steps that would do something, if a step of each other kind has the outcome `Nothing`; a full wire stops `txput`
+abbrev pub enabled_with : (works : StepKind → Bool) → (wire_free : Bool) → EnabledSteps
+enabled_with works wire_free = record {
+  tx_take = works kinds.TxTake;
+  tx_put = works kinds.TxPut && wire_free;
+  rx_data = works kinds.RxData;
+  rx_done = works kinds.RxDone;
+  eeprom = works kinds.EepromTick;
+  phy = works kinds.PhyTick;
+}
+
+-- The kinds of steps that would do something are the answer.
+pub record AnswersEnabled (a b : Session) (text : Text) : Type 0 where
+  -- whether a step of a kind has another outcome than `Nothing`
+  pub works : StepKind → Bool
+  -- `works` is right for each kind
+  pub each : (kind : StepKind) → TellsWork kind (works kind) a.device.machine.world.adapter
+  -- the line of these kinds
+  pub replies : Replies (enabled_line (enabled_with works a.device.wire_free)) a b text
+
+-- The name of this place is the answer. Without a place, the request is refused.
+abbrev pub AnswersTarget : Result Place Refusal → (address : ℕ) → Session → Session → Text → Type 0
+AnswersTarget (Ok place) address a b text = Replies (word_line (target_text (target_at place address a))) a b text
+AnswersTarget (Err refusal) address a b text = Refuses refusal a b text
+
+-- The registers of both rings are the answer.
+pub record AnswersRings (a b : Session) (text : Text) : Type 0 where
+  -- the registers of the receive ring
+  pub receive : RingWords
+  -- the registers of the transmit ring
+  pub transmit : RingWords
+  -- they make the receive ring of the adapter
+  pub receive_is : ring_from receive ≡ ring_of_engine Receive a.device.machine.world
+  -- they make the transmit ring of the adapter
+  pub transmit_is : ring_from transmit ≡ ring_of_engine Transmit a.device.machine.world
+  -- the line of both rings
+  pub replies : Replies (rings_line receive transmit) a b text
+
+-- The frames that are kept are the answer. After it, no frame is kept.
 abbrev pub AnswersFrames : Session → Session → Text → Type 0
 AnswersFrames a b text = Replies (frames_line a.kept.put) (record a { kept = record a.kept { put = [] } }) b text
 
--- The faults that stopped engines while events weren't printed are the answer, and none is left.
+-- The faults that are kept are the answer. After it, no fault is kept.
 abbrev pub AnswersFaults : Session → Session → Text → Type 0
 AnswersFaults a b text = Replies (faults_line a.kept.faults) (record a { kept = record a.kept { faults = [] } }) b text
 
 -- The clock (QEMU, docs/devel/testing/qtest: clock_step, clock_set; that the adapter settles is our choice).
 
--- All offered frames arrive, rounds are played, and then it is this time.
+-- All offered frames arrive, cycles are played, and then the clock is set to this time.
 pub record SettlesUntil (time : ℕ) (said : Text) (a b : Session) (text : Text) : Type 0 where
-  -- how many steps did something
+  -- the number of steps that did something
   pub moved : ℕ
   -- the session before the clock is set
   pub settled : Session
   -- what happened, without moves of the player
   pub settles : Played (ServesSettle [] moved) said a settled text
-  -- nothing changes then but the clock
+  -- after that, only the clock changes
   pub after : b ≡ record settled { clock = time }
 
--- The time is the answer. If the clock can't show it, the request is refused.
+-- The clock is set to this time, and the time is the answer. Without a time, the request is refused.
 abbrev pub MovesClock : (time : Option ℕ) → (said : Text) → Session → Session → Text → Type 0
 MovesClock (Some time) said a b text = Answered (SettlesUntil time said a b) (decimal_line time) text
 MovesClock None said a b text = Refuses refusals.Value a b text
@@ -204,54 +304,77 @@ time_after clock nanoseconds = if nat_lt (clock + nanoseconds) (2 ^ 64) then Som
 
 -- Answers of a server.
 
--- The adapter and its memory answer, and nothing else changes.
+-- The session answers, and the copy that was saved doesn't change.
 pub record OnSession (Answers : Session → Session → Text → Type 0) (a b : Server) (text : Text) : Type 0 where
   -- the answer
   pub answers : Answers a.session b.session text
   -- nothing changes but the session
   pub after : b ≡ record a { session = b.session }
 
--- what reports that the interrupt line of one session is that of another from now on
+-- the line of the interrupt line if it differs between two sessions
 abbrev pub line_between : Session → Session → Text
 line_between was is = line_moved (is_asserted was.device.machine.world.adapter) (is_asserted is.device.machine.world.adapter)
 
--- A copy of the state is kept.
+-- A copy of the session is saved.
 abbrev pub Saves : Server → Server → Text → Type 0
 Saves a b text = (address : Option Ptr) × Replies ok_line (record a { saved = Some (copied address a.session) }) b text
 
--- A copy of what was saved is the state again. If the interrupt line is another one then, this is reported.
+-- A copy of the saved session becomes the session. If this changes the interrupt line, the change is reported.
 abbrev pub Restores : (saved : Option Session) → Server → Server → Text → Type 0
 Restores (Some session) a b text = (address : Option Ptr)
     × Replies (line_between a.session session ++ ok_line) (record a { session = copied address session }) b text
 Restores None a b text = Refuses refusals.Saved a b text
 
+-- A report is the answer.
+abbrev pub Looks : Look → Session → Session → Text → Type 0
+Looks (looks.Port width port) a b text = AnswersPort width port a b text
+Looks looks.Endianness a b text = Replies (word_line (codes "little")) a b text
+Looks looks.Line a b text = AnswersLevel a b text
+Looks looks.Digest a b text = Replies (number_line (digest_of a.device.machine.world)) a b text
+Looks looks.Frames a b text = AnswersFrames a b text
+Looks looks.Faults a b text = AnswersFaults a b text
+Looks looks.Intercept a b text = Replies ok_line a b text
+Looks looks.Enabled a b text = AnswersEnabled a b text
+Looks (looks.Target address count) a b text = AnswersTarget (place_in a address count) address a b text
+Looks looks.Rings a b text = AnswersRings a b text
+
 -- A request is answered by the adapter that is served. At `save` and `restore`, which the server answers, nothing happens.
 abbrev pub SessionDoes : Request → (said : Text) → Session → Session → Text → Type 0
 SessionDoes (requests.Read wanted address) said a b text = ReadsAt (place_in a address (size_of wanted)) wanted address said a b text
 SessionDoes (requests.Write address bytes) said a b text = WritesAt (place_in a address (length bytes)) address bytes said a b text
-SessionDoes (requests.ReadPort width port) said a b text = AnswersPort width port a b text
+SessionDoes (requests.Look look) said a b text = Looks look a b text
 SessionDoes (requests.WritePort width port value) said a b text = Changes (with_port_written width port value) a b text
-SessionDoes requests.Endianness said a b text = Replies (word_line (codes "little")) a b text
-SessionDoes (requests.Step kind) said a b text = AnswersStep kind said a b text
-SessionDoes (requests.Arrive frame) said a b text = AnswersArrival frame said a b text
-SessionDoes requests.Settle said a b text = AnswersSettle said a b text
+SessionDoes (requests.Step kind) said a b text = AnswersRound (codes "step") (PlaysStep kind) said a b text
+SessionDoes (requests.Arrive frame) said a b text = AnswersRound (codes "arrive") (PlaysArrival frame) said a b text
+SessionDoes requests.Settle said a b text = AnswersRound (codes "settle") PlaysSettle said a b text
 SessionDoes (requests.Set setting) said a b text = Changes (with_setting setting) a b text
-SessionDoes requests.Line said a b text = AnswersLevel a b text
-SessionDoes requests.Digest said a b text = AnswersDigest a b text
 SessionDoes (requests.ClockStep nanoseconds) said a b text = MovesClock (time_after a.clock nanoseconds) said a b text
 SessionDoes (requests.ClockSet time) said a b text = MovesClock (Some (max a.clock time)) said a b text
-SessionDoes requests.Intercept said a b text = Replies ok_line a b text
-SessionDoes requests.Frames said a b text = AnswersFrames a b text
-SessionDoes requests.Faults said a b text = AnswersFaults a b text
 SessionDoes (requests.Offer frame) said a b text = Answered (Offers frame said a b) ok_line text
+SessionDoes (requests.Choose limit) said a b text = AnswersChoice limit said a b text
 SessionDoes requests.Save said a b text = (b ≡ a) × (text ≡ [])
 SessionDoes requests.Restore said a b text = (b ≡ a) × (text ≡ [])
+
+-- a line, and the name of what is accessed at this place, if there is one
+abbrev pub said_at : Result Place Refusal → (address : ℕ) → (said : Text) → Session → Text
+said_at (Ok place) address said session = concat (said ∷ codes " -> " ∷ target_text (target_at place address session) ∷ [])
+said_at (Err refusal) address said session = said
+
+-- the line of a request, for an access with the name of what is accessed
+abbrev pub named_said : Request → (said : Text) → Session → Text
+named_said (requests.Read wanted address) said session = said_at (place_in session address (size_of wanted)) address said session
+named_said (requests.Write address bytes) said session = said_at (place_in session address (length bytes)) address said session
+named_said request said session = said
+
+-- what the log prints of a request: its line, with the name of what is accessed if the log has these names
+abbrev pub request_said : Request → (said : Text) → Session → Text
+request_said request said session = if session.targets then named_said request said session else said
 
 -- A request is answered.
 abbrev pub Does : Request → (said : Text) → Server → Server → Text → Type 0
 Does requests.Save said a b text = Saves a b text
 Does requests.Restore said a b text = Restores a.saved a b text
-Does request said a b text = OnSession (SessionDoes request said) a b text
+Does request said a b text = OnSession (SessionDoes request (request_said request said a.session)) a b text
 
 -- A request is answered, or refused.
 abbrev pub AnswersTo : Result Request Refusal → (said : Text) → Server → Server → Text → Type 0

@@ -5,18 +5,18 @@ use Rattle.mdic_phy.specs.declared.phy.Link.{Link}
 use Rattle.mdic_phy.specs.declared.phy.Link.TheVariants.{After}
 use Rattle.adapter_server.specs.declared.options.ServeOptions.{ServeOptions}
 
--- a mebibyte
+-- the default size of memory: one mebibyte
 abbrev pub default_memory : ℕ
 default_memory = 2 ^ 20
 
 abbrev pub default_registers : ℕ
 default_registers = 0xFEB00000
 
--- 02:00:00:00:00:01
+-- the default Ethernet address, 02:00:00:00:00:01
 abbrev pub default_address : List ℕ
 default_address = 2 ∷ 0 ∷ 0 ∷ 0 ∷ 0 ∷ 1 ∷ []
 
--- one tick of the PHY
+-- the default setting of the link: up after one tick of the PHY
 abbrev pub default_link : Link
 default_link = After 1
 

@@ -1,4 +1,4 @@
-pub mod Statuses
+pub mod Causes
 pub mod Defaults
 pub mod Moves
 pub mod Sessions

@@ -1,4 +1,4 @@
--- What a player plays before accesses and requests (our choice; `tools/race_finder/README.md`, "A schedule").
+-- The moves of a player before accesses and requests (our choice; `tools/race_finder/README.md`, "A schedule").
 use Rattle.std.specs.Prelude.{◌&&◌, ◌∷◌, [], Bool, List, false, if◌then◌else◌, not, true}
 use Rattle.adapter.specs.declared.step.StepKind.{StepKind}
 use Rattle.adapter.specs.declared.step.StepKind.TheVariants as kinds
@@ -7,13 +7,13 @@ use Rattle.played_adapter.specs.declared.choices.Move.{Move}
 use Rattle.played_adapter.specs.declared.choices.Move.TheVariants.{Hold, Play, Tick}
 use Rattle.step_schedules.specs.declared.deviation.Action.{Action}
 use Rattle.step_schedules.specs.declared.deviation.Action.TheVariants.{TxTake, TxPut, RxData, RxDone, Tx, Rx, Arrive}
-use Rattle.step_schedules.specs.declared.deviation.Action.TheVariants.{EepromTick, HoldEeprom, HoldPhy, PhyTick}
+use Rattle.step_schedules.specs.declared.deviation.Action.TheVariants.{Choose, EepromTick, HoldEeprom, HoldPhy, PhyTick}
 
--- a step of this kind, played by itself
+-- the move that plays a step of this kind
 abbrev pub play_step : StepKind → Move
 play_step kind = Play (Step kind)
 
--- the moves of an action; a hold has none
+-- the moves of an action; a hold and a chosen number have none
 abbrev pub moves_of : Action → List Move
 moves_of TxTake = play_step kinds.TxTake ∷ []
 moves_of TxPut = play_step kinds.TxPut ∷ []
@@ -26,17 +26,18 @@ moves_of Rx = play_step kinds.RxData ∷ play_step kinds.RxDone ∷ []
 moves_of Arrive = Play Arrival ∷ []
 moves_of HoldEeprom = []
 moves_of HoldPhy = []
+moves_of (Choose number) = []
 
--- whether the EEPROM gets no tick
+-- whether an action omits the default step of the EEPROM
 abbrev pub holds_eeprom : Action → Bool
 holds_eeprom HoldEeprom = true
 holds_eeprom _ = false
 
--- whether the PHY gets no tick
+-- whether an action omits the default step of the PHY
 abbrev pub holds_phy : Action → Bool
 holds_phy HoldPhy = true
 holds_phy _ = false
 
--- the move of a default step that has work: a schedule plays the step unless a hold is due; else it is left out
+-- no move if a default step has no work; else the step, if a schedule is played and no hold is due; else the hold
 abbrev pub default_moves : (has_work plays is_held : Bool) → StepKind → Action → List Move
 default_moves has_work plays is_held kind hold = if has_work then (if plays && not is_held then Tick kind else Hold hold) ∷ [] else []

@@ -8,6 +8,7 @@ use Rattle.step_schedules.specs.Players.{PlayerState}
 use Rattle.adapter.specs.Registers.{after_write, new_adapter}
 use Rattle.adapter.specs.State.{AdapterState}
 use Rattle.played_adapter.specs.Playing.{new_watched}
+use Rattle.played_adapter.specs.declared.player.PlayedAdapter.{PlayedAdapter}
 use Rattle.adapter_server.specs.declared.options.ServeOptions.{ServeOptions}
 use Rattle.adapter_server.specs.declared.session.Session.{Session}
 
@@ -23,11 +24,16 @@ with_missed count adapter = record adapter { missed_packets = count }
 abbrev pub first_adapter : ServeOptions → AdapterState
 first_adapter options = with_missed options.missed (after_write pba options.receive_kilobytes (new_adapter options.image options.link))
 
--- the state before the first request: memory of zeros, at some address, a new adapter, no offered frame, and this player
+-- the new adapter, with memory of zeros at this address, and no offered frame
+abbrev pub new_device : ServeOptions → (address : Option Ptr) → PlayedAdapter
+new_device options address = new_watched (replicate options.memory 0) (first_adapter options) options.seed address
+
+-- the state before the first request: the new adapter, and this player
 abbrev pub new_session : ServeOptions → Option PlayerState → (address : Option Ptr) → Session
 new_session options player address = record {
-  device = new_watched (replicate options.memory 0) (first_adapter options) options.seed address;
+  device = new_device options address;
   function = new_function options.registers;
   clock = 0;
   kept = record { log = false; events = false; put = []; faults = []; player = player };
+  targets = false;
 }

@@ -1,4 +1,4 @@
--- What a server answers to all of its input (our choice).
+-- The answers of a server to all of its input (our choice).
 use denote.RawPtr.{Ptr}
 use Rattle.std.specs.Prelude.{◌≡◌, ◌++◌, ℕ, List, [], ◌∷◌, MatchBool, None, Option, length, nat_lt}
 use Rattle.adapter_server.specs.Answers.{AnswersLine, Reaches, Refuses}
@@ -18,7 +18,7 @@ use Rattle.adapter_server.specs.declared.snapshot.Server.{Server}
 abbrev pub new_server : ServeOptions → Option PlayerState → (address : Option Ptr) → Server
 new_server options player address = record { session = new_session options player address; saved = None }
 
--- It holds of a server before the first request, whose memory has some address.
+-- `Holds` is true for a server before the first request, whose memory has some address.
 abbrev pub FromNew : ServeOptions → Option PlayerState → (Holds : Server → Type 0) → Type 0
 FromNew options player Holds = (address : Option Ptr) × Holds (new_server options player address)
 
@@ -85,7 +85,7 @@ pub record ServesTo (bytes : List ℕ) (begin : Server) (left : Option PlayerSta
   pub last : Server
   -- the answers, one after the other
   pub serves : ServesWhole bytes begin last text
-  -- its player is the result
+  -- the player of this server is the result
   pub player : left ≡ last.session.kept.player
 
 -- From a new server with this player on, all lines are answered, and this is the player after them.

@@ -1,7 +1,7 @@
--- The state of an adapter that is served, and what a player plays before accesses and requests (our choice).
+-- The state of an adapter that is served, and the moves of a player before accesses and requests (our choice).
 use denote.RawPtr.{Ptr}
 use Rattle.std.specs.Prelude.{◌≡◌, ◌==◌, ◌+◌, ◌-◌, ◌%◌, ◌&&◌, ◌++◌, [], ℕ, Bool, List, Option, None, Some, Result, Err, Ok, false, true}
-use Rattle.std.specs.Prelude.{flat_map, if◌then◌else◌, length, nat_le, nat_lt}
+use Rattle.std.specs.Prelude.{codes, flat_map, if◌then◌else◌, length, nat_le, nat_lt}
 use Rattle.std.specs.Int.{from_le_bytes, w32}
 use Rattle.std.specs.List.{list_any}
 use Rattle.std.specs.Option.{option_map, option_map_or}
@@ -23,11 +23,11 @@ use Rattle.server_requests.specs.declared.refusal.Refusal.{Refusal}
 use Rattle.server_requests.specs.declared.refusal.Refusal.TheVariants as refusals
 use Rattle.server_requests.specs.declared.request.Setting.{Setting}
 use Rattle.server_requests.specs.declared.request.Setting.TheVariants as settings
-use Rattle.step_schedules.specs.Players.{PlayerState, after_meeting, due_actions}
+use Rattle.step_schedules.specs.Players.{PlayerState, after_meeting, chosen, due_actions}
 use Rattle.step_schedules.specs.declared.deviation.Action.{Action}
 use Rattle.step_schedules.specs.declared.deviation.Action.TheVariants.{HoldEeprom, HoldPhy}
 use Rattle.step_schedules.specs.declared.deviation.Before.{Before}
-use Rattle.step_schedules.specs.declared.deviation.Before.TheVariants.{Read, Request, Write}
+use Rattle.step_schedules.specs.declared.deviation.Before.TheVariants.{Choice, Read, Request, Write}
 use Rattle.adapter_server.specs.Moves.{default_moves, holds_eeprom, holds_phy, moves_of}
 use Rattle.adapter_server.specs.declared.session.Place.{Place}
 use Rattle.adapter_server.specs.declared.session.Place.TheVariants.{Memory, Register}
@@ -37,23 +37,23 @@ use Rattle.adapter_server.specs.declared.session.Session.{Session}
 abbrev pub copied : (address : Option Ptr) → Session → Session
 copied address session = record session { device = record (reported session.device) { address = address } }
 
--- It is a copy.
+-- A session is a copy of another one.
 pub record IsCopied (a copy : Session) : Type 0 where
   -- the address of its memory
   pub address : Option Ptr
-  -- all else is the same
+  -- the copy is the one with this address
   pub same : copy ≡ copied address a
 
 -- Whether a schedule is played.
 abbrev pub plays_schedule : Session → Bool
 plays_schedule session = option_map_or (λ (player : PlayerState). player.is_playing) session.kept.player false
 
--- how later requests are answered; while a schedule is played, the generator chooses nothing
+-- the session after a setting; while a schedule is played, the generator chooses no steps
 abbrev pub with_setting : Setting → Session → Session
 with_setting (settings.Interleave count) session =
     record session { device = record session.device { most_steps = if plays_schedule session then 0 else count } }
 with_setting (settings.Pace count) session = record session { device = record session.device { pace = count } }
-with_setting (settings.Log on) session = record session { kept = record session.kept { log = on } }
+with_setting (settings.Log on targets) session = record session { kept = record session.kept { log = on }; targets = targets }
 with_setting (settings.Events on) session = record session { kept = record session.kept { events = on } }
 with_setting (settings.Wire free) session = record session { device = record session.device { wire_free = free } }
 
@@ -63,18 +63,18 @@ with_setting (settings.Wire free) session = record session { device = record ses
 abbrev pub register_bytes : ℕ
 register_bytes = 0x20000
 
--- an aligned word of 32 bits among the registers
+-- whether an access of this many bytes at an address is one of four bytes, at an aligned address among the registers
 abbrev pub is_register : (registers address count : ℕ) → Bool
 is_register registers address count =
     (count == 4) && nat_le registers address && nat_lt (address - registers) register_bytes && ((address - registers) % 4 == 0)
 
--- Some of this many bytes from an address on are those of registers.
+-- whether some of this many bytes from an address on are bytes of registers
 abbrev pub meets_registers : (registers address count : ℕ) → Bool
 meets_registers registers address count =
     nat_lt 0 count && nat_lt address (registers + register_bytes) && nat_lt registers (address + count)
 
--- the target of an access of this many bytes at an address, all of which are in memory or not, or why there is none; without an
--- address of the first register, there are no registers
+-- the target of an access of this many bytes at an address, or its refusal; `in_memory` is whether memory contains all of these
+-- bytes; without an address of the first register, there are no registers
 abbrev pub place_with : Option ℕ → (in_memory : Bool) → (address count : ℕ) → Result Place Refusal
 place_with (Some registers) in_memory address count =
     if is_register registers address count then Ok (Register (address - registers))
@@ -83,7 +83,7 @@ place_with (Some registers) in_memory address count =
     else Err refusals.Address
 place_with None in_memory address count = if in_memory then Ok Memory else Err refusals.Address
 
--- the place of these bytes in a register or in memory, if they have one
+-- the target of an access of these bytes, or its refusal
 abbrev pub place_in : Session → (address count : ℕ) → Result Place Refusal
 place_in session address count = place_with (registers_of session.function) (has_bytes session.device address count) address count
 
@@ -92,12 +92,12 @@ abbrev pub write_to : Place → (address : ℕ) → List ℕ → Access
 write_to (Register offset) address bytes = Writes offset (from_le_bytes w32 bytes)
 write_to Memory address bytes = Stores address bytes
 
--- This place takes these bytes: a register four, and memory those that are in it.
+-- These bytes can be written at this place: a register has four bytes, and memory must contain all of them.
 abbrev pub Takes : Place → (address : ℕ) → List ℕ → PlayedAdapter → Type 0
 Takes (Register offset) address bytes device = length bytes ≡ 4
 Takes Memory address bytes device = has_bytes device address (length bytes) ≡ true
 
--- What a player plays.
+-- The moves of a player.
 
 -- the session after its player, if there is one, has met an access or a request with this name
 abbrev pub meeting : Before → (name : Text) → Session → Session
@@ -112,7 +112,7 @@ tick_moves due session =
     default_moves (is_pending adapter.eerd) plays (list_any holds_eeprom due) EepromTick HoldEeprom
     ++ default_moves (has_work adapter.mdic adapter.phy) plays (list_any holds_phy due) PhyTick HoldPhy
 
--- the moves of the player before an access: of the default steps, and then of what is due
+-- the moves of the player before an access: of the default steps, and then of the actions that are due
 abbrev pub access_moves : Before → (name : Text) → Session → List Move
 access_moves before name session =
     option_map_or (λ (player : PlayerState).
@@ -123,6 +123,11 @@ abbrev pub request_moves : (name : Text) → Session → List Move
 request_moves name session =
     option_map_or (λ (player : PlayerState). flat_map moves_of (due_actions Request name player)) session.kept.player []
 
+-- the number that the schedule has for a request for a number, or 0
+abbrev pub wanted_number : Session → ℕ
+wanted_number session =
+    option_map_or (λ (player : PlayerState). chosen (due_actions Choice (codes "choose") player)) session.kept.player 0
+
 -- whether an access reads or writes
 abbrev pub before_of : Access → Before
 before_of (Reads offset value) = Read
@@ -130,7 +135,7 @@ before_of (Writes offset value) = Write
 before_of (Loads address size) = Read
 before_of (Stores address bytes) = Write
 
--- what an access reads or writes
+-- the target of an access
 abbrev pub target_of : Access → Session → Target
 target_of (Reads offset value) session = targets.Register offset
 target_of (Writes offset value) session = targets.Register offset

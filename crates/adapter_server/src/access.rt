@@ -12,7 +12,7 @@ ghost use Rattle.server_requests.specs.Widths.{size_of};
 use crate::session::{Place, Session};
 use access_names::Target;
 use played_adapter::{Move, Observer, PlayedAdapter};
-use server_output::{AnswerError, Lines, refuse, say, say_read};
+use server_output::{Answer, AnswerError, Lines, refuse};
 use server_requests::Wanted;
 use std::alloc::Global;
 use std::io::Write;
@@ -76,10 +76,7 @@ fn read_register<W: Write>(
     let value = session
         .device
         .serve_read(moves.as_slice(), offset, &mut lines);
-    if let Some(error) = lines.stopped {
-        return Err(error);
-    }
-    say_read(alloc, lines.out, wanted, &value.to_le_bytes())
+    lines.end(Answer::Bytes(wanted, &value.to_le_bytes()))
 }
 
 /// Reads bytes in memory.
@@ -109,13 +106,11 @@ fn read_memory<W: Write>(
     session
         .device
         .serve_load(moves.as_slice(), address, into, &mut lines);
-    if let Some(error) = lines.stopped {
-        return Err(error);
-    }
-    say_read(alloc, lines.out, wanted, bytes.as_slice())
+    lines.end(Answer::Bytes(wanted, bytes.as_slice()))
 }
 
-/// `readb`, `readw`, `readl`, `readq`, `read`, `b64read`. Four bytes at a register are one access of it.
+/// Answers `readb`, `readw`, `readl`, `readq`, `read` and `b64read`. Four bytes at a register are one read of the
+/// register; other bytes are in memory.
 pub(crate) fn read<W: Write>(
     session: &mut Session,
     alloc: Global,
@@ -165,14 +160,11 @@ fn write_at<W: Write>(
         bytes,
         &mut lines,
     );
-    if let Some(error) = lines.stopped {
-        return Err(error);
-    }
-    say(lines.out, b"OK\n")
+    lines.end(Answer::Done)
 }
 
-/// `writeb`, `writew`, `writel`, `writeq`, `write`, `b64write`, `memset`. Four bytes at a register are one access
-/// of it.
+/// Answers `writeb`, `writew`, `writel`, `writeq`, `write`, `b64write` and `memset`. Four bytes at a register are one
+/// write of the register; other bytes are in memory.
 pub(crate) fn write<W: Write>(
     session: &mut Session,
     alloc: Global,

@@ -1,89 +1,77 @@
 // Answers to requests.
 
-ghost use Rattle.adapter_server.specs.Answers.{AnswersArrival, AnswersSettle, AnswersStep, SessionDoes, TellsAnswer};
+ghost use Rattle.std.specs.Prelude.{◌≡◌};
+ghost use Rattle.adapter_server.specs.Answers.{AnswersChoice, AnswersRound, PlaysRound, SessionDoes, TellsAnswer};
+ghost use Rattle.adapter_server.specs.Answers.{request_said, round_word};
+ghost use Rattle.played_adapter.specs.Order.{Tells};
+ghost use Rattle.server_output.specs.Answers.{IsSized, line_of};
 
 use crate::access::{read, write};
+use crate::looking::look;
 use crate::session::Session;
-use crate::small_answers::{
-    change, fetch_faults, fetch_frames, offer, read_port, say_digest, say_level, set_clock,
-    step_clock, write_port,
-};
+use crate::small_answers::{change, move_clock, offer, step_clock, write_port};
 use crate::snapshot::Server;
 use adapter::StepKind;
-use server_output::{
-    AnswerError, Lines, fate_word, outcome_word, refuse, say, say_number, say_word,
-};
+use played_adapter::{Move, Observer, PlayedAdapter};
+use server_output::{Answer, AnswerError, Lines, fate_word, outcome_word, refuse};
 use server_requests::{NextLine, Refusal, Request, Stop, read_line};
 use std::alloc::Global;
 use std::io::Write;
 
-/// `step`.
-fn take_step<W: Write>(
-    session: &mut Session,
-    alloc: Global,
-    out: &mut W,
-    said: &[u8],
-    kind: StepKind,
-) -> Result<(), AnswerError>
-    ensures { TellsAnswer result (W.contents out.old) (W.contents out.new)
-        (AnswersStep kind said.now session.old) session.new }
-{
-    let moves = session.meet_request(alloc, "step")?;
-    let mut lines = Lines {
-        out,
-        kept: &mut session.kept,
-        said,
-        alloc,
-        stopped: None,
-    };
-    let outcome = session
-        .device
-        .serve_step(moves.as_slice(), kind, &mut lines);
-    if let Some(error) = lines.stopped {
-        return Err(error);
-    }
-    say_word(alloc, lines.out, outcome_word(outcome))
+/// What a request that begins a round does after the moves of the player.
+#[derive(Clone, Copy)]
+enum Round<'a> {
+    /// `step`: a step of this kind is played.
+    Step(StepKind),
+    /// `arrive`: this frame is delivered.
+    Arrive(&'a [u8]),
+    /// `settle`: offered frames arrive, and cycles of steps are played until a cycle does nothing.
+    Settle,
 }
 
-/// `arrive`.
-fn deliver<W: Write>(
-    session: &mut Session,
-    alloc: Global,
-    out: &mut W,
-    said: &[u8],
-    frame: &[u8],
-) -> Result<(), AnswerError>
-    ensures { TellsAnswer result (W.contents out.old) (W.contents out.new)
-        (AnswersArrival frame.now said.now session.old) session.new }
+/// The first word of the request.
+fn round_word(round: Round<'_>) -> &'static str
+    ensures { result.now ≡ round_word round.entry }
 {
-    let moves = session.meet_request(alloc, "arrive")?;
-    let mut lines = Lines {
-        out,
-        kept: &mut session.kept,
-        said,
-        alloc,
-        stopped: None,
-    };
-    let fate = session
-        .device
-        .serve_arrival(moves.as_slice(), frame, &mut lines);
-    if let Some(error) = lines.stopped {
-        return Err(error);
+    match round {
+        Round::Step(_) => "step",
+        Round::Arrive(_) => "arrive",
+        Round::Settle => "settle",
     }
-    say_word(alloc, lines.out, fate_word(fate))
 }
 
-/// `settle`.
-fn settle<W: Write>(
+/// Plays a round after moves. Returns its answer.
+fn play_round<O: Observer>(
+    device: &mut PlayedAdapter,
+    moves: &[Move],
+    round: Round<'_>,
+    observer: &mut O,
+) -> Answer<'static>
+    ensures plays { Tells O.heard observer.old observer.new
+        (PlaysRound round.entry (line_of result) moves.now device.old device.new) }
+    ensures sized { IsSized result }
+{
+    match round {
+        Round::Step(kind) => Answer::Word(outcome_word(device.serve_step(moves, kind, observer))),
+        Round::Arrive(frame) => {
+            Answer::Word(fate_word(device.serve_arrival(moves, frame, observer)))
+        }
+        Round::Settle => Answer::Number(device.serve_settle(moves, observer)),
+    }
+}
+
+/// Answers a request that begins a round.
+fn begin_round<W: Write>(
     session: &mut Session,
     alloc: Global,
     out: &mut W,
     said: &[u8],
+    round: Round<'_>,
 ) -> Result<(), AnswerError>
     ensures { TellsAnswer result (W.contents out.old) (W.contents out.new)
-        (AnswersSettle said.now session.old) session.new }
+        (AnswersRound (round_word round.entry) (PlaysRound round.entry) said.now session.old) session.new }
 {
-    let moves = session.meet_request(alloc, "settle")?;
+    let moves = session.meet_request(alloc, round_word(round))?;
     let mut lines = Lines {
         out,
         kept: &mut session.kept,
@@ -91,11 +79,31 @@ fn settle<W: Write>(
         alloc,
         stopped: None,
     };
-    let moved = session.device.serve_settle(moves.as_slice(), &mut lines);
-    if let Some(error) = lines.stopped {
-        return Err(error);
-    }
-    say_number(lines.out, moved)
+    let answer = play_round(&mut session.device, moves.as_slice(), round, &mut lines);
+    lines.end(answer)
+}
+
+/// Answers `choose` with a number below a limit.
+fn choose<W: Write>(
+    session: &mut Session,
+    alloc: Global,
+    out: &mut W,
+    said: &[u8],
+    limit: u32,
+) -> Result<(), AnswerError>
+    ensures { TellsAnswer result (W.contents out.old) (W.contents out.new)
+        (AnswersChoice limit said.now session.old) session.new }
+{
+    let wanted = session.meet_choice(alloc)?;
+    let mut lines = Lines {
+        out,
+        kept: &mut session.kept,
+        said,
+        alloc,
+        stopped: None,
+    };
+    let number = session.device.serve_choose(limit, wanted, &mut lines);
+    lines.end(Answer::Number(u64::from(number)))
 }
 
 /// Answers a request to the adapter that is served. At `save` and `restore` it does nothing.
@@ -114,25 +122,44 @@ fn answer_session<W: Write>(
         Request::Write(address, bytes) => {
             write(session, alloc, out, said, *address, bytes.as_slice())
         }
-        Request::ReadPort(width, port) => read_port(session, out, *width, *port),
+        Request::Look(what) => look(session, alloc, out, *what),
         Request::WritePort(width, port, value) => {
             write_port(session, out, *width, *port, *value)
         }
-        Request::Endianness => say_word(alloc, out, b"little"),
-        Request::Step(kind) => take_step(session, alloc, out, said, *kind),
-        Request::Arrive(frame) => deliver(session, alloc, out, said, frame.as_slice()),
-        Request::Settle => settle(session, alloc, out, said),
         Request::Set(setting) => change(session, out, *setting),
-        Request::Line => say_level(session, out),
-        Request::Digest => say_digest(session, out),
-        Request::ClockStep(nanoseconds) => step_clock(session, alloc, out, said, *nanoseconds),
-        Request::ClockSet(time) => set_clock(session, alloc, out, said, *time),
-        Request::Intercept => say(out, b"OK\n"),
-        Request::Frames => fetch_frames(session, alloc, out),
-        Request::Faults => fetch_faults(session, alloc, out),
+        Request::Step(kind) => begin_round(session, alloc, out, said, Round::Step(*kind)),
+        Request::Arrive(frame) => {
+            begin_round(session, alloc, out, said, Round::Arrive(frame.as_slice()))
+        }
+        Request::Settle => begin_round(session, alloc, out, said, Round::Settle),
         Request::Offer(frame) => offer(session, alloc, out, said, frame.as_slice()),
+        Request::Choose(limit) => choose(session, alloc, out, said, *limit),
+        Request::ClockStep(nanoseconds) => step_clock(session, alloc, out, said, *nanoseconds),
+        Request::ClockSet(time) => {
+            let time = session.clock.max(*time);
+            move_clock(session, alloc, out, said, Some(time))
+        }
         Request::Save | Request::Restore => Ok(()),
     }
+}
+
+/// Answers a request as above. The log prints the names of what accesses read and write, if it has them.
+fn answer_named<W: Write>(
+    session: &mut Session,
+    alloc: Global,
+    out: &mut W,
+    said: &[u8],
+    request: &Request,
+) -> Result<(), AnswerError>
+    ensures { TellsAnswer result (W.contents out.old) (W.contents out.new)
+        (SessionDoes request.now (request_said request.now said.now session.old) session.old) session.new }
+{
+    let line = session.request_line(alloc, said, request)?;
+    let said = match &line {
+        Some(line) => line.as_slice(),
+        None => said,
+    };
+    answer_session(session, alloc, out, said, request)
 }
 
 impl Server {
@@ -153,7 +180,7 @@ impl Server {
         match request {
             Request::Save => self.save(out),
             Request::Restore => self.restore(out),
-            _ => answer_session(&mut self.session, alloc, out, said, request),
+            _ => answer_named(&mut self.session, alloc, out, said, request),
         }
     }
 

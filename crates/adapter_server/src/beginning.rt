@@ -1,7 +1,7 @@
 // The state before the first request.
 
 ghost use Rattle.std.specs.Prelude.{◌≡◌, IfOk};
-ghost use Rattle.adapter_server.specs.NewSessions.{first_adapter, new_session};
+ghost use Rattle.adapter_server.specs.NewSessions.{first_adapter, new_device, new_session};
 
 use crate::options::ServeOptions;
 use crate::session::Session;
@@ -24,6 +24,15 @@ fn adapter_of(alloc: Global, options: &ServeOptions) -> Result<Adapter, AllocErr
     Ok(adapter)
 }
 
+/// The new adapter, with memory of zeros. Nothing is offered, and no step is played before or after an access.
+fn new_device(alloc: Global, options: &ServeOptions) -> Result<PlayedAdapter, AllocError>
+    ensures { IfOk result (λ device. device ≡ new_device options.now device.address) }
+{
+    let memory = HostMemory::new(alloc, options.memory)?;
+    let adapter = adapter_of(alloc, options)?;
+    PlayedAdapter::watched(alloc, adapter, memory, options.seed)
+}
+
 /// The state before the first request: a new adapter, whose PBA is written once and whose MPC is set, memory of
 /// zeros, and this player.
 pub(crate) fn new_session(
@@ -33,10 +42,9 @@ pub(crate) fn new_session(
 ) -> Result<Session, AnswerError>
     ensures { IfOk result (λ session. session ≡ new_session options.now player session.device.address) }
 {
-    let memory = HostMemory::new(alloc, options.memory)?;
-    let adapter = adapter_of(alloc, options)?;
+    let device = new_device(alloc, options)?;
     Ok(Session {
-        device: PlayedAdapter::watched(alloc, adapter, memory, options.seed)?,
+        device,
         function: PciFunction::new(options.registers),
         clock: 0,
         kept: Kept {
@@ -46,5 +54,6 @@ pub(crate) fn new_session(
             faults: Faults::new(alloc),
             player,
         },
+        targets: false,
     })
 }

@@ -9,6 +9,7 @@
 mod access;
 mod answering;
 mod beginning;
+mod looking;
 mod moves;
 mod options;
 mod serve_error;

@@ -1,10 +1,11 @@
-// What a player plays before accesses and requests.
+// The moves of a player before accesses and requests.
 
-ghost use Rattle.std.specs.Prelude.{◌≡◌, ◌++◌, IfOk, OnOk, flat_map};
+ghost use Rattle.std.specs.Prelude.{◌≡◌, ◌++◌, IfOk, OnOk, codes, flat_map};
 ghost use Rattle.std.specs.List.{list_any};
 ghost use Rattle.access_names.specs.Names.{target_text};
 ghost use Rattle.adapter_server.specs.Moves as spec;
 ghost use Rattle.adapter_server.specs.Sessions.{access_moves, meeting, request_moves, target_at, tick_moves};
+ghost use Rattle.adapter_server.specs.Sessions.{wanted_number};
 ghost use Rattle.server_output.specs.Telling.{listed};
 
 use crate::session::{Place, Session};
@@ -12,9 +13,9 @@ use access_names::{Target, memory_target};
 use adapter::StepKind;
 use played_adapter::{Choice, Move};
 use std::alloc::{AllocError, Global};
-use step_schedules::{Action, Before};
+use step_schedules::{Action, Before, chosen};
 
-/// The moves of an action, at most two. A hold has none: it leaves out a default step.
+/// The moves of an action, at most two. A hold, which omits a default step, and a chosen number have none.
 fn moves_of(action: Action) -> (Option<Move>, Option<Move>)
     ensures { listed result.0 ++ listed result.1 ≡ spec.moves_of action }
 {
@@ -34,7 +35,7 @@ fn moves_of(action: Action) -> (Option<Move>, Option<Move>)
             Some(Move::Play(Choice::Step(StepKind::RxDone))),
         ),
         Action::Arrive => (Some(Move::Play(Choice::Arrival)), None),
-        Action::HoldEeprom | Action::HoldPhy => (None, None),
+        Action::HoldEeprom | Action::HoldPhy | Action::Choose(_) => (None, None),
     }
 }
 
@@ -67,28 +68,37 @@ fn push_all(moves: &mut Vec<Move>, actions: &[Action]) -> Result<(), AllocError>
     Ok(())
 }
 
-/// Whether an action leaves out the default step of the EEPROM.
+/// The moves of actions, in order.
+fn moves_for(alloc: Global, actions: &[Action]) -> Result<Vec<Move>, AllocError>
+    ensures { IfOk result (λ moves. moves.items ≡ flat_map spec.moves_of actions.now) }
+{
+    let mut moves = Vec::new(alloc);
+    push_all(&mut moves, actions)?;
+    Ok(moves)
+}
+
+/// Whether an action omits the default step of the EEPROM.
 fn holds_eeprom(action: Action) -> bool
     ensures { result ≡ spec.holds_eeprom action }
 {
     matches!(action, Action::HoldEeprom)
 }
 
-/// Whether an action leaves out the default step of the PHY.
+/// Whether an action omits the default step of the PHY.
 fn holds_phy(action: Action) -> bool
     ensures { result ≡ spec.holds_phy action }
 {
     matches!(action, Action::HoldPhy)
 }
 
-/// Whether one of the actions leaves out the default step of the EEPROM.
+/// Whether one of the actions omits the default step of the EEPROM.
 fn eeprom_is_held(actions: &[Action]) -> bool
     ensures { result ≡ list_any spec.holds_eeprom actions.now }
 {
     actions.iter().any(|action| holds_eeprom(*action))
 }
 
-/// Whether one of the actions leaves out the default step of the PHY.
+/// Whether one of the actions omits the default step of the PHY.
 fn phy_is_held(actions: &[Action]) -> bool
     ensures { result ≡ list_any spec.holds_phy actions.now }
 {
@@ -143,7 +153,18 @@ impl Session {
         )
     }
 
+    /// The moves before an access for which these actions are due.
+    fn due_moves(&self, alloc: Global, due: &[Action]) -> Result<Vec<Move>, AllocError>
+        ensures { IfOk result (λ moves. moves.items ≡ tick_moves due.now self.now ++ flat_map spec.moves_of due.now) }
+    {
+        let mut moves = Vec::new(alloc);
+        self.push_defaults(&mut moves, due)?;
+        push_all(&mut moves, due)?;
+        Ok(moves)
+    }
+
     /// The player, if there is one, meets an access. Returns what is played before the access.
+    #[inline]
     pub(crate) fn meet_access(
         &mut self,
         alloc: Global,
@@ -153,15 +174,12 @@ impl Session {
         ensures state { OnOk result (self.new ≡ meeting before (target_text target) self.old) }
         ensures moves { IfOk result (λ moves. moves.items ≡ access_moves before (target_text target) self.old) }
     {
-        let mut moves = Vec::new(alloc);
         let Some(player) = &mut self.kept.player else {
-            return Ok(moves);
+            return Ok(Vec::new(alloc));
         };
         let name = target.to_string(alloc)?;
         let due = player.meet(alloc, before, name)?;
-        self.push_defaults(&mut moves, due.as_slice())?;
-        push_all(&mut moves, due.as_slice())?;
-        Ok(moves)
+        self.due_moves(alloc, due.as_slice())
     }
 
     /// The player, if there is one, meets a request that begins a round, with this word. Returns what is played before
@@ -174,14 +192,25 @@ impl Session {
         ensures state { OnOk result (self.new ≡ meeting Before.Request word.now self.old) }
         ensures moves { IfOk result (λ moves. moves.items ≡ request_moves word.now self.old) }
     {
-        let mut moves = Vec::new(alloc);
         let Some(player) = &mut self.kept.player else {
-            return Ok(moves);
+            return Ok(Vec::new(alloc));
         };
         let name = String::from_str(alloc, word)?;
         let due = player.meet(alloc, Before::Request, name)?;
-        push_all(&mut moves, due.as_slice())?;
-        Ok(moves)
+        moves_for(alloc, due.as_slice())
+    }
+
+    /// The player, if there is one, meets a request for a number. Returns the number of its schedule, or 0.
+    pub(crate) fn meet_choice(&mut self, alloc: Global) -> Result<u32, AllocError>
+        ensures state { OnOk result (self.new ≡ meeting Before.Choice (codes "choose") self.old) }
+        ensures wanted { IfOk result (λ wanted. wanted ≡ wanted_number self.old) }
+    {
+        let Some(player) = &mut self.kept.player else {
+            return Ok(0);
+        };
+        let name = String::from_str(alloc, "choose")?;
+        let due = player.meet(alloc, Before::Choice, name)?;
+        Ok(chosen(due.as_slice()))
     }
 
     /// The target of an access at this place.

@@ -15,9 +15,10 @@ pub struct ServeOptions {
     pub registers: u64,
     /// The contents of the EEPROM. A wrong checksum isn't corrected.
     pub image: Image,
-    /// When the link is up.
+    /// The setting of the link: the number of ticks until it is up, or never.
     pub link: Link,
-    /// PBA.RXA, the receive part of the packet buffer in kilobytes: an even number from 2 to 48. Any other leaves 48.
+    /// PBA.RXA, the receive part of the packet buffer in kilobytes: an even number from 2 to 48. With any other value,
+    /// PBA is as after power-on.
     pub receive_kilobytes: u8,
     /// The seed of interleaved steps.
     pub seed: u64,

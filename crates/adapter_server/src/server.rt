@@ -73,9 +73,9 @@ fn serve_lines<R: BufRead, W: Write>(
 ///
 /// # Errors
 ///
-/// E57 if memory was refused, E66 if reading failed or the input has 2^64 bytes, E67 if writing failed. At each error a
-/// number of first lines was answered in full, in order. At E66 nothing else was written. At E57 and E67 a beginning of
-/// the next answer may follow.
+/// `Memory` if memory was refused, `Read` if reading failed or the input has 2^64 bytes, `Write` if writing failed. At
+/// each error a number of first lines was answered in full, in order. After `Read` nothing else was written. After
+/// `Memory` and `Write` a beginning of the next answer may follow.
 #[tactic(auto, using(crate::proofs::ServedLines::never_read))]
 pub fn serve<R: BufRead + Drop, W: Write>(
     alloc: Global,

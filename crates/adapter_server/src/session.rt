@@ -5,9 +5,9 @@ ghost use Rattle.adapter_server.specs.Sessions.{is_register, meets_registers, pl
 
 use pci_function::PciFunction;
 use played_adapter::PlayedAdapter;
-use server_output::Kept;
-use server_requests::{Refusal, Setting};
-use std::alloc::AllocError;
+use server_output::{Kept, joined};
+use server_requests::{Refusal, Request, Setting};
+use std::alloc::{AllocError, Global};
 
 /// The number of bytes of registers (13.4 "Main Register Descriptions").
 const REGISTER_BYTES: u64 = 0x2_0000;
@@ -20,12 +20,14 @@ const WORD_BYTES: u64 = 4;
 pub struct Session {
     /// The adapter, its memory, and what is played before and after an access.
     pub device: PlayedAdapter,
-    /// The PCI function, which tells where the registers are.
+    /// The PCI function. It determines the address of the registers.
     pub function: PciFunction,
     /// The time of the clock, in nanoseconds.
     pub clock: u64,
-    /// What is kept of what happened, and what is written of it.
+    /// The past events that the server keeps, and which events it writes.
     pub kept: Kept,
+    /// Whether the log contains the names of the targets of accesses.
+    pub targets: bool,
 }
 
 /// The target of an access.
@@ -62,8 +64,8 @@ fn register_at(registers: u64, address: u64, count: u64) -> Option<u32>
     }
 }
 
-/// The target of an access of `count` bytes at an address, or why there is none, if the registers begin at this
-/// address, and if these bytes are in memory or not.
+/// The target of an access of `count` bytes at an address, or its refusal. `registers` is the address of the first
+/// register, and `in_memory` is set if memory contains all bytes of the access.
 fn place_with(
     registers: Option<u64>,
     in_memory: bool,
@@ -88,10 +90,11 @@ fn place_with(
 }
 
 impl Session {
-    ghost use Rattle.std.specs.Prelude.{IfOk};
+    ghost use Rattle.std.specs.Prelude.{IfNone, IfOk, IfSome};
+    ghost use Rattle.adapter_server.specs.Answers.{request_said, said_at};
     ghost use Rattle.adapter_server.specs.Sessions.{IsCopied, place_in, plays_schedule, with_setting};
 
-    /// The same state, with memory of its own. Fails only if memory was refused.
+    /// A copy of the session, with its own memory. The level of its interrupt line counts as reported.
     pub(crate) fn copy(&self) -> Result<Session, AllocError>
         ensures { IfOk result (λ copy. IsCopied self.now copy) }
     {
@@ -100,6 +103,7 @@ impl Session {
             function: self.function,
             clock: self.clock,
             kept: self.kept.clone()?,
+            targets: self.targets,
         })
     }
 
@@ -122,13 +126,60 @@ impl Session {
                 self.device.most_steps = if self.plays_schedule() { 0 } else { count };
             }
             Setting::Pace(count) => self.device.pace = count,
-            Setting::Log(on) => self.kept.log = on,
+            Setting::Log { on, targets } => {
+                self.kept.log = on;
+                self.targets = targets;
+            }
             Setting::Events(on) => self.kept.events = on,
             Setting::Wire(free) => self.device.wire_free = free,
         }
     }
 
-    /// The target of an access of `count` bytes at an address, or why there is none.
+    /// The line of an access of `count` bytes at an address, with the name of its target, if there is one.
+    fn named_line(
+        &self,
+        alloc: Global,
+        said: &[u8],
+        address: u64,
+        count: u64,
+    ) -> Result<Option<Vec<u8>>, AllocError>
+        ensures named { IfOk result (λ line. IfSome line
+            (λ text. text.items ≡ said_at (place_in self.now address count) address said.now self.now)) }
+        ensures plain { IfOk result (λ line. IfNone line
+            (said_at (place_in self.now address count) address said.now self.now ≡ said.now)) }
+    {
+        let Ok(place) = self.place_of(address, count) else {
+            return Ok(None);
+        };
+        let name = self.target_at(place, address).to_string(alloc)?;
+        let parts: [&[u8]; 3] = [said, b" -> ", name.as_bytes()];
+        Ok(Some(joined(alloc, &parts)?))
+    }
+
+    /// The text that the log prints for a request, if this isn't only the line of the request.
+    pub(crate) fn request_line(
+        &self,
+        alloc: Global,
+        said: &[u8],
+        request: &Request,
+    ) -> Result<Option<Vec<u8>>, AllocError>
+        ensures named { IfOk result (λ line. IfSome line
+            (λ text. text.items ≡ request_said request.now said.now self.now)) }
+        ensures plain { IfOk result (λ line. IfNone line (request_said request.now said.now self.now ≡ said.now)) }
+    {
+        if !self.targets {
+            return Ok(None);
+        }
+        match request {
+            Request::Read(wanted, address) => self.named_line(alloc, said, *address, wanted.size()),
+            Request::Write(address, bytes) => {
+                self.named_line(alloc, said, *address, bytes.as_slice().len() as u64)
+            }
+            _ => Ok(None),
+        }
+    }
+
+    /// The target of an access of `count` bytes at an address, or its refusal.
     pub(crate) fn place_of(&self, address: u64, count: u64) -> Result<Place, Refusal>
         ensures { result ≡ place_in self.now address count }
     {

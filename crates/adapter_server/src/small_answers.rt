@@ -1,23 +1,18 @@
-// Answers to requests that make no access.
+// Answers to settings, to writes of ports, and to `offer` and the clock's requests.
 
-ghost use Rattle.std.specs.Prelude.{Some, max};
-ghost use Rattle.adapter_server.specs.Answers.{Answered, AnswersDigest, AnswersFaults, AnswersFrames, AnswersLevel};
-ghost use Rattle.adapter_server.specs.Answers.{AnswersPort, Changes, MovesClock, Offers, TellsAnswer, time_after};
-ghost use Rattle.adapter_server.specs.Answers.{with_port_written};
+ghost use Rattle.adapter_server.specs.Answers.{Answered, Changes, MovesClock, Offers, TellsAnswer};
+ghost use Rattle.adapter_server.specs.Answers.{time_after, with_port_written};
 ghost use Rattle.adapter_server.specs.Sessions.{with_setting};
 ghost use Rattle.server_output.specs.Texts.{ok_line};
 
 use crate::session::Session;
 use pci_function::PortWidth;
-use server_output::{
-    AnswerError, Faults, Lines, refuse, say, say_decimal, say_faults, say_frames, say_number,
-};
+use server_output::{Answer, AnswerError, Lines, refuse, say};
 use server_requests::{Refusal, Setting};
 use std::alloc::Global;
 use std::io::Write;
-use std::mem;
 
-/// `interleave`, `pace`, `log`, `events`, `wire`.
+/// Answers `interleave`, `pace`, `log`, `events` and `wire`: sets how later requests are answered.
 pub(crate) fn change<W: Write>(
     session: &mut Session,
     out: &mut W,
@@ -30,24 +25,7 @@ pub(crate) fn change<W: Write>(
     say(out, b"OK\n")
 }
 
-/// `inb`, `inw`, `inl`.
-pub(crate) fn read_port<W: Write>(
-    session: &mut Session,
-    out: &mut W,
-    width: PortWidth,
-    port: u16,
-) -> Result<(), AnswerError>
-    ensures { TellsAnswer result (W.contents out.old) (W.contents out.new)
-        (AnswersPort width port session.old) session.new }
-{
-    let asserted = session.device.machine.line();
-    say_number(
-        out,
-        u64::from(session.function.read_port(port, width, asserted)),
-    )
-}
-
-/// `outb`, `outw`, `outl`.
+/// Answers `outb`, `outw` and `outl`: writes an I/O port.
 pub(crate) fn write_port<W: Write>(
     session: &mut Session,
     out: &mut W,
@@ -62,23 +40,7 @@ pub(crate) fn write_port<W: Write>(
     say(out, b"OK\n")
 }
 
-/// `line`.
-pub(crate) fn say_level<W: Write>(session: &mut Session, out: &mut W) -> Result<(), AnswerError>
-    ensures { TellsAnswer result (W.contents out.old) (W.contents out.new)
-        (AnswersLevel session.old) session.new }
-{
-    say_number(out, u64::from(session.device.machine.line()))
-}
-
-/// `digest`.
-pub(crate) fn say_digest<W: Write>(session: &mut Session, out: &mut W) -> Result<(), AnswerError>
-    ensures { TellsAnswer result (W.contents out.old) (W.contents out.new)
-        (AnswersDigest session.old) session.new }
-{
-    say_number(out, session.device.machine.digest())
-}
-
-/// `offer`.
+/// Answers `offer`: the frame waits for its arrival.
 pub(crate) fn offer<W: Write>(
     session: &mut Session,
     alloc: Global,
@@ -98,14 +60,10 @@ pub(crate) fn offer<W: Write>(
         stopped: None,
     };
     session.device.make_all(moves.as_slice(), &mut lines);
-    if let Some(error) = lines.stopped {
-        return Err(error);
-    }
-    session.device.offered.push(alloc, frame)?;
-    say(lines.out, b"OK\n")
+    lines.end_if(session.device.offered.push(alloc, frame))
 }
 
-/// `clock_step`.
+/// Answers `clock_step`: advances the clock.
 pub(crate) fn step_clock<W: Write>(
     session: &mut Session,
     alloc: Global,
@@ -120,23 +78,8 @@ pub(crate) fn step_clock<W: Write>(
     move_clock(session, alloc, out, said, time)
 }
 
-/// `clock_set`.
-pub(crate) fn set_clock<W: Write>(
-    session: &mut Session,
-    alloc: Global,
-    out: &mut W,
-    said: &[u8],
-    time: u64,
-) -> Result<(), AnswerError>
-    ensures { TellsAnswer result (W.contents out.old) (W.contents out.new)
-        (MovesClock (Some (max session.old.clock time)) said.now session.old) session.new }
-{
-    let time = session.clock.max(time);
-    move_clock(session, alloc, out, said, Some(time))
-}
-
-/// `clock_step`, `clock_set`: settles, and then it is this time. Refuses a time that the clock can't show.
-fn move_clock<W: Write>(
+/// `clock_step`, `clock_set`: settles, and then sets the clock to this time. Refuses a time that the clock can't show.
+pub(crate) fn move_clock<W: Write>(
     session: &mut Session,
     alloc: Global,
     out: &mut W,
@@ -157,34 +100,6 @@ fn move_clock<W: Write>(
         stopped: None,
     };
     let _moved = session.device.serve_settle(&[], &mut lines);
-    if let Some(error) = lines.stopped {
-        return Err(error);
-    }
     session.clock = time;
-    say_decimal(alloc, lines.out, time)
-}
-
-/// `frames`.
-pub(crate) fn fetch_frames<W: Write>(
-    session: &mut Session,
-    alloc: Global,
-    out: &mut W,
-) -> Result<(), AnswerError>
-    ensures { TellsAnswer result (W.contents out.old) (W.contents out.new)
-        (AnswersFrames session.old) session.new }
-{
-    say_frames(alloc, out, &mut session.kept.put)
-}
-
-/// `faults`.
-pub(crate) fn fetch_faults<W: Write>(
-    session: &mut Session,
-    alloc: Global,
-    out: &mut W,
-) -> Result<(), AnswerError>
-    ensures { TellsAnswer result (W.contents out.old) (W.contents out.new)
-        (AnswersFaults session.old) session.new }
-{
-    let faults = mem::replace(&mut session.kept.faults, Faults::new(alloc));
-    say_faults(alloc, out, &faults)
+    lines.end(Answer::Decimal(time))
 }

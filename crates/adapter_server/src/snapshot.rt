@@ -1,4 +1,4 @@
-// A server: an adapter that is served, and the copy of it that is kept.
+// A server: an adapter that is served, and the copy that `save` made.
 
 ghost use Rattle.std.specs.Prelude.{◌≡◌, IfOk};
 
@@ -20,7 +20,7 @@ pub struct Server {
     pub saved: Option<Session>,
 }
 
-/// Puts a value in the place of another, which is dropped.
+/// Replaces a value, which is dropped.
 fn put_in_place<T: Drop>(place: &mut T, value: T)
     ensures { place.new ≡ value }
 {
@@ -54,7 +54,7 @@ impl Server {
         player
     }
 
-    /// `save`.
+    /// Answers `save`: copies the session.
     pub(crate) fn save<W: Write>(&mut self, out: &mut W) -> Result<(), AnswerError>
         ensures { TellsAnswer result (W.contents out.old) (W.contents out.new) (Saves self.old) self.new }
     {
@@ -63,7 +63,7 @@ impl Server {
         say(out, b"OK\n")
     }
 
-    /// `restore`.
+    /// Answers `restore`: the copy that was saved becomes the session.
     pub(crate) fn restore<W: Write>(&mut self, out: &mut W) -> Result<(), AnswerError>
         ensures { TellsAnswer result (W.contents out.old) (W.contents out.new)
             (Restores self.old.saved self.old) self.new }

@@ -7,7 +7,7 @@ ghost use Rattle.std.specs.Box.Ownership.{box_owns};
 use std::alloc::Allocator;
 use std::marker::Model;
 
-/// A box, taken apart. It owns what the box owned.
+/// The two fields of a box, which own its value.
 pub struct Parts<T, A: Allocator> {
     /// The address of the value.
     pub ptr: *mut T,

@@ -1,5 +1,5 @@
--- Why a step is a fault, if it is one: the first reason that applies. Which steps are faults is defined in `tx_engine`
--- (`IsFetchable`) and in `rx_engine` (`CanMove`). That there are faults, and the order of the reasons, are our choice.
+-- The reason why a step is a fault: the first that applies. `tx_engine` (`IsFetchable`) and `rx_engine` (`CanMove`) define which steps are
+-- faults. That there are faults, and the order of the reasons, are our choice.
 use Rattle.std.specs.Prelude.{◌==◌, ◌||◌, ℕ, List, Option, Some, None, if◌then◌else◌, nat_lt, not}
 use Rattle.adapter.specs.World.{World, receive_ring, transmit_ring}
 use Rattle.adapter.specs.declared.step.StepKind.{StepKind}
@@ -59,7 +59,7 @@ fault_of_data world = record {
   reason = reason_of_data world.adapter.filter.rctl world.memory (receive_ring world);
 }
 
--- why a step of this kind is a fault, if the step is a fault; the other kinds have none
+-- why a step of this kind is a fault, if it is one; steps of other kinds are never faults
 abbrev pub fault_if_any : StepKind → World → Option EngineFault
 fault_if_any TxTake world = Some (fault_of_take world)
 fault_if_any RxData world = Some (fault_of_data world)

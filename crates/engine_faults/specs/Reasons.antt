@@ -1,4 +1,4 @@
--- What each reason means.
+-- The meaning of each reason.
 use Rattle.std.specs.Prelude.{◌≡◌, ◌<◌, ◌⊎◌, ℕ, Bool, List, IsSomeAnd}
 use Rattle.adapter.specs.Receiving.{piece_size}
 use Rattle.adapter.specs.Steps.{Answers}
@@ -54,7 +54,7 @@ HoldsOf Receive reason world =
     let ring = receive_ring world in
     HoldsOfReceive reason world.adapter.filter.rctl world.memory ring (head_address ring) (piece_size world.adapter)
 
--- If the outcome of a step is a fault, there is a reason, and it holds.
+-- If the outcome of a step is a fault, there is a reason, and this reason holds.
 abbrev pub ReasonsHold : Type 0
 ReasonsHold =
     (kind : StepKind) (wire_free : Bool) (world : World)

@@ -11,10 +11,12 @@ use Rattle.engine_faults.specs.declared.engine_fault.Engine.{Engine}
 use Rattle.engine_faults.specs.declared.engine_fault.Engine.TheVariants.{Transmit, Receive}
 use Rattle.engine_faults.specs.declared.ring_words.RingWords.{RingWords}
 
+-- the ring of this engine, by the adapter's registers
 abbrev pub ring_of_engine : Engine → World → Ring
 ring_of_engine Transmit world = transmit_ring world
 ring_of_engine Receive world = receive_ring world
 
+-- the registers of this engine's ring
 abbrev pub registers_of : Engine → World → RingRegisters
 registers_of Transmit world = world.adapter.transmit_ring
 registers_of Receive world = world.adapter.receive_ring

@@ -31,7 +31,7 @@ pub enum Reason {
 /// A fault of an engine.
 #[derive(Clone, Copy, Debug, PartialEq, Eq)]
 pub struct EngineFault {
-    /// The engine whose step is the fault. That kind of step does nothing until a reset.
+    /// The engine whose step is the fault. This kind of step does nothing until a reset.
     pub engine: Engine,
     /// The head of its ring: the index of the descriptor, unless the reason is `Ring`.
     pub index: u32,

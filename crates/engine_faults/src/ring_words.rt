@@ -11,7 +11,7 @@ use adapter::offsets::{RDBAH, RDBAL, RDH, RDLEN, RDT, TDBAH, TDBAL, TDH, TDLEN, 
 use bus::Machine;
 use descriptors::Ring;
 
-/// A ring as its registers read. Its indices may be ones that no ring has.
+/// A ring as its registers read. The indices may be invalid.
 #[derive(Clone, Copy)]
 pub struct RingWords {
     /// The address of its first descriptor.

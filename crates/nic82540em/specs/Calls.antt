@@ -1,6 +1,6 @@
--- What the calls of C do, on the adapter of a handle: numbers stand for kinds, outcomes and fates (our choice).
+-- The effects of the calls of C on the adapter of a handle: numbers represent kinds, outcomes and fates (our choice).
 use Rattle.std.specs.Prelude.{◌≡◌, ◌≢◌, ◌↔◌, ◌+◌, ◌++◌, ◌∷◌, [], ℕ, Bool, false, true, IsTrue, List, Option, Some, None}
-use Rattle.std.specs.Prelude.{if◌then◌else◌, nat_le, not, replicate, slice_get}
+use Rattle.std.specs.Prelude.{◌&&◌, if◌then◌else◌, nat_le, nat_lt, not, replicate, slice_get}
 use Rattle.rand_core.specs.Pcg32Seed.{pcg32_seed}
 use Rattle.rand_pcg.specs.Pcg.{pcg32_of_seed}
 use Rattle.adapter.specs.Registers.{after_write, new_adapter}
@@ -20,31 +20,47 @@ use Rattle.nic82540em.specs.declared.watched.WatchedAdapter.{WatchedAdapter}
 use Rattle.played_adapter.specs.Order.{Tells}
 use Rattle.played_adapter.specs.Playing as player
 use Rattle.played_adapter.specs.Playing.{Arrives, Steps, new_player}
-use Rattle.played_adapter.specs.Requests.{ServesSettle}
+use Rattle.played_adapter.specs.Requests.{PacedAfter, ServesChoice, ServesSettle}
 use Rattle.played_adapter.specs.Told.{Told}
 use Rattle.played_adapter.specs.declared.player.PlayedAdapter.{PlayedAdapter}
 
--- It happens to the adapter, and the events of what is told of it are kept.
+-- Something happens to the adapter, and the events of what is told of it are kept.
 abbrev pub Heard : (PlayedAdapter → PlayedAdapter → List Told → Type 0) → WatchedAdapter → WatchedAdapter → Type 0
 Heard Happens a b = Tells HearsBetween a.events b.events (Happens a.player b.player)
 
--- The adapter changes so, and no event is kept.
+-- The adapter changes in this way, and no event is kept.
 abbrev pub Silently : (PlayedAdapter → PlayedAdapter → Type 0) → WatchedAdapter → WatchedAdapter → Type 0
 Silently Changes a b = Changes a.player b.player × (b.events ≡ a.events)
 
--- The steps before an access are played, and then the access happens.
+-- Something happens, and then cycles are played until one does nothing, up to the maximum that was set; or no cycles are played.
+abbrev pub PacedOr : (paced : Bool) → (PlayedAdapter → PlayedAdapter → List Told → Type 0) → PlayedAdapter → PlayedAdapter → List Told
+    → Type 0
+PacedOr true Happens a b told = PacedAfter (Happens a) b told
+PacedOr false Happens a b told = Happens a b told
+
+-- Cycles are played until one does nothing, up to the maximum that was set; or nothing happens.
+abbrev pub Follows : (paced : Bool) → PlayedAdapter → PlayedAdapter → List Told → Type 0
+Follows true a b told = player.Paced a b told
+Follows false a b told = (b ≡ a) × (told ≡ [])
+
+-- An access or an arrival is made, or refused. Cycles come after it, if it is made and their maximum isn't 0.
+abbrev pub PacedIf : (made : Bool) → (PlayedAdapter → PlayedAdapter → List Told → Type 0) → PlayedAdapter → PlayedAdapter → List Told
+    → Type 0
+PacedIf made Happens a b told = PacedOr (made && nat_lt 0 a.pace) Happens a b told
+
+-- The steps before an access are played, and then the access happens. Cycles come after it.
 abbrev pub Accessed : Access → WatchedAdapter → WatchedAdapter → Type 0
-Accessed access a b = Heard (player.Accessed access) a b
+Accessed access a b = Heard (PacedIf true (player.Accessed access)) a b
 
--- Bytes are loaded, if memory contains them.
+-- Bytes are loaded, if memory contains them. Cycles come after it.
 abbrev pub AnswersLoad : (address : ℕ) → (old new : List ℕ) → (answer : Bool) → WatchedAdapter → WatchedAdapter → Type 0
-AnswersLoad address old new answer a b = Heard (player.AnswersLoad address old new answer) a b
+AnswersLoad address old new answer a b = Heard (PacedIf answer (player.AnswersLoad address old new answer)) a b
 
--- Bytes are stored, if memory contains their places.
+-- Bytes are stored, if memory contains their places. Cycles come after it.
 abbrev pub AnswersStore : (address : ℕ) → (bytes : List ℕ) → (answer : Bool) → WatchedAdapter → WatchedAdapter → Type 0
-AnswersStore address bytes answer a b = Heard (player.AnswersStore address bytes answer) a b
+AnswersStore address bytes answer a b = Heard (PacedIf answer (player.AnswersStore address bytes answer)) a b
 
--- All offered frames arrive, and then rounds are played until one does nothing, up to the maximum. This many steps of them do something.
+-- All offered frames arrive, and then cycles are played until one does nothing, up to the maximum. This many steps of them do something.
 abbrev pub Settles : (moved : ℕ) → WatchedAdapter → WatchedAdapter → Type 0
 Settles moved a b = Heard (ServesSettle [] moved) a b
 
@@ -60,7 +76,7 @@ pba = 0x1000
 abbrev pub image_of : AdapterOptions → List ℕ
 image_of options = if options.has_image then options.image else image_with options.address
 
--- MPC has this value
+-- the adapter with this value of MPC
 abbrev pub with_missed : (count : ℕ) → AdapterState → AdapterState
 with_missed count adapter = record adapter { missed_packets = count }
 
@@ -72,7 +88,7 @@ adapter_of options link = with_missed options.missed (after_write pba options.re
 abbrev pub IsMadeOf : AdapterOptions → Link → PlayedAdapter → Type 0
 IsMadeOf options link a = a ≡ new_player (replicate options.memory 0) (adapter_of options link) a.address
 
--- such an adapter, whose events aren't kept
+-- a new adapter, whose events aren't kept
 abbrev pub IsMade : AdapterOptions → Link → WatchedAdapter → Type 0
 IsMade options link a = IsMadeOf options link a.player × (a.events ≡ no_events)
 
@@ -80,7 +96,7 @@ IsMade options link a = IsMadeOf options link a.player × (a.events ≡ no_event
 pub record IsNew (options : AdapterOptions) (a : WatchedAdapter) : Type 0 where
   -- the link with the number of the options
   pub link : Link
-  -- the link's number in the options stands for a link
+  -- the number of the options stands for this link
   pub link_is : link_with options.link ≡ Some link
   -- PBA.RXA may have the value of the options
   pub share : is_receive_share options.receive_kilobytes ≡ true
@@ -96,12 +112,12 @@ pub record StepAnswered (kind : StepKind) (number : ℕ) (a b : WatchedAdapter) 
   -- the step is played
   pub plays : Heard (Steps kind outcome) a b
 
--- the answer to a step of this kind; if there is no kind, nothing happens
+-- A step of this kind is played, and this is the answer. If there is no kind, nothing happens.
 abbrev pub AnswersKind : Option StepKind → (answer : ℕ) → WatchedAdapter → WatchedAdapter → Type 0
 AnswersKind (Some kind) answer a b = StepAnswered kind answer a b
 AnswersKind None answer a b = (answer ≡ refused) × (b ≡ a)
 
--- the answer to a step of the kind with this number
+-- The same for the kind with this number.
 abbrev pub AnswersStep : (number answer : ℕ) → WatchedAdapter → WatchedAdapter → Type 0
 AnswersStep number answer a b = AnswersKind (kind_with number) answer a b
 
@@ -111,19 +127,19 @@ pub record AnswersArrival (frame : List ℕ) (answer : ℕ) (a b : WatchedAdapte
   pub fate : Fate
   -- the number of this fate
   pub number_is : answer ≡ fate_number fate
-  -- the frame arrives
-  pub arrives : Heard (Arrives frame fate) a b
+  -- the frame arrives, and cycles come after it
+  pub arrives : Heard (PacedIf true (Arrives frame fate)) a b
 
 -- A step of this kind is added to the schedule, if there is a kind and the schedule has room.
 abbrev pub SchedulesKind : (access : ℕ) → Option StepKind → (answer : Bool) → PlayedAdapter → PlayedAdapter → Type 0
 SchedulesKind access (Some kind) answer a b = player.AnswersSchedule access kind answer a b
 SchedulesKind access None answer a b = (answer ≡ false) × (b ≡ a)
 
--- the answer to the number of a kind
+-- The same for the kind with this number, and no event is kept.
 abbrev pub AnswersSchedule : (access number : ℕ) → (answer : Bool) → WatchedAdapter → WatchedAdapter → Type 0
 AnswersSchedule access number answer a b = Silently (SchedulesKind access (kind_with number) answer) a b
 
--- the greatest maximum of steps that are drawn before an access
+-- the greatest maximum of steps that are drawn before an access, and of cycles after it
 abbrev pub most_drawn : ℕ
 most_drawn = 65535
 
@@ -140,14 +156,31 @@ pub record Interleaves (count seed : ℕ) (answer : Bool) (a b : PlayedAdapter) 
 abbrev pub AnswersInterleave : (count seed : ℕ) → (answer : Bool) → WatchedAdapter → WatchedAdapter → Type 0
 AnswersInterleave count seed answer a b = Silently (Interleaves count seed answer) a b
 
--- A frame waits after the other offered frames, if memory isn't refused: the answer is then true.
-pub record AnswersOffer (frame : List ℕ) (answer : Bool) (a b : WatchedAdapter) : Type 0 where
-  -- the frame waits
-  pub taken : answer ≡ true → b ≡ record a { player = record a.player { offered = a.player.offered ++ frame ∷ [] } }
-  -- nothing changes
+-- From now on, up to this many cycles are played after each access and each arrival.
+pub record SetsPace (count : ℕ) (answer : Bool) (a b : PlayedAdapter) : Type 0 where
+  -- whether the maximum is allowed
+  pub range : answer ≡ nat_le count most_drawn
+  -- if it is allowed, it is set
+  pub taken : answer ≡ true → b ≡ record a { pace = count }
+  -- if it isn't allowed, nothing changes
   pub refused : answer ≡ false → b ≡ a
 
--- the wire has no room from now on, or has room again until 64 frames wait
+-- The same, and no event is kept.
+abbrev pub AnswersPace : (count : ℕ) → (answer : Bool) → WatchedAdapter → WatchedAdapter → Type 0
+AnswersPace count answer a b = Silently (SetsPace count answer) a b
+
+-- A number below a limit is chosen: by the generator if steps are drawn before accesses, else 0.
+abbrev pub Chooses : (limit answer : ℕ) → WatchedAdapter → WatchedAdapter → Type 0
+Chooses limit answer a b = Heard (ServesChoice limit 0 answer) a b
+
+-- A frame is offered. The answer is whether memory wasn't refused.
+pub record AnswersOffer (frame : List ℕ) (answer : Bool) (a b : WatchedAdapter) : Type 0 where
+  -- if memory isn't refused, the frame waits
+  pub taken : answer ≡ true → b ≡ record a { player = record a.player { offered = a.player.offered ++ frame ∷ [] } }
+  -- if memory is refused, nothing changes
+  pub refused : answer ≡ false → b ≡ a
+
+-- the adapter with a wire that is full from now on, or has room until 64 frames wait
 abbrev pub with_wire : (full : Bool) → WatchedAdapter → WatchedAdapter
 with_wire full a = record a { player = record a.player { wire_free = not full } }
 
@@ -155,26 +188,26 @@ with_wire full a = record a { player = record a.player { wire_free = not full } 
 abbrev pub IsCopy : WatchedAdapter → WatchedAdapter → Type 0
 IsCopy a copy = player.IsCopy a.player copy.player × (copy.events ≡ a.events)
 
--- The oldest event, if one waits, is taken: what was at its place before and after, and whether one waited.
+-- The oldest event, if one waits, is taken. `old` and `new` are the place of the event before and after; the answer is whether one waited.
 pub record AnswersEvent (old new : KeptEvent) (answer : Bool) (a b : WatchedAdapter) : Type 0 where
-  -- if one waited, it is at the place, and no longer waits
+  -- if an event waited, the place has it, and it no longer waits
   pub taken : answer ≡ true → (slice_get a.events.waiting.items 0 ≡ Some new) × (b ≡ record a { events = without_first a.events })
   -- if none waits, nothing changes
   pub refused : answer ≡ false → (slice_get a.events.waiting.items 0 ≡ None) × (new ≡ old) × (b ≡ a)
 
--- ticks are played before later accesses, or not
+-- the adapter that plays ticks before later accesses, or doesn't
 abbrev pub with_ticks : Bool → WatchedAdapter → WatchedAdapter
 with_ticks on a = record a { player = record a.player { ticks = on } }
 
--- this is the number of accesses so far
+-- the adapter with this number of accesses so far
 abbrev pub with_accesses : ℕ → WatchedAdapter → WatchedAdapter
 with_accesses accesses a = record a { player = record a.player { accesses = accesses } }
 
--- later events are kept, or not; those that wait stay
+-- the adapter whose later events are kept, or not; the events that wait stay
 abbrev pub with_events : Bool → WatchedAdapter → WatchedAdapter
 with_events on a = record a { events = record a.events { on = on } }
 
--- What is possible.
+-- Steps with something to do.
 
 -- Whether a step of this kind has something to do: if and only if not, 0 stands for its outcome, the number of `Nothing`.
 abbrev pub HasWork : StepKind → (works : Bool) → WatchedAdapter → Type 0
@@ -193,7 +226,7 @@ pub record TellsWork (kind : StepKind) (value : ℕ) (answer : ℕ) (a : Watched
   -- the answer is the value of the bit, or 0
   pub answer_is : answer ≡ bit_if works value
 
--- The kinds of steps that have something to do: the bit of a mask with the number of a kind is set if and only if a step of this kind has.
+-- A mask shows which kinds of steps have something to do: the bit with a kind's number is set if and only if a step of this kind has.
 pub record TellsPossible (mask : ℕ) (a : WatchedAdapter) : Type 0 where
   -- whether a kind has something to do
   pub works : StepKind → Bool

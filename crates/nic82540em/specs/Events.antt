@@ -1,5 +1,5 @@
--- What C's program is told of what happens (our choice).
-use Rattle.std.specs.Prelude.{◌==◌, ◌&&◌, ◌++◌, ◌∷◌, ◌≡◌, [], ℕ, Bool, false, List, Option, Some, None, drop, if◌then◌else◌, length, nat_lt}
+-- The events that are kept for C's program (our choice).
+use Rattle.std.specs.Prelude.{◌==◌, ◌&&◌, ◌++◌, ◌∷◌, ◌≡◌, [], ℕ, false, List, Option, Some, None, drop, if◌then◌else◌, length, nat_lt}
 use Rattle.adapter.specs.declared.step.StepKind.{StepKind}
 use Rattle.adapter.specs.declared.step.StepKind.TheVariants.{EepromTick, PhyTick, RxData, RxDone, TxPut, TxTake}
 use Rattle.engine_faults.specs.declared.engine_fault.EngineFault.{EngineFault}
@@ -35,11 +35,11 @@ step_event kind outcome None = record { what = 0; kind = kind; value = outcome; 
 step_event kind outcome (Some fault) =
     record { what = 0; kind = kind; value = outcome; reason = reason_number fault.reason; index = fault.index }
 
--- something else than a step
+-- an arrival or a change of the interrupt line
 abbrev pub other_event : (what value : ℕ) → KeptEvent
 other_event what value = record { what = what; kind = 0; value = value; reason = 0; index = 0 }
 
--- The event that is kept of a thing that is told: a step that isn't `Nothing`, an arrival, and a change of the interrupt line.
+-- the event of a thing that is told: of a step that isn't `Nothing`, an arrival, or a change of the interrupt line; other things have none
 abbrev pub event_of : Told → Option KeptEvent
 event_of (Stepped kind outcome fault) =
     if outcome_number outcome == 0 then None else Some (step_event (kind_number kind) (outcome_number outcome) fault)
@@ -49,26 +49,26 @@ event_of (Accessed access) = None
 event_of (Noted action) = None
 event_of (Line level) = Some (other_event 2 (if level then 1 else 0))
 
--- no event waits, and none is kept
+-- no event waits, and new events aren't kept
 abbrev pub no_events : Events
 no_events = record { on = false; waiting = record { items = []; capacity = 4096 } }
 
--- An event is the last of those that wait, if events are kept and there is room for it.
+-- the events after this one: it waits after the others, if events are kept and there is room for it
 abbrev pub keeps : Events → Option KeptEvent → Events
 keeps events None = events
 keeps events (Some event) =
     if events.on && nat_lt (length events.waiting.items) events.waiting.capacity
     then record events { waiting = record events.waiting { items = events.waiting.items ++ event ∷ [] } } else events
 
--- the events that are kept after this was told
+-- the events after this list was told
 abbrev pub hears : List Told → Events → Events
 hears [] events = events
 hears (told ∷ later) events = hears later (keeps events (event_of told))
 
--- This was told between two states.
+-- the events of this list were kept between two states
 abbrev pub HearsBetween : Events → Events → List Told → Type 0
 HearsBetween before after told = after ≡ hears told before
 
--- the oldest event no longer waits
+-- the events without the oldest one
 abbrev pub without_first : Events → Events
 without_first events = record events { waiting = record events.waiting { items = drop 1 events.waiting.items } }

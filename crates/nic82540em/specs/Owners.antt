@@ -1,4 +1,4 @@
--- What C keeps of an adapter: a box, or nothing (our choice).
+-- The box of an adapter that C keeps, or none (our choice).
 use mathlib.Core.Bool.{Bool, true, false}
 use base.Fml.{Fml, feq}
 use base.Stored.{Coded}
@@ -23,6 +23,6 @@ held_owns false alloc = λ p x. feq (List Val) (ptr_val p ∷ []) (ptr_val null_
 abbrev pub value_coded : Coded the_row.Denot
 value_coded = the_row.coded
 
--- what an empty owner has for its value
+-- the value of an empty owner
 abbrev pub no_adapter : WatchedAdapter
 no_adapter = record { player = new_player [] (new_adapter [] Never) None; events = no_events }

@@ -1,11 +1,13 @@
-// The calls of C, on the adapter of a handle.
+// The calls of C, on the adapter of a handle. After an access or an arrival, they play the cycles that `pace` has set.
 
-ghost use Rattle.std.specs.Prelude.{◌≡◌, IfOk, IfSome};
+ghost use Rattle.std.specs.Prelude.{◌≡◌, ◌<◌, ◌&&◌, IfOk, IfSome, nat_lt};
 ghost use Rattle.bus.specs.declared.event.Access.TheVariants.{Reads, Writes};
 ghost use Rattle.nic82540em.specs.Calls.{Accessed, AnswersArrival, AnswersEvent, AnswersInterleave, AnswersLoad};
-ghost use Rattle.nic82540em.specs.Calls.{AnswersOffer, AnswersSchedule, AnswersStep, AnswersStore, IsCopy, IsMade};
-ghost use Rattle.nic82540em.specs.Calls.{IsMadeOf, IsNew, Settles, adapter_of, image_of};
+ghost use Rattle.nic82540em.specs.Calls.{AnswersOffer, AnswersPace, AnswersSchedule, AnswersStep, AnswersStore, IsCopy};
+ghost use Rattle.nic82540em.specs.Calls.{Chooses, Follows, Heard, IsMade, IsMadeOf, IsNew, Settles, adapter_of};
+ghost use Rattle.nic82540em.specs.Calls.{image_of};
 ghost use Rattle.nic82540em.specs.Digests.{state_digest_of};
+ghost use Rattle.played_adapter.specs.Playing.{Paced};
 
 use crate::events::{Events, KeptEvent};
 use crate::numbers::{
@@ -21,7 +23,7 @@ use played_adapter::PlayedAdapter;
 use std::alloc::{AllocError, Global};
 use std::hash::{FoldHasher, Hasher};
 
-/// The greatest maximum of steps before an access (our choice).
+/// The greatest maximum of steps before an access, and of cycles after it (our choice).
 const MOST_DRAWN: u32 = 65_535;
 
 /// The words of the EEPROM: those of the options, or else an image with their address.
@@ -66,16 +68,45 @@ fn with_link(
 ) -> Result<WatchedAdapter, AllocError>
     ensures { IfOk result (λ made. IsMade options.now link made) }
 {
-    Ok(WatchedAdapter {
-        player: player_of(alloc, options, link)?,
-        events: Events::new(alloc)?,
-    })
+    let events = Events::new(alloc)?;
+    let player = player_of(alloc, options, link)?;
+    Ok(WatchedAdapter { player, events })
+}
+
+/// The adapter in a box, unless memory is refused.
+fn boxed(alloc: Global, adapter: WatchedAdapter) -> Option<Box<WatchedAdapter>>
+    ensures { IfSome result (λ boxed. boxed.value ≡ adapter) }
+{
+    match Box::new(alloc, adapter) {
+        Ok(adapter) => Some(adapter),
+        Err(_refused) => None,
+    }
+}
+
+/// A new adapter with memory of zeros and an empty wire, in a box.
+///
+/// Returns `None` if a number of the options is out of range, or memory is refused.
+pub(crate) fn new_boxed(alloc: Global, options: &AdapterOptions) -> Option<Box<WatchedAdapter>>
+    ensures { IfSome result (λ made. IsNew options.now made.value) }
+{
+    let adapter = new(alloc, options)?;
+    boxed(alloc, adapter)
+}
+
+/// A copy of the adapter and of the events that wait, in a box, unless memory is refused.
+pub(crate) fn copy_boxed(alloc: Global, watched: &WatchedAdapter) -> Option<Box<WatchedAdapter>>
+    ensures { IfSome result (λ made. IsCopy watched.now made.value) }
+{
+    match copy(watched) {
+        Ok(adapter) => boxed(alloc, adapter),
+        Err(_refused) => None,
+    }
 }
 
 /// A new adapter with memory of zeros and an empty wire. No steps are played before accesses, and no event is kept.
 ///
 /// Returns `None` if a number of the options is out of range, and if memory is refused.
-pub(crate) fn new(alloc: Global, options: &AdapterOptions) -> Option<WatchedAdapter>
+fn new(alloc: Global, options: &AdapterOptions) -> Option<WatchedAdapter>
     ensures { IfSome result (λ made. IsNew options.now made) }
 {
     let link = link_with(options.link)?;
@@ -88,36 +119,65 @@ pub(crate) fn new(alloc: Global, options: &AdapterOptions) -> Option<WatchedAdap
     }
 }
 
+/// Plays cycles of steps until one does nothing, up to the maximum that was set.
+fn play_cycles(watched: &mut WatchedAdapter)
+    ensures { Heard Paced watched.old watched.new }
+{
+    let most = u32::from(watched.player.pace);
+    watched.player.settle(most, &mut watched.events);
+}
+
+/// Plays cycles after an access or an arrival, if it was made and `most`, their maximum, isn't 0.
+#[inline(always)]
+fn follow(watched: &mut WatchedAdapter, is_made: bool, most: u16)
+    ensures { Heard (Follows (is_made && nat_lt 0 most)) watched.old watched.new }
+{
+    if is_made && most > 0 {
+        play_cycles(watched);
+    }
+}
+
 /// Reads the register at an offset in bytes.
 pub(crate) fn read(watched: &mut WatchedAdapter, offset: u32) -> u32
     ensures { Accessed (Reads offset result) watched.old watched.new }
 {
-    watched.player.read(offset, &mut watched.events)
+    let most = watched.player.pace;
+    let value = watched.player.read(offset, &mut watched.events);
+    follow(watched, true, most);
+    value
 }
 
 /// Writes the register at an offset in bytes.
 pub(crate) fn write(watched: &mut WatchedAdapter, offset: u32, value: u32)
     ensures { Accessed (Writes offset value) watched.old watched.new }
 {
+    let most = watched.player.pace;
     watched.player.write(offset, value, &mut watched.events);
+    follow(watched, true, most);
 }
 
 /// Loads the bytes from an address on, if memory contains them.
 pub(crate) fn load(watched: &mut WatchedAdapter, address: u64, into: &mut [u8]) -> bool
     ensures { AnswersLoad address into.old into.new result watched.old watched.new }
 {
-    watched.player.load(address, into, &mut watched.events)
+    let most = watched.player.pace;
+    let is_made = watched.player.load(address, into, &mut watched.events);
+    follow(watched, is_made, most);
+    is_made
 }
 
 /// Stores bytes from an address on, if memory contains their places.
 pub(crate) fn store(watched: &mut WatchedAdapter, address: u64, bytes: &[u8]) -> bool
     ensures { AnswersStore address bytes.now result watched.old watched.new }
 {
-    watched.player.store(address, bytes, &mut watched.events)
+    let most = watched.player.pace;
+    let is_made = watched.player.store(address, bytes, &mut watched.events);
+    follow(watched, is_made, most);
+    is_made
 }
 
-/// Lets all offered frames arrive, and then plays rounds of steps until a round does nothing. Returns the number of
-/// steps of the rounds that did something.
+/// Lets all offered frames arrive, and then plays cycles of steps until a cycle does nothing. Returns the number of
+/// steps of the cycles that did something.
 pub(crate) fn settle(watched: &mut WatchedAdapter) -> u64
     ensures { Settles result watched.old watched.new }
 {
@@ -140,7 +200,10 @@ pub(crate) fn step(watched: &mut WatchedAdapter, number: u32) -> u32
 pub(crate) fn arrive(watched: &mut WatchedAdapter, frame: &[u8]) -> u32
     ensures { AnswersArrival frame.now result watched.old watched.new }
 {
-    fate_number(watched.player.arrive(frame, &mut watched.events))
+    let most = watched.player.pace;
+    let fate = watched.player.arrive(frame, &mut watched.events);
+    follow(watched, true, most);
+    fate_number(fate)
 }
 
 /// Adds a copy of a frame to those that are offered.
@@ -177,6 +240,27 @@ pub(crate) fn interleave(watched: &mut WatchedAdapter, count: u32, seed: u64) ->
     true
 }
 
+/// From now on, up to `count` cycles of steps are played after each access and each arrival.
+///
+/// If `count` is above 65,535, returns `false` and changes nothing.
+pub(crate) fn pace(watched: &mut WatchedAdapter, count: u32) -> bool
+    ensures { AnswersPace count result watched.old watched.new }
+{
+    if count > MOST_DRAWN {
+        return false;
+    }
+    watched.player.pace = count as u16;
+    true
+}
+
+/// Chooses a number below `limit`, or 0 if `limit` is 0: by the generator if steps are drawn before accesses, else 0.
+pub(crate) fn choose(watched: &mut WatchedAdapter, limit: u32) -> u32
+    ensures done { Chooses limit result watched.old watched.new }
+    ensures below { 0 < limit → result < limit }
+{
+    watched.player.serve_choose(limit, 0, &mut watched.events)
+}
+
 /// A digest of the adapter's state, by its contents: its registers, the frames in its packet buffer and the work in
 /// progress. Adapters with the same state have equal digests for each seed.
 #[tactic(auto, unfolding(crate::specs::Digests::state_digest_of))]
@@ -203,11 +287,10 @@ pub(crate) fn take_event(watched: &mut WatchedAdapter, into: &mut KeptEvent) -> 
 }
 
 /// A copy of the adapter and of the events that wait.
-pub(crate) fn copy(watched: &WatchedAdapter) -> Result<WatchedAdapter, AllocError>
+fn copy(watched: &WatchedAdapter) -> Result<WatchedAdapter, AllocError>
     ensures { IfOk result (λ copy. IsCopy watched.now copy) }
 {
-    Ok(WatchedAdapter {
-        player: watched.player.copy()?,
-        events: watched.events.copy()?,
-    })
+    let events = watched.events.copy()?;
+    let player = watched.player.copy()?;
+    Ok(WatchedAdapter { player, events })
 }

@@ -10,7 +10,7 @@ use std::alloc::{AllocError, Global};
 /// The number of events that may wait (our choice).
 const MOST_EVENTS: usize = 4096;
 
-/// Something that happened, as numbers.
+/// An event, as numbers.
 #[repr(C)]
 #[derive(Clone, Copy)]
 pub struct KeptEvent {
@@ -22,11 +22,11 @@ pub struct KeptEvent {
     pub value: u32,
     /// The number of the fault's reason, or 0 if there is no fault.
     pub reason: u32,
-    /// The index of the fault's descriptor.
+    /// The index of the fault's descriptor, or 0 if there is no fault.
     pub index: u32,
 }
 
-/// What happened and isn't taken yet, the oldest first, if it is kept.
+/// The events that were kept and not taken yet, the oldest first.
 #[derive(Drop)]
 pub struct Events {
     /// Whether events are kept.
@@ -46,7 +46,7 @@ impl Events {
         })
     }
 
-    /// A copy.
+    /// A copy with the same events.
     pub(crate) fn copy(&self) -> Result<Events, AllocError>
         ensures { IfOk result (λ copy. copy ≡ self.now) }
     {
@@ -65,7 +65,7 @@ impl Events {
         }
     }
 
-    /// Takes the oldest event.
+    /// Removes the oldest event, if one waits, and returns it.
     pub(crate) fn take(&mut self) -> Option<KeptEvent>
         ensures event { result ≡ slice_get self.old.waiting.items 0 }
         ensures state { IfSome result (λ event. self.new ≡ without_first self.old) }

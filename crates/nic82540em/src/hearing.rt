@@ -1,4 +1,4 @@
-// What is told becomes events.
+// The observer that keeps events.
 
 ghost use Rattle.std.specs.Prelude.{◌≡◌};
 ghost use Rattle.nic82540em.specs.Events as events;
@@ -27,7 +27,7 @@ fn step_event(kind: u32, outcome: u32, fault: Option<EngineFault>) -> KeptEvent
     }
 }
 
-/// Something else than a step.
+/// An arrival or a change of the interrupt line, by its number and its value.
 fn other_event(what: u32, value: u32) -> KeptEvent
     ensures { result ≡ events.other_event what value }
 {

@@ -1,7 +1,8 @@
 //! An 82540EM and its host's memory as a C library: `bindings/c/nic82540em.h` declares these calls.
 //!
 //! Each call is one of `played_adapter`'s [`PlayedAdapter`], on an adapter that C's program keeps in a handle. A handle
-//! is made with zeros. If it holds no adapter, a call returns 0, `false` or `0xFFFFFFFF`, and changes nothing.
+//! is made with zeros. If it holds no adapter, each call but [`nic82540em_new`] returns 0, `false` or `0xFFFFFFFF`, and
+//! changes nothing.
 #![tactic(auto)]
 
 mod accesses;
@@ -31,15 +32,18 @@ pub use looking::{
 };
 pub use numbers::{AdapterOptions, REFUSED};
 pub use playing::{
-    nic82540em_arrive, nic82540em_events, nic82540em_fill_wire, nic82540em_interleave,
-    nic82540em_offer, nic82540em_schedule, nic82540em_settle, nic82540em_step,
-    nic82540em_take_event, nic82540em_take_put, nic82540em_ticks,
+    nic82540em_arrive, nic82540em_choose, nic82540em_events, nic82540em_fill_wire,
+    nic82540em_interleave, nic82540em_offer, nic82540em_pace, nic82540em_schedule,
+    nic82540em_settle, nic82540em_step, nic82540em_take_event, nic82540em_take_put,
+    nic82540em_ticks,
 };
 use std::alloc::Global;
 pub use watched::WatchedAdapter;
 
-/// Makes a new adapter in a handle that holds none. Returns `false`, and changes nothing, if the handle holds an
-/// adapter, if a number of the options is out of range, and if memory is refused.
+/// Makes a new adapter in a handle that holds none.
+///
+/// Returns `false`, and changes nothing, if the handle holds an adapter, an option is out of range, or memory is
+/// refused.
 #[unsafe(no_mangle)]
 pub extern "C" fn nic82540em_new(alloc: Global, nic: &mut Nic, options: &AdapterOptions) -> bool
     requires sound { nic.old.owner.full ≡ nic.old.held }
@@ -52,10 +56,7 @@ pub extern "C" fn nic82540em_new(alloc: Global, nic: &mut Nic, options: &Adapter
     if nic.held {
         return false;
     }
-    let Some(adapter) = calls::new(alloc, options) else {
-        return false;
-    };
-    let Ok(adapter) = Box::new(alloc, adapter) else {
+    let Some(adapter) = calls::new_boxed(alloc, options) else {
         return false;
     };
     nic.owner.put(adapter);
@@ -95,12 +96,9 @@ pub extern "C" fn nic82540em_copy(alloc: Global, nic: &mut Nic, into: &mut Nic) 
         return false;
     }
     let adapter = nic.owner.take(alloc);
-    let copied = calls::copy(&adapter);
+    let copied = calls::copy_boxed(alloc, &adapter);
     nic.owner.put(adapter);
-    let Ok(copied) = copied else {
-        return false;
-    };
-    let Ok(copied) = Box::new(alloc, copied) else {
+    let Some(copied) = copied else {
         return false;
     };
     into.owner.put(copied);

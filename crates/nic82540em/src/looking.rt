@@ -109,8 +109,8 @@ pub extern "C" fn nic82540em_waiting_transmit(alloc: Global, nic: &mut Nic) -> u
     answer
 }
 
-/// A digest of the adapter and its host's memory. It doesn't cover the wire, the steps before accesses, and their
-/// number.
+/// A digest of the adapter and its host's memory. It doesn't cover the wire, the steps before accesses, or the number
+/// of accesses.
 #[unsafe(no_mangle)]
 pub extern "C" fn nic82540em_digest(alloc: Global, nic: &mut Nic) -> u64
     requires sound { nic.old.owner.full ≡ nic.old.held }
@@ -130,7 +130,7 @@ pub extern "C" fn nic82540em_digest(alloc: Global, nic: &mut Nic) -> u64
 }
 
 /// A digest of the adapter's registers, of the frames in its packet buffer, and of the work in progress. Adapters with
-/// the same state have equal digests. It covers neither memory nor what [`nic82540em_digest`] leaves out.
+/// the same state have equal digests. It covers neither memory nor what [`nic82540em_digest`] omits.
 #[unsafe(no_mangle)]
 pub extern "C" fn nic82540em_state_digest(alloc: Global, nic: &mut Nic, seed: u64) -> u64
     requires sound { nic.old.owner.full ≡ nic.old.held }

@@ -15,7 +15,7 @@ pub const REFUSED: u32 = 0xFFFF_FFFF;
 /// The greatest number of ticks until the link is up.
 const MOST_TICKS: u32 = 65_535;
 
-/// What a new adapter is made of.
+/// The options of a new adapter.
 #[repr(C)]
 #[derive(Clone, Copy)]
 pub struct AdapterOptions {

@@ -12,7 +12,7 @@ use std::mem::replace;
 
 /// A boxed adapter, or none. C keeps it in a place of its own, and neither reads nor writes it.
 ///
-/// It isn't `Drop`, so that no code here can forget an adapter: a full owner ends as a box, and an empty one as its
+/// It isn't `Drop`, so no code here can forget an adapter. A full owner ends as a box, and an empty one as its
 /// allocator.
 #[repr(C)]
 pub struct Owner {

@@ -1,8 +1,8 @@
 // Calls of C for what the adapter and the wire do.
 
-ghost use Rattle.std.specs.Prelude.{◌≡◌, false, length, true};
-ghost use Rattle.nic82540em.specs.Calls.{AnswersArrival, AnswersEvent, AnswersInterleave, AnswersOffer};
-ghost use Rattle.nic82540em.specs.Calls.{AnswersSchedule, AnswersStep, AnswersTaking, Settles};
+ghost use Rattle.std.specs.Prelude.{◌≡◌, ◌<◌, false, length, true};
+ghost use Rattle.nic82540em.specs.Calls.{AnswersArrival, AnswersEvent, AnswersInterleave, AnswersOffer, AnswersPace};
+ghost use Rattle.nic82540em.specs.Calls.{AnswersSchedule, AnswersStep, AnswersTaking, Chooses, Settles};
 ghost use Rattle.nic82540em.specs.Calls.{with_events, with_ticks, with_wire};
 
 use crate::calls;
@@ -29,8 +29,8 @@ pub extern "C" fn nic82540em_step(alloc: Global, nic: &mut Nic, number: u32) -> 
     answer
 }
 
-/// Lets all offered frames arrive, and plays rounds of steps until one does nothing. Returns the number of steps of the
-/// rounds that did something.
+/// Lets all offered frames arrive, and plays cycles of steps until one does nothing. Returns the number of steps of the
+/// cycles that did something.
 #[unsafe(no_mangle)]
 pub extern "C" fn nic82540em_settle(alloc: Global, nic: &mut Nic) -> u64
     requires sound { nic.old.owner.full ≡ nic.old.held }
@@ -101,6 +101,45 @@ pub extern "C" fn nic82540em_interleave(alloc: Global, nic: &mut Nic, count: u32
     }
     let mut adapter = nic.owner.take(alloc);
     let answer = calls::interleave(&mut adapter, count, seed);
+    nic.owner.put(adapter);
+    answer
+}
+
+/// Sets that up to `count` cycles of steps are played after each later access and arrival, until one does nothing.
+/// Returns `false`, and changes nothing, if `count` is above 65,535.
+#[unsafe(no_mangle)]
+pub extern "C" fn nic82540em_pace(alloc: Global, nic: &mut Nic, count: u32) -> bool
+    requires sound { nic.old.owner.full ≡ nic.old.held }
+    ensures sound { nic.new.owner.full ≡ nic.new.held }
+    ensures held { nic.new.held ≡ nic.old.held }
+    ensures done { nic.old.held ≡ true → AnswersPace count result nic.old.owner.value nic.new.owner.value }
+    ensures none { nic.old.held ≡ false → (result ≡ false) × (nic.new ≡ nic.old) }
+{
+    if !nic.held {
+        return false;
+    }
+    let mut adapter = nic.owner.take(alloc);
+    let answer = calls::pace(&mut adapter, count);
+    nic.owner.put(adapter);
+    answer
+}
+
+/// Chooses a number below `limit`, or 0 if `limit` is 0: by the generator if random steps are played before accesses,
+/// else 0.
+#[unsafe(no_mangle)]
+pub extern "C" fn nic82540em_choose(alloc: Global, nic: &mut Nic, limit: u32) -> u32
+    requires sound { nic.old.owner.full ≡ nic.old.held }
+    ensures sound { nic.new.owner.full ≡ nic.new.held }
+    ensures held { nic.new.held ≡ nic.old.held }
+    ensures done { nic.old.held ≡ true → Chooses limit result nic.old.owner.value nic.new.owner.value }
+    ensures below { 0 < limit → result < limit }
+    ensures none { nic.old.held ≡ false → (result ≡ 0) × (nic.new ≡ nic.old) }
+{
+    if !nic.held {
+        return 0;
+    }
+    let mut adapter = nic.owner.take(alloc);
+    let answer = calls::choose(&mut adapter, limit);
     nic.owner.put(adapter);
     answer
 }

@@ -22,8 +22,8 @@ fn bit_of(watched: &WatchedAdapter, kind: StepKind, value: u32) -> u32
     bit_if(watched.player.machine.has_work(kind), value)
 }
 
-/// The kinds of steps that have something to do: bit `n` is set if and only if the step with number `n` wouldn't
-/// return 0, the number of `Nothing`. Nothing changes.
+/// The kinds of steps that have something to do. Bit `n` is set if and only if the outcome of step `n` wouldn't be
+/// `Nothing`, which has number 0. Nothing changes.
 pub(crate) fn possible(watched: &WatchedAdapter) -> u32
     ensures { TellsPossible result watched.now }
 {

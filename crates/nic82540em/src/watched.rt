@@ -8,6 +8,6 @@ use played_adapter::PlayedAdapter;
 pub struct WatchedAdapter {
     /// The adapter, its host's memory and its wire.
     pub player: PlayedAdapter,
-    /// What happened to it.
+    /// The events of the adapter.
     pub events: Events,
 }

@@ -1,5 +1,5 @@
 -- Offered frames that arrive, and accesses that are asked for.
-use Rattle.std.proofs.Common.{◌≡◌, ◌∷◌, ◌++◌, ◌∙◌, [], ℕ, List, ap, refl, subst, sym}
+use Rattle.std.proofs.Common.{◌≡◌, ◌∷◌, ◌∙◌, [], ℕ, List, ap, refl, subst, sym}
 use Rattle.bus.specs.Machines.{MachineState, after_event}
 use Rattle.bus.specs.Trails.{Occurs}
 use Rattle.bus.specs.declared.event.Access.{Access}
@@ -44,7 +44,7 @@ module _ {O : Type 0} (heard : O → O → List Told → Type 0) (laws : Compose
   accessed_after moves access a middle b before now end comes happens =
       tells_both heard laws (ComesBefore moves a) (λ m rest. HappensAlone access m b rest) middle before now end comes happens
 
-  -- Then rounds were played.
+  -- Then cycles were played.
   pub served : (moves : List Move) (access : Access) (a middle later b : PlayedAdapter) (before now then end : O)
       → Tells heard before now (ComesBefore moves a middle) → Tells heard now then (HappensAlone access middle later)
       → Tells heard then end (Paced later b) → Tells heard before end (ServesAccess moves access a b)

@@ -3,6 +3,6 @@ pub mod Happening
 pub mod Playing
 pub mod Putting
 mod Quiet
-pub mod Rounds
+pub mod Cycles
 pub mod Schedules
 pub mod Telling

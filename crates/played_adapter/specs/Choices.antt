@@ -1,4 +1,4 @@
--- What may be played before accesses and requests (our choice; `tools/race_finder/README.md`, "A schedule").
+-- The steps and arrivals that may be played before accesses and requests (our choice; `tools/race_finder/README.md`, "A schedule").
 use Rattle.std.specs.Prelude.{◌==◌, ◌%◌, ℕ, List, if◌then◌else◌, length}
 use Rattle.rand_pcg.specs.Lcg.{Lcg}
 use Rattle.rand_pcg.specs.Pcg.{pcg32}

@@ -1,5 +1,5 @@
--- What the words of a generator choose (our choice; its 32-bit words are those of rand_pcg's Lcg64Xsh32).
-use Rattle.std.specs.Prelude.{◌==◌, ◌+◌, ◌%◌, ℕ, if◌then◌else◌}
+-- The choices that the words of a generator determine (our choice; its 32-bit words are those of rand_pcg's Lcg64Xsh32).
+use Rattle.std.specs.Prelude.{◌==◌, ◌+◌, ◌%◌, ◌||◌, ℕ, if◌then◌else◌, nat_lt}
 use Rattle.rand_pcg.specs.Lcg.{Lcg}
 use Rattle.rand_pcg.specs.Pcg.{pcg32}
 use Rattle.adapter.specs.declared.step.StepKind.{StepKind}
@@ -13,3 +13,10 @@ drawn_kind generator = let word = pcg32 generator in (kind_numbered (word.0 % 6)
 abbrev pub drawn_count : (most : ℕ) → Lcg → ℕ × Lcg
 drawn_count most generator =
     if most == 0 then (0, generator) else (let word = pcg32 generator in (word.0 % (most + 1), word.1))
+
+-- a number below a limit: that of the next word, if steps are drawn and the limit isn't 0. Otherwise, no word is used: the number is the
+-- wanted one if it is below the limit, or else 0.
+abbrev pub chosen_below : (most limit wanted : ℕ) → Lcg → ℕ × Lcg
+chosen_below most limit wanted generator =
+    if most == 0 || limit == 0 then (if nat_lt wanted limit then wanted else 0, generator)
+    else (let word = pcg32 generator in (word.0 % limit, word.1))

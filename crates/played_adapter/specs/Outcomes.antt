@@ -3,7 +3,7 @@ use Rattle.std.specs.Prelude.{ℕ, Bool, true, false}
 use Rattle.adapter.specs.declared.outcome.Outcome.{Outcome}
 use Rattle.adapter.specs.declared.outcome.Outcome.TheVariants.{Nothing, WireFull}
 
--- Whether a step with this outcome did something.
+-- whether a step with this outcome did something
 abbrev pub did : Outcome (Unit {0}) → Bool
 did Nothing = false
 did WireFull = false

@@ -40,8 +40,8 @@ use Rattle.played_adapter.specs.declared.scheduling.ScheduledStep.{ScheduledStep
 
 -- A new adapter.
 
--- an empty wire of so many frames, a schedule with room for so many steps, none of them yet, and no access so far; the address of
--- memory is any
+-- a new adapter, with any address of memory, and no access so far. The wire and the schedule are empty, with room for these numbers of
+-- frames and steps.
 unfoldable pub new_with_room : (frames steps : ℕ) → (memory : List ℕ) → AdapterState → Option Ptr → PlayedAdapter
 new_with_room frames steps memory adapter address = record {
   machine = record { world = record { memory = memory; adapter = adapter }; reported = is_asserted adapter };
@@ -58,16 +58,16 @@ new_with_room frames steps memory adapter address = record {
   ticks = false;
 }
 
--- a wire of 64 frames, and a schedule of 4,096 steps
+-- a new adapter with room for 64 frames on its wire, and for 4,096 steps in its schedule
 abbrev pub new_player : (memory : List ℕ) → AdapterState → Option Ptr → PlayedAdapter
 new_player memory adapter address = new_with_room 64 4096 memory adapter address
 
--- frames that are put don't wait, and no step is scheduled; the generator has this seed
+-- a new adapter whose frames don't wait on the wire, with no room in its schedule; the generator has this seed
 abbrev pub new_watched : (memory : List ℕ) → AdapterState → (seed : ℕ) → Option Ptr → PlayedAdapter
 new_watched memory adapter seed address =
     record (new_with_room 0 0 memory adapter address) { keeps_put = false; generator = pcg32_of_seed (pcg32_seed 16 seed) }
 
--- the adapter after the level of its interrupt line was told
+-- the adapter after it has reported the level of its interrupt line
 abbrev pub reported : PlayedAdapter → PlayedAdapter
 reported a = record a { machine = record a.machine { reported = is_asserted a.machine.world.adapter } }
 
@@ -80,7 +80,7 @@ pub record IsCopy (a copy : PlayedAdapter) : Type 0 where
 
 -- What happens.
 
--- a change of the interrupt line, if it is one
+-- the change of the interrupt line between two levels; none if they are equal
 abbrev pub line_told : (was is : Bool) → List Told
 line_told false true = Line true ∷ []
 line_told true false = Line false ∷ []
@@ -95,16 +95,16 @@ line_of a = line_told a.machine.reported (is_asserted a.machine.world.adapter)
 abbrev pub Reports : PlayedAdapter → PlayedAdapter → List Told → Type 0
 Reports a b told = (b ≡ reported a) × (told ≡ line_of a)
 
--- It happens, and leads to the next state. This is told of it, and then a change of the interrupt line.
+-- An event happens, and leads to the next state. The observer is told of it, and then of a change of the interrupt line, if it is one.
 pub record Happens (one : Event) (of_it : List Told) (next : PlayedAdapter) (a b : PlayedAdapter) (told : List Told) : Type 0 where
-  -- it can happen in this state
+  -- the event can happen in this state
   pub occurs : Occurs one a.machine.world
-  -- then the level of the line counts as told
+  -- after it, the level of the line counts as told
   pub after : b ≡ reported next
-  -- it is told, and then the change of the line
+  -- the event is told, and then the change of the line
   pub told_is : told ≡ of_it ++ line_of next
 
--- after an event that puts no frame
+-- the adapter after an event that puts no frame
 abbrev pub after : Event → PlayedAdapter → PlayedAdapter
 after one a = record a { machine = after_event one a.machine }
 
@@ -112,7 +112,7 @@ after one a = record a { machine = after_event one a.machine }
 abbrev pub Arrives : (frame : List ℕ) → Fate → PlayedAdapter → PlayedAdapter → List Told → Type 0
 Arrives frame fate a b told = Happens (event.Arrives frame fate) (Arrived frame fate ∷ []) (after (event.Arrives frame fate) a) a b told
 
--- An offered frame arrives, and those after it still wait.
+-- An offered frame arrives, and the later ones still wait.
 abbrev pub FrameArrives : (frame : List ℕ) → (later : List (List ℕ)) → Fate → PlayedAdapter → PlayedAdapter → List Told → Type 0
 FrameArrives frame later fate a b told = Happens (event.Arrives frame fate) (Offered frame fate ∷ [])
     (after (event.Arrives frame fate) (record a { offered = later })) a b told
@@ -132,7 +132,7 @@ AllArrive a b told = Times NextArrives (length a.offered) a b told
 
 -- Steps.
 
--- the wire has room while it is free, and fewer frames wait on it than it holds
+-- whether the wire has room: while it is free, and, if frames that are put wait on it, fewer of them wait than it holds
 abbrev pub has_room : PlayedAdapter → Bool
 has_room a = a.wire_free && (not a.keeps_put || nat_lt (length a.wire.frames) a.wire.capacity)
 
@@ -145,7 +145,7 @@ abbrev pub next_frames : List Queued → List (List ℕ)
 next_frames [] = []
 next_frames (queued ∷ later) = queued.frame ∷ []
 
--- after a step; a frame that it put waits on the wire after the others, if frames that are put wait
+-- the adapter after a step; a frame that the step put waits on the wire after the others, if frames that are put wait
 abbrev pub after_step : StepKind → Outcome (Unit {0}) → PlayedAdapter → PlayedAdapter
 after_step kind outcome a = record a {
   machine = after_event (step_of kind outcome a) a.machine;
@@ -188,52 +188,57 @@ abbrev pub front_of : List (List ℕ) → List ℕ
 front_of [] = []
 front_of (frame ∷ later) = frame
 
--- the oldest frame is off the wire
+-- the adapter without the oldest frame on its wire
 abbrev pub without_front : PlayedAdapter → PlayedAdapter
 without_front a = record a { wire = record a.wire { frames = drop 1 a.wire.frames } }
 
--- The oldest frame is taken into a buffer, if it fits: the buffer before and after, and the number that is answered.
+-- The oldest frame is taken off the wire into a buffer, if it fits. `old` and `new` are the bytes of the buffer before and after.
 pub record AnswersTaking (old new : List ℕ) (answer : ℕ) (a b : PlayedAdapter) : Type 0 where
   -- the length of the oldest frame, 0 if there is none
   pub length_is : answer ≡ length (front_of a.wire.frames)
-  -- If it fits, it is at the beginning of the buffer, and off the wire.
+  -- if the frame fits, it is at the beginning of the buffer
   pub bytes : answer ≤ length old → new ≡ front_of a.wire.frames ++ drop answer old
+  -- if the frame fits, it is no longer on the wire
   pub taken : answer ≤ length old → b ≡ without_front a
-  -- Otherwise nothing changed.
-  -- the buffer
+  -- if it doesn't fit, the buffer is unchanged
   pub same_bytes : length old < answer → new ≡ old
-  -- and the wire
+  -- if it doesn't fit, the adapter is unchanged
   pub same : length old < answer → b ≡ a
 
--- Rounds.
+-- Cycles.
 
--- the kinds of a round, each once
-abbrev pub round : List StepKind
-round = TxTake ∷ TxPut ∷ RxData ∷ RxDone ∷ EepromTick ∷ PhyTick ∷ []
+-- the kinds of a cycle, each once
+abbrev pub cycle : List StepKind
+cycle = TxTake ∷ TxPut ∷ RxData ∷ RxDone ∷ EepromTick ∷ PhyTick ∷ []
 
--- A round of steps is played, and this many do something.
-abbrev pub Round : (moved : ℕ) → PlayedAdapter → PlayedAdapter → List Told → Type 0
-Round moved a b told = InOrder Plays round (a, 0) (b, moved) told
+-- Steps of these kinds are played, in order, and this many do something.
+abbrev pub PlaysAll : List StepKind → (moved : ℕ) → PlayedAdapter → PlayedAdapter → List Told → Type 0
+PlaysAll kinds moved a b told = InOrder Plays kinds (a, 0) (b, moved) told
 
--- the maximum number of rounds of a settle
-abbrev pub most_rounds : ℕ
-most_rounds = 131072
+-- A cycle of steps is played, and this many do something.
+abbrev pub Cycle : (moved : ℕ) → PlayedAdapter → PlayedAdapter → List Told → Type 0
+Cycle moved a b told = PlaysAll cycle moved a b told
 
--- rounds that do something, and then one that does nothing unless the maximum is reached
+-- the maximum number of cycles of a settle
+abbrev pub most_cycles : ℕ
+most_cycles = 131072
+
+-- for each cycle, the number of its steps that do something: the busy cycles, and one more cycle that does nothing, unless the maximum
+-- is reached before
 abbrev pub with_last : (most : ℕ) → (busy : List ℕ) → List ℕ
 with_last most busy = if nat_lt (length busy) most then busy ++ 0 ∷ [] else busy
 
--- Rounds are played until one does nothing, up to a maximum. This many steps do something.
+-- Cycles are played until one does nothing, up to a maximum. This many steps do something.
 pub record Settles (most moved : ℕ) (a b : PlayedAdapter) (told : List Told) : Type 0 where
-  -- for each round that does something, the number of its steps that do something
+  -- for each cycle that does something, the number of its steps that do something
   pub busy : List ℕ
   -- each of these numbers is above 0
   pub each : All (λ here. 0 < here) busy
   -- the maximum isn't exceeded
   pub few : length busy ≤ most
-  -- these rounds are played, in order
-  pub plays : InOrder Round (with_last most busy) a b told
-  -- all steps that do something
+  -- these cycles are played, in order
+  pub plays : InOrder Cycle (with_last most busy) a b told
+  -- the number of all steps that do something
   pub moved_is : moved ≡ sum busy
 
 -- Steps before an access.
@@ -244,9 +249,9 @@ both_ticks = EepromTick ∷ PhyTick ∷ []
 
 -- The ticks are played, if they are on.
 abbrev pub Ticks : PlayedAdapter → PlayedAdapter → List Told → Type 0
-Ticks a b told = (moved : ℕ) × InOrder Plays (if a.ticks then both_ticks else []) (a, 0) (b, moved) told
+Ticks a b told = (moved : ℕ) × PlaysAll (if a.ticks then both_ticks else []) moved a b told
 
--- the steps at the front of a schedule that are due before an access: their numbers aren't greater
+-- the steps at the front of a schedule that are due before an access: the numbers of their accesses aren't greater
 abbrev pub due : (access : ℕ) → List ScheduledStep → List ScheduledStep
 due access [] = []
 due access (step ∷ later) = if nat_le step.access access then step ∷ due access later else []
@@ -255,7 +260,7 @@ due access (step ∷ later) = if nat_le step.access access then step ∷ due acc
 abbrev pub due_in : PlayedAdapter → List ScheduledStep
 due_in a = due a.accesses a.scheduled.items
 
--- the step at the front of the schedule no longer waits
+-- the adapter without the first step of its schedule
 abbrev pub without_next : PlayedAdapter → PlayedAdapter
 without_next a = record a { scheduled = record a.scheduled { items = drop 1 a.scheduled.items } }
 
@@ -267,36 +272,36 @@ PlaysScheduled step a b told = (outcome : Outcome (Unit {0})) × Steps step.kind
 pub record AnswersSchedule (access : ℕ) (kind : StepKind) (answer : Bool) (a b : PlayedAdapter) : Type 0 where
   -- whether the schedule has room
   pub range : answer ≡ nat_lt (length a.scheduled.items) a.scheduled.capacity
-  -- if it has, the step is the last of the schedule
+  -- if the schedule has room, the step is its last one
   pub taken : answer ≡ true → b ≡ record a {
     scheduled = record a.scheduled { items = a.scheduled.items ++ record { access = access; kind = kind } ∷ [] };
   }
-  -- if not, nothing changes
+  -- if the schedule has no room, nothing changes
   pub refused : answer ≡ false → b ≡ a
 
--- an action is told, if something was done
+-- the list with an action that is noted, if something was done
 abbrev pub noted : (did : Bool) → Action → List Told
 noted true action = Noted action ∷ []
 noted false action = []
 
 -- A step is played, and noted if it does something.
 pub record StepChosen (kind : StepKind) (a b : PlayedAdapter) (told : List Told) : Type 0 where
-  -- its outcome
+  -- the outcome of the step
   pub outcome : Outcome (Unit {0})
-  -- what is told of it
+  -- what is told of the step
   pub first : List Told
-  -- it is played
+  -- the step is played
   pub steps : Steps kind outcome a b first
-  -- it is noted if it did something
+  -- the step is noted if it did something
   pub told_is : told ≡ first ++ noted (did outcome) (step_action kind)
 
 -- The oldest offered frame arrives, and is noted, if there is one.
 pub record ArrivalChosen (a b : PlayedAdapter) (told : List Told) : Type 0 where
-  -- what is told of it
+  -- what is told of the arrival
   pub first : List Told
-  -- it arrives
+  -- the frame arrives, if there is one
   pub arrives : NextArrives a b first
-  -- it is noted if there was one
+  -- the arrival is noted if there was a frame
   pub told_is : told ≡ first ++ noted (not (length a.offered == 0)) Arrive
 
 -- A choice is played.
@@ -304,24 +309,24 @@ abbrev pub Chosen : Choice → PlayedAdapter → PlayedAdapter → List Told →
 Chosen (Step kind) a b told = StepChosen kind a b told
 Chosen Arrival a b told = ArrivalChosen a b told
 
--- after the generator's next word chose
+-- the adapter after the generator's next word chose
 abbrev pub drawn_from : PlayedAdapter → PlayedAdapter
 drawn_from a = record a { generator = (drawn a.offered a.generator).1 }
 
--- What the generator's next word chooses is played.
+-- The choice of the generator's next word is played.
 abbrev pub DrawsChoice : PlayedAdapter → PlayedAdapter → List Told → Type 0
 DrawsChoice a b told = Chosen (drawn a.offered a.generator).0 (drawn_from a) b told
 
--- The generator chooses a number, and then so many choices. They are played.
+-- The generator chooses a number, and then this many choices. They are played.
 abbrev pub Interleaves : PlayedAdapter → PlayedAdapter → List Told → Type 0
 Interleaves a b told =
     Times DrawsChoice (drawn_count a.most_steps a.generator).0 (record a { generator = (drawn_count a.most_steps a.generator).1 }) b told
 
--- an access is counted
+-- the adapter after an access was counted
 abbrev pub counted : PlayedAdapter → PlayedAdapter
 counted a = record a { accesses = min (a.accesses + 1) most_accesses }
 
--- What the generator chooses is played, and the access is counted.
+-- The generator's choices are played, and the access is counted.
 abbrev pub Draws : PlayedAdapter → PlayedAdapter → List Told → Type 0
 Draws a b told = (drawn : PlayedAdapter) × Interleaves a drawn told × (b ≡ counted drawn)
 
@@ -341,7 +346,7 @@ Makes (Play choice) a b told = Chosen choice a b told
 abbrev pub ComesBefore : List Move → PlayedAdapter → PlayedAdapter → List Told → Type 0
 ComesBefore moves a b told = Joins (InOrder Makes moves a) (λ middle rest. Interleaves middle b rest) told
 
--- Rounds are played until one does nothing, up to the maximum that was set.
+-- Cycles are played until one does nothing, up to the maximum that was set.
 abbrev pub Paced : PlayedAdapter → PlayedAdapter → List Told → Type 0
 Paced a b told = (moved : ℕ) × Settles a.pace moved a b told
 
@@ -356,31 +361,31 @@ HappensAlone access a b told =
 abbrev pub Accessed : Access → PlayedAdapter → PlayedAdapter → List Told → Type 0
 Accessed access a b told = Joins (Prepares a) (λ middle rest. HappensAlone access middle b rest) told
 
--- memory contains this many bytes from an address on
+-- whether memory contains this many bytes from an address on
 abbrev pub has_bytes : PlayedAdapter → (address count : ℕ) → Bool
 has_bytes a address count = nat_le (address + count) (length a.machine.world.memory)
 
--- Bytes are loaded into a buffer, if memory contains them: the buffer before and after, and the answer.
+-- Bytes are loaded into a buffer, if memory contains them. `old` and `new` are the bytes of the buffer before and after.
 pub record AnswersLoad (address : ℕ) (old new : List ℕ) (answer : Bool) (a b : PlayedAdapter) (told : List Told) : Type 0 where
   -- whether memory contains the bytes
   pub range : answer ≡ has_bytes a address (length old)
-  -- if it does, the access happens,
+  -- if memory contains them, the access happens
   pub accessed : answer ≡ true → Accessed (Loads address (length old)) a b told
-  -- and the buffer has the bytes
+  -- if memory contains them, the buffer then has the bytes
   pub loaded : answer ≡ true → new ≡ bytes_at b.machine.world.memory address (length old)
-  -- if not, nothing happens
+  -- if memory doesn't contain all of them, nothing happens
   pub refused : answer ≡ false → (new ≡ old) × (b ≡ a) × (told ≡ [])
 
 -- Bytes are stored, if memory contains their places.
 pub record AnswersStore (address : ℕ) (bytes : List ℕ) (answer : Bool) (a b : PlayedAdapter) (told : List Told) : Type 0 where
   -- whether memory contains their places
   pub range : answer ≡ has_bytes a address (length bytes)
-  -- if it does, the access happens
+  -- if memory contains them, the access happens
   pub accessed : answer ≡ true → Accessed (Stores address bytes) a b told
-  -- if not, nothing happens
+  -- if memory doesn't contain all of them, nothing happens
   pub refused : answer ≡ false → (b ≡ a) × (told ≡ [])
 
--- An access without steps before it happens alone.
+-- If no steps are played before accesses, an access happens without steps: only it is told, and the change of the line that it makes.
 abbrev pub QuietAccessesAreExact : Type 0
 QuietAccessesAreExact =
     (access : Access) (a b : PlayedAdapter) (told : List Told) → a.ticks ≡ false → a.most_steps ≡ 0 → due_in a ≡ []

@@ -9,7 +9,7 @@ use Rattle.step_schedules.specs.declared.deviation.Action.{Action}
 
 -- one thing that an observer is told
 pub data Told : Type 0 where
-  -- a step, its outcome, and its fault if it is one
+  -- a step, its outcome, and its fault, if the step was one
   Stepped : StepKind → FrameOutcome → Option EngineFault → Told
   -- a frame that arrived, and its fate
   Arrived : (frame : List ℕ) → Fate → Told
@@ -19,5 +19,5 @@ pub data Told : Type 0 where
   Accessed : Access → Told
   -- the new level of the interrupt line
   Line : (level : Bool) → Told
-  -- a choice that did something, or a default step that was left out
+  -- a choice that did something, a default step that was left out, or a number above 0 that was chosen
   Noted : Action → Told

@@ -1,4 +1,4 @@
-// Accesses of a driver: each comes after the steps before it.
+// Accesses of a driver, each after the steps that are played before it.
 
 ghost use Rattle.std.specs.Prelude.{◌≡◌, ◌+◌, ◌≤◌, [], false, length, true};
 ghost use Rattle.bus.specs.declared.event.Access.TheVariants.{Loads, Reads, Stores, Writes};
@@ -32,7 +32,7 @@ impl PlayedAdapter {
         self.accesses = self.accesses.saturating_add(1);
     }
 
-    /// Whether it is known that no step comes before the next access.
+    /// Whether no step is played before the next access: ticks are off, no steps are drawn, and none is scheduled.
     #[inline(always)]
     fn is_quiet(&self) -> bool
         ensures { result ≡ true →

@@ -1,4 +1,4 @@
-// What is played before accesses and requests: choices of a generator, and moves.
+// What is played before accesses and requests: moves, and the choices of a generator.
 
 ghost use Rattle.std.specs.Prelude.{◌≡◌};
 ghost use Rattle.played_adapter.specs.Choices as spec;
@@ -18,7 +18,7 @@ use step_schedules::Action;
 /// The number of choices while a frame waits: a step of each kind, and an arrival.
 const CHOICES: u32 = KINDS + 1;
 
-/// What may be chosen.
+/// A step or an arrival that may be chosen.
 #[derive(Clone, Copy)]
 pub enum Choice {
     /// A step of this kind.
@@ -27,14 +27,14 @@ pub enum Choice {
     Arrival,
 }
 
-/// What is played before an access or a request.
+/// One thing that is done before an access or a request.
 #[derive(Clone, Copy)]
 pub enum Move {
-    /// The EEPROM or the PHY takes its default step.
+    /// The EEPROM or the PHY takes its default step, of this kind.
     Tick(StepKind),
-    /// Its default step is left out.
+    /// The default step of the EEPROM or the PHY is left out. This action is noted.
     Hold(Action),
-    /// This is played, and noted if it does something.
+    /// A choice is played, and noted if it does something.
     Play(Choice),
 }
 
@@ -64,8 +64,8 @@ fn step_action(kind: StepKind) -> Action
 }
 
 impl PlayedAdapter {
-    /// Tells an action, if something was done.
-    fn note<O: Observer>(&self, did: bool, action: Action, observer: &mut O)
+    /// Reports an action to the observer, if something was done.
+    pub(crate) fn note<O: Observer>(&self, did: bool, action: Action, observer: &mut O)
         ensures { O.heard observer.old observer.new (noted did action) }
     {
         if did {
@@ -73,7 +73,7 @@ impl PlayedAdapter {
         }
     }
 
-    /// What the next word of the generator chooses: a step, or also an arrival while a frame waits.
+    /// Returns the choice of the generator's next word: a step, or, while an offered frame waits, also its arrival.
     pub(crate) fn draw(&mut self) -> Choice
         ensures choice { result ≡ (drawn self.old.offered self.old.generator).0 }
         ensures state { self.new ≡ drawn_from self.old }

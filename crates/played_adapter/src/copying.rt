@@ -1,12 +1,25 @@
 // A copy of an adapter.
 
 ghost use Rattle.std.specs.Prelude.{◌≡◌, IfOk};
+ghost use Rattle.bus.specs.Machines.{is_asserted};
 ghost use Rattle.played_adapter.specs.Playing.{IsCopy};
 
+use crate::frames::Frames;
 use crate::player::{PlayedAdapter, address_of};
+use crate::scheduling::ScheduledStep;
 use bus::Machine;
-use frame_queue::copy_of;
+use circular_buffer::HeapCircularBuffer;
+use frame_queue::{FrameQueue, copy_of};
+use rand_pcg::Lcg64Xsh32;
 use std::alloc::AllocError;
+
+/// The frames and steps that wait.
+#[derive(Drop)]
+struct Queues {
+    wire: FrameQueue,
+    offered: Frames,
+    scheduled: HeapCircularBuffer<ScheduledStep>,
+}
 
 /// A copy of the adapter and its memory.
 fn copy_of_machine(machine: &Machine) -> Result<Machine, AllocError>
@@ -16,6 +29,51 @@ fn copy_of_machine(machine: &Machine) -> Result<Machine, AllocError>
 }
 
 impl PlayedAdapter {
+    /// Copies of the frames and steps that wait.
+    fn copy_queues(&self) -> Result<Queues, AllocError>
+        ensures wire { IfOk result (λ queues. queues.wire ≡ self.now.wire) }
+        ensures offered { IfOk result (λ queues. queues.offered ≡ self.now.offered) }
+        ensures scheduled { IfOk result (λ queues. queues.scheduled ≡ self.now.scheduled) }
+    {
+        let wire = self.wire.clone()?;
+        let offered = self.offered.clone()?;
+        let scheduled = copy_of(&self.scheduled)?;
+        Ok(Queues {
+            wire,
+            offered,
+            scheduled,
+        })
+    }
+
+    /// The same adapter with this machine, this generator, and these frames and steps that wait.
+    fn with_copies(&self, machine: Machine, queues: Queues, generator: Lcg64Xsh32) -> PlayedAdapter
+        ensures { result ≡ record self.now {
+          machine = record machine { reported = is_asserted machine.world.adapter };
+          address = result.address;
+          wire = queues.wire;
+          offered = queues.offered;
+          generator = generator;
+          scheduled = queues.scheduled;
+        } }
+    {
+        let (adapter, memory) = machine.into_parts();
+        let address = address_of(&memory);
+        PlayedAdapter {
+            machine: Machine::new(adapter, memory),
+            address,
+            wire: queues.wire,
+            keeps_put: self.keeps_put,
+            wire_free: self.wire_free,
+            offered: queues.offered,
+            generator,
+            most_steps: self.most_steps,
+            pace: self.pace,
+            scheduled: queues.scheduled,
+            accesses: self.accesses,
+            ticks: self.ticks,
+        }
+    }
+
     /// A copy of the adapter with everything that its calls depend on. Its memory has an address of its own.
     ///
     /// # Errors
@@ -24,21 +82,9 @@ impl PlayedAdapter {
     pub fn copy(&self) -> Result<PlayedAdapter, AllocError>
         ensures { IfOk result (λ copy. IsCopy self.now copy) }
     {
-        let (adapter, memory) = copy_of_machine(&self.machine)?.into_parts();
-        let address = address_of(&memory);
-        Ok(PlayedAdapter {
-            machine: Machine::new(adapter, memory),
-            address,
-            wire: self.wire.clone()?,
-            keeps_put: self.keeps_put,
-            wire_free: self.wire_free,
-            offered: self.offered.clone()?,
-            generator: self.generator.clone()?,
-            most_steps: self.most_steps,
-            pace: self.pace,
-            scheduled: copy_of(&self.scheduled)?,
-            accesses: self.accesses,
-            ticks: self.ticks,
-        })
+        let generator = self.generator.clone()?;
+        let queues = self.copy_queues()?;
+        let machine = copy_of_machine(&self.machine)?;
+        Ok(self.with_copies(machine, queues, generator))
     }
 }

@@ -3,7 +3,7 @@
 ghost use Rattle.std.specs.Prelude.{◌≡◌};
 ghost use Rattle.rand_core.specs.Pcg32Seed.{pcg32_seed};
 ghost use Rattle.rand_pcg.specs.Pcg.{pcg32_of_seed};
-ghost use Rattle.played_adapter.specs.Draws.{drawn_count, drawn_kind};
+ghost use Rattle.played_adapter.specs.Draws.{chosen_below, drawn_count, drawn_kind};
 ghost use Rattle.played_adapter.specs.Kinds as kinds;
 ghost use Rattle.played_adapter.specs.Order.{Tells};
 ghost use Rattle.played_adapter.specs.Playing.{Interleaves};
@@ -33,8 +33,8 @@ pub(crate) fn kind_numbered(number: u32) -> StepKind
 }
 
 impl PlayedAdapter {
-    /// From now on, up to `most` steps are played before each access. A generator with this seed draws them. With 0,
-    /// no steps are played.
+    /// From now on, up to `most` steps and arrivals are played before each access. A generator with this seed draws
+    /// them. If `most` is 0, none is drawn.
     pub fn interleave(&mut self, most: u16, seed: u64)
         ensures { self.new ≡ record self.old { generator = pcg32_of_seed (pcg32_seed 16 seed); most_steps = most } }
     {
@@ -42,7 +42,7 @@ impl PlayedAdapter {
         self.most_steps = most;
     }
 
-    /// The kind of steps that the next word of the generator chooses.
+    /// Returns the kind of steps that the next word of the generator chooses.
     pub(crate) fn draw_kind(&mut self) -> StepKind
         ensures kind { result ≡ (drawn_kind self.old.generator).0 }
         ensures state { self.new ≡ record self.old { generator = (drawn_kind self.old.generator).1 } }
@@ -51,7 +51,7 @@ impl PlayedAdapter {
         kind_numbered(word % KINDS)
     }
 
-    /// The number of steps that the next word of the generator chooses. Takes no word if the maximum is 0.
+    /// Returns the number of steps that the next word of the generator chooses. Takes no word if the maximum is 0.
     fn draw_count(&mut self) -> u64
         ensures count { result ≡ (drawn_count self.old.most_steps self.old.generator).0 }
         ensures state { self.new ≡
@@ -62,6 +62,20 @@ impl PlayedAdapter {
         }
         let word: u32 = self.generator.next_word();
         u64::from(word) % (u64::from(self.most_steps) + 1)
+    }
+
+    /// Chooses a number below `limit`: that of the generator's next word if steps are drawn. Otherwise, or if `limit`
+    /// is 0, chooses `wanted` if it is below `limit`, or else 0, and takes no word.
+    pub(crate) fn choose_below(&mut self, limit: u32, wanted: u32) -> u32
+        ensures number { result ≡ (chosen_below self.old.most_steps limit wanted self.old.generator).0 }
+        ensures state { self.new ≡
+            record self.old { generator = (chosen_below self.old.most_steps limit wanted self.old.generator).1 } }
+    {
+        if self.most_steps == 0 || limit == 0 {
+            return if wanted < limit { wanted } else { 0 };
+        }
+        let word: u32 = self.generator.next_word();
+        word % limit
     }
 
     /// Plays the steps and arrivals before an access that the generator chooses.

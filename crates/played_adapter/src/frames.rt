@@ -6,7 +6,7 @@ use std::alloc::{AllocError, Global};
 use std::collections::VecDeque;
 use std::marker::Model;
 
-/// A frame that waits. In contracts it is the list of its bytes.
+/// A frame that waits. In contracts, the value is the list of its bytes.
 #[derive(Drop)]
 pub struct WaitingFrame {
     bytes: Vec<u8>,
@@ -48,7 +48,7 @@ impl WaitingFrame {
     }
 }
 
-/// Frames that wait, to arrive or to be fetched, the oldest first. In contracts it is their list.
+/// Frames that wait, to arrive or to be fetched, the oldest first. In contracts, the value is their list.
 #[derive(Drop)]
 pub struct Frames {
     frames: VecDeque<WaitingFrame>,

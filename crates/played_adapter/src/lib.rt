@@ -24,5 +24,5 @@ pub use law::quiet_accesses_are_exact;
 pub use observer::{Nobody, Observer};
 pub use player::PlayedAdapter;
 pub use scheduling::ScheduledStep;
-pub use steps::MOST_ROUNDS;
+pub use steps::MOST_CYCLES;
 pub use wire::WIRE_FRAMES;

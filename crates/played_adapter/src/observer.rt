@@ -1,4 +1,4 @@
-// Who is told what happens.
+// Observers of what happens to an adapter.
 
 ghost use Rattle.std.specs.Prelude.{◌≤◌, ◌∷◌, [], List, length};
 ghost use Rattle.adapter.specs.Outcomes.{with_frame};
@@ -52,11 +52,11 @@ pub trait Observer {
     fn stored(&mut self, address: u64, bytes: &[u8])
         ensures { heard self.old self.new (told.Accessed (Stores address bytes.now) ∷ []) };
 
-    /// A choice did something, or a default step was left out.
+    /// A choice did something, a default step was left out, or a number above 0 was chosen.
     fn noted(&mut self, action: Action)
         ensures { heard self.old self.new (told.Noted action ∷ []) };
 
-    /// The interrupt line has this level now.
+    /// The level of the interrupt line changed to this one.
     fn line(&mut self, level: bool)
         ensures { heard self.old self.new (told.Line level ∷ []) };
 

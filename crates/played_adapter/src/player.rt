@@ -35,13 +35,13 @@ pub struct PlayedAdapter {
     pub generator: Lcg64Xsh32,
     /// The maximum number of steps that are drawn before an access.
     pub most_steps: u16,
-    /// The maximum number of rounds that are played after an access or an arrival.
+    /// The maximum number of cycles that the requests `serve_..` play after an access or an arrival.
     pub pace: u16,
     /// The steps that wait for their accesses.
     pub scheduled: HeapCircularBuffer<ScheduledStep>,
-    /// The number of accesses so far, up to the greatest `u64`.
+    /// The number of accesses so far, up to the greatest `u64`. Those of requests `serve_..` aren't counted.
     pub accesses: u64,
-    /// Whether a step of the EEPROM and one of the PHY are played before each access.
+    /// Whether a step of the EEPROM and one of the PHY are played before each access that is counted.
     pub ticks: bool,
 }
 

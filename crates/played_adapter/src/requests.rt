@@ -1,38 +1,40 @@
-// Requests: moves come before each, and rounds after an access or an arrival.
+// Requests. Moves come before most of them, and cycles of steps after an access or an arrival.
 
-ghost use Rattle.std.specs.Prelude.{IsTrue, length};
+ghost use Rattle.std.specs.Prelude.{◌<◌, IsTrue, length};
 ghost use Rattle.bus.specs.declared.event.Access.TheVariants.{Reads, Stores, Writes};
 ghost use Rattle.played_adapter.specs.Order.{Tells};
 ghost use Rattle.played_adapter.specs.Playing.{Paced, has_bytes};
-ghost use Rattle.played_adapter.specs.Requests.{ServesAccess, ServesArrival, ServesLoad, ServesSettle, ServesStep};
+ghost use Rattle.played_adapter.specs.Requests.{ServesAccess, ServesArrival, ServesChoice, ServesLoad};
+ghost use Rattle.played_adapter.specs.Requests.{ServesSettle, ServesStep};
 
 use crate::choices::Move;
 use crate::observer::Observer;
 use crate::player::PlayedAdapter;
-use crate::steps::MOST_ROUNDS;
+use crate::steps::MOST_CYCLES;
 use adapter::{Fate, Outcome, StepKind};
+use step_schedules::Action;
 
 impl PlayedAdapter {
-    /// Plays what comes after an access or an arrival: rounds of steps, until one does nothing or the number that was
-    /// set is reached.
-    fn pace_rounds<O: Observer>(&mut self, observer: &mut O)
+    /// Plays cycles of steps until one does nothing, up to the number of cycles that was set for accesses and
+    /// arrivals.
+    fn pace_cycles<O: Observer>(&mut self, observer: &mut O)
         ensures { Tells O.heard observer.old observer.new (Paced self.old self.new) }
     {
         let _moved = self.settle(u32::from(self.pace), observer);
     }
 
-    /// Reads the register at an offset in bytes, after moves and what the generator chooses, and plays rounds.
+    /// Reads the register at an offset in bytes, after moves and what the generator chooses, and plays cycles.
     pub fn serve_read<O: Observer>(&mut self, moves: &[Move], offset: u32, observer: &mut O) -> u32
         ensures { Tells O.heard observer.old observer.new
             (ServesAccess moves.now (Reads offset result) self.old self.new) }
     {
         self.play_before(moves, observer);
         let value = self.read_now(offset, observer);
-        self.pace_rounds(observer);
+        self.pace_cycles(observer);
         value
     }
 
-    /// Writes the register at an offset in bytes, after moves and what the generator chooses, and plays rounds.
+    /// Writes the register at an offset in bytes, after moves and what the generator chooses, and plays cycles.
     pub fn serve_write<O: Observer>(
         &mut self,
         moves: &[Move],
@@ -45,10 +47,10 @@ impl PlayedAdapter {
     {
         self.play_before(moves, observer);
         self.write_now(offset, value, observer);
-        self.pace_rounds(observer);
+        self.pace_cycles(observer);
     }
 
-    /// Loads bytes of memory from an address on, after moves and what the generator chooses, and plays rounds.
+    /// Loads bytes of memory from an address on, after moves and what the generator chooses, and plays cycles.
     pub fn serve_load<O: Observer>(
         &mut self,
         moves: &[Move],
@@ -62,10 +64,10 @@ impl PlayedAdapter {
     {
         self.play_before(moves, observer);
         self.load_now(address, into, observer);
-        self.pace_rounds(observer);
+        self.pace_cycles(observer);
     }
 
-    /// Stores bytes in memory from an address on, after moves and what the generator chooses, and plays rounds.
+    /// Stores bytes in memory from an address on, after moves and what the generator chooses, and plays cycles.
     pub fn serve_store<O: Observer>(
         &mut self,
         moves: &[Move],
@@ -79,10 +81,10 @@ impl PlayedAdapter {
     {
         self.play_before(moves, observer);
         self.store_now(address, bytes, observer);
-        self.pace_rounds(observer);
+        self.pace_cycles(observer);
     }
 
-    /// Delivers a frame after moves, and plays rounds. Returns the frame's fate.
+    /// Delivers a frame after moves, and plays cycles. Returns the frame's fate.
     pub fn serve_arrival<O: Observer>(
         &mut self,
         moves: &[Move],
@@ -94,7 +96,7 @@ impl PlayedAdapter {
     {
         self.make_all(moves, observer);
         let fate = self.arrive(frame, observer);
-        self.pace_rounds(observer);
+        self.pace_cycles(observer);
         fate
     }
 
@@ -111,13 +113,26 @@ impl PlayedAdapter {
         self.step(kind, observer)
     }
 
-    /// Delivers all offered frames after moves, and plays rounds until one does nothing. Returns the number of steps
-    /// of these rounds that did something.
+    /// Delivers all offered frames after moves, and plays cycles until one does nothing, up to [`MOST_CYCLES`]. Returns
+    /// the number of steps of these cycles that did something.
     pub fn serve_settle<O: Observer>(&mut self, moves: &[Move], observer: &mut O) -> u64
         ensures { Tells O.heard observer.old observer.new (ServesSettle moves.now result self.old self.new) }
     {
         self.make_all(moves, observer);
         self.deliver_all(observer);
-        self.settle(MOST_ROUNDS, observer)
+        self.settle(MOST_CYCLES, observer)
+    }
+
+    /// Chooses a number below `limit`, or 0 if `limit` is 0. If steps are drawn before accesses, the generator's next
+    /// word chooses the number. Otherwise it is `wanted` if that is below `limit`, or else 0. The observer is told a
+    /// number above 0.
+    pub fn serve_choose<O: Observer>(&mut self, limit: u32, wanted: u32, observer: &mut O) -> u32
+        ensures tells { Tells O.heard observer.old observer.new
+            (ServesChoice limit wanted result self.old self.new) }
+        ensures below { 0 < limit → result < limit }
+    {
+        let number = self.choose_below(limit, wanted);
+        self.note(number > 0, Action::Choose(number), observer);
+        number
     }
 }

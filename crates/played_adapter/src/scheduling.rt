@@ -33,7 +33,7 @@ impl PlayedAdapter {
             .is_ok()
     }
 
-    /// The next step of the schedule, if it is due before the next access. It no longer waits.
+    /// Removes the next step of the schedule, if it is due before the next access, and returns it.
     fn take_due(&mut self) -> Option<ScheduledStep>
         ensures step { result ≡ slice_get (due_in self.old) 0 }
         ensures state { IfSome result (λ step. self.new ≡ without_next self.old) }

@@ -1,12 +1,12 @@
-// Steps, arrivals, and rounds of steps.
+// Steps, arrivals, and cycles of steps.
 
 ghost use Rattle.std.specs.Prelude.{◌≡◌, ◌≤◌, ◌∷◌, [], None, length};
 ghost use Rattle.adapter.specs.declared.step.StepKind.TheVariants.{TxPut};
 ghost use Rattle.bus.specs.Trails.{Occurs};
-ghost use Rattle.played_adapter.specs.Order.{InOrder, Tells};
+ghost use Rattle.played_adapter.specs.Order.{Tells};
 ghost use Rattle.played_adapter.specs.Outcomes as outcomes;
-ghost use Rattle.played_adapter.specs.Playing.{Arrives, Plays, Reports, Round, Settles, Steps, after_step, expected};
-ghost use Rattle.played_adapter.specs.Playing.{fault_told, has_room, step_of};
+ghost use Rattle.played_adapter.specs.Playing.{Arrives, PlaysAll, Reports, Cycle, Settles, Steps, after_step};
+ghost use Rattle.played_adapter.specs.Playing.{expected, fault_told, has_room, step_of};
 ghost use Rattle.played_adapter.specs.Told as told;
 
 use crate::observer::Observer;
@@ -14,12 +14,12 @@ use crate::player::PlayedAdapter;
 use adapter::{Fate, Outcome, StepKind};
 use engine_faults::{EngineFault, fault_of};
 
-/// The maximum number of rounds that `settle` plays (our choice). It is more than the descriptors of a ring and the
+/// The maximum number of cycles that `settle` plays (our choice). It is more than the descriptors of a ring and the
 /// ticks of a link.
-pub const MOST_ROUNDS: u32 = 131_072;
+pub const MOST_CYCLES: u32 = 131_072;
 
-/// The kinds of steps, each once, in the order of a round.
-pub(crate) const ROUND: [StepKind; 6] = [
+/// The kinds of steps, each once, in the order of a cycle.
+pub(crate) const CYCLE: [StepKind; 6] = [
     StepKind::TxTake,
     StepKind::TxPut,
     StepKind::RxData,
@@ -56,7 +56,7 @@ impl PlayedAdapter {
         }
     }
 
-    /// The fault that a step was, if it was one.
+    /// The fault of a step with this outcome, if it was a fault.
     fn fault_told(&self, kind: StepKind, outcome: Outcome<()>) -> Option<EngineFault>
         ensures { result ≡ fault_told kind outcome self.now.machine.world }
     {
@@ -132,7 +132,7 @@ impl PlayedAdapter {
 
     /// Plays steps of these kinds, in order. Returns the number of steps that did something.
     pub(crate) fn play<O: Observer>(&mut self, kinds: &[StepKind], observer: &mut O) -> u64
-        ensures plays { Tells O.heard observer.old observer.new (InOrder Plays kinds.now (self.old, 0) (self.new, result)) }
+        ensures plays { Tells O.heard observer.old observer.new (PlaysAll kinds.now result self.old self.new) }
         ensures few { result ≤ length kinds.now }
     {
         let mut moved = 0;
@@ -143,21 +143,21 @@ impl PlayedAdapter {
         moved
     }
 
-    /// Plays a round of steps, one of each kind. Returns the number of steps that did something.
-    fn round<O: Observer>(&mut self, observer: &mut O) -> u64
-        ensures plays { Tells O.heard observer.old observer.new (Round result self.old self.new) }
+    /// Plays a cycle of steps, one of each kind. Returns the number of steps that did something.
+    fn cycle<O: Observer>(&mut self, observer: &mut O) -> u64
+        ensures plays { Tells O.heard observer.old observer.new (Cycle result self.old self.new) }
         ensures few { result ≤ 6 }
     {
-        self.play(&ROUND, observer)
+        self.play(&CYCLE, observer)
     }
 
-    /// Plays rounds of steps until one does nothing, up to a maximum. Returns the number of steps that did something.
+    /// Plays cycles of steps until one does nothing, up to a maximum. Returns the number of steps that did something.
     pub fn settle<O: Observer>(&mut self, most: u32, observer: &mut O) -> u64
         ensures { Tells O.heard observer.old observer.new (Settles most result self.old self.new) }
     {
         let mut all = 0;
-        for _round in 0..most {
-            let moved = self.round(observer);
+        for _cycle in 0..most {
+            let moved = self.cycle(observer);
             if moved == 0 {
                 return all;
             }

@@ -1,4 +1,4 @@
--- What a search knows. A path is the choices of a run, the newest one first.
+-- The state of a search. A path is the list of the choices of a run, the newest one first.
 use Rattle.std.specs.Prelude.{◌≡◌, ◌<◌, ◌≤◌, true, ◌+◌, ◌∷◌, [], ℕ, List, None, Some, nat_lt, if◌then◌else◌, ◌⊎◌, length, reverse}
 use Rattle.std.specs.Prelude.{slice_set, take, All}
 use Rattle.schedule_search.specs.declared.path.Choice.{Choice}
@@ -17,7 +17,7 @@ abbrev pub run_of : List Choice → List ℕ
 run_of [] = []
 run_of (choice ∷ path) = choice.taken ∷ run_of path
 
--- how much the deviations may cost after a path
+-- the greatest total cost of deviations after a path
 abbrev pub left_of : ℕ → ℕ → List Choice → ℕ
 left_of cost depth [] = depth
 left_of cost depth (choice ∷ path) = left_after cost choice.left choice.place.possible choice.taken
@@ -43,7 +43,7 @@ AreTried test cost depth [] = Unit {0}
 AreTried test cost depth (choice ∷ path) =
     IsTried test cost choice (run_of path) × (choice.left ≡ left_of cost depth path) × AreTried test cost depth path
 
--- From each place with the key of an entry, all schedules pass whose deviations cost at most the cost in the entry.
+-- From each place with the key of an entry, each schedule whose deviations cost at most the cost in the entry passes.
 abbrev pub IsTrueKnown : Test → ℕ → Known → Type 0
 IsTrueKnown test cost entry =
     0 < entry.key.one → (run : List ℕ) (place : Place) → test.at run ≡ Some place → place.key ≡ entry.key
@@ -52,7 +52,7 @@ IsTrueKnown test cost entry =
 abbrev pub AreKnown : Test → ℕ → List Known → Type 0
 AreKnown test cost known = All (IsTrueKnown test cost) known
 
--- What holds of a search between two calls, as long as no schedule has failed.
+-- The invariant of a search between two calls, as long as no schedule has failed.
 pub record IsSearch (test : Test) (search : Search) (choices : List Choice) (table : List Known) : Type 0 where
   pub fits : search.count ≤ length choices
   pub tried : AreTried test search.cost search.depth (path_of search.count choices)
@@ -71,7 +71,7 @@ BelowPass test search choices =
 abbrev pub known_of : Key → ℕ → Known
 known_of key left = record { key = key; left = left }
 
--- whether an entry states that all schedules from this state pass whose deviations cost at most `left`
+-- An entry states that from the known state with this key, each schedule whose deviations cost at most `left` passes.
 abbrev pub IsKnownBy : Known → Key → ℕ → Type 0
 IsKnownBy entry key left = (0 < key.one) × (entry.key ≡ key) × (left ≤ entry.left)
 

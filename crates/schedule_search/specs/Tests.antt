@@ -2,7 +2,7 @@
 use Rattle.std.specs.Prelude.{◌≡◌, ◌<◌, ◌≤◌, true, ◌-◌, ◌∷◌, [], ℕ, Bool, List, Option, None, Some, nat_lt, if◌then◌else◌, ◌⊎◌}
 use Rattle.schedule_search.specs.declared.path.Place.{Place}
 
--- What a test does. A run is the numbers of what was taken at its places, the newest one first.
+-- The behavior of a test. A run is the list of the numbers that were taken at its places, the newest one first.
 pub record Test : Type 0 where
   -- the place to which a run comes after these numbers; none if it has ended
   pub at : List ℕ → Option Place
@@ -14,7 +14,7 @@ pub record Test : Type 0 where
 abbrev pub MayTake : ℕ → ℕ → ℕ → ℕ → Type 0
 MayTake cost left possible number = (number ≡ possible) ⊎ ((number < possible) × (cost ≤ left))
 
--- how much the deviations may cost after this number was taken
+-- the greatest total cost of later deviations after this number was taken
 abbrev pub left_after : ℕ → ℕ → ℕ → ℕ → ℕ
 left_after cost left possible number = if nat_lt number possible then left - cost else left
 

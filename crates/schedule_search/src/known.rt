@@ -29,14 +29,16 @@ pub fn find(known: &[Known], key: Key) -> usize
     size
 }
 
-/// Whether an entry states that all schedules from a state pass whose deviations cost at most `left`.
+/// Whether an entry states that from the known state with this key, each schedule whose deviations cost at most `left`
+/// passes.
 pub(crate) fn is_known(entry: Known, key: Key, left: u32) -> bool
     ensures { result ≡ true → IsKnownBy entry key left }
 {
     key.one > 0 && entry.key.one == key.one && entry.key.two == key.two && left <= entry.left
 }
 
-/// Notes that all schedules from a state pass whose deviations cost at most `left`. Does nothing if the table is full.
+/// Notes that from a state, each schedule passes whose deviations cost at most `left`. The note is in the entry of the
+/// key, or else in an empty one. Does nothing if there is neither.
 pub(crate) fn note(known: &mut [Known], key: Key, left: u32)
     ensures { HasOneMore known.old (known_of key left) known.new }
 {

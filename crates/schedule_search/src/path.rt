@@ -20,18 +20,18 @@ pub struct Place {
     pub possible: u32,
 }
 
-/// What is taken at a place of a run.
+/// The number that is taken at a place of a run.
 #[repr(C)]
 #[derive(Clone, Copy)]
 pub struct Choice {
     pub place: Place,
-    /// How much the deviations may cost from here on.
+    /// The greatest total cost of the deviations from here on.
     pub left: u32,
     /// The number of the deviation, or `possible` for none.
     pub taken: u32,
 }
 
-/// A state from which all schedules pass whose deviations cost at most `left`. If `key.one` is 0, there is none.
+/// A state from which each schedule whose deviations cost at most `left` passes. If `key.one` is 0, there is none.
 #[repr(C)]
 #[derive(Clone, Copy)]
 pub struct Known {

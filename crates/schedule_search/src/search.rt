@@ -16,7 +16,7 @@ use crate::path::{Choice, Key, Known, Place, first, left, next};
 #[derive(Clone, Copy)]
 pub struct Search {
     pub depth: u32,
-    /// What a deviation costs: 1, or 0 if there may be any number of them.
+    /// The cost of a deviation: 1, or 0 if there may be any number of deviations.
     pub cost: u32,
     /// The number of choices in the path.
     pub count: usize,
@@ -24,7 +24,7 @@ pub struct Search {
     pub failing: usize,
 }
 
-/// What is done at a place.
+/// The action at a place.
 pub enum Met {
     /// The newest choice of the path is taken.
     Goes,
@@ -34,7 +34,7 @@ pub enum Met {
     Full,
 }
 
-/// What is done after all schedules that begin with a path were tried.
+/// The action after all schedules that begin with a path were tried.
 pub enum Step {
     /// The newest choice of the path, which has changed, is taken.
     Another,
@@ -63,7 +63,7 @@ pub fn begin(depth: u32, cost: u32, path: &[Choice], known: &mut [Known]) -> Sea
     }
 }
 
-/// The run of the path comes to a place: what to do there.
+/// The run of the path comes to a place. Returns the action there.
 pub fn meet(search: &mut Search, path: &mut [Choice], known: &[Known], place: Place) -> Met
     ensures search { (test : Test) → IsSearch test search.old path.old known.now
         → test.at (run_in search.old path.old) ≡ Some place → IsSearch test search.new path.new known.now }
@@ -92,7 +92,7 @@ pub fn meet(search: &mut Search, path: &mut [Choice], known: &[Known], place: Pl
     Met::Goes
 }
 
-/// All schedules that begin with the path were tried: what to do next.
+/// All schedules that begin with the path were tried. Returns the next action.
 pub fn back(search: &mut Search, path: &mut [Choice], known: &mut [Known]) -> Step
     ensures search { (test : Test) → IsSearch test search.old path.old known.old → EqualKeys test
         → BelowPass test search.old path.old → IsSearch test search.new path.new known.new }

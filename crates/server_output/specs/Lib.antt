@@ -1,6 +1,6 @@
 pub mod Texts
 pub mod Order
-pub mod ReadLines
+pub mod Answers
 pub mod WritingLaws
 pub mod Telling
 pub mod TellingLaws

@@ -5,18 +5,18 @@ use Rattle.server_output.specs.Texts.{Text}
 
 -- A text with this property was written.
 pub record Tells (before after : Option (List ℕ)) (Holds : Text → Type 0) : Type 0 where
-  -- what was written
+  -- the text that was written
   pub text : Text
-  -- it has the property
+  -- the text has the property
   pub holds : Holds text
-  -- it was written after what was there
+  -- the text was written after the earlier text
   pub written : Appends before after text
 
 -- A beginning of a text with this property.
 pub record Begins (Holds : Text → Type 0) (part : Text) : Type 0 where
   -- the whole text
   pub text : Text
-  -- what is missing
+  -- the part that wasn't written
   pub rest : Text
   -- the whole text has the property
   pub holds : Holds text

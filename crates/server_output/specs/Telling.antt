@@ -1,31 +1,32 @@
--- What a server writes of what happens to an adapter, and what it keeps (our choice).
-use Rattle.std.specs.Prelude.{◌≡◌, ◌++◌, ℕ, Bool, List, [], ◌∷◌, Option, Some, None, flat_map, if◌then◌else◌}
+-- The lines that a server writes about events at an adapter, and what it keeps (our choice).
+use Rattle.std.specs.Prelude.{◌≡◌, ◌++◌, ℕ, Bool, List, [], ◌∷◌, Option, Some, None, Result, Ok, Err, IsErr}
+use Rattle.std.specs.Prelude.{flat_map, if◌then◌else◌}
 use Rattle.std.specs.Io.KnownBytes.{Appends, Keeps}
 use Rattle.std.specs.Option.{option_map}
 use Rattle.adapter.specs.Outcomes.{FrameOutcome, put_by, with_frame}
 use Rattle.engine_faults.specs.declared.engine_fault.EngineFault.{EngineFault}
 use Rattle.played_adapter.specs.Told.{Accessed, Arrived, Line, Noted, Offered, Stepped, Told}
-use Rattle.server_output.specs.Order.{WritesPart}
-use Rattle.server_output.specs.Texts.{Text, arrive_said, arrived_line, fault_line, frame_line, line_told, said_log, step_said}
+use Rattle.server_output.specs.Order.{Says, WritesPart}
+use Rattle.server_output.specs.Texts.{Text, arrive_said, arrived_line, fault_line, frame_line, line_told, ok_line, said_log, step_said}
 use Rattle.server_output.specs.declared.answer_error.AnswerError.{AnswerError}
 use Rattle.server_output.specs.declared.kept.Kept.{Kept}
 use Rattle.step_schedules.specs.Players.{after_playing}
 
--- what there is, at most one
+-- the list of a value, if there is one
 abbrev pub listed : {T : Type 0} → Option T → List T
 listed (Some one) = one ∷ []
 listed None = []
 
--- What is kept.
+-- The values that are kept.
 
--- after a step with this outcome and this fault: the frame that it put and the fault are to be fetched, if events aren't written
+-- what is kept after a step with this outcome and this fault: if events aren't written, also the frame that it put and the fault
 abbrev pub kept_with : FrameOutcome → Option EngineFault → Kept → Kept
 kept_with outcome fault kept = record kept {
   put = if kept.events then kept.put else kept.put ++ put_by outcome;
   faults = if kept.events then kept.faults else kept.faults ++ listed fault;
 }
 
--- after this was told; the player, if there is one, notes what was chosen
+-- what is kept after this was told; the player, if there is one, notes an action
 abbrev pub kept_one : Told → Kept → Kept
 kept_one (Stepped kind outcome fault) kept = kept_with outcome fault kept
 kept_one (Arrived frame fate) kept = kept
@@ -34,19 +35,19 @@ kept_one (Accessed access) kept = kept
 kept_one (Line level) kept = kept
 kept_one (Noted action) kept = record kept { player = option_map (after_playing action) kept.player }
 
--- after all this was told, in order
+-- what is kept after all this was told, in order
 abbrev pub kept_after : List Told → Kept → Kept
 kept_after [] kept = kept
 kept_after (one ∷ later) kept = kept_after later (kept_one one kept)
 
--- What is written.
+-- The text that is written.
 
--- what is written of a step if events are written: the line of the frame that it put, and the line of its fault
+-- the lines of the frame that a step put and of its fault, if events are written
 abbrev pub step_shown : (events : Bool) → FrameOutcome → Option EngineFault → Text
 step_shown events outcome fault =
     (if events then flat_map frame_line (put_by outcome) else []) ++ (if events then flat_map fault_line (listed fault) else [])
 
--- what is written of one thing that is told; of an access or an arrival that was asked for, the log says the line of the request
+-- the text about one thing that is told; for an access or an arrival that was requested, the log prints the line of the request
 abbrev pub told_text : (log events : Bool) → (said : Text) → Told → Text
 told_text log events said (Stepped kind outcome fault) =
     said_log log (step_said kind (with_frame tt outcome)) ++ step_shown events outcome fault
@@ -56,22 +57,38 @@ told_text log events said (Accessed access) = said_log log said
 told_text log events said (Line level) = line_told (Some level)
 told_text log events said (Noted action) = []
 
--- what is written of all that is told, in order
+-- the text about all that is told, in order
 abbrev pub text_of : Kept → (said : Text) → List Told → Text
 text_of kept said told = flat_map (told_text kept.log kept.events said) told
 
--- A text was written, or a beginning of it where writing stopped. After it stopped, nothing is written.
+-- A text was written, or a beginning of the text if writing stopped in it. If writing stopped before, nothing is written.
 abbrev pub WroteText : (was is : Option AnswerError) → (before after : Option (List ℕ)) → Text → Type 0
 WroteText (Some error) is before after text = (is ≡ Some error) × Keeps before after
 WroteText None None before after text = Appends before after text
 WroteText None (Some error) before after text = WritesPart before after text
 
--- This was told, between two states: what the log says of a request, what is kept, why writing stopped, and what was written.
+-- A text was written, or a beginning of the text at an error.
+abbrev pub Writes : (is : Option AnswerError) → (before after : Option (List ℕ)) → Text → Type 0
+Writes is before after text = WroteText None is before after text
+
+-- The line of an answer was written, or its beginning at an error. If writing stopped before, nothing was written.
+abbrev pub Ends : {T : Type 0} → (was : Option AnswerError) → Result T AnswerError → (before after : Option (List ℕ)) → Text → Type 0
+Ends None result before after line = Says result before after line
+Ends (Some error) result before after line = (result ≡ Err error) × Keeps before after
+
+-- If something succeeded, `OK` was written. If not, there is an error, and nothing was written.
+abbrev pub EndsIf : {T U E : Type 0} → (done : Result U E) → (was : Option AnswerError) → Result T AnswerError
+    → (before after : Option (List ℕ)) → Type 0
+EndsIf (Ok value) was result before after = Ends was result before after ok_line
+EndsIf (Err error) was result before after = IsErr result × Keeps before after
+
+-- This was told between two states. A state is the line of the request, what is kept, the error that stopped writing, and what was
+-- written.
 pub record Heard (said said' : Text) (kept kept' : Kept) (was is : Option AnswerError) (before after : Option (List ℕ)) (told : List Told)
     : Type 0 where
-  -- the log says the same
+  -- the line of the request is the same
   pub said_is : said' ≡ said
-  -- its text was written, up to where writing stopped
+  -- the text about it was written, or its beginning up to the error
   pub wrote : WroteText was is before after (text_of kept said told)
-  -- unless it stopped, what belongs to it is kept
+  -- unless writing stopped, what is told is kept
   pub kept_is : is ≡ None → kept' ≡ kept_after told kept

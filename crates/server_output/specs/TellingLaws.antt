@@ -1,4 +1,4 @@
--- What is heard in two intervals is heard in both together.
+-- The records of an observer over two consecutive intervals are joined.
 use Rattle.std.proofs.Common.{◌≡◌, ◌++◌, ◌∙◌, ℕ, Bool, List, [], ◌∷◌, Option, Some, None, append_assoc, ap, refl, subst, sym}
 use Rattle.std.proofs.lemmas.Grind.{flat_map-append}
 use Rattle.std.specs.List.{flat_map}
@@ -11,7 +11,7 @@ use Rattle.server_output.specs.declared.answer_error.AnswerError.{AnswerError}
 use Rattle.server_output.specs.declared.kept.Kept.{Kept}
 use Rattle.server_output.specs.WritingLaws.{appends_kept, appends_none, appends_then, keeps_same, part_then}
 
--- What is lent is still the same.
+-- A loan is the same at the start and at the end.
 pub lent_stays : {N : Type 0} (a : N) → a ≡ a
 lent_stays a = refl
 
@@ -28,7 +28,7 @@ keeps_then (Some a) None c one two = absurd one
 keeps_then (Some a) (Some b) None one two = absurd two
 keeps_then (Some a) (Some b) (Some c) one two = two ∙ one
 
-part_kept : (a b c : Option (List ℕ)) (first later : Text) → WritesPart a b first → Keeps b c → WritesPart a c (first ++ later)
+pub part_kept : (a b c : Option (List ℕ)) (first later : Text) → WritesPart a b first → Keeps b c → WritesPart a c (first ++ later)
 part_kept a b c first later part kept = record {
   text = part.text;
   holds = record {
@@ -65,7 +65,7 @@ kept_then : (first later : List Told) (kept : Kept) → kept_after later (kept_a
 kept_then [] later kept = refl
 kept_then (one ∷ first) later kept = kept_then first later (kept_one one kept)
 
--- Text that is written later is that of the settings from the start.
+-- The settings that determine the later text are those from the start.
 later_text : (first later : List Told) (said : Text) (kept kept' : Kept) → kept' ≡ kept_after first kept
     → text_of kept' said later ≡ text_of kept said later
 later_text first later said kept kept' is =
@@ -86,7 +86,7 @@ wrote_joins said said' kept kept' s (Some error) s'' a b c first later same one 
     subst (λ (t : Text). WroteText s s'' a c t) (sym (flat_map-append (told_text kept.log kept.events said) first later))
     (texts_join s (Some error) s'' a b c (text_of kept said first) (text_of kept said later) one two)
 
--- Writing that goes on at the end went on before.
+-- If writing hasn't stopped at the end, it hadn't stopped before.
 went_on : (s s' : Option AnswerError) (b c : Option (List ℕ)) (text : Text) → WroteText s s' b c text → s' ≡ None → s ≡ None
 went_on None s' b c text wrote none = refl
 went_on (Some error) s' b c text wrote none = absurd (cc)

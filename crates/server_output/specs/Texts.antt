@@ -1,5 +1,5 @@
 -- The lines that a server writes (QEMU, docs/devel/testing/qtest: OK, ERR, FAIL and IRQ; frame, arrived and # are our choice).
-use Rattle.std.specs.Prelude.{◌++◌, ℕ, List, [], ◌∷◌, Bool, true, false, Option, Some, None, codes, decimal, flat_map, map}
+use Rattle.std.specs.Prelude.{◌++◌, ℕ, List, [], ◌∷◌, Bool, true, false, Option, Some, None, codes, decimal, flat_map, if◌then◌else◌, map}
 use Rattle.std.specs.Borrow.{Bor}
 use Rattle.std.specs.Int.{to_be_bytes, w64}
 use Rattle.std.specs.List.{concat}
@@ -16,7 +16,9 @@ use Rattle.engine_faults.specs.declared.engine_fault.Engine.{Engine}
 use Rattle.engine_faults.specs.declared.engine_fault.Engine.TheVariants as engines
 use Rattle.engine_faults.specs.declared.engine_fault.EngineFault.{EngineFault}
 use Rattle.engine_faults.specs.declared.engine_fault.Reason.{Reason}
+use Rattle.engine_faults.specs.declared.ring_words.RingWords.{RingWords}
 use Rattle.engine_faults.specs.declared.engine_fault.Reason.TheVariants as reasons
+use Rattle.server_output.specs.declared.looking.EnabledSteps.{EnabledSteps}
 pub use Rattle.server_requests.specs.Texts.{Text}
 
 -- the parts of a text, joined
@@ -60,11 +62,11 @@ abbrev pub said_log : Bool → Text → Text
 said_log true said = codes "# " ++ said ++ codes "\n"
 said_log false said = []
 
--- what the log says of a step
+-- what the log prints of a step
 abbrev pub step_said : StepKind → Outcome (Unit {0}) → Text
 step_said kind outcome = concat (codes "step " ∷ kind_word kind ∷ codes " -> " ∷ outcome_word outcome ∷ [])
 
--- what the log says of the arrival of an offered frame
+-- what the log prints of the arrival of an offered frame
 abbrev pub arrive_said : List ℕ → Text
 arrive_said frame = concat (codes "arrive " ∷ encode_lower frame ∷ [])
 
@@ -74,7 +76,7 @@ arrive_said frame = concat (codes "arrive " ∷ encode_lower frame ∷ [])
 abbrev pub digits_line : Text → Text
 digits_line digits = codes "frame " ++ digits ++ codes "\n"
 
--- a frame that was put onto the wire
+-- the line of a frame that was put onto the wire
 abbrev pub frame_line : List ℕ → Text
 frame_line frame = digits_line (encode_lower frame)
 
@@ -82,17 +84,17 @@ frame_line frame = digits_line (encode_lower frame)
 unfoldable pub digits_arrived : (fate digits : Text) → Text
 digits_arrived fate digits = codes "arrived " ++ fate ++ codes " " ++ digits ++ codes "\n"
 
--- an offered frame that arrived, and its fate
+-- the line of an offered frame that arrived, with its fate
 abbrev pub arrived_line : Fate → List ℕ → Text
 arrived_line fate frame = digits_arrived (fate_word fate) (encode_lower frame)
 
--- the level of the interrupt line, if it is printed
+-- the line of the level of the interrupt line, if one is printed
 abbrev pub line_told : Option Bool → Text
 line_told (Some true) = codes "IRQ raise 0\n"
 line_told (Some false) = codes "IRQ lower 0\n"
 line_told None = []
 
--- a change of the interrupt line
+-- the line of a change of the interrupt line, if it is one
 abbrev pub line_moved : (was is : Bool) → Text
 line_moved false true = line_told (Some true)
 line_moved true false = line_told (Some false)
@@ -101,25 +103,52 @@ line_moved false false = line_told None
 
 -- Answers.
 
--- the answer without a value
+-- the line of an answer without a value
 abbrev pub ok_line : Text
 ok_line = codes "OK\n"
 
--- bytes in hexadecimal digits
+-- the line of an answer with bytes, in hexadecimal digits
 unfoldable pub bytes_line : List ℕ → Text
 bytes_line bytes = codes "OK 0x" ++ encode_lower bytes ++ codes "\n"
 
--- a number in 16 hexadecimal digits
+-- the line of an answer with a number, in 16 hexadecimal digits
 unfoldable pub number_line : ℕ → Text
 number_line number = bytes_line (to_be_bytes w64 number)
 
--- the answer with this word
+-- the line of an answer with this word
 unfoldable pub word_line : Text → Text
 word_line word = codes "OK " ++ word ++ codes "\n"
 
--- bytes in base64 (RFC 4648, section 4)
+-- the line of an answer with bytes, in base64 (RFC 4648, section 4)
 abbrev pub base64_line : List ℕ → Text
 base64_line bytes = word_line (encode_of standard bytes)
+
+-- Kinds of steps.
+
+-- a space and the word of a kind of step, if it is enabled
+abbrev pub enabled_word : StepKind → Bool → Text
+enabled_word kind is_enabled = if is_enabled then codes " " ++ kind_word kind else []
+
+-- the line of an answer with the kinds of steps that are enabled, in the order of a cycle
+unfoldable pub enabled_line : EnabledSteps → Text
+enabled_line enabled = concat (codes "OK" ∷ enabled_word TxTake enabled.tx_take ∷ enabled_word TxPut enabled.tx_put
+    ∷ enabled_word RxData enabled.rx_data ∷ enabled_word RxDone enabled.rx_done ∷ enabled_word EepromTick enabled.eeprom
+    ∷ enabled_word PhyTick enabled.phy ∷ codes "\n" ∷ [])
+
+-- Rings.
+
+-- a space, and a number in 16 hexadecimal digits
+abbrev pub number_word : ℕ → Text
+number_word number = codes " 0x" ++ encode_lower (to_be_bytes w64 number)
+
+-- the words of a ring: its base, its length in bytes, its head and its tail
+abbrev pub ring_words : RingWords → Text
+ring_words ring =
+    concat (number_word ring.base ∷ number_word ring.bytes ∷ number_word ring.head ∷ number_word ring.tail ∷ [])
+
+-- the line of an answer with the receive ring and the transmit ring
+abbrev pub rings_line : (receive transmit : RingWords) → Text
+rings_line receive transmit = concat (codes "OK" ∷ ring_words receive ∷ ring_words transmit ∷ codes "\n" ∷ [])
 
 -- Faults of engines.
 
@@ -138,27 +167,27 @@ reason_word reasons.Length = codes "length"
 reason_word reasons.Buffer = codes "buffer"
 reason_word reasons.Bsex = codes "bsex"
 
--- an engine, the index of a descriptor, and a reason
+-- the words of a fault: the engine, the index of the descriptor, and the reason
 abbrev pub fault_words : EngineFault → Text
 fault_words fault =
     codes " " ++ engine_word fault.engine ++ codes " " ++ decimal fault.index ++ codes " " ++ reason_word fault.reason
 
--- the line about a fault
+-- the line of a fault
 abbrev pub fault_line : EngineFault → Text
 fault_line fault = codes "fault" ++ fault_words fault ++ codes "\n"
 
--- the answer with these faults
+-- the line of an answer with these faults
 abbrev pub faults_line : List EngineFault → Text
 faults_line faults = codes "OK" ++ flat_map fault_words faults ++ codes "\n"
 
--- a number in decimal digits
+-- the line of an answer with a number in decimal digits
 abbrev pub decimal_line : ℕ → Text
 decimal_line number = word_line (decimal number)
 
--- a space, 0x and the digits of a frame
+-- the word for a frame: a space, 0x and its digits
 abbrev pub frame_word : List ℕ → Text
 frame_word frame = codes " 0x" ++ encode_lower frame
 
--- frames, each as a word
+-- the line of an answer with these frames
 abbrev pub frames_line : List (List ℕ) → Text
 frames_line frames = codes "OK" ++ flat_map frame_word frames ++ codes "\n"

@@ -8,7 +8,7 @@ use engine_faults::EngineFault;
 use std::alloc::{AllocError, Global};
 use std::marker::Model;
 
-/// Faults that wait to be fetched, the oldest first. In contracts it is their list.
+/// Faults that wait to be fetched, the oldest first. In contracts, the value is their list.
 #[derive(Drop)]
 pub struct Faults {
     faults: Vec<EngineFault>,

@@ -1,4 +1,4 @@
-// What a server keeps of what happened.
+// The past events that a server keeps.
 
 ghost use Rattle.std.specs.Prelude.{◌≡◌, ◌++◌, OnOk, if◌then◌else◌};
 ghost use Rattle.std.specs.Option.{option_map};
@@ -13,7 +13,7 @@ use played_adapter::Frames;
 use std::alloc::{AllocError, Global};
 use step_schedules::{Action, Player};
 
-/// What a server keeps of what happened, and what it writes of it.
+/// The past events that a server keeps, and which events it writes.
 #[derive(Drop)]
 pub struct Kept {
     /// Whether steps, accesses and arrivals are written.

@@ -67,7 +67,7 @@ fn push_parts(text: &mut Vec<u8>, parts: &[&[u8]]) -> Result<(), AllocError>
 }
 
 /// Parts of a text, joined.
-fn joined(alloc: Global, parts: &[&[u8]]) -> Result<Vec<u8>, AllocError>
+pub fn joined(alloc: Global, parts: &[&[u8]]) -> Result<Vec<u8>, AllocError>
     ensures { IfOk result (λ text. text.items ≡ texts.joined parts.now) }
 {
     let mut length: usize = 0;
@@ -79,7 +79,7 @@ fn joined(alloc: Global, parts: &[&[u8]]) -> Result<Vec<u8>, AllocError>
     Ok(text)
 }
 
-/// Appends what the log says, in parts, if the log is on.
+/// Appends what the log prints, in parts, if the log is on.
 fn push_said(text: &mut Vec<u8>, log: bool, said: &[&[u8]]) -> Result<(), AllocError>
     ensures { OnOk result (text.new.items ≡ text.old.items ++ texts.said_log log (texts.joined said.now)) }
 {
@@ -91,7 +91,7 @@ fn push_said(text: &mut Vec<u8>, log: bool, said: &[&[u8]]) -> Result<(), AllocE
     text.extend_from_slice(b"\n")
 }
 
-/// What is written of an event: what the log says of it, if the log is on, and then this text.
+/// The text about an event: its line of the log, if the log is on, and then `shown`.
 pub(crate) fn event_text(
     alloc: Global,
     log: bool,

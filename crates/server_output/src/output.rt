@@ -95,7 +95,11 @@ pub(crate) fn say_base64<W: Write>(
 }
 
 /// Writes the line of an answer with a decimal number.
-pub fn say_decimal<W: Write>(alloc: Global, out: &mut W, number: u64) -> Result<(), AnswerError>
+pub(crate) fn say_decimal<W: Write>(
+    alloc: Global,
+    out: &mut W,
+    number: u64,
+) -> Result<(), AnswerError>
     ensures { Says result (W.contents out.old) (W.contents out.new) (texts.decimal_line number) }
 {
     let line = decimal_line(alloc, number)?;

@@ -3,10 +3,12 @@
 ghost use Rattle.std.specs.Prelude.{◌≡◌, ◌++◌, [], IfOk, None, OnOk, Some, flat_map, if◌then◌else◌};
 ghost use Rattle.adapter.specs.Outcomes.{put_by, with_frame};
 ghost use Rattle.played_adapter.specs.Told as told;
-ghost use Rattle.server_output.specs.Telling.{WroteText, kept_with, listed, told_text};
+ghost use Rattle.server_output.specs.Answers.{IsSized, line_of};
+ghost use Rattle.server_output.specs.Telling.{Ends, EndsIf, Writes, kept_with, listed, told_text};
 ghost use Rattle.server_output.specs.Texts.{fault_line, frame_line, line_told, said_log};
 
 use crate::answer_error::AnswerError;
+use crate::answers::{Answer, say_answer};
 use crate::kept::Kept;
 use crate::lines::{
     arrived_line, event_text, fate_word, frame_line, kind_word, outcome_word, push_fault_line,
@@ -19,19 +21,19 @@ use std::alloc::{AllocError, Global};
 use std::io::Write;
 use step_schedules::Action;
 
-/// Writes lines about what it is told, and keeps what `Kept` says. After an error it writes nothing, and keeps the
-/// error.
+/// Writes the lines about what it is told, and keeps frames, faults and actions in `kept`. After an error it writes
+/// nothing, and keeps the error.
 #[derive(Drop)]
 pub struct Lines<'a, W: Write> {
-    /// What it writes to.
+    /// The writer of its lines.
     pub out: &'a mut W,
-    /// What is kept.
+    /// Where frames, faults and actions are kept.
     pub kept: &'a mut Kept,
-    /// The line of the request, which the log says of an access or an arrival.
+    /// The line of the request. The log prints it for an access and for an arrival.
     pub said: &'a [u8],
     /// The allocator of texts.
     pub alloc: Global,
-    /// Why it stopped writing, if it did.
+    /// The error after which it writes nothing, if there was one.
     pub stopped: Option<AnswerError>,
 }
 
@@ -76,7 +78,7 @@ impl<'a, W: Write> Lines<'a, W> {
         }
     }
 
-    /// What is written of a step.
+    /// The text about a step.
     fn step_text(
         &self,
         kind: StepKind,
@@ -93,7 +95,7 @@ impl<'a, W: Write> Lines<'a, W> {
         event_text(self.alloc, self.kept.log, &said, shown.as_slice())
     }
 
-    /// What is written of the arrival of an offered frame.
+    /// The text about the arrival of an offered frame.
     fn arrival_text(&self, frame: &[u8], fate: Fate) -> Result<Vec<u8>, AllocError>
         ensures { IfOk result (λ text. text.items ≡ told_text self.now.kept.now.log self.now.kept.now.events
             self.now.said.now (told.Offered frame.now fate)) }
@@ -108,24 +110,52 @@ impl<'a, W: Write> Lines<'a, W> {
         event_text(self.alloc, self.kept.log, &said, shown.as_slice())
     }
 
-    /// Writes a text, or keeps the error.
+    /// Writes a text. If this fails, keeps the error.
     fn write(&mut self, text: &[u8])
         requires { self.old.stopped ≡ None }
         ensures state { self.new ≡ record self.old { out = self.new.out; stopped = self.new.stopped } }
         ensures lent { self.new.out.ghost_name ≡ self.old.out.ghost_name }
-        ensures text { WroteText None self.new.stopped (W.contents self.old.out.now) (W.contents self.new.out.now) text.now }
+        ensures text { Writes self.new.stopped (W.contents self.old.out.now) (W.contents self.new.out.now) text.now }
     {
         if let Err(error) = say(self.out, text) {
             self.stopped = Some(error);
         }
     }
 
-    /// Writes what the log says of an access or an arrival: the line of the request. Or keeps the error.
+    /// Writes the line of an answer. If writing stopped before, writes nothing, and returns the error.
+    pub fn end(&mut self, answer: Answer<'_>) -> Result<(), AnswerError>
+        requires { IsSized answer }
+        ensures state { self.new ≡ record self.old { out = self.new.out } }
+        ensures lent { self.new.out.ghost_name ≡ self.old.out.ghost_name }
+        ensures ends { Ends self.old.stopped result (W.contents self.old.out.now) (W.contents self.new.out.now)
+            (line_of answer.entry) }
+    {
+        match self.stopped {
+            Some(error) => Err(error),
+            None => say_answer(self.alloc, self.out, answer),
+        }
+    }
+
+    /// Writes the answer `OK`, unless `done` is an error. If writing stopped before, writes nothing, and returns the
+    /// error.
+    pub fn end_if(&mut self, done: Result<(), AllocError>) -> Result<(), AnswerError>
+        ensures state { self.new ≡ record self.old { out = self.new.out } }
+        ensures lent { self.new.out.ghost_name ≡ self.old.out.ghost_name }
+        ensures ends { EndsIf done self.old.stopped result (W.contents self.old.out.now)
+            (W.contents self.new.out.now) }
+    {
+        match done {
+            Ok(()) => self.end(Answer::Done),
+            Err(_) => Err(AnswerError::Memory),
+        }
+    }
+
+    /// Writes the line of the log about an access or an arrival, if the log is on. If this fails, keeps the error.
     fn say_request(&mut self)
         requires { self.old.stopped ≡ None }
         ensures state { self.new ≡ record self.old { out = self.new.out; stopped = self.new.stopped } }
         ensures lent { self.new.out.ghost_name ≡ self.old.out.ghost_name }
-        ensures text { WroteText None self.new.stopped (W.contents self.old.out.now) (W.contents self.new.out.now)
+        ensures text { Writes self.new.stopped (W.contents self.old.out.now) (W.contents self.new.out.now)
             (said_log self.old.kept.now.log self.old.said.now) }
     {
         if !self.kept.log {
@@ -137,7 +167,7 @@ impl<'a, W: Write> Lines<'a, W> {
         }
     }
 
-    /// Keeps what a step put, and its fault. Or keeps the error.
+    /// Keeps the frame that a step put, and its fault. If this fails, keeps the error.
     fn keep_step(&mut self, outcome: Outcome<()>, frame: &[u8], fault: Option<EngineFault>)
         requires { self.old.stopped ≡ None }
         ensures state { self.new ≡ record self.old { kept = self.new.kept; stopped = self.new.stopped } }

@@ -1,18 +1,20 @@
 -- What is played on an adapter has one course: one state after it, and one list of what is told.
-use Rattle.std.proofs.Common.{◌≡◌, ◌==◌, ◌+◌, ◌++◌, ◌∷◌, [], ℕ, List, length, not, sym, ap, subst, ◌∙◌}
+use Rattle.std.proofs.Common.{◌≡◌, ◌==◌, ◌+◌, ◌++◌, ◌∷◌, [], ℕ, List, length, not, refl, sym, ap, subst, ◌∙◌, Bool, true, false}
 use Rattle.std.specs.Prelude.{if◌then◌else◌, replicate}
 use Rattle.adapter.specs.declared.outcome.Outcome.{Outcome}
 use Rattle.adapter.specs.declared.step.StepKind.{StepKind}
 use Rattle.adapter_plants.specs.OneAnswer.{one_answer}
 use Rattle.adapter_plants.specs.OneFate.{one_fate}
 use Rattle.bus.specs.declared.event.Access.{Access}
-use Rattle.bus.specs.declared.event.Access.TheVariants.{Reads}
+use Rattle.bus.specs.declared.event.Access.TheVariants.{Loads, Reads, Stores}
 use Rattle.bus.specs.declared.event.Event.{Event}
+use Rattle.dma_memory.specs.HostMemory.{bytes_at}
 use Rattle.played_adapter.specs.Choices.{drawn, step_action}
 use Rattle.played_adapter.specs.Draws.{drawn_count}
 use Rattle.played_adapter.specs.Order.{InOrder, Joins, Tells, Times}
 use Rattle.played_adapter.specs.Outcomes.{did, moved_by}
-use Rattle.played_adapter.specs.Playing.{Accessed, AllArrive, Arrives, Chosen, Draws, DrawsChoice, FrameArrives, Happens, HappensAlone}
+use Rattle.played_adapter.specs.Playing.{Accessed, AllArrive, AnswersLoad, AnswersStore, Arrives, Chosen, Draws, DrawsChoice}
+use Rattle.played_adapter.specs.Playing.{FrameArrives, Happens, HappensAlone}
 use Rattle.played_adapter.specs.Playing.{Interleaves, Makes, NextArrives, OldestArrives, Plays, PlaysScheduled, Prepares, Steps, Ticks}
 use Rattle.played_adapter.specs.Playing.{both_ticks, counted, drawn_from, due_in, noted, without_next}
 use Rattle.played_adapter.specs.Told.{Told}
@@ -176,6 +178,37 @@ pub accessed_one : (access : Access) → IsOne (Accessed access)
 accessed_one access a b c told other p q =
     joins_one (Prepares a) (λ middle d rest. HappensAlone access middle d rest) (λ m n. prepares_one a m n)
     (λ m d e x y p q. (p.after ∙ sym q.after, p.told_is ∙ sym q.told_is)) b c told other p q
+
+-- Loads of the same bytes have one answer, fill equal buffers equally, and leave one state, and one list is told.
+pub loads_one : (address : ℕ) (old new another : List ℕ) (yes no : Bool) (a b c : PlayedAdapter) (told other : List Told)
+    → AnswersLoad address old new yes a b told → AnswersLoad address old another no a c other
+    → (yes ≡ no) × (new ≡ another) × (b ≡ c) × (told ≡ other)
+loads_one address old new another true true a b c told other p q =
+    let same = accessed_one (Loads address (length old)) a b c told other (p.accessed refl) (q.accessed refl) in (
+      refl,
+      p.loaded refl ∙ ap (λ (x : PlayedAdapter). bytes_at x.machine.world.memory address (length old)) same.0 ∙ sym (q.loaded refl),
+      same.0,
+      same.1,
+    )
+loads_one address old new another true false a b c told other p q = let is = p.range ∙ sym q.range in absurd (cc)
+loads_one address old new another false true a b c told other p q = let is = p.range ∙ sym q.range in absurd (cc)
+loads_one address old new another false false a b c told other p q =
+    let one = p.refused refl in
+    let two = q.refused refl in
+    (refl, one.0 ∙ sym two.0, one.1 ∙ sym two.1, one.2 ∙ sym two.2)
+
+-- Stores of the same bytes have one answer, and leave one state, and one list is told.
+pub stores_one : (address : ℕ) (bytes : List ℕ) (yes no : Bool) (a b c : PlayedAdapter) (told other : List Told)
+    → AnswersStore address bytes yes a b told → AnswersStore address bytes no a c other → (yes ≡ no) × (b ≡ c) × (told ≡ other)
+stores_one address bytes true true a b c told other p q =
+    let same = accessed_one (Stores address bytes) a b c told other (p.accessed refl) (q.accessed refl) in
+    (refl, same.0, same.1)
+stores_one address bytes true false a b c told other p q = let is = p.range ∙ sym q.range in absurd (cc)
+stores_one address bytes false true a b c told other p q = let is = p.range ∙ sym q.range in absurd (cc)
+stores_one address bytes false false a b c told other p q =
+    let one = p.refused refl in
+    let two = q.refused refl in
+    (refl, one.0 ∙ sym two.0, one.1 ∙ sym two.1)
 
 -- Both observers were told the same.
 pub one_told : {O S : Type 0} (heard : O → O → List Told → Type 0) (Happens : S → S → List Told → Type 0) → IsOne Happens → (a b c : S)

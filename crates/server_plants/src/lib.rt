@@ -1,7 +1,7 @@
 //! Calls with which an adapter is served, each made twice: their contracts determine the outcome.
 //!
 //! A function of this crate makes the call that it names twice, from equal states and with equal arguments, and its
-//! clauses say that both outcomes are equal. The prover knows nothing of the call but its clauses. So these exclude
+//! clauses state that both outcomes are equal. The prover knows only the clauses of the call. So these clauses exclude
 //! every body whose outcome differs in what the function compares. Most functions compare the outcomes of calls that
 //! succeed.
 #![tactic(auto)]

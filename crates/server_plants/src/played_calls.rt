@@ -102,6 +102,49 @@ pub fn write<O: Observer>(
     other.write(offset, value, another);
 }
 
+/// [`PlayedAdapter::load`] twice.
+pub fn load<O: Observer>(
+    one: &mut PlayedAdapter,
+    other: &mut PlayedAdapter,
+    address: u64,
+    into: &mut [u8],
+    other_into: &mut [u8],
+    observer: &mut O,
+    another: &mut O,
+) -> (bool, bool)
+    requires state { one.old ≡ other.old }
+    requires bytes { into.old ≡ other_into.old }
+    ensures answer { result.0 ≡ result.1 }
+    ensures bytes { into.new ≡ other_into.new }
+    ensures state { one.new ≡ other.new }
+    ensures told { (told : List Told) × O.heard observer.old observer.new told × O.heard another.old another.new told }
+{
+    (
+        one.load(address, into, observer),
+        other.load(address, other_into, another),
+    )
+}
+
+/// [`PlayedAdapter::store`] twice.
+pub fn store<O: Observer>(
+    one: &mut PlayedAdapter,
+    other: &mut PlayedAdapter,
+    address: u64,
+    bytes: &[u8],
+    observer: &mut O,
+    another: &mut O,
+) -> (bool, bool)
+    requires { one.old ≡ other.old }
+    ensures answer { result.0 ≡ result.1 }
+    ensures state { one.new ≡ other.new }
+    ensures told { (told : List Told) × O.heard observer.old observer.new told × O.heard another.old another.new told }
+{
+    (
+        one.store(address, bytes, observer),
+        other.store(address, bytes, another),
+    )
+}
+
 /// [`PlayedAdapter::take_put`] twice.
 pub fn take_put(
     one: &mut PlayedAdapter,

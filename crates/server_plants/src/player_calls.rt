@@ -1,4 +1,4 @@
-//! The calls of `Player`, each made twice. When there is too little memory is open.
+//! The calls of `Player`, each made twice. The contracts leave open when memory is refused.
 
 ghost use Rattle.std.specs.Prelude.{◌≡◌, IfOk, OnOk, string_bytes};
 ghost use Rattle.std.specs.Option.{option_map};

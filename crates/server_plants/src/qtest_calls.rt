@@ -6,7 +6,7 @@ use bus::Bus;
 use qtest_bus::QtestBus;
 use std::io::{BufRead, Write};
 
-/// [`Bus::write`] of `QtestBus` twice. When the other program fails is open.
+/// [`Bus::write`] of `QtestBus` twice. The contract leaves open when the other program fails.
 pub fn write<R: BufRead, W: Write>(
     one: &mut QtestBus<R, W>,
     other: &mut QtestBus<R, W>,

@@ -1,4 +1,4 @@
-//! The calls of `Schedule` and of `Deviation`, each made twice. When there is too little memory is open.
+//! The calls of `Schedule` and of `Deviation`, each made twice. The contracts leave open when memory is refused.
 
 ghost use Rattle.std.specs.Prelude.{◌≡◌, ◌≢◌, Err, IfErr, IfOk, string_bytes};
 ghost use Rattle.step_schedules.specs.Deviations.{deviation_read};

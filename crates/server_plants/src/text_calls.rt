@@ -1,16 +1,16 @@
-//! The calls that name targets, read requests and write answers, each made twice. When there is too little memory is
-//! open, and when a write fails.
+//! The calls that name targets, read requests and write answers, each made twice. The contracts leave open when memory
+//! is refused, and when a write fails.
 
-ghost use Rattle.std.specs.Prelude.{◌≡◌, IfOk, IfSome, OnOk, length, string_bytes};
+ghost use Rattle.std.specs.Prelude.{◌≡◌, IfOk, IfSome, OnOk, string_bytes};
+ghost use Rattle.server_output.specs.Answers.{IsSized};
 ghost use Rattle.server_requests.specs.Reading as reading;
-ghost use Rattle.server_requests.specs.Widths.{size_of};
 
 use access_names::Target;
 use adapter::StepKind;
 use bus::Machine;
 use engine_faults::EngineFault;
-use server_output::AnswerError;
-use server_requests::{Request, Stop, Wanted};
+use server_output::{Answer, AnswerError};
+use server_requests::{Request, Stop};
 use std::alloc::{AllocError, Global};
 use std::io::Write;
 
@@ -76,21 +76,20 @@ pub fn say<W: Write>(
     )
 }
 
-/// [`server_output::say_read`] twice.
-pub fn say_read<W: Write>(
+/// [`server_output::say_answer`] twice.
+pub fn say_answer<W: Write>(
     alloc: Global,
     one: &mut W,
     other: &mut W,
-    wanted: Wanted,
-    bytes: &[u8],
+    answer: Answer<'_>,
 ) -> (Result<(), AnswerError>, Result<(), AnswerError>)
-    requires size { length bytes.now ≡ size_of wanted }
+    requires size { IsSized answer }
     requires contents { W.contents one.old ≡ W.contents other.old }
     ensures { IfSome (W.contents one.old)
         (λ _. OnOk result.0 (OnOk result.1 (W.contents one.new ≡ W.contents other.new))) }
 {
     (
-        server_output::say_read(alloc, one, wanted, bytes),
-        server_output::say_read(alloc, other, wanted, bytes),
+        server_output::say_answer(alloc, one, answer),
+        server_output::say_answer(alloc, other, answer),
     )
 }

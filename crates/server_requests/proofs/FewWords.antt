@@ -13,7 +13,7 @@ use Rattle.server_requests.specs.declared.verb.Verb.TheVariants.{ReadNumber, Wri
 use Rattle.server_requests.specs.declared.verb.Verb.TheVariants.{Memset, ReadPort, WritePort}
 use Rattle.server_requests.specs.declared.verb.Verb.TheVariants.{Endianness, Intercept, ClockStep, ClockSet, Step, Arrive, Settle}
 use Rattle.server_requests.specs.declared.verb.Verb.TheVariants.{Line, Interleave, Log, Wire, Offer, Events, Frames, Faults, Pace}
-use Rattle.server_requests.specs.declared.verb.Verb.TheVariants.{Digest, Save, Restore}
+use Rattle.server_requests.specs.declared.verb.Verb.TheVariants.{Choose, Digest, Enabled, Rings, Target, Save, Restore}
 
 -- no request has more than four words
 too_many : (verb : Verb) (count : ℕ) → 4 < count → takes_words verb count ≡ false
@@ -43,6 +43,10 @@ too_many Events count more = grind (arith, nat_tests)
 too_many Frames count more = grind (arith, nat_tests)
 too_many Faults count more = grind (arith, nat_tests)
 too_many Pace count more = grind (arith, nat_tests)
+too_many Enabled count more = grind (arith, nat_tests)
+too_many Choose count more = grind (arith, nat_tests)
+too_many Target count more = grind (arith, nat_tests)
+too_many Rings count more = grind (arith, nat_tests)
 too_many Save count more = grind (arith, nat_tests)
 too_many Restore count more = grind (arith, nat_tests)
 

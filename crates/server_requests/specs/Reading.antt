@@ -12,6 +12,7 @@ use Rattle.pci_function.specs.declared.port_width.PortWidth.{PortWidth}
 use Rattle.server_requests.specs.declared.refusal.Refusal.{Refusal}
 use Rattle.server_requests.specs.declared.refusal.Refusal.TheVariants as refusals
 use Rattle.server_requests.specs.declared.refusal.Stop.{Stop}
+use Rattle.server_requests.specs.declared.request.Look.TheVariants as looks
 use Rattle.server_requests.specs.declared.request.Request.{Request}
 use Rattle.server_requests.specs.declared.request.Request.TheVariants as requests
 use Rattle.server_requests.specs.declared.request.Setting.TheVariants as settings
@@ -22,9 +23,9 @@ use Rattle.server_requests.specs.declared.verb.Verb.TheVariants.{ReadNumber, Wri
 use Rattle.server_requests.specs.declared.verb.Verb.TheVariants.{Memset, ReadPort, WritePort}
 use Rattle.server_requests.specs.declared.verb.Verb.TheVariants.{Endianness, Intercept, ClockStep, ClockSet, Step, Arrive, Settle}
 use Rattle.server_requests.specs.declared.verb.Verb.TheVariants.{Line, Interleave, Log, Wire, Offer, Events, Frames, Faults, Pace}
-use Rattle.server_requests.specs.declared.verb.Verb.TheVariants.{Digest, Save, Restore}
+use Rattle.server_requests.specs.declared.verb.Verb.TheVariants.{Choose, Digest, Enabled, Rings, Target, Save, Restore}
 
--- the maximum number of steps before an access, or of rounds after it, that a request may set
+-- the maximum number of steps before an access, or of cycles after it, that a request may set
 abbrev pub most_count : ℕ
 most_count = 65535
 
@@ -56,14 +57,16 @@ memset_in words = do
   value ← number_below 0xFF (word 3 words)
   Ok (requests.Write address (replicate size value))
 
--- Whether a word is the first of two words. Another word is refused.
+-- whether a word is the first of two words; a word that is neither is refused
 abbrev pub is_first : (first second word : Text) → Result Bool Refusal
 is_first first second word =
     if bytes_eq word first then Ok true else if bytes_eq word second then Ok false else Err refusals.Value
 
--- the request of `log on` or `log off`
+-- the request of `log on`, `log off` or `log targets`
 abbrev pub log_in : Text → Result Request Refusal
-log_in word = is_first (codes "on") (codes "off") word >>= λ on. Ok (requests.Set (settings.Log on))
+log_in word =
+    if bytes_eq word (codes "targets") then Ok (requests.Set (settings.Log true true))
+    else is_first (codes "on") (codes "off") word >>= λ on. Ok (requests.Set (settings.Log on false))
 
 -- the request of `wire free` or `wire full`
 abbrev pub wire_in : Text → Result Request Refusal
@@ -115,7 +118,7 @@ most_port = 0xFFFF
 
 -- a read of a port of this width
 abbrev pub read_port_in : PortWidth → Text → Result Request Refusal
-read_port_in width word = number_below most_port word >>= λ port. Ok (requests.ReadPort width port)
+read_port_in width word = number_below most_port word >>= λ port. Ok (requests.Look (looks.Port width port))
 
 -- a write of a port of this width
 abbrev pub write_port_in : PortWidth → List Text → Result Request Refusal
@@ -140,7 +143,7 @@ interleave_in word = number_below most_count word >>= λ count. Ok (requests.Set
 abbrev pub pace_in : Text → Result Request Refusal
 pace_in word = number_below most_count word >>= λ count. Ok (requests.Set (settings.Pace count))
 
--- the request of `clock_step NS`, or of `clock_step` alone, which advances the clock by 0
+-- the request of `clock_step NS`, or of `clock_step` without a number, which advances the clock by 0
 abbrev pub clock_step_in : List Text → Result Request Refusal
 clock_step_in words =
     if length words == 1 then Ok (requests.ClockStep 0)
@@ -149,6 +152,25 @@ clock_step_in words =
 -- the request of `clock_set TIME`
 abbrev pub clock_set_in : Text → Result Request Refusal
 clock_set_in word = number_below greatest_number word >>= λ time. Ok (requests.ClockSet time)
+
+-- the maximum limit of `choose`
+abbrev pub most_limit : ℕ
+most_limit = 1000000000
+
+-- the request for a number below a limit, which isn't 0
+abbrev pub choose_below : ℕ → Result Request Refusal
+choose_below limit = if limit == 0 then Err refusals.Value else Ok (requests.Choose limit)
+
+-- the request of `choose LIMIT`
+abbrev pub choose_in : Text → Result Request Refusal
+choose_in word = number_below most_limit word >>= choose_below
+
+-- the request of `target ADDR SIZE`
+abbrev pub target_in : List Text → Result Request Refusal
+target_in words = do
+  address ← number_below greatest_number (word 1 words)
+  size ← size_in (word 2 words)
+  Ok (requests.Look (looks.Target address size))
 
 -- the request of a line with the right number of words
 abbrev pub request_with : Verb → List Text → Result Request Refusal
@@ -161,23 +183,27 @@ request_with WriteBase64 words = write_base64_in words
 request_with Memset words = memset_in words
 request_with (ReadPort width) words = read_port_in width (word 1 words)
 request_with (WritePort width) words = write_port_in width words
-request_with Endianness words = Ok requests.Endianness
-request_with Intercept words = Ok requests.Intercept
+request_with Endianness words = Ok (requests.Look looks.Endianness)
+request_with Intercept words = Ok (requests.Look looks.Intercept)
 request_with ClockStep words = clock_step_in words
 request_with ClockSet words = clock_set_in (word 1 words)
 request_with Step words = step_in (word 1 words)
 request_with Arrive words = arrive_in (word 1 words)
 request_with Settle words = Ok requests.Settle
-request_with Line words = Ok requests.Line
-request_with Digest words = Ok requests.Digest
+request_with Line words = Ok (requests.Look looks.Line)
+request_with Digest words = Ok (requests.Look looks.Digest)
 request_with Interleave words = interleave_in (word 1 words)
 request_with Log words = log_in (word 1 words)
 request_with Wire words = wire_in (word 1 words)
 request_with Offer words = offer_in (word 1 words)
 request_with Events words = events_in (word 1 words)
-request_with Frames words = Ok requests.Frames
-request_with Faults words = Ok requests.Faults
+request_with Frames words = Ok (requests.Look looks.Frames)
+request_with Faults words = Ok (requests.Look looks.Faults)
 request_with Pace words = pace_in (word 1 words)
+request_with Enabled words = Ok (requests.Look looks.Enabled)
+request_with Choose words = choose_in (word 1 words)
+request_with Target words = target_in words
+request_with Rings words = Ok (requests.Look looks.Rings)
 request_with Save words = Ok requests.Save
 request_with Restore words = Ok requests.Restore
 
@@ -191,7 +217,7 @@ abbrev pub request_in : List Text → Result Request Refusal
 request_in [] = Err refusals.Unknown
 request_in (first ∷ rest) = request_if (verb_named first) (first ∷ rest)
 
--- The result is the request of the line's words if the line is UTF-8, and else a refusal.
+-- The result is the request of the line's words if the line is UTF-8; otherwise it is the refusal `text`. Or memory was refused.
 pub record IsRead (line : Text) (result : Result Request Stop) : Type 0 where
   pub text : IsUtf8 line → Gives result (request_in (words_of line))
   pub other : (¬ (IsUtf8 line)) → Gives {A = Request} result (Err refusals.Text)

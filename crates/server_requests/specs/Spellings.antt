@@ -1,4 +1,4 @@
--- Which words spell a number and bytes, and which ones (QEMU, docs/devel/testing/qtest; only decimal digits and 0x: our choice).
+-- The numbers and the bytes that words spell (QEMU, docs/devel/testing/qtest; only decimal digits and 0x: our choice).
 use Rattle.std.specs.Prelude.{⊤, ◌≡◌, ℕ, List, Option, Some, None, if◌then◌else◌, Ok, Err, Result, nat_le, nat_lt}
 use Rattle.text.specs.Numbers.{begins_0x, behind_0x, has_x, number_spelled}
 use Rattle.hex.specs.Hex as hex
@@ -19,13 +19,13 @@ abbrev pub Gives : {A : Type 0} → Result A Stop → Result A Refusal → Type 
 Gives (Ok value) read = read ≡ Ok value
 Gives (Err stop) read = Fails stop read
 
--- the second result, if the first is Ok
+-- the result of `next` for the value of the first result, or the refusal of the first
 infixl 10 ◌>>=◌
 abbrev pub ◌>>=◌ : {A B : Type 0} → Result A Refusal → (A → Result B Refusal) → Result B Refusal
 (Ok value) >>= next = next value
 (Err refusal) >>= next = Err refusal
 
--- a number, if it is at most this large
+-- the number, if there is one and it isn't greater than `most`
 abbrev pub at_most : ℕ → Option ℕ → Result ℕ Refusal
 at_most most (Some number) = if nat_le number most then Ok number else Err refusals.Value
 at_most most None = Err refusals.Value
@@ -34,7 +34,7 @@ at_most most None = Err refusals.Value
 abbrev pub number_below : (most : ℕ) → Text → Result ℕ Refusal
 number_below most word = at_most most (number_spelled word)
 
--- numbers have 64 bits
+-- the greatest number, of 64 bits
 abbrev pub greatest_number : ℕ
 greatest_number = 0xFFFFFFFFFFFFFFFF
 
@@ -42,15 +42,15 @@ greatest_number = 0xFFFFFFFFFFFFFFFF
 abbrev pub most_bytes : ℕ
 most_bytes = 65536
 
--- a size, if it isn't too large
+-- the size, if it isn't too large
 abbrev pub size_of_number : ℕ → Result ℕ Refusal
 size_of_number size = if nat_lt most_bytes size then Err refusals.Size else Ok size
 
--- a number of bytes
+-- the size that a word spells
 abbrev pub size_in : Text → Result ℕ Refusal
 size_in word = number_below greatest_number word >>= size_of_number
 
--- the bytes; a word that spells none is refused
+-- the decoded bytes; an error of the decoder is a refusal
 abbrev pub bytes_or_refusal : {E : Type 0} → Result (List ℕ) E → Result (List ℕ) Refusal
 bytes_or_refusal (Ok bytes) = Ok bytes
 bytes_or_refusal (Err fault) = Err refusals.Value
@@ -63,6 +63,6 @@ bytes_in word = bytes_or_refusal (hex.decode_of word)
 abbrev pub base64_in : Text → Result (List ℕ) Refusal
 base64_in word = bytes_or_refusal (decode_of standard word)
 
--- the bytes of the digits after 0x
+-- the bytes that the digits after 0x spell
 abbrev pub payload_in : Text → Result (List ℕ) Refusal
 payload_in word = if has_x word then (if begins_0x word then bytes_in (behind_0x word) else Err refusals.Value) else Err refusals.Value

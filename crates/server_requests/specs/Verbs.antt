@@ -1,4 +1,4 @@
--- What a line asks for, by its first word (QEMU, docs/devel/testing/qtest, up to clock_set; from step on our choice).
+-- The request of a line, by its first word (QEMU, docs/devel/testing/qtest, up to clock_set; from step on our choice).
 use Rattle.std.specs.Prelude.{◌==◌, ◌||◌, ℕ, Bool, List, [], ◌∷◌, Option, codes}
 use Rattle.adapter.specs.declared.step.StepKind.{StepKind}
 use Rattle.adapter.specs.declared.step.StepKind.TheVariants as kinds
@@ -11,18 +11,18 @@ use Rattle.server_requests.specs.declared.verb.Verb.TheVariants.{ReadNumber, Wri
 use Rattle.server_requests.specs.declared.verb.Verb.TheVariants.{Memset, ReadPort, WritePort}
 use Rattle.server_requests.specs.declared.verb.Verb.TheVariants.{Endianness, Intercept, ClockStep, ClockSet, Step, Arrive, Settle}
 use Rattle.server_requests.specs.declared.verb.Verb.TheVariants.{Line, Interleave, Log, Wire, Offer, Events, Frames, Faults, Pace}
-use Rattle.server_requests.specs.declared.verb.Verb.TheVariants.{Digest, Save, Restore}
+use Rattle.server_requests.specs.declared.verb.Verb.TheVariants.{Choose, Digest, Enabled, Rings, Target, Save, Restore}
 
--- the first words of requests, and what these ask for
+-- the first words of requests, and the kinds of these requests
 abbrev pub verbs : List (Text × Verb)
 verbs =
-    (codes "readb", ReadNumber width.Byte)
+    (codes "readl", ReadNumber width.Long)
+    ∷ (codes "writel", WriteNumber width.Long)
+    ∷ (codes "readb", ReadNumber width.Byte)
     ∷ (codes "readw", ReadNumber width.Word)
-    ∷ (codes "readl", ReadNumber width.Long)
     ∷ (codes "readq", ReadNumber width.Quad)
     ∷ (codes "writeb", WriteNumber width.Byte)
     ∷ (codes "writew", WriteNumber width.Word)
-    ∷ (codes "writel", WriteNumber width.Long)
     ∷ (codes "writeq", WriteNumber width.Quad)
     ∷ (codes "read", Read)
     ∷ (codes "write", Write)
@@ -55,13 +55,17 @@ verbs =
     ∷ (codes "pace", Pace)
     ∷ (codes "save", Save)
     ∷ (codes "restore", Restore)
+    ∷ (codes "enabled", Enabled)
+    ∷ (codes "choose", Choose)
+    ∷ (codes "target", Target)
+    ∷ (codes "rings", Rings)
     ∷ []
 
--- what a line with this first word asks for
+-- the kind of a request with this first word
 unfoldable pub verb_named : Text → Option Verb
 verb_named word = value_in verbs word
 
--- whether a line with this first word has this number of words
+-- whether a line with this first word may have this number of words
 abbrev pub takes_words : Verb → (count : ℕ) → Bool
 takes_words (ReadNumber width) count = count == 2
 takes_words (WriteNumber width) count = count == 3
@@ -89,6 +93,10 @@ takes_words Events count = count == 2
 takes_words Frames count = count == 1
 takes_words Faults count = count == 1
 takes_words Pace count = count == 2
+takes_words Enabled count = count == 1
+takes_words Choose count = count == 2
+takes_words Target count = count == 3
+takes_words Rings count = count == 1
 takes_words Save count = count == 1
 takes_words Restore count = count == 1
 

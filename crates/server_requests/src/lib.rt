@@ -16,4 +16,4 @@ mod words;
 pub use line_reader::{MOST_LINE_BYTES, NextLine, ReadFailed, next_line};
 pub use reading::read_line;
 pub use refusal::{Refusal, Stop};
-pub use request::{Payload, Request, Setting, Wanted, Width};
+pub use request::{Look, Payload, Request, Setting, Wanted, Width};

@@ -40,7 +40,7 @@ fn kept_as(is_long: bool) -> NextLine
     }
 }
 
-/// A part of a line: what a reader has in its buffer.
+/// A part of a line: the bytes in a reader's buffer.
 #[derive(Clone, Copy)]
 enum Part {
     /// The input is at its end.

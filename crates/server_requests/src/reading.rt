@@ -8,7 +8,7 @@ ghost use Rattle.server_requests.specs.Words.{texts};
 ghost use Rattle.server_requests.specs.declared.verb.Verb.TheVariants as verbs;
 
 use crate::refusal::{Refusal, Stop};
-use crate::request::{Payload, Request, Setting, Wanted, Width};
+use crate::request::{Look, Payload, Request, Setting, Wanted, Width};
 use crate::spelling::{base64_at, bytes_at, number_at, payload_at, size_at};
 use crate::verb::{Verb, kind_of, verb_of};
 use crate::width::greatest_at_port;
@@ -18,8 +18,11 @@ use std::alloc::Global;
 use std::str;
 use text::word_at;
 
-/// The maximum number of steps before an access, or of rounds after it, that a request may set (our choice).
+/// The maximum number of steps before an access, or of cycles after it, that a request may set (our choice).
 const MOST_COUNT: u64 = 65_535;
+
+/// The maximum limit of `choose` (our choice): the numbers of a schedule have at most nine digits.
+const MOST_LIMIT: u64 = 1_000_000_000;
 
 /// The maximum number of an I/O port.
 const MOST_PORT: u64 = 0xFFFF;
@@ -121,7 +124,7 @@ fn read_port_of(width: PortWidth, word: &str) -> Result<Request, Stop>
     ensures { Gives result (reading.read_port_in width word.now) }
 {
     let port = port_at(word)?;
-    Ok(Request::ReadPort(width, port))
+    Ok(Request::Look(Look::Port(width, port)))
 }
 
 /// `outb PORT VALUE`, `outw`, `outl`.
@@ -158,7 +161,7 @@ fn interleave_of(word: &str) -> Result<Request, Stop>
     Ok(Request::Set(Setting::Interleave(count as u16)))
 }
 
-/// Whether a word is the first of two words. Another word is refused.
+/// Whether a word is the first of two words. A word that is neither is refused.
 fn is_first(word: &str, first: &str, second: &str) -> Result<bool, Refusal>
     ensures { result ≡ reading.is_first first.now second.now word.now }
 {
@@ -171,12 +174,18 @@ fn is_first(word: &str, first: &str, second: &str) -> Result<bool, Refusal>
     Err(Refusal::Value)
 }
 
-/// `log on`, `log off`.
+/// `log on`, `log off`, `log targets`.
 fn log_of(word: &str) -> Result<Request, Stop>
     ensures { Gives result (reading.log_in word.now) }
 {
+    if word == "targets" {
+        return Ok(Request::Set(Setting::Log {
+            on: true,
+            targets: true,
+        }));
+    }
     let on = is_first(word, "on", "off")?;
-    Ok(Request::Set(Setting::Log(on)))
+    Ok(Request::Set(Setting::Log { on, targets: false }))
 }
 
 /// `wire free`, `wire full`.
@@ -233,6 +242,27 @@ fn step_of(word: &str) -> Result<Request, Stop>
     }
 }
 
+/// `choose LIMIT`.
+fn choose_of(word: &str) -> Result<Request, Stop>
+    ensures { Gives result (reading.choose_in word.now) }
+{
+    let limit = number_at(word, MOST_LIMIT)?;
+    if limit == 0 {
+        return Err(Stop::Refused(Refusal::Value));
+    }
+    Ok(Request::Choose(limit as u32))
+}
+
+/// `target ADDR SIZE`.
+fn target_of(words: &[&str]) -> Result<Request, Stop>
+    requires { length words.now ≡ 3 }
+    ensures { Gives result (reading.target_in (texts words.now)) }
+{
+    let address = number_at(word_at(words, 1), u64::MAX)?;
+    let size = size_at(word_at(words, 2))?;
+    Ok(Request::Look(Look::Target(address, size)))
+}
+
 /// The request of a line with the right number of words.
 fn request_with(alloc: Global, verb: Verb, words: &[&str]) -> Result<Request, Stop>
     requires { IsTrue (takes_words verb (length words.now)) }
@@ -248,29 +278,33 @@ fn request_with(alloc: Global, verb: Verb, words: &[&str]) -> Result<Request, St
         Verb::Memset => memset_of(alloc, words),
         Verb::ReadPort(width) => read_port_of(width, word_at(words, 1)),
         Verb::WritePort(width) => write_port_of(width, words),
-        Verb::Endianness => Ok(Request::Endianness),
-        Verb::Intercept => Ok(Request::Intercept),
+        Verb::Endianness => Ok(Request::Look(Look::Endianness)),
+        Verb::Intercept => Ok(Request::Look(Look::Intercept)),
         Verb::ClockStep => clock_step_of(words),
         Verb::ClockSet => clock_set_of(word_at(words, 1)),
         Verb::Step => step_of(word_at(words, 1)),
         Verb::Arrive => arrive_of(alloc, word_at(words, 1)),
         Verb::Settle => Ok(Request::Settle),
-        Verb::Line => Ok(Request::Line),
-        Verb::Digest => Ok(Request::Digest),
+        Verb::Line => Ok(Request::Look(Look::Line)),
+        Verb::Digest => Ok(Request::Look(Look::Digest)),
         Verb::Interleave => interleave_of(word_at(words, 1)),
         Verb::Log => log_of(word_at(words, 1)),
         Verb::Wire => wire_of(word_at(words, 1)),
         Verb::Offer => offer_of(alloc, word_at(words, 1)),
         Verb::Events => events_of(word_at(words, 1)),
-        Verb::Frames => Ok(Request::Frames),
-        Verb::Faults => Ok(Request::Faults),
+        Verb::Frames => Ok(Request::Look(Look::Frames)),
+        Verb::Faults => Ok(Request::Look(Look::Faults)),
         Verb::Pace => pace_of(word_at(words, 1)),
+        Verb::Enabled => Ok(Request::Look(Look::Enabled)),
+        Verb::Choose => choose_of(word_at(words, 1)),
+        Verb::Target => target_of(words),
+        Verb::Rings => Ok(Request::Look(Look::Rings)),
         Verb::Save => Ok(Request::Save),
         Verb::Restore => Ok(Request::Restore),
     }
 }
 
-/// What the words of a line ask for.
+/// The request of the words of a line.
 fn request_of(alloc: Global, words: &[&str]) -> Result<Request, Stop>
     ensures { Gives result (reading.request_in (texts words.now)) }
 {
@@ -286,7 +320,7 @@ fn request_of(alloc: Global, words: &[&str]) -> Result<Request, Stop>
     request_with(alloc, verb, words)
 }
 
-/// What a line asks for. A line that isn't a request is refused.
+/// The request of a line. A line that isn't a request is refused.
 ///
 /// # Errors
 ///
@@ -298,6 +332,5 @@ pub fn read_line(alloc: Global, line: &[u8]) -> Result<Request, Stop>
     let Ok(line) = str::from_utf8(line) else {
         return Err(Stop::Refused(Refusal::Text));
     };
-    let words = words_in(alloc, line)?;
-    request_of(alloc, words.as_slice())
+    request_of(alloc, words_in(line).as_slice())
 }

@@ -13,14 +13,15 @@ pub enum Refusal {
     Unknown,
     /// `ERR count`: it has too few or too many words.
     Count,
-    /// `ERR value`: a word doesn't have the form for its place.
+    /// `ERR value`: a word has an invalid form, is out of range, or has another number of bytes than SIZE; or the clock
+    /// would be 2^64 or more.
     Value,
-    /// `ERR size`: it asks for more than 65,536 bytes.
+    /// `ERR size`: it reads or writes more than 65,536 bytes.
     Size,
     /// `ERR address`: its bytes are neither in memory nor a register.
     Address,
-    /// `ERR register`: some of its bytes are those of registers, and it isn't an access of four bytes at an aligned
-    /// address.
+    /// `ERR register`: some of its bytes are those of registers and some aren't in memory, and it isn't an access of
+    /// four bytes at an aligned address.
     Register,
     /// `ERR saved`: it restores a state, and none was saved.
     Saved,

@@ -1,4 +1,4 @@
-// What words spell: numbers and bytes.
+// The numbers and bytes that words spell.
 
 ghost use Rattle.std.specs.Prelude.{◌≡◌};
 ghost use Rattle.server_requests.specs.Spellings.{Gives, base64_in, bytes_in, number_below, payload_in};

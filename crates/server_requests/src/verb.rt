@@ -1,4 +1,4 @@
-// What a line asks for, by its first word.
+// The kinds of requests, by their first words.
 
 ghost use Rattle.std.specs.Prelude.{◌≡◌};
 ghost use Rattle.server_requests.specs.Verbs.{kind_named, takes_words, verb_named};
@@ -8,7 +8,7 @@ use adapter::StepKind;
 use pci_function::PortWidth;
 use text::value_of;
 
-/// What a line asks for, by its first word.
+/// The kind of a request, by its first word.
 #[derive(Clone, Copy)]
 pub(crate) enum Verb {
     /// `readb`, `readw`, `readl`, `readq`.
@@ -63,6 +63,14 @@ pub(crate) enum Verb {
     ClockSet,
     /// `irq_intercept_in`, `irq_intercept_out`.
     Intercept,
+    /// `enabled`.
+    Enabled,
+    /// `choose`.
+    Choose,
+    /// `target`.
+    Target,
+    /// `rings`.
+    Rings,
     /// `save`.
     Save,
     /// `restore`.
@@ -70,33 +78,35 @@ pub(crate) enum Verb {
 }
 
 impl Verb {
-    /// Whether its line has this number of words.
+    /// Whether a line with this first word may have this number of words.
     pub(crate) fn takes_words(self, count: usize) -> bool
         ensures { result ≡ takes_words self count }
     {
         match self {
             Verb::Endianness | Verb::Settle | Verb::Line | Verb::Frames | Verb::Faults => count
                 == 1,
-            Verb::Save | Verb::Restore | Verb::Digest => count == 1,
+            Verb::Save | Verb::Restore | Verb::Digest | Verb::Enabled | Verb::Rings => count == 1,
             Verb::ClockStep => count == 1 || count == 2,
             Verb::ReadNumber(_) | Verb::Step | Verb::Arrive | Verb::Interleave => count == 2,
             Verb::Log | Verb::Wire | Verb::Offer | Verb::Events | Verb::Pace => count == 2,
             Verb::ClockSet | Verb::Intercept | Verb::ReadPort(_) => count == 2,
+            Verb::Choose => count == 2,
             Verb::WriteNumber(_) | Verb::WritePort(_) | Verb::Read | Verb::ReadBase64 => count == 3,
+            Verb::Target => count == 3,
             Verb::Write | Verb::WriteBase64 | Verb::Memset => count == 4,
         }
     }
 }
 
-/// The first words of requests, and what these ask for.
-const VERBS: [(&str, Verb); 39] = [
+/// The first words of requests, and the kinds of these requests. The most frequent words are first.
+const VERBS: [(&str, Verb); 43] = [
+    ("readl", Verb::ReadNumber(Width::Long)),
+    ("writel", Verb::WriteNumber(Width::Long)),
     ("readb", Verb::ReadNumber(Width::Byte)),
     ("readw", Verb::ReadNumber(Width::Word)),
-    ("readl", Verb::ReadNumber(Width::Long)),
     ("readq", Verb::ReadNumber(Width::Quad)),
     ("writeb", Verb::WriteNumber(Width::Byte)),
     ("writew", Verb::WriteNumber(Width::Word)),
-    ("writel", Verb::WriteNumber(Width::Long)),
     ("writeq", Verb::WriteNumber(Width::Quad)),
     ("read", Verb::Read),
     ("write", Verb::Write),
@@ -129,9 +139,13 @@ const VERBS: [(&str, Verb); 39] = [
     ("pace", Verb::Pace),
     ("save", Verb::Save),
     ("restore", Verb::Restore),
+    ("enabled", Verb::Enabled),
+    ("choose", Verb::Choose),
+    ("target", Verb::Target),
+    ("rings", Verb::Rings),
 ];
 
-/// What a line with this first word asks for.
+/// The kind of the request of a line with this first word.
 #[tactic(auto, unfolding(crate::specs::Verbs::verb_named))]
 pub(crate) fn verb_of(word: &str) -> Option<Verb>
     ensures { result ≡ verb_named word.now }

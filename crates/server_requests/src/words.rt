@@ -1,26 +1,65 @@
 // The words of a line.
 
-ghost use Rattle.std.specs.Prelude.{◌≡◌, IfOk, take};
+ghost use Rattle.std.specs.Prelude.{◌≡◌, ◌++◌, ◌∷◌, ◌<◌, [], IfSome, filter, length, position, take};
+ghost use Rattle.text.specs.Words.{is_word};
+ghost use Rattle.std.specs.List.{slice_split};
 ghost use Rattle.server_requests.specs.Reading.{request_in};
-ghost use Rattle.server_requests.specs.Words.{texts, words_of};
+ghost use Rattle.server_requests.specs.Words.{is_blank, parts_after, texts, words_of};
 
 use arrayvec::ArrayVec;
-use std::alloc::{AllocError, Global};
 
 /// The number of words that are read of a line. A request has at most four, so the fifth shows that there are too many.
 const READ_WORDS: usize = 5;
 
-/// The first five words of a line, or all if it has fewer. Spaces and tabs separate words.
-pub(crate) fn words_in<'a>(
-    alloc: Global,
-    line: &'a str,
-) -> Result<ArrayVec<&'a str, READ_WORDS>, AllocError>
-    ensures words { IfOk result (λ words. texts words.items ≡ take READ_WORDS (words_of line.entry.now)) }
-    ensures asked { IfOk result (λ words. request_in (texts words.items) ≡ request_in (words_of line.entry.now)) }
+/// Whether a byte is a space or a tab, which separate words.
+fn is_blank(byte: u8) -> bool
+    ensures { result ≡ is_blank byte }
 {
-    line.split(' ')
-        .flat_map(|part| part.split('\t'))
-        .filter(|word| !word.is_empty())
-        .take(READ_WORDS)
-        .collect(alloc)
+    byte == b' ' || byte == b'\t'
+}
+
+/// The place of the first space or tab, if there is one.
+fn first_blank(line: &[u8]) -> Option<usize>
+    ensures { result ≡ position is_blank line.now }
+{
+    line.iter().position(|byte| is_blank(*byte))
+}
+
+/// The text before the first space or tab, and the text after it, if there is one.
+fn cut(line: &str) -> (&str, Option<&str>)
+    ensures parts { slice_split is_blank line.entry.now ≡ result.0.now ∷ parts_after result.1 }
+    ensures shorter { IfSome result.1 (λ later. length later.now < length line.entry.now) }
+{
+    match first_blank(line.as_bytes()) {
+        Some(end) => (&line[..end], Some(&line[end + 1..])),
+        None => (line, None),
+    }
+}
+
+/// Appends a part of a line, unless the part is empty.
+fn push_part<'a>(words: &mut ArrayVec<&'a str, READ_WORDS>, part: &'a str)
+    requires { length words.old.items < READ_WORDS }
+    ensures { texts words.new.items ≡ texts words.old.items ++ filter is_word (part.now ∷ []) }
+{
+    if !part.is_empty() {
+        words.push(part);
+    }
+}
+
+/// The first five words of a line, or all if it has fewer. Spaces and tabs separate words.
+pub(crate) fn words_in(line: &str) -> ArrayVec<&str, READ_WORDS>
+    ensures words { texts result.items ≡ take READ_WORDS (words_of line.entry.now) }
+    ensures asked { request_in (texts result.items) ≡ request_in (words_of line.entry.now) }
+{
+    let mut words = ArrayVec::new();
+    let mut rest = line;
+    while !words.is_full() {
+        let (part, later) = cut(rest);
+        push_part(&mut words, part);
+        match later {
+            Some(later) => rest = later,
+            None => return words,
+        }
+    }
+    words
 }

@@ -1,22 +1,23 @@
 -- The deviation of a line (our choice; the format is that of `tools/race_finder/README.md`, "A schedule").
 use Rattle.std.specs.Prelude.{◌==◌, ◌-◌, ◌&&◌, ◌||◌, ℕ, Bool, List, [], ◌∷◌, Option, Some, None, Result, Ok, Err}
-use Rattle.std.specs.Prelude.{if◌then◌else◌, codes, drop, is_some, length, nat_lt, string_bytes}
+use Rattle.std.specs.Prelude.{false, if◌then◌else◌, codes, drop, is_some, length, nat_lt, not, string_bytes, true}
 use Rattle.std.specs.List.{after_first, before_first, position_or_len}
+use Rattle.std.specs.Option.{option_map}
 use Rattle.std.specs.Str.{bytes_eq}
 use Rattle.step_schedules.specs.Results.{◌>>=◌}
 use Rattle.step_schedules.specs.Spellings.{digits_in, place_in}
 use Rattle.step_schedules.specs.Words.{Text, action_words, event_words, word}
 use Rattle.text.specs.Tables.{value_in}
 use Rattle.step_schedules.specs.declared.deviation.Before.{Before}
-use Rattle.step_schedules.specs.declared.deviation.Before.TheVariants.{Read, Request, Write}
+use Rattle.step_schedules.specs.declared.deviation.Before.TheVariants.{Choice, Read, Request, Write}
 use Rattle.step_schedules.specs.declared.deviation.Action.{Action}
 use Rattle.step_schedules.specs.declared.deviation.Action.TheVariants.{TxTake, TxPut, RxData, RxDone, Tx, Rx, Arrive}
-use Rattle.step_schedules.specs.declared.deviation.Action.TheVariants.{HoldEeprom, HoldPhy, EepromTick, PhyTick}
+use Rattle.step_schedules.specs.declared.deviation.Action.TheVariants.{HoldEeprom, HoldPhy, EepromTick, PhyTick, Choose}
 use Rattle.step_schedules.specs.declared.deviation.Deviation.{Deviation}
 use Rattle.step_schedules.specs.declared.deviation.Place.{Place}
 use Rattle.step_schedules.specs.declared.deviation.Site.{Site}
 use Rattle.step_schedules.specs.declared.deviation.Site.TheVariants as site
-use Rattle.step_schedules.specs.declared.deviation_words.Event.{Event}
+use Rattle.step_schedules.specs.declared.deviation_words.Nameless.{Nameless}
 use Rattle.step_schedules.specs.declared.schedule_error.Fault.{Fault}
 use Rattle.step_schedules.specs.declared.schedule_error.Fault.TheVariants as faults
 
@@ -42,14 +43,25 @@ hold_named word = value_in ((codes "eeprom", HoldEeprom) ∷ (codes "phy", HoldP
 abbrev pub is_hold : Text → Bool
 is_hold word = bytes_eq word (codes "hold")
 
+abbrev pub is_choose : Text → Bool
+is_choose word = bytes_eq word (codes "choose")
+
+-- the choice of the number that a word spells
+abbrev pub choice_in : Text → Option Action
+choice_in word = option_map Choose (digits_in word)
+
+abbrev pub action_of_two : (first second : Text) → Option Action
+action_of_two first second =
+    if is_hold first then hold_named second else if is_choose first then choice_in second else None
+
 abbrev pub action_in : List Text → Option Action
 action_in words =
     if length words == 1 then action_named (word 0 words)
-    else if length words == 2 && is_hold (word 0 words) then hold_named (word 1 words)
+    else if length words == 2 then action_of_two (word 0 words) (word 1 words)
     else None
 
 abbrev pub begins_action : Text → Bool
-begins_action word = is_some (action_named word) || is_hold word
+begins_action word = is_some (action_named word) || is_hold word || is_choose word
 
 -- The place at the beginning of a line.
 
@@ -68,23 +80,15 @@ words_after (Some place) words = drop 1 words
 
 -- The access or the request at the end of a line.
 
--- an access or a request, without the place of its name in memory
-pub record EventRead : Type 0 where
-  pub before : Before
-  pub name : Text
-  pub number : Option ℕ
-
-abbrev pub event_read : Event → EventRead
-event_read event = record { before = event.before; name = string_bytes event.name; number = event.number }
-
 unfoldable pub kind_named : Text → Option Before
 kind_named word = value_in ((codes "read", Read) ∷ (codes "write", Write) ∷ []) word
 
--- the requests that begin a round
+-- the requests: those that begin a round, and `choose`
 unfoldable pub request_named : Text → Option Before
 request_named word =
     value_in (
-    (codes "arrive", Request) ∷ (codes "offer", Request) ∷ (codes "step", Request) ∷ (codes "settle", Request) ∷ []
+    (codes "arrive", Request) ∷ (codes "offer", Request) ∷ (codes "step", Request) ∷ (codes "settle", Request)
+    ∷ (codes "choose", Choice) ∷ []
     ) word
 
 abbrev pub is_hash : ℕ → Bool
@@ -101,37 +105,39 @@ abbrev pub some_number : Option ℕ → Result (Option ℕ) Fault
 some_number (Some number) = Ok (Some number)
 some_number None = Err faults.Access
 
--- the number after its first #
+-- the number after a word's first #
 abbrev pub number_after : Text → Result (Option ℕ) Fault
 number_after word = if has_hash word then some_number (digits_in (after_first is_hash word)) else Ok None
 
--- what words name: one word a request, two words an access
+-- the kind of what words name: one word names a request, two words an access
 abbrev pub before_in : List Text → Option Before
 before_in words =
     if length words == 1 then request_named (name_in (word 0 words))
     else if length words == 2 then kind_named (word 0 words)
     else None
 
--- an access or a request whose name isn't empty
-abbrev pub named_event : Before → Text → Option ℕ → Result EventRead Fault
-named_event before name number =
-    if length name == 0 then Err faults.Access else Ok (record { before = before; name = name; number = number })
+abbrev pub before_or_fault : Option Before → Result Before Fault
+before_or_fault (Some before) = Ok before
+before_or_fault None = Err faults.Access
 
-abbrev pub event_with : Option Before → Text → Result EventRead Fault
-event_with (Some before) word = number_after word >>= λ number. named_event before (name_in word) number
-event_with None word = Err faults.Access
+-- the last word of an access or a request: a name, which may have a number
+abbrev pub last_word : List Text → Text
+last_word words = word (length words - 1) words
 
--- the last word is a name, which may have a number
-abbrev pub event_in : List Text → Result EventRead Fault
-event_in words = event_with (before_in words) (word (length words - 1) words)
+-- the number in a word whose name isn't empty
+abbrev pub named_number : Text → Result (Option ℕ) Fault
+named_number word = do
+  number ← number_after word
+  if length (name_in word) == 0 then Err faults.Access else Ok number
 
 -- Deviations.
 
--- ROUND.0 is the place of a request, and every other place is that of an access
+-- ROUND.0 is the place of a request that begins a round, and every other place is that of an access or of a request `choose`
 abbrev pub is_place_of : Before → Place → Bool
 is_place_of Request place = place.access == 0
 is_place_of Read place = nat_lt 0 place.access
 is_place_of Write place = nat_lt 0 place.access
+is_place_of Choice place = nat_lt 0 place.access
 
 abbrev pub place_before : Place → Before → Result Site Fault
 place_before place before = if is_place_of before place then Ok (site.Place place) else Err faults.RequestPlace
@@ -143,15 +149,33 @@ site_in (Some place) (Some number) before = Err faults.PlaceAndNumber
 site_in None None before = Err faults.NoNumber
 site_in None (Some number) before = if nat_lt 0 number then Ok (site.Number number) else Err faults.NoNumber
 
--- a deviation, without the place of its name in memory
+-- whether an action chooses a number
+abbrev pub is_choice : Action → Bool
+is_choice (Choose number) = true
+is_choice _ = false
+
+-- whether an action may be for an access or a request of this kind
+abbrev pub takes : Before → Action → Bool
+takes Choice action = is_choice action
+takes Request action = not (is_choice action)
+takes Read action = not (is_choice action)
+takes Write action = not (is_choice action)
+
+-- which access or request a deviation is for, by the place of its line and its last word
+abbrev pub site_at : Option Place → Action → Before → Text → Result Site Fault
+site_at place action before word = do
+  number ← named_number word
+  if takes before action then site_in place number before else Err faults.Choice
+
+-- a deviation, with the bytes of its name
 pub record DeviationRead : Type 0 where
-  -- its place
+  -- which access or request it is for
   pub site : Site
-  -- what it plays
+  -- what happens
   pub action : Action
-  -- before a read, a write or a request
+  -- whether it is for a read, a write or a request
   pub before : Before
-  -- the name of this event
+  -- the name of what is accessed, or the word of the request
   pub name : Text
 
 abbrev pub deviation_read : Deviation → DeviationRead
@@ -166,13 +190,25 @@ abbrev pub action_or_fault : Option Action → Result Action Fault
 action_or_fault (Some action) = Ok action
 action_or_fault None = Err faults.Action
 
+-- the deviation of a line without its name, by its place, the words after `before`, and its action
+abbrev pub nameless_at : Option Place → (event : List Text) → Action → Result Nameless Fault
+nameless_at place event action = do
+  before ← before_or_fault (before_in event)
+  site ← site_at place action before (last_word event)
+  Ok (record { site = site; action = action; before = before })
+
+-- the deviation of a line without its name, by its place and the words before and after `before`
+abbrev pub nameless_in : Option Place → (action event : List Text) → Result Nameless Fault
+nameless_in place action event = action_or_fault (action_in action) >>= nameless_at place event
+
+-- a deviation with the bytes of its name
+abbrev pub with_name : Text → Nameless → Result DeviationRead Fault
+with_name name read = Ok (record { site = read.site; action = read.action; before = read.before; name = name })
+
 -- the deviation of a line, by its words after the place
 abbrev pub deviation_after : Option Place → List Text → Result DeviationRead Fault
-deviation_after place words = do
-  action ← action_or_fault (action_in (action_words words))
-  event ← event_in (event_words words)
-  site ← site_in place event.number event.before
-  Ok (record { site = site; action = action; before = event.before; name = event.name })
+deviation_after place words =
+    nameless_in place (action_words words) (event_words words) >>= with_name (name_in (last_word (event_words words)))
 
 -- the deviation of a line that isn't empty, by its words
 abbrev pub deviation_in : List Text → Result DeviationRead Fault

@@ -1,5 +1,5 @@
 -- Players of schedules.
-use Rattle.std.specs.Prelude.{◌++◌, ◌∷◌, [], Bool, true, false, List, Option, map}
+use Rattle.std.specs.Prelude.{◌++◌, ◌∷◌, [], ℕ, Bool, true, false, List, Option, map}
 use Rattle.step_schedules.specs.Events.{EventRead, next_place, no_event}
 use Rattle.step_schedules.specs.Waiting.{WaitingRead, counted, due_before, unmet_in, waits}
 use Rattle.step_schedules.specs.Deviations.{DeviationRead}
@@ -8,8 +8,9 @@ use Rattle.step_schedules.specs.Words.{Text}
 use Rattle.step_schedules.specs.declared.deviation.Action.{Action}
 use Rattle.step_schedules.specs.declared.deviation.Before.{Before}
 use Rattle.step_schedules.specs.declared.deviation.Site.TheVariants as site
+use Rattle.step_schedules.specs.declared.deviation.Action.TheVariants.{Choose}
 
--- what a player of schedules knows
+-- the state of a player
 pub record PlayerState : Type 0 where
   -- whether a schedule is played
   pub is_playing : Bool
@@ -17,39 +18,44 @@ pub record PlayerState : Type 0 where
   pub event : EventRead
   -- the deviations of the schedule
   pub waiting : List WaitingRead
-  -- what was played, the oldest first
+  -- the actions that were played, the oldest first
   pub played : List DeviationRead
 
--- without a schedule, before the run
+-- a player without a schedule, before the run
 abbrev pub recording : PlayerState
 recording = record { is_playing = false; event = no_event; waiting = []; played = [] }
 
--- with a schedule, before the run
+-- a player with this schedule, before the run
 abbrev pub playing : ScheduleRead → PlayerState
 playing schedule =
     record { is_playing = true; event = no_event; waiting = map waits schedule.deviations; played = [] }
 
--- the access or the request that comes now
+-- the access or the request that comes now, with its place
 abbrev pub coming : Before → Text → PlayerState → EventRead
 coming before name player = record { place = next_place before player.event.place; before = before; name = name }
 
--- the actions that are due before it, in the order of the schedule
+-- the actions that are due before the access or the request that comes now, in the order of the schedule
 abbrev pub due_actions : Before → Text → PlayerState → List Action
 due_actions before name player = due_before (coming before name player) player.waiting
 
--- after it came
+-- the number that the first of these actions chooses; 0 if it chooses none
+abbrev pub chosen : List Action → ℕ
+chosen (Choose number ∷ later) = number
+chosen actions = 0
+
+-- the player after this access or request came
 abbrev pub after_meeting : Before → Text → PlayerState → PlayerState
 after_meeting before name player = record player {
   event = coming before name player;
   waiting = map (counted (coming before name player)) player.waiting;
 }
 
--- an action before an access or a request
+-- the deviation that plays an action before an access or a request, at its place
 abbrev pub deviation_before : EventRead → Action → DeviationRead
 deviation_before event action =
     record { site = site.Place event.place; action = action; before = event.before; name = event.name }
 
--- after an action was played
+-- the player after an action was played before the access or the request that came last
 abbrev pub after_playing : Action → PlayerState → PlayerState
 after_playing action player =
     record player { played = player.played ++ deviation_before player.event action ∷ [] }
@@ -58,6 +64,6 @@ after_playing action player =
 abbrev pub unmet : PlayerState → List DeviationRead
 unmet player = unmet_in player.waiting
 
--- a schedule with these options that plays what was played
+-- a schedule with these options, and with the actions that were played
 abbrev pub recorded : Option (List Text) → PlayerState → ScheduleRead
 recorded options player = record { options = options; deviations = player.played }

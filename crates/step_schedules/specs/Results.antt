@@ -1,4 +1,4 @@
--- Results of reading.
+-- Results of functions that read a line.
 use Rattle.std.specs.Prelude.{⊤, ◌≡◌, ℕ, Result, Ok, Err}
 use Rattle.step_schedules.specs.declared.schedule_error.Fault.{Fault as LineFault}
 use Rattle.step_schedules.specs.declared.schedule_error.ScheduleError.{ScheduleError}
@@ -10,12 +10,12 @@ abbrev pub Fails : {A : Type 0} → Stop → Result A LineFault → Type 0
 Fails Memory read = ⊤
 Fails (Fault fault) read = read ≡ Err fault
 
--- A reading function returns this result, which is seen by `view`, or memory was refused.
+-- The first result has the view of the second one's value, or the same fault; or memory was refused.
 abbrev pub Gives : {A B : Type 0} → (A → B) → Result A Stop → Result B LineFault → Type 0
 Gives view (Ok value) read = read ≡ Ok (view value)
 Gives view (Err stop) read = Fails stop read
 
--- the second result, if the first is Ok
+-- the result of the next function, if the first result is Ok; else the first fault
 infixl 10 ◌>>=◌
 abbrev pub ◌>>=◌ : {A B : Type 0} → Result A LineFault → (A → Result B LineFault) → Result B LineFault
 (Ok value) >>= next = next value

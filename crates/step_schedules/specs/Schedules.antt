@@ -20,7 +20,7 @@ use Rattle.step_schedules.specs.declared.schedule_error.ScheduleError.{ScheduleE
 use Rattle.step_schedules.specs.declared.schedule_error.ScheduleError.TheVariants.{Line, Memory, Text as NoText}
 use Rattle.step_schedules.specs.declared.schedule_error.Stop.{Stop}
 
--- a schedule, without the places of its words in memory
+-- a schedule, with the bytes of its words
 pub record ScheduleRead : Type 0 where
   -- the words of the server's options, if the text has them
   pub options : Option (List Text)
@@ -71,12 +71,16 @@ after_deviation deviation before = do
     last = last;
   })
 
+-- what was read after the words of a line that describes a deviation, or the line's fault
+abbrev pub after_deviation_in : List Text → SoFar → Result SoFar Fault
+after_deviation_in words before = deviation_in words >>= λ deviation. after_deviation deviation before
+
 -- what was read after the words of a line, or the line's fault
 abbrev pub after_words : List Text → SoFar → Result SoFar Fault
 after_words [] before = Ok before
 after_words (first ∷ rest) before =
     if bytes_eq first (codes "options") then after_options (first ∷ rest) before
-    else deviation_in (first ∷ rest) >>= λ deviation. after_deviation deviation before
+    else after_deviation_in (first ∷ rest) before
 
 abbrev pub after_line : Text → SoFar → Result SoFar Fault
 after_line line before = after_words (words_of line) before
@@ -86,7 +90,7 @@ abbrev pub Becomes : Result (Unit {0}) Stop → Result SoFar Fault → SoFar →
 Becomes (Ok u) read after = read ≡ Ok after
 Becomes (Err stop) read after = Fails stop read
 
--- after a line: the reading goes on, or it ends with the number and the fault of this line
+-- the result of reading a line and the lines after it; if the line is faulty, its number and its fault
 abbrev pub then_rest : Result SoFar Fault → (number : ℕ) → (SoFar → Result SoFar (ℕ × Fault)) → Result SoFar (ℕ × Fault)
 then_rest (Ok after) number rest = rest after
 then_rest (Err fault) number rest = Err (number, fault)

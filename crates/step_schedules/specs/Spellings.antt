@@ -1,4 +1,4 @@
--- Which words spell a number and a place, and which one (our choice).
+-- The numbers and places that words spell (our choice).
 use Rattle.std.specs.Prelude.{◌&&◌, ◌==◌, ℕ, Bool, Option, Some, None, if◌then◌else◌, length, nat_lt}
 use Rattle.std.specs.List.{after_first, before_first, position_or_len}
 use Rattle.std.specs.Option.{option_and_then}
@@ -6,19 +6,19 @@ use Rattle.text.specs.Numbers.{number_in}
 use Rattle.step_schedules.specs.Words.{Text}
 use Rattle.step_schedules.specs.declared.deviation.Place.{Place}
 
--- at most nine decimal digits, and nothing else
+-- the number that a text of one to nine decimal digits spells, if the text has nothing else
 abbrev pub digits_in : Text → Option ℕ
 digits_in text = if nat_lt 9 (length text) then None else number_in 10 32 text
 
 abbrev pub is_dot : ℕ → Bool
 is_dot byte = byte == 0x2E
 
--- 0.0 is no place, since no request begins round 0
+-- the place with these numbers of a round and of an access; 0.0 is no place, since no request begins round 0
 abbrev pub place_with : ℕ → ℕ → Option Place
 place_with round access =
     if round == 0 && access == 0 then None else Some (record { round = round; access = access })
 
--- the numbers of a round and of an access, joined by a dot
+-- the place that a word spells: the numbers of a round and of an access, joined by a dot
 abbrev pub place_in : Text → Option Place
 place_in word =
     if nat_lt (position_or_len is_dot word) (length word) then

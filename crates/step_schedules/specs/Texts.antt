@@ -5,32 +5,39 @@ use Rattle.step_schedules.specs.Deviations.{DeviationRead}
 use Rattle.step_schedules.specs.Schedules.{ScheduleRead}
 use Rattle.step_schedules.specs.Words.{Text}
 use Rattle.step_schedules.specs.declared.deviation.Before.{Before}
-use Rattle.step_schedules.specs.declared.deviation.Before.TheVariants.{Read, Request, Write}
+use Rattle.step_schedules.specs.declared.deviation.Before.TheVariants.{Choice, Read, Request, Write}
 use Rattle.step_schedules.specs.declared.deviation.Action.{Action}
 use Rattle.step_schedules.specs.declared.deviation.Action.TheVariants.{TxTake, TxPut, RxData, RxDone, Tx, Rx, Arrive}
-use Rattle.step_schedules.specs.declared.deviation.Action.TheVariants.{HoldEeprom, HoldPhy, EepromTick, PhyTick}
+use Rattle.step_schedules.specs.declared.deviation.Action.TheVariants.{HoldEeprom, HoldPhy, EepromTick, PhyTick, Choose}
 use Rattle.step_schedules.specs.declared.deviation.Site.{Site}
 use Rattle.step_schedules.specs.declared.deviation.Site.TheVariants as site
 
+-- the words of an action, without the number of a choice
+abbrev pub action_words : Action → Text
+action_words TxTake = codes "txtake"
+action_words TxPut = codes "txput"
+action_words RxData = codes "rxdata"
+action_words RxDone = codes "rxdone"
+action_words Tx = codes "tx"
+action_words Rx = codes "rx"
+action_words Arrive = codes "arrive"
+action_words HoldEeprom = codes "hold eeprom"
+action_words HoldPhy = codes "hold phy"
+action_words EepromTick = codes "eeprom"
+action_words PhyTick = codes "phy"
+action_words (Choose number) = codes "choose"
+
 abbrev pub action_text : Action → Text
-action_text TxTake = codes "txtake"
-action_text TxPut = codes "txput"
-action_text RxData = codes "rxdata"
-action_text RxDone = codes "rxdone"
-action_text Tx = codes "tx"
-action_text Rx = codes "rx"
-action_text Arrive = codes "arrive"
-action_text HoldEeprom = codes "hold eeprom"
-action_text HoldPhy = codes "hold phy"
-action_text EepromTick = codes "eeprom"
-action_text PhyTick = codes "phy"
+action_text (Choose number) = codes "choose" ++ codes " " ++ decimal number
+action_text action = action_words action
 
 abbrev pub before_text : Before → Text
 before_text Read = codes "before read "
 before_text Write = codes "before write "
 before_text Request = codes "before "
+before_text Choice = codes "before "
 
--- what happens, and the access or the request without its number
+-- the text of a deviation without its place and number
 abbrev pub event_text : DeviationRead → Text
 event_text deviation =
     action_text deviation.action ++ codes " " ++ before_text deviation.before ++ deviation.name

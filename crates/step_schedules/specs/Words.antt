@@ -4,7 +4,7 @@ use Rattle.std.specs.List.{take_while}
 use Rattle.text.specs.Words.{words_of as words_in_line, words_after, words_before}
 pub use Rattle.text.specs.Words.{Text, texts, word}
 
--- a comment begins with a word that begins with # (0x23)
+-- whether a word doesn't begin with #, 0x23, which begins a comment
 abbrev pub is_said : Text → Bool
 is_said word = not (slice_index word 0 == 0x23)
 
@@ -12,9 +12,10 @@ is_said word = not (slice_index word 0 == 0x23)
 abbrev pub words_of : Text → List Text
 words_of line = take_while is_said (words_in_line line)
 
--- the words before the first word `before`, and those after it
+-- the words before the first word `before`
 abbrev pub action_words : List Text → List Text
 action_words words = words_before (codes "before") words
 
+-- the words after it
 abbrev pub event_words : List Text → List Text
 event_words words = words_after (codes "before") words

@@ -5,8 +5,8 @@ ghost use Rattle.step_schedules.specs.Deviations.{deviation_read, is_before};
 
 use std::alloc::AllocError;
 
-/// A place of a run: an access of a round, or the request that begins a round.
-#[derive(Clone, Copy, Debug, PartialEq, Eq)]
+/// A place of a run: an access of a round, or the request that begins a round. A request `choose` counts as an access.
+#[derive(Clone, Copy, PartialEq)]
 pub struct Place {
     /// The number of the round. Round 0 is before the first request that begins a round.
     pub round: u32,
@@ -24,7 +24,7 @@ impl Place {
 }
 
 /// Which access or request a deviation happens before.
-#[derive(Clone, Copy, Debug, PartialEq, Eq)]
+#[derive(Clone, Copy)]
 pub enum Site {
     /// The access or the request at this place.
     Place(Place),
@@ -32,8 +32,8 @@ pub enum Site {
     Number(u32),
 }
 
-/// What happens.
-#[derive(Clone, Copy, Debug, PartialEq, Eq)]
+/// The action of a deviation.
+#[derive(Clone, Copy, Debug, PartialEq)]
 pub enum Action {
     /// The transmit engine takes a frame.
     TxTake,
@@ -57,10 +57,12 @@ pub enum Action {
     EepromTick,
     /// The PHY takes one more step.
     PhyTick,
+    /// A request `choose` is answered with this number.
+    Choose(u32),
 }
 
-/// Whether a deviation happens before a read, a write or a request.
-#[derive(Clone, Copy, Debug, PartialEq, Eq)]
+/// Whether a deviation is for a read, a write or a request.
+#[derive(Clone, Copy, PartialEq)]
 pub enum Before {
     /// A read of a register or of memory.
     Read,
@@ -68,14 +70,16 @@ pub enum Before {
     Write,
     /// A request that begins a round. Its name is its word: `arrive`, `offer`, `step` or `settle`.
     Request,
+    /// A request `choose`, which begins no round. Its name is `choose`.
+    Choice,
 }
 
-/// What happens, and before which access or request.
-#[derive(Debug, Drop)]
+/// An action, and the access or request before which it happens. A number that is chosen answers this request.
+#[derive(Drop)]
 pub struct Deviation {
     /// Which access or request.
     pub site: Site,
-    /// What happens before it.
+    /// The action.
     pub action: Action,
     /// Whether the deviation is for a read, a write or a request.
     pub before: Before,

@@ -1,6 +1,6 @@
 // Reads a deviation from the words of a line.
 
-ghost use Rattle.std.specs.Prelude.{◌≡◌, ◌<◌, IfSome, length};
+ghost use Rattle.std.specs.Prelude.{◌≡◌, ◌<◌, length};
 ghost use Rattle.step_schedules.specs.Deviations as spec;
 ghost use Rattle.step_schedules.specs.Results.{Gives};
 ghost use Rattle.step_schedules.specs.Words.{texts};
@@ -30,21 +30,14 @@ const HOLDS: [(&str, Action); 2] = [("eeprom", Action::HoldEeprom), ("phy", Acti
 /// The kinds of accesses.
 const KINDS: [(&str, Before); 2] = [("read", Before::Read), ("write", Before::Write)];
 
-/// The requests that begin a round.
-const REQUESTS: [(&str, Before); 4] = [
+/// The requests: those that begin a round, and `choose`.
+const REQUESTS: [(&str, Before); 5] = [
     ("arrive", Before::Request),
     ("offer", Before::Request),
     ("step", Before::Request),
     ("settle", Before::Request),
+    ("choose", Before::Choice),
 ];
-
-/// An access or a request as a line names it.
-#[derive(Drop)]
-struct Event {
-    before: Before,
-    name: String,
-    number: Option<u32>,
-}
 
 #[tactic(auto, unfolding(crate::specs::Deviations::action_named))]
 fn action_named(word: &str) -> Option<Action>
@@ -74,6 +67,27 @@ fn request_named(word: &str) -> Option<Before>
     value_of(&REQUESTS, word)
 }
 
+/// The choice of the number that a word spells.
+fn choice_of(word: &str) -> Option<Action>
+    ensures { result ≡ spec.choice_in word.now }
+{
+    let number = number_of(word)?;
+    Some(Action::Choose(number))
+}
+
+/// The action that two words name.
+fn action_of_two(first: &str, second: &str) -> Option<Action>
+    ensures { result ≡ spec.action_of_two first.now second.now }
+{
+    if first == "hold" {
+        hold_named(second)
+    } else if first == "choose" {
+        choice_of(second)
+    } else {
+        None
+    }
+}
+
 /// The action that these words name.
 fn action_of(words: &[&str]) -> Option<Action>
     ensures { result ≡ spec.action_in (texts words.now) }
@@ -81,8 +95,8 @@ fn action_of(words: &[&str]) -> Option<Action>
     if words.len() == 1 {
         return action_named(word_at(words, 0));
     }
-    if words.len() == 2 && word_at(words, 0) == "hold" {
-        return hold_named(word_at(words, 1));
+    if words.len() == 2 {
+        return action_of_two(word_at(words, 0), word_at(words, 1));
     }
     None
 }
@@ -91,7 +105,7 @@ fn action_of(words: &[&str]) -> Option<Action>
 fn begins_action(word: &str) -> bool
     ensures { result ≡ spec.begins_action word.now }
 {
-    action_named(word).is_some() || word == "hold"
+    action_named(word).is_some() || word == "hold" || word == "choose"
 }
 
 /// The place in the first word of a line, if the line has one.
@@ -143,10 +157,9 @@ fn number_after(word: &str) -> Result<Option<u32>, Fault>
     }
 }
 
-/// What these words name: one word a request, two words an access.
+/// The kind of what these words name: one word names a request, two words an access.
 fn before_of(words: &[&str]) -> Option<Before>
-    ensures before { result ≡ spec.before_in (texts words.now) }
-    ensures words { IfSome result (λ _. 0 < length words.now) }
+    ensures { result ≡ spec.before_in (texts words.now) }
 {
     if words.len() == 1 {
         return request_named(name_of(word_at(words, 0)));
@@ -157,38 +170,28 @@ fn before_of(words: &[&str]) -> Option<Before>
     None
 }
 
-/// The access or the request that these words name.
-fn event_of(alloc: Global, words: &[&str]) -> Result<Event, Stop>
-    ensures { Gives spec.event_read result (spec.event_in (texts words.now)) }
+/// The number in a word such as `ICR#3`, if it has one. Rejects a word without a name.
+fn named_number(word: &str) -> Result<Option<u32>, Fault>
+    ensures { result ≡ spec.named_number word.now }
 {
-    let Some(before) = before_of(words) else {
-        return Err(Stop::Fault(Fault::Access));
-    };
-    let word = word_at(words, words.len() - 1);
     let number = number_after(word)?;
-    let name = name_of(word);
-    if name.is_empty() {
-        return Err(Stop::Fault(Fault::Access));
+    if name_of(word).is_empty() {
+        return Err(Fault::Access);
     }
-    let name = String::from_str(alloc, name)?;
-    Ok(Event {
-        before,
-        name,
-        number,
-    })
+    Ok(number)
 }
 
-/// Whether this is a place of a request, or of an access.
+/// Whether an access or a request of this kind can be at a place.
 fn is_place_of(before: Before, place: Place) -> bool
     ensures { result ≡ spec.is_place_of before place }
 {
     match before {
         Before::Request => place.access == 0,
-        Before::Read | Before::Write => place.access > 0,
+        Before::Read | Before::Write | Before::Choice => place.access > 0,
     }
 }
 
-/// The site at a place, if the place is one of a request before a request, and one of an access before an access.
+/// The site at a place. Rejects a place at which no access or request of this kind can be.
 fn place_before(place: Place, before: Before) -> Result<Site, Fault>
     ensures { result ≡ spec.place_before place before }
 {
@@ -211,22 +214,99 @@ fn site_of(place: Option<Place>, number: Option<u32>, before: Before) -> Result<
     }
 }
 
+/// Whether an action chooses a number.
+fn is_choice(action: Action) -> bool
+    ensures { result ≡ spec.is_choice action }
+{
+    matches!(action, Action::Choose(_))
+}
+
+/// Whether an action may be for an access or a request of this kind.
+fn takes(before: Before, action: Action) -> bool
+    ensures { result ≡ spec.takes before action }
+{
+    match before {
+        Before::Choice => is_choice(action),
+        Before::Read | Before::Write | Before::Request => !is_choice(action),
+    }
+}
+
+/// Which access or request a deviation is for, by the place of its line and its last word.
+fn site_at(place: Option<Place>, action: Action, before: Before, word: &str) -> Result<Site, Fault>
+    ensures { result ≡ spec.site_at place action before word.now }
+{
+    let number = named_number(word)?;
+    if !takes(before, action) {
+        return Err(Fault::Choice);
+    }
+    site_of(place, number, before)
+}
+
+/// A deviation without its name.
+#[derive(Clone, Copy)]
+struct Nameless {
+    site: Site,
+    action: Action,
+    before: Before,
+}
+
+/// The last word, or an empty text if there is no word.
+fn last_word<'a>(words: &[&'a str]) -> &'a str
+    ensures { result.now ≡ spec.last_word (texts words.entry.now) }
+{
+    if words.is_empty() {
+        return "";
+    }
+    word_at(words, words.len() - 1)
+}
+
+/// The deviation of a line without its name, from the place, the action, and the words after `before`.
+fn nameless_at(place: Option<Place>, action: Action, event: &[&str]) -> Result<Nameless, Fault>
+    ensures { result ≡ spec.nameless_at place (texts event.now) action }
+{
+    let Some(before) = before_of(event) else {
+        return Err(Fault::Access);
+    };
+    let site = site_at(place, action, before, last_word(event))?;
+    Ok(Nameless {
+        site,
+        action,
+        before,
+    })
+}
+
+/// The deviation of a line without its name, from the place and the words before and after `before`.
+fn nameless_of(place: Option<Place>, action: &[&str], event: &[&str]) -> Result<Nameless, Fault>
+    ensures { result ≡ spec.nameless_in place (texts action.now) (texts event.now) }
+{
+    match action_of(action) {
+        Some(action) => nameless_at(place, action, event),
+        None => Err(Fault::Action),
+    }
+}
+
+impl Nameless {
+    /// The deviation with a copy of this name.
+    fn with_name(self, alloc: Global, name: &str) -> Result<Deviation, Stop>
+        ensures { Gives spec.deviation_read result (spec.with_name name.now self) }
+    {
+        let name = String::from_str(alloc, name)?;
+        Ok(Deviation {
+            site: self.site,
+            action: self.action,
+            before: self.before,
+            name,
+        })
+    }
+}
+
 /// The deviation of a line, from its words after the place.
 fn deviation_after(alloc: Global, place: Option<Place>, words: &[&str]) -> Result<Deviation, Stop>
     ensures { Gives spec.deviation_read result (spec.deviation_after place (texts words.now)) }
 {
     let (action, event) = split_at_word(words, "before");
-    let Some(action) = action_of(action) else {
-        return Err(Stop::Fault(Fault::Action));
-    };
-    let event = event_of(alloc, event)?;
-    let site = site_of(place, event.number, event.before)?;
-    Ok(Deviation {
-        site,
-        action,
-        before: event.before,
-        name: event.name,
-    })
+    let nameless = nameless_of(place, action, event)?;
+    nameless.with_name(alloc, name_of(last_word(event)))
 }
 
 /// The deviation of a line that isn't empty.

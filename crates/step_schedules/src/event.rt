@@ -1,4 +1,4 @@
-// What comes in a run: accesses and requests.
+// The accesses and requests of a run.
 
 ghost use Rattle.std.specs.Prelude.{◌≡◌};
 ghost use Rattle.step_schedules.specs.Events as spec;
@@ -7,7 +7,7 @@ ghost use Rattle.step_schedules.specs.Deviations.{deviation_read};
 use crate::deviation::{Before, Deviation, Place, Site};
 use std::alloc::{AllocError, Global};
 
-/// An access, or a request that begins a round, with its place in the run.
+/// An access or a request, with its place in the run.
 #[derive(Drop)]
 pub(crate) struct Event {
     pub(crate) place: Place,
@@ -27,7 +27,7 @@ impl Clone for Event {
     }
 }
 
-/// The place after this one: that of a request, or that of an access.
+/// The place of an access or a request of this kind that comes next after this place.
 pub(crate) fn next_place(place: Place, before: Before) -> Place
     ensures { result ≡ spec.next_place before place }
 {
@@ -36,7 +36,7 @@ pub(crate) fn next_place(place: Place, before: Before) -> Place
             round: place.round.saturating_add(1),
             access: 0,
         },
-        Before::Read | Before::Write => Place {
+        Before::Read | Before::Write | Before::Choice => Place {
             round: place.round,
             access: place.access.saturating_add(1),
         },
@@ -44,7 +44,7 @@ pub(crate) fn next_place(place: Place, before: Before) -> Place
 }
 
 impl Event {
-    /// Before the run: no access and no request.
+    /// The state before the run: no access and no request has come.
     pub(crate) fn none(alloc: Global) -> Event
         ensures { spec.event_read result ≡ spec.no_event }
     {
@@ -58,7 +58,7 @@ impl Event {
         }
     }
 
-    /// Whether a site is one of this event, if the names are the same.
+    /// Whether a site can be that of this event. A number is not compared.
     fn is_at(&self, site: Site) -> bool
         ensures { result ≡ spec.is_at (spec.event_read self.now) site }
     {
@@ -68,7 +68,7 @@ impl Event {
         }
     }
 
-    /// Whether a deviation happens before this event. A number is not looked at.
+    /// Whether a deviation is for this event. A number is not compared.
     pub(crate) fn is_met_by(&self, deviation: &Deviation) -> bool
         ensures { result ≡ spec.is_met_by (spec.event_read self.now) (deviation_read deviation.now) }
     {

@@ -1,7 +1,8 @@
-//! Schedules: what an adapter does otherwise than by default, and before which accesses and requests of a test.
+//! Schedules: lists of deviations from the default, each with the access or the request of a test before which it is
+//! played.
 //!
 //! The tool `tools/races` finds schedules, stores them as texts, and plays them. A [`Player`] counts the places of a
-//! run, finds the deviations that are due, and records what was played.
+//! run, finds the deviations that are due, and records the actions that were played.
 #![tactic(auto)]
 
 mod deviation;
@@ -17,6 +18,6 @@ mod waiting;
 mod words;
 
 pub use deviation::{Action, Before, Deviation, Place, Site};
-pub use player::Player;
+pub use player::{Player, chosen};
 pub use schedule::Schedule;
 pub use schedule_error::{Fault, ScheduleError};

@@ -10,13 +10,14 @@ ghost use Rattle.step_schedules.specs.Texts.{deviation_lines, schedule_text};
 use crate::deviation::{Action, Before, Deviation, Place, Site};
 use crate::event::{Event, next_place};
 use crate::schedule::Schedule;
-use crate::waiting::{Waiting, count_all, unmet_in, waiting_of};
+use crate::waiting::{Waiting, count_all, due_before, unmet_in, waiting_of};
 use std::alloc::{AllocError, Global};
 use std::marker::Model;
 
-/// The place of a run, the deviations that wait for their access or request, and what was played so far.
+/// Counts the accesses and requests of a run, finds the deviations that are due, and records the actions that were
+/// played.
 ///
-/// In contracts it is a `PlayerState`, plain data that `specs/Players.antt` lists.
+/// In contracts, the value is a `PlayerState`, plain data that `specs/Players.antt` defines.
 #[derive(Drop)]
 pub struct Player {
     is_playing: bool,
@@ -82,7 +83,7 @@ impl Player {
         })
     }
 
-    /// Whether it plays a schedule.
+    /// Whether the player has a schedule.
     pub fn is_playing(&self) -> bool
         ensures { result ≡ self.now.is_playing }
     {
@@ -106,10 +107,12 @@ impl Player {
             before,
             name,
         };
-        count_all(alloc, self.waiting.as_mut_slice(), &self.event)
+        let due = due_before(alloc, self.waiting.as_slice(), &self.event)?;
+        count_all(self.waiting.as_mut_slice(), &self.event);
+        Ok(due)
     }
 
-    /// Records that an action was played before the access or the request that came last. Fails only if memory was
+    /// Records an action that was played before the access or the request that came last. Fails only if memory was
     /// refused.
     pub fn note(&mut self, action: Action) -> Result<(), AllocError>
         ensures { OnOk result (self.new ≡ spec.after_playing action self.old) }
@@ -136,7 +139,8 @@ impl Player {
         schedule.to_string(alloc)
     }
 
-    /// The text of a schedule with these options that plays what was recorded. Fails only if memory was refused.
+    /// The text of a schedule with these options, and with the actions that were recorded. Fails only if memory was
+    /// refused.
     #[tactic(auto, using(crate::proofs::Copies::copied_deviations))]
     pub fn recorded(
         &self,
@@ -151,5 +155,15 @@ impl Player {
             deviations: self.played.clone()?,
         };
         schedule.to_string(alloc)
+    }
+}
+
+/// The number that the first of these actions chooses, or 0 if it chooses none.
+pub fn chosen(actions: &[Action]) -> u32
+    ensures { result ≡ spec.chosen actions.now }
+{
+    match actions.first() {
+        Some(Action::Choose(number)) => *number,
+        _ => 0,
     }
 }

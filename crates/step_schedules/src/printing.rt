@@ -4,7 +4,7 @@ ghost use Rattle.std.specs.Prelude.{◌≡◌, Some, map, string_bytes};
 ghost use Rattle.std.specs.Fmt.{WritesOnOk};
 ghost use Rattle.step_schedules.specs.Deviations.{deviation_read};
 ghost use Rattle.step_schedules.specs.Schedules.{schedule_read};
-ghost use Rattle.step_schedules.specs.Texts.{action_text, before_text, deviation_lines, deviation_text};
+ghost use Rattle.step_schedules.specs.Texts.{action_text, action_words, before_text, deviation_lines, deviation_text};
 ghost use Rattle.step_schedules.specs.Texts.{options_line, schedule_text};
 
 use crate::deviation::{Action, Before, Deviation, Site};
@@ -12,9 +12,9 @@ use crate::schedule::Schedule;
 use std::fmt;
 
 impl Action {
-    /// Its words in a line.
+    /// The words of an action in a line, without the number of a choice.
     fn words(self) -> &'static str
-        ensures { result.now ≡ action_text self }
+        ensures { result.now ≡ action_words self }
     {
         match self {
             Action::TxTake => "txtake",
@@ -28,6 +28,19 @@ impl Action {
             Action::HoldPhy => "hold phy",
             Action::EepromTick => "eeprom",
             Action::PhyTick => "phy",
+            Action::Choose(_) => "choose",
+        }
+    }
+}
+
+impl fmt::Display for Action {
+    ghost output = { λ action. Some (action_text action) };
+
+    fn fmt<W: fmt::Write>(&self, f: &mut fmt::Formatter<W>) -> fmt::Result {
+        let words = self.words();
+        match *self {
+            Action::Choose(number) => write!(f, "{words} {number}"),
+            _ => f.write_str(words),
         }
     }
 }
@@ -40,7 +53,7 @@ impl Before {
         match self {
             Before::Read => "before read ",
             Before::Write => "before write ",
-            Before::Request => "before ",
+            Before::Request | Before::Choice => "before ",
         }
     }
 }
@@ -49,7 +62,7 @@ impl fmt::Display for Deviation {
     ghost output = { λ deviation. Some (deviation_text (deviation_read deviation)) };
 
     fn fmt<W: fmt::Write>(&self, f: &mut fmt::Formatter<W>) -> fmt::Result {
-        let action = self.action.words();
+        let action = self.action;
         let before = self.before.words();
         let name = self.name.as_str();
         match self.site {

@@ -12,7 +12,7 @@ use crate::schedule_error::{Fault, ScheduleError, Stop};
 use crate::words::{lines_in, strings_of, words_in};
 use std::alloc::Global;
 
-/// The part of a schedule that was read.
+/// The part of a schedule that was read so far.
 #[derive(Drop)]
 pub(crate) struct Reader {
     /// The options and deviations so far.
@@ -67,6 +67,16 @@ impl Reader {
         Ok(())
     }
 
+    /// Reads the words of a line that describes a deviation.
+    fn read_deviation(&mut self, alloc: Global, words: &[&str]) -> Result<(), Stop>
+        requires { 0 < length words.now }
+        ensures { spec.Becomes result (spec.after_deviation_in (texts words.now) (spec.so_far self.old))
+            (spec.so_far self.new) }
+    {
+        let deviation = deviation_of(alloc, words)?;
+        self.push(deviation)
+    }
+
     /// Reads the words of a line.
     fn read_words(&mut self, alloc: Global, words: &[&str]) -> Result<(), Stop>
         ensures { spec.Becomes result (spec.after_words (texts words.now) (spec.so_far self.old))
@@ -78,8 +88,7 @@ impl Reader {
         if *first == "options" {
             return self.set_options(alloc, words);
         }
-        let deviation = deviation_of(alloc, words)?;
-        self.push(deviation)
+        self.read_deviation(alloc, words)
     }
 
     /// Reads a line.

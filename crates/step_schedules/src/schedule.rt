@@ -8,8 +8,8 @@ use crate::schedule_error::ScheduleError;
 use std::alloc::Global;
 use std::str;
 
-/// What an adapter does otherwise than by default.
-#[derive(Debug, Drop)]
+/// A list of deviations from what an adapter does by default.
+#[derive(Drop)]
 pub struct Schedule {
     /// The options of the server, if the text has them.
     pub options: Option<Vec<String>>,

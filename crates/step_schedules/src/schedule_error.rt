@@ -5,60 +5,103 @@ ghost use Rattle.step_schedules.specs.declared.schedule_error.ScheduleError.TheV
 ghost use Rattle.step_schedules.specs.declared.schedule_error.Stop.TheVariants as stops;
 
 use std::alloc::{AllocError, AllocFailed};
-use thiserror::Error;
+use std::error::Error;
+use std::fmt;
+
+/// What `Fault::Action` prints.
+const ACTION_TEXT: &str =
+    "no deviation: use txtake, txput, rxdata, rxdone, tx, rx, arrive, eeprom, phy, hold eeprom|phy, choose K";
 
 /// The fault of a line. If a line has several, the first one in this order is reported.
-#[derive(Clone, Copy, Debug, PartialEq, Eq, Error)]
+#[derive(Clone, Copy, Debug, PartialEq, Eq)]
 pub enum Fault {
     /// `options` isn't in the first line, or is given twice.
-    #[error("'options' must be the first line, and given once")]
     Options,
     /// The first word is neither a place nor the first word of an action.
-    #[error("no place: use ROUND.ACCESS, such as 4.6, or ROUND.0 with a round from 1")]
     Place,
     /// The words up to `before` aren't an action.
-    #[error("no deviation: use txtake, txput, rxdata, rxdone, tx, rx, arrive, eeprom, phy, hold eeprom or hold phy")]
     Action,
-    /// The words after `before` name neither an access nor a request that begins a round.
-    #[error("no access or request is named: end the line with one, such as 'before read ICR' or 'before settle'")]
+    /// The words after `before` name neither an access, nor a request that begins a round, nor `choose`.
     Access,
-    /// It has both a place and a number after `#`.
-    #[error("use either ROUND.ACCESS or a number after #")]
+    /// A number is chosen before anything but `choose`, or something else happens before `choose`.
+    Choice,
+    /// The line has both a place and a number after `#`.
     PlaceAndNumber,
-    /// Its place is ROUND.0 before an access, or another place before a request.
-    #[error("before arrive, offer, step or settle, use ROUND.0; before an access, count from 1")]
+    /// The place is ROUND.0 before an access or `choose`, or another place before a request that begins a round.
     RequestPlace,
-    /// It has neither a place nor a number from 1.
-    #[error("no place and no number: begin the line with ROUND.ACCESS, or end it with a number from 1 after #")]
+    /// The line has neither a place nor a number from 1.
     NoNumber,
-    /// Its place comes before that of an earlier line.
-    #[error("sort the lines by place")]
+    /// The place comes before that of an earlier line.
     Order,
 }
 
+impl Fault {
+    /// What is wrong with the line, and what to write instead.
+    fn text(self) -> &'static str {
+        match self {
+            Fault::Options => "'options' must be the first line, and given once",
+            Fault::Place => {
+                "no place: use ROUND.ACCESS, such as 4.6, or ROUND.0 with a round from 1"
+            }
+            Fault::Action => ACTION_TEXT,
+            Fault::Access => {
+                "no access or request is named: end the line with one, such as 'before read ICR' or 'before settle'"
+            }
+            Fault::Choice => {
+                "only 'choose K' is for 'choose', and it is for nothing else: write 'choose 2 before choose'"
+            }
+            Fault::PlaceAndNumber => "use either ROUND.ACCESS or a number after #",
+            Fault::RequestPlace => {
+                "before arrive, offer, step or settle, use ROUND.0; before an access, count from 1"
+            }
+            Fault::NoNumber => {
+                "no place and no number: begin the line with ROUND.ACCESS, or end it with a number from 1 after #"
+            }
+            Fault::Order => "sort the lines by place",
+        }
+    }
+}
+
+impl fmt::Display for Fault {
+    fn fmt<W: fmt::Write>(&self, f: &mut fmt::Formatter<W>) -> fmt::Result {
+        f.write_str(self.text())
+    }
+}
+
+impl Error for Fault {}
+
 /// Why a text isn't read.
-#[derive(Clone, Copy, Debug, PartialEq, Eq, Error)]
+#[derive(Clone, Copy, Debug, PartialEq, Eq)]
 pub enum ScheduleError {
     /// This line, numbered from 1, is the first faulty one.
-    #[error("line {line}: {fault}")]
     Line {
         /// The number of the line.
         line: usize,
-        /// Its fault.
+        /// The fault of this line.
         fault: Fault,
     },
     /// The text isn't UTF-8.
-    #[error("the text isn't UTF-8")]
     Text,
     /// Memory was refused.
-    #[error("memory was refused")]
     Memory,
 }
+
+impl fmt::Display for ScheduleError {
+    fn fmt<W: fmt::Write>(&self, f: &mut fmt::Formatter<W>) -> fmt::Result {
+        match *self {
+            ScheduleError::Line { line, fault } => write!(f, "line {line}: {fault}"),
+            ScheduleError::Text => f.write_str("the text isn't UTF-8"),
+            ScheduleError::Memory => f.write_str("memory was refused"),
+        }
+    }
+}
+
+impl Error for ScheduleError {}
 
 /// Why a line isn't read.
 #[derive(Clone, Copy)]
 pub(crate) enum Stop {
-    /// It is faulty.
+    /// The line is faulty.
     Fault(Fault),
     /// Memory was refused.
     Memory,

@@ -1,4 +1,4 @@
-// What words spell: numbers, places, and the names of accesses.
+// Numbers and places that words spell.
 
 ghost use Rattle.std.specs.Prelude.{◌≡◌};
 ghost use Rattle.step_schedules.specs.Spellings as spec;
@@ -21,15 +21,20 @@ pub(crate) fn number_of(text: &str) -> Option<u32>
     u32::try_from(digits_of(text, DECIMAL)?).ok()
 }
 
-/// The place that a word such as `4.6` spells. No request begins round 0.
-pub(crate) fn place_of(word: &str) -> Option<Place>
-    ensures { result ≡ spec.place_in word.now }
+/// The place with these numbers. `0.0` is no place, since no request begins round 0.
+fn place_with(round: u32, access: u32) -> Option<Place>
+    ensures { result ≡ spec.place_with round access }
 {
-    let (round, access) = word.split_once('.')?;
-    let round = number_of(round)?;
-    let access = number_of(access)?;
     if round == 0 && access == 0 {
         return None;
     }
     Some(Place { round, access })
+}
+
+/// The place that a word such as `4.6` spells.
+pub(crate) fn place_of(word: &str) -> Option<Place>
+    ensures { result ≡ spec.place_in word.now }
+{
+    let (round, access) = word.split_once('.')?;
+    place_with(number_of(round)?, number_of(access)?)
 }

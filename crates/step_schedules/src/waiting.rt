@@ -1,6 +1,6 @@
 // Deviations that wait to be played.
 
-ghost use Rattle.std.specs.Prelude.{◌≡◌, IfOk, OnOk, map};
+ghost use Rattle.std.specs.Prelude.{◌≡◌, IfOk, map};
 ghost use Rattle.step_schedules.specs.Events.{event_read};
 ghost use Rattle.step_schedules.specs.Waiting as spec;
 ghost use Rattle.step_schedules.specs.Deviations.{deviation_read};
@@ -9,7 +9,7 @@ use crate::deviation::{Action, Deviation, Site};
 use crate::event::Event;
 use std::alloc::{AllocError, Global};
 
-/// A deviation that waits for its event.
+/// A deviation that waits for its access or request.
 #[derive(Drop)]
 pub(crate) struct Waiting {
     pub(crate) deviation: Deviation,
@@ -29,7 +29,7 @@ impl Clone for Waiting {
 }
 
 impl Waiting {
-    /// Before the run.
+    /// A deviation that waits when the run begins: its access or request hasn't come yet.
     pub(crate) fn new(deviation: Deviation) -> Waiting
         ensures { spec.waiting_read result ≡ spec.waits (deviation_read deviation) }
     {
@@ -40,38 +40,49 @@ impl Waiting {
         Waiting { deviation, left }
     }
 
-    /// Counts an event. Returns whether the deviation is due before it.
-    fn count(&mut self, event: &Event) -> bool
-        ensures due { result ≡ spec.is_due (event_read event.now) (spec.waiting_read self.old) }
-        ensures counted { spec.waiting_read self.new
-            ≡ spec.counted (event_read event.now) (spec.waiting_read self.old) }
+    /// Whether the deviation is due before an event that comes now.
+    fn is_due(&self, event: &Event) -> bool
+        ensures { result ≡ spec.is_due (event_read event.now) (spec.waiting_read self.now) }
     {
-        if self.left == 0 || !event.is_met_by(&self.deviation) {
-            return false;
+        self.left == 1 && event.is_met_by(&self.deviation)
+    }
+
+    /// Counts an event that comes now.
+    fn count(&mut self, event: &Event)
+        ensures { spec.waiting_read self.new ≡ spec.counted (event_read event.now) (spec.waiting_read self.old) }
+    {
+        if event.is_met_by(&self.deviation) {
+            self.left = self.left.saturating_sub(1);
         }
-        self.left -= 1;
-        self.left == 0
     }
 }
 
-/// Counts an event. Returns the actions that are due before it.
-pub(crate) fn count_all(
+/// The actions that are due before an event that comes now.
+pub(crate) fn due_before(
     alloc: Global,
-    waiting: &mut [Waiting],
+    waiting: &[Waiting],
     event: &Event,
 ) -> Result<Vec<Action>, AllocError>
-    ensures due { IfOk result (λ actions. actions.items
-        ≡ spec.due_before (event_read event.now) (map spec.waiting_read waiting.old)) }
-    ensures counted { OnOk result (map spec.waiting_read waiting.new
-        ≡ map (spec.counted (event_read event.now)) (map spec.waiting_read waiting.old)) }
+    ensures { IfOk result (λ actions. actions.items
+        ≡ spec.due_before (event_read event.now) (map spec.waiting_read waiting.now)) }
 {
     let mut actions = Vec::new(alloc);
-    for one in waiting.iter_mut() {
-        if one.count(event) {
+    for one in waiting {
+        if one.is_due(event) {
             actions.push(one.deviation.action)?;
         }
     }
     Ok(actions)
+}
+
+/// Counts an event that comes now.
+pub(crate) fn count_all(waiting: &mut [Waiting], event: &Event)
+    ensures { map spec.waiting_read waiting.new
+        ≡ map (spec.counted (event_read event.now)) (map spec.waiting_read waiting.old) }
+{
+    for one in waiting.iter_mut() {
+        one.count(event);
+    }
 }
 
 /// The deviations of a schedule, before the run.
@@ -89,7 +100,7 @@ pub(crate) fn waiting_of(
     Ok(waiting)
 }
 
-/// The deviations that weren't met.
+/// The deviations whose access or request hasn't come.
 pub(crate) fn unmet_in(alloc: Global, waiting: &[Waiting]) -> Result<Vec<Deviation>, AllocError>
     ensures { IfOk result (λ unmet. map deviation_read unmet.items
         ≡ spec.unmet_in (map spec.waiting_read waiting.now)) }

@@ -1,4 +1,4 @@
-use Rattle.std.proofs.Common.{◌≡◌, ◌++◌, ◌∙◌, Option, Some, ap, subst, sym}
+use Rattle.std.proofs.Common.{◌≡◌, ◌++◌, ◌∙◌, Option, Some, subst, sym}
 use Rattle.adapter_server.specs.Answers.{Replies, Restores, TellsAnswer, line_between}
 use Rattle.adapter_server.specs.Sessions.{copied}
 use Rattle.server_output.specs.Order.{Says}

@@ -1,4 +1,4 @@
-use Rattle.std.proofs.Common.{◌≡◌, ◌∙◌, Option, Some, ap, subst, sym}
+use Rattle.std.proofs.Common.{◌∙◌, Option, Some, ap, subst, sym}
 use Rattle.adapter_server.specs.Answers.{Replies, Saves, TellsAnswer}
 use Rattle.adapter_server.specs.Sessions.{copied}
 use Rattle.server_output.specs.Texts.{ok_line}

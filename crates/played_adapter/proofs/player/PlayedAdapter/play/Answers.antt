@@ -4,7 +4,7 @@ use Rattle.adapter.specs.declared.step.StepKind.{StepKind}
 use Rattle.adapter.specs.declared.step.StepKind.TheVariants.{TxTake}
 use Rattle.played_adapter.specs.Playing.{Plays, Steps}
 use Rattle.played_adapter.specs.Order.{InOrder, Tells}
-use Rattle.played_adapter.proofs.Rounds.{moved_little}
+use Rattle.played_adapter.proofs.Cycles.{moved_little}
 use Rattle.played_adapter.proofs.Telling.{tells_more, tells_none, tells_so}
 use Rattle.played_adapter.proofs.player.PlayedAdapter.play.Goals as goal
 

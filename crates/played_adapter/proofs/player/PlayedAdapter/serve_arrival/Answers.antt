@@ -10,8 +10,8 @@ returns g c =
     let laws = g.met.O.Observer.composes in
     let frame = c.args.frame.now in
     let fate = c.arrive-fate.result in
-    let b = c.pace_rounds.new.self in
+    let b = c.pace_cycles.new.self in
     tells_both heard laws (InOrder Makes c.args.moves.now c.args.self.now) (λ m rest. PacedAfter (Arrives frame fate m) b rest)
-    c.make_all.new.self c.args.observer.now c.make_all.new.observer c.pace_rounds.new.observer c.make_all.ensures
+    c.make_all.new.self c.args.observer.now c.make_all.new.observer c.pace_cycles.new.observer c.make_all.ensures
     (tells_both heard laws (Arrives frame fate c.make_all.new.self) (λ m rest. Paced m b rest) c.arrive-fate.new.self
-    c.make_all.new.observer c.arrive-fate.new.observer c.pace_rounds.new.observer c.arrive-fate.ensures c.pace_rounds.ensures)
+    c.make_all.new.observer c.arrive-fate.new.observer c.pace_cycles.new.observer c.arrive-fate.ensures c.pace_cycles.ensures)

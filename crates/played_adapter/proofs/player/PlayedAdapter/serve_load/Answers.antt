@@ -23,9 +23,9 @@ returns g c =
     let bytes = c.load_now.new.into in
     tells_both heard laws
     (λ m first. AccessedAfter c.args.moves.now (Loads c.args.address size) a m first
-    × (bytes ≡ bytes_at m.machine.world.memory c.args.address size)) (λ m rest. Paced m c.pace_rounds.new.self rest) middle
-    c.args.observer.now c.load_now.new.observer c.pace_rounds.new.observer
+    × (bytes ≡ bytes_at m.machine.world.memory c.args.address size)) (λ m rest. Paced m c.pace_cycles.new.self rest) middle
+    c.args.observer.now c.load_now.new.observer c.pace_cycles.new.observer
     (tells_so heard (AccessedAfter c.args.moves.now (Loads c.args.address size) a middle) _ c.args.observer.now c.load_now.new.observer
     (λ told happens. (happens, c.load_now.ensures.loaded))
     (accessed_after heard laws c.args.moves.now (Loads c.args.address size) a c.play_before.new.self middle c.args.observer.now
-    c.play_before.new.observer c.load_now.new.observer c.play_before.ensures c.load_now.ensures.tells)) c.pace_rounds.ensures
+    c.play_before.new.observer c.load_now.new.observer c.play_before.ensures c.load_now.ensures.tells)) c.pace_cycles.ensures

@@ -12,5 +12,5 @@ store_now-requires g c =
 pub returns : goal.returns
 returns g c =
     served g.O.Observer.heard g.met.O.Observer.composes c.args.moves.now (Stores c.args.address c.args.bytes.now) c.args.self.now
-    c.play_before.new.self c.store_now.new.self c.pace_rounds.new.self c.args.observer.now c.play_before.new.observer
-    c.store_now.new.observer c.pace_rounds.new.observer c.play_before.ensures c.store_now.ensures c.pace_rounds.ensures
+    c.play_before.new.self c.store_now.new.self c.pace_cycles.new.self c.args.observer.now c.play_before.new.observer
+    c.store_now.new.observer c.pace_cycles.new.observer c.play_before.ensures c.store_now.ensures c.pace_cycles.ensures

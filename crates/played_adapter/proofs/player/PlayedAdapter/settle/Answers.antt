@@ -1,36 +1,36 @@
 use Rattle.std.proofs.Common.{arith, ℕ, subst}
-use Rattle.played_adapter.specs.Playing.{Round}
+use Rattle.played_adapter.specs.Playing.{Cycle}
 use Rattle.played_adapter.specs.Order.{Tells}
-use Rattle.played_adapter.proofs.Rounds.{BusyRounds, no_rounds, one_round, settled, settled_late}
+use Rattle.played_adapter.proofs.Cycles.{BusyCycles, no_cycles, one_cycle, settled, settled_late}
 use Rattle.played_adapter.proofs.player.PlayedAdapter.settle.Goals as goal
 
-pub loop-round-init : goal.loop-round-init
-loop-round-init g c = record {
-  plays = no_rounds g.O.Observer.heard g.met.O.Observer.composes c.args.self.now c.args.observer.now;
+pub loop-cycle-init : goal.loop-cycle-init
+loop-cycle-init g c = record {
+  plays = no_cycles g.O.Observer.heard g.met.O.Observer.composes c.args.self.now c.args.observer.now;
   few = omega arith;
 }
 
 pub returns-then-moved-eq0 : goal.returns-then-moved-eq0
 returns-then-moved-eq0 g c =
     let heard = g.O.Observer.heard in
-    settled heard g.met.O.Observer.composes c.args.most c.loop-round._round c.loop-round.all c.args.self.now c.loop-round.self
-    c.round-moved.new.self c.args.observer.now c.loop-round.observer c.round-moved.new.observer (omega arith)
-    c.loop-round.invariant.plays
-    (subst (λ (n : ℕ). Tells heard c.loop-round.observer c.round-moved.new.observer (Round n c.loop-round.self c.round-moved.new.self))
-    (omega arith) c.round-moved.ensures.plays)
+    settled heard g.met.O.Observer.composes c.args.most c.loop-cycle._cycle c.loop-cycle.all c.args.self.now c.loop-cycle.self
+    c.cycle-moved.new.self c.args.observer.now c.loop-cycle.observer c.cycle-moved.new.observer (omega arith)
+    c.loop-cycle.invariant.plays
+    (subst (λ (n : ℕ). Tells heard c.loop-cycle.observer c.cycle-moved.new.observer (Cycle n c.loop-cycle.self c.cycle-moved.new.self))
+    (omega arith) c.cycle-moved.ensures.plays)
 
-pub loop-round-preserved : goal.loop-round-preserved
-loop-round-preserved g c = record {
-  plays = one_round g.O.Observer.heard g.met.O.Observer.composes c.loop-round._round c.loop-round.all c.round-moved.result
-      c.args.self.now c.loop-round.self c.round-moved.new.self c.args.observer.now c.loop-round.observer c.round-moved.new.observer
-      c.loop-round.invariant.plays c.round-moved.ensures.plays (omega arith);
-  few = omega (arith, c.round-moved.ensures.few);
+pub loop-cycle-preserved : goal.loop-cycle-preserved
+loop-cycle-preserved g c = record {
+  plays = one_cycle g.O.Observer.heard g.met.O.Observer.composes c.loop-cycle._cycle c.loop-cycle.all c.cycle-moved.result
+      c.args.self.now c.loop-cycle.self c.cycle-moved.new.self c.args.observer.now c.loop-cycle.observer c.cycle-moved.new.observer
+      c.loop-cycle.invariant.plays c.cycle-moved.ensures.plays (omega arith);
+  few = omega (arith, c.cycle-moved.ensures.few);
 }
 
 pub returns : goal.returns
 returns g c =
     let heard = g.O.Observer.heard in
     let laws = g.met.O.Observer.composes in
-    settled_late heard laws c.args.most c.loop-round.all c.args.self.now c.loop-round.self c.args.observer.now c.loop-round.observer
-    (subst (λ (n : ℕ). BusyRounds heard laws n c.loop-round.all c.args.self.now c.loop-round.self c.args.observer.now
-    c.loop-round.observer) (omega arith) c.loop-round.invariant.plays)
+    settled_late heard laws c.args.most c.loop-cycle.all c.args.self.now c.loop-cycle.self c.args.observer.now c.loop-cycle.observer
+    (subst (λ (n : ℕ). BusyCycles heard laws n c.loop-cycle.all c.args.self.now c.loop-cycle.self c.args.observer.now
+    c.loop-cycle.observer) (omega arith) c.loop-cycle.invariant.plays)

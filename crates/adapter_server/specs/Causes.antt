@@ -1,0 +1,9 @@
+-- The error of a server that stops while it answers a line (our choice).
+use Rattle.server_output.specs.declared.answer_error.AnswerError.{AnswerError}
+use Rattle.server_output.specs.declared.answer_error.AnswerError.TheVariants as causes
+use Rattle.adapter_server.specs.declared.serve_error.ServeError.{ServeError}
+use Rattle.adapter_server.specs.declared.serve_error.ServeError.TheVariants.{Memory, Write}
+
+abbrev pub ended_by : AnswerError → ServeError
+ended_by causes.Memory = Memory
+ended_by causes.Write = Write

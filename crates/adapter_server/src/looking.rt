@@ -1,0 +1,134 @@
+// Answers that report the state.
+
+ghost use Rattle.adapter_server.specs.Answers.{AnswersEnabled, AnswersFaults, AnswersLevel, AnswersPort, AnswersRings};
+ghost use Rattle.adapter_server.specs.Answers.{AnswersTarget, Looks, TellsAnswer};
+ghost use Rattle.adapter_server.specs.Sessions.{place_in};
+
+use crate::session::Session;
+use adapter::StepKind;
+use engine_faults::{Engine, RingWords};
+use pci_function::PortWidth;
+use server_output::{
+    AnswerError, EnabledSteps, Faults, refuse, say, say_enabled, say_faults, say_frames,
+    say_number, say_rings, say_word,
+};
+use server_requests::Look;
+use std::alloc::Global;
+use std::io::Write;
+use std::mem;
+
+/// Answers `enabled` with the kinds of steps that would do something.
+fn say_enabled_steps<W: Write>(
+    session: &Session,
+    alloc: Global,
+    out: &mut W,
+) -> Result<(), AnswerError>
+    ensures { TellsAnswer result (W.contents out.old) (W.contents out.new)
+        (AnswersEnabled session.now) session.now }
+{
+    let machine = &session.device.machine;
+    let enabled = EnabledSteps {
+        tx_take: machine.has_work(StepKind::TxTake),
+        tx_put: machine.has_work(StepKind::TxPut) & session.device.wire_free,
+        rx_data: machine.has_work(StepKind::RxData),
+        rx_done: machine.has_work(StepKind::RxDone),
+        eeprom: machine.has_work(StepKind::EepromTick),
+        phy: machine.has_work(StepKind::PhyTick),
+    };
+    say_enabled(alloc, out, enabled)
+}
+
+/// Answers `target` with the name of what an access of these bytes reads or writes.
+fn say_target<W: Write>(
+    session: &Session,
+    alloc: Global,
+    out: &mut W,
+    address: u64,
+    count: u64,
+) -> Result<(), AnswerError>
+    ensures { TellsAnswer result (W.contents out.old) (W.contents out.new)
+        (AnswersTarget (place_in session.now address count) address session.now) session.now }
+{
+    match session.place_of(address, count) {
+        Ok(place) => {
+            let name = session.target_at(place, address).to_string(alloc)?;
+            say_word(alloc, out, name.as_bytes())
+        }
+        Err(refusal) => refuse(out, refusal),
+    }
+}
+
+/// Answers `rings` with the registers of the receive ring and of the transmit ring.
+fn say_both_rings<W: Write>(
+    session: &Session,
+    alloc: Global,
+    out: &mut W,
+) -> Result<(), AnswerError>
+    ensures { TellsAnswer result (W.contents out.old) (W.contents out.new)
+        (AnswersRings session.now) session.now }
+{
+    let receive = RingWords::of(&session.device.machine, Engine::Receive);
+    let transmit = RingWords::of(&session.device.machine, Engine::Transmit);
+    say_rings(alloc, out, receive, transmit)
+}
+
+/// Answers `inb`, `inw` and `inl`: reads an I/O port.
+fn read_port<W: Write>(
+    session: &Session,
+    out: &mut W,
+    width: PortWidth,
+    port: u16,
+) -> Result<(), AnswerError>
+    ensures { TellsAnswer result (W.contents out.old) (W.contents out.new)
+        (AnswersPort width port session.now) session.now }
+{
+    let asserted = session.device.machine.line();
+    say_number(
+        out,
+        u64::from(session.function.read_port(port, width, asserted)),
+    )
+}
+
+/// Answers `faults` with the faults that weren't printed.
+fn fetch_faults<W: Write>(
+    session: &mut Session,
+    alloc: Global,
+    out: &mut W,
+) -> Result<(), AnswerError>
+    ensures { TellsAnswer result (W.contents out.old) (W.contents out.new)
+        (AnswersFaults session.old) session.new }
+{
+    let faults = mem::replace(&mut session.kept.faults, Faults::new(alloc));
+    say_faults(alloc, out, &faults)
+}
+
+/// Answers `line` with the level of the interrupt line.
+fn say_level<W: Write>(session: &mut Session, out: &mut W) -> Result<(), AnswerError>
+    ensures { TellsAnswer result (W.contents out.old) (W.contents out.new)
+        (AnswersLevel session.old) session.new }
+{
+    say_number(out, u64::from(session.device.machine.line()))
+}
+
+/// Answers a request for a report.
+pub(crate) fn look<W: Write>(
+    session: &mut Session,
+    alloc: Global,
+    out: &mut W,
+    look: Look,
+) -> Result<(), AnswerError>
+    ensures { TellsAnswer result (W.contents out.old) (W.contents out.new) (Looks look session.old) session.new }
+{
+    match look {
+        Look::Port(width, port) => read_port(session, out, width, port),
+        Look::Endianness => say_word(alloc, out, b"little"),
+        Look::Line => say_level(session, out),
+        Look::Digest => say_number(out, session.device.machine.digest()),
+        Look::Frames => say_frames(alloc, out, &mut session.kept.put),
+        Look::Faults => fetch_faults(session, alloc, out),
+        Look::Intercept => say(out, b"OK\n"),
+        Look::Enabled => say_enabled_steps(session, alloc, out),
+        Look::Target(address, count) => say_target(session, alloc, out, address, count),
+        Look::Rings => say_both_rings(session, alloc, out),
+    }
+}

@@ -1,0 +1,60 @@
+// Answers.
+
+ghost use Rattle.std.specs.Prelude.{◌≡◌, ◌≤◌, length};
+ghost use Rattle.server_output.specs.Answers.{IsSized, line_of, number_spelled};
+ghost use Rattle.server_output.specs.Order.{Says};
+
+use crate::answer_error::AnswerError;
+use crate::output::{say, say_base64, say_bytes, say_decimal, say_number, say_word};
+use server_requests::Wanted;
+use std::alloc::Global;
+use std::io::Write;
+
+/// The maximum number of bytes of a number.
+const MOST_NUMBER_BYTES: usize = 8;
+
+/// The answer to a request, unless it is a refusal, or a list of frames or faults.
+#[derive(Clone, Copy)]
+pub enum Answer<'a> {
+    /// `OK`.
+    Done,
+    /// A word.
+    Word(&'a [u8]),
+    /// A number, in 16 hexadecimal digits.
+    Number(u64),
+    /// A number, in decimal digits.
+    Decimal(u64),
+    /// The bytes that were read, in the form that the read asks for.
+    Bytes(Wanted, &'a [u8]),
+}
+
+/// The number with these bytes, the lowest first.
+#[tactic(auto, unfolding(crate::specs::Answers::number_spelled))]
+fn number_of(bytes: &[u8]) -> u64
+    requires { length bytes.now ≤ 8 }
+    ensures { result ≡ number_spelled bytes.now }
+{
+    let mut all = [0; MOST_NUMBER_BYTES];
+    all[..bytes.len()].copy_from_slice(bytes);
+    u64::from_le_bytes(all)
+}
+
+/// Writes the line of an answer.
+pub fn say_answer<W: Write>(
+    alloc: Global,
+    out: &mut W,
+    answer: Answer<'_>,
+) -> Result<(), AnswerError>
+    requires { IsSized answer }
+    ensures { Says result (W.contents out.old) (W.contents out.new) (line_of answer.entry) }
+{
+    match answer {
+        Answer::Done => say(out, b"OK\n"),
+        Answer::Word(word) => say_word(alloc, out, word),
+        Answer::Number(number) => say_number(out, number),
+        Answer::Decimal(number) => say_decimal(alloc, out, number),
+        Answer::Bytes(Wanted::Number(_), bytes) => say_number(out, number_of(bytes)),
+        Answer::Bytes(Wanted::Bytes(_), bytes) => say_bytes(alloc, out, bytes),
+        Answer::Bytes(Wanted::Base64(_), bytes) => say_base64(alloc, out, bytes),
+    }
+}
