@@ -4,30 +4,30 @@ use Rattle.std.specs.List.{flat_map, fold}
 use Rattle.std.proofs.lemmas.Grind.{flat_map-append}
 use Rattle.std.proofs.lemmas.List.Sums.{fold-append}
 use Rattle.delivery.specs.DeliveryLaws.{IsBetween}
-use Rattle.delivery.specs.Happenings.{Happening, given_in_one}
+use Rattle.delivery.specs.Happenings.{Happening}
 use Rattle.network_plan.specs.Answers.{FrameAnswer}
 use Rattle.network_plan.specs.declared.reply.Answer.TheVariants as answer
-use Rattle.wire.specs.Runs.{joined_of, left_of}
-use Rattle.scenario_bench.specs.Puts.{put_frame_in}
+use Rattle.wire.specs.Runs.{joined_of, left_by_answer}
+use Rattle.scenario_bench.specs.Kept.{put_frame_in, returned_frame_in}
 use Rattle.scenario_bench.specs.Tallies.{TalliesGrow, tallied_by, tally_behind}
 use Rattle.scenario_bench.specs.declared.tally.Tally.{Tally}
 
 -- These happenings change no count, and have no frame that a socket returns or that is put.
 pub record AreQuiet (middle : List Happening) : Type 0 where
   pub counts : (k : ℕ) (tally : Tally) → fold (tallied_by k) tally middle ≡ tally
-  pub gives : (k s : ℕ) → flat_map (given_in_one k s) middle ≡ []
+  pub gives : (number : ℕ) → flat_map (returned_frame_in number) middle ≡ []
   pub puts : (number : ℕ) → flat_map (put_frame_in number) middle ≡ []
 
 none-quiet : AreQuiet []
-none-quiet = record { counts = λ k tally. refl; gives = λ k s. refl; puts = λ number. refl }
+none-quiet = record { counts = λ k tally. refl; gives = λ number. refl; puts = λ number. refl }
 
 pub joins_quiet : (host : ℕ) (group : List ℕ) (one : FrameAnswer) → AreQuiet (joined_of host group one)
-joins_quiet host group (answer.Joined (Ok u)) = record { counts = λ k tally. refl; gives = λ k s. refl; puts = λ number. refl }
+joins_quiet host group (answer.Joined (Ok u)) = record { counts = λ k tally. refl; gives = λ number. refl; puts = λ number. refl }
 joins_quiet host group (answer.Joined (Err error)) = none-quiet
 joins_quiet host group _ = none-quiet
 
-pub leaves_quiet : (host : ℕ) (group : List ℕ) (one : FrameAnswer) → AreQuiet (left_of host group one)
-leaves_quiet host group (answer.Left (Ok u)) = record { counts = λ k tally. refl; gives = λ k s. refl; puts = λ number. refl }
+pub leaves_quiet : (host : ℕ) (group : List ℕ) (one : FrameAnswer) → AreQuiet (left_by_answer host group one)
+leaves_quiet host group (answer.Left (Ok u)) = record { counts = λ k tally. refl; gives = λ number. refl; puts = λ number. refl }
 leaves_quiet host group (answer.Left (Err error)) = none-quiet
 leaves_quiet host group _ = none-quiet
 
@@ -40,8 +40,8 @@ module _ (middle ticked said : List Happening) (between : IsBetween middle ticke
       (flat_map-append of middle between.behind ∙ ap (λ (list : List T). list ++ flat_map of between.behind) none)
       ∙ sym (flat_map-append of between.before between.behind) ∙ sym (ap (flat_map of) between.ticks)
 
-  pub gives_around : (k s : ℕ) → flat_map (given_in_one k s) said ≡ flat_map (given_in_one k s) ticked
-  gives_around k s = list-around (given_in_one k s) (quiet.gives k s)
+  pub gives_around : (number : ℕ) → flat_map (returned_frame_in number) said ≡ flat_map (returned_frame_in number) ticked
+  gives_around number = list-around (returned_frame_in number) (quiet.gives number)
 
   pub puts_around : (number : ℕ) → flat_map (put_frame_in number) said ≡ flat_map (put_frame_in number) ticked
   puts_around number = list-around (put_frame_in number) (quiet.puts number)

@@ -1,11 +1,12 @@
 -- The result of the bench, by what was played and recorded.
 use Rattle.std.proofs.Common.{◌≡◌, ◌<◌, ◌≤◌, ◌+◌, ◌++◌, ◌∷◌, ◌⊎◌, [], zero, suc, ℕ, Bool, List, Option, Some, None, length, map, replicate}
-use Rattle.std.proofs.Common.{if◌then◌else◌, slice_get}
+use Rattle.std.proofs.Common.{◌==◌, ◌&&◌, true, false, append_assoc, if◌then◌else◌, slice_get}
 use Rattle.std.proofs.Common.{option_map, inl, inr, refl, sym, ap, subst, ◌∙◌, arith, take}
 use Rattle.std.specs.Prelude.{unwrap_or}
 use Rattle.std.proofs.Math.Seq.{take-append_seam}
 use Rattle.std.proofs.lemmas.List.{length-append, length-map}
 use Rattle.std.proofs.lemmas.Option.{slice_get-map, slice_get_within}
+use Rattle.delivery.specs.Happenings.{Accepted, Given, Happening, given}
 use Rattle.packet_socket.specs.HostState.{HostState}
 use Rattle.pcap_trace.specs.Format.{Timed}
 use Rattle.pcap_trace.specs.declared.unit.Unit.{Unit}
@@ -13,21 +14,22 @@ use Rattle.stations.specs.Stations.{world_at}
 use Rattle.network_plan.specs.declared.plan.HostPlan.{HostPlan}
 use Rattle.host_calls.specs.Networks.{IsHost}
 use Rattle.scenario.specs.SoFar.{Host, Said, host_of_plan, hosts_of, said_of}
-use Rattle.scenario_bench.specs.Acts.{Act, act_of, history}
+use Rattle.scenario_bench.specs.Acts.{Act, act_of, history, said_in}
 use Rattle.scenario.specs.declared.command.Scenario.{Scenario}
 use Rattle.scenario_bench.specs.Benches.{AreAllWritten, AreUntouched, AreWritten, AreWrittenUpTo, BenchSinks, Benches, PlaysEvents}
 use Rattle.scenario_bench.specs.Benches.{PlaysScenario, SinkState, Stops, StopsBefore, StopsWriting, TellsRun, scenario_events, texts_of}
 use Rattle.scenario_bench.specs.EventLines.{LogState, lines_from}
 use Rattle.scenario_bench.specs.EventLists.{all_events}
 use Rattle.scenario_bench.specs.EventLogView.{plan_name}
-use Rattle.scenario_bench.specs.Given.{given_from, sockets_from}
+use Rattle.scenario_bench.specs.Given.{given_from, next_number, numbered_frame, sockets_from}
 use Rattle.scenario_bench.specs.PlayedEvents.{AreRecorded, Begins, HasPlayed, HasPlayedFront, HasPlayedScenario, IsNewRecord}
-use Rattle.scenario_bench.specs.PlayedEvents.{StopsAtPlan, StopsWithin, TellTallies, TellsTally, socket_texts, wire_texts_in}
-use Rattle.scenario_bench.specs.Puts.{PutFrame, put_from, wire_names, wire_texts}
+use Rattle.scenario_bench.specs.PlayedEvents.{StopsAtPlan, StopsWithin, TellTallies, TellsTally, socket_texts_in, wire_texts_in}
+use Rattle.scenario_bench.specs.Kept.{KeptFrame, frames_where, is_of_socket, put_from, returned_from, returned_in}
+use Rattle.scenario_bench.specs.Kept.{socket_texts}
+use Rattle.scenario_bench.specs.Puts.{wire_names, wire_texts}
 use Rattle.scenario_bench.specs.RunLogs.{logged, new_log}
-use Rattle.scenario_bench.specs.SocketLists.{SocketFrames, frames_given}
 use Rattle.scenario_bench.specs.Summaries.{TellsHosts, as_told}
-use Rattle.scenario_bench.specs.Tallies.{empty_sockets, no_tally, number_behind, socket_behind, tally_behind}
+use Rattle.scenario_bench.specs.Tallies.{no_tally, number_behind, tally_behind}
 use Rattle.scenario_bench.specs.declared.play.Play.{Play}
 use Rattle.scenario_bench.specs.declared.run_log.RunLog.{RunLog}
 use Rattle.scenario_bench.specs.declared.summary.HostSummary.{HostSummary}
@@ -38,7 +40,6 @@ use Rattle.scenario.specs.declared.command.Command.{Command}
 use Rattle.scenario_bench.specs.declared.tally.Tally.{Tally}
 use Rattle.scenario_bench.proofs.Told.{noted-lists, number_told, tally_of}
 use Rattle.scenario_bench.proofs.ToldAnswers.{lines_told, refusals_told, same_names}
-use Rattle.stations.proofs.Places.{same-places}
 
 -- Summaries, in order.
 
@@ -108,36 +109,54 @@ pub tallies_enough : (plans : List HostPlan) (said : List Said) (a b : Play) →
 tallies_enough plans said a b begun played = enough b.record.hosts.items (length plans)
     (λ k below. (tally_of k (history played.acts), tally_at plans said a b begun played k below))
 
--- the sockets have the frames that they returned
-sockets-are : (plans : List HostPlan) (said : List Said) (a b : Play) (begun : Begins plans a) (played : HasPlayed said a b)
-    → b.record.sockets.items ≡ map (socket_behind 0 played.acts) (empty_sockets (sockets_from 0 (hosts_of plans)))
-sockets-are plans said a b begun played =
-    let change = socket_behind 0 played.acts in
-    let first = empty_sockets (sockets_from 0 (hosts_of plans)) in
-    same-places b.record.sockets.items (map change first) (λ k. played.noted.sockets k
-    ∙ ap (λ (n : ℕ). option_map (socket_behind n played.acts) (slice_get a.record.sockets.items k)) begun.number
-    ∙ ap (λ (l : List SocketFrames). option_map change (slice_get l k)) begun.sockets ∙ sym (slice_get-map change first k))
+-- the frames of a socket among those that sockets returned in an event
+where-append : (test : ℕ → ℕ → Bool) (xs ys : List KeptFrame) → frames_where test (xs ++ ys) ≡ frames_where test xs ++ frames_where test ys
+where-append test [] ys = refl
+where-append test (x ∷ xs) ys =
+    let first : List Timed = if test x.host x.socket then x.frame ∷ [] else [] in
+    ap (λ (list : List Timed). first ++ list) (where-append test xs ys)
+    ∙ sym (append_assoc first (frames_where test xs) (frames_where test ys))
+
+returned-one : (number : ℕ) (here : Bool) (frame : List ℕ) (xs : List Timed) (ys : List (List ℕ)) → xs ≡ map (numbered_frame number) ys
+    → (if here then numbered_frame number frame ∷ [] else []) ++ xs ≡ map (numbered_frame number) ((if here then frame ∷ [] else []) ++ ys)
+returned-one number true frame xs ys is = ap (λ (list : List Timed). numbered_frame number frame ∷ list) is
+returned-one number false frame xs ys is = is
+
+returned-of : (k s number : ℕ) (happened : List Happening)
+    → frames_where (is_of_socket k s) (returned_in number happened) ≡ map (numbered_frame number) (given k s happened)
+returned-of k s number [] = refl
+returned-of k s number (Given host socket frame ∷ happened) =
+    returned-one number ((k == host) && (s == socket)) frame (frames_where (is_of_socket k s) (returned_in number happened))
+    (given k s happened) (returned-of k s number happened)
+returned-of k s number (Accepted host frame ∷ happened) = returned-of k s number happened
+returned-of k s number (_ ∷ happened) = returned-of k s number happened
+
+-- the frames of a socket among those that sockets returned in these acts
+returned-from : (k s number : ℕ) (acts : List Act)
+    → frames_where (is_of_socket k s) (returned_from number acts) ≡ given_from k s number acts
+returned-from k s number [] = refl
+returned-from k s number (act ∷ acts) =
+    where-append (is_of_socket k s) (returned_in number (said_in act)) (returned_from (next_number number) acts)
+    ∙ ap (λ (list : List Timed). list ++ frames_where (is_of_socket k s) (returned_from (next_number number) acts))
+    (returned-of k s number (said_in act))
+    ∙ ap (λ (list : List Timed). map (numbered_frame number) (given k s (said_in act)) ++ list)
+    (returned-from k s (next_number number) acts)
 
 texts-of : (acts : List Act) (places : List (ℕ × ℕ))
-    → map frames_given (map (socket_behind 0 acts) (empty_sockets places))
-    ≡ map (λ (place : ℕ × ℕ). given_from place.0 place.1 0 acts) places
+    → socket_texts (returned_from 0 acts) places ≡ map (λ (place : ℕ × ℕ). given_from place.0 place.1 0 acts) places
 texts-of acts [] = refl
 texts-of acts (place ∷ places) =
-    ap (λ (l : List (List Timed)). given_from place.0 place.1 0 acts ∷ l) (texts-of acts places)
+    ap (λ (text : List Timed). text ∷ socket_texts (returned_from 0 acts) places) (returned-from place.0 place.1 0 acts)
+    ∙ ap (λ (l : List (List Timed)). given_from place.0 place.1 0 acts ∷ l) (texts-of acts places)
 
 pub texts_are : (plans : List HostPlan) (said : List Said) (a b : Play) (begun : Begins plans a) (played : HasPlayed said a b)
-    → map frames_given b.record.sockets.items
+    → socket_texts_in plans b
     ≡ map (λ (place : ℕ × ℕ). given_from place.0 place.1 0 played.acts) (sockets_from 0 (hosts_of plans))
 texts_are plans said a b begun played =
-    ap (map frames_given) (sockets-are plans said a b begun played)
+    ap (λ (returned : List KeptFrame). socket_texts returned (sockets_from 0 (hosts_of plans)))
+    (played.noted.returned ∙ ap (λ (n : ℕ). a.record.returned ++ returned_from n played.acts) begun.number
+    ∙ ap (λ (returned : List KeptFrame). returned ++ returned_from 0 played.acts) begun.returned)
     ∙ texts-of played.acts (sockets_from 0 (hosts_of plans))
-
-pub sockets_count : (plans : List HostPlan) (said : List Said) (a b : Play) → Begins plans a → HasPlayed said a b
-    → length b.record.sockets.items ≡ length (sockets_from 0 (hosts_of plans))
-sockets_count plans said a b begun played =
-    sym (length-map b.record.sockets.items frames_given)
-    ∙ ap length (texts_are plans said a b begun played)
-    ∙ length-map (sockets_from 0 (hosts_of plans)) (λ (place : ℕ × ℕ). given_from place.0 place.1 0 played.acts)
 
 -- The call.
 
@@ -213,20 +232,20 @@ pub record IsOfPlay (play : Play) (told : List HostSummary) (summary : Summary) 
 -- Traces of wires.
 
 -- frames are recorded after a run, if traces of wires are to be written
-still-recorded : (wires : ℕ) (more : List PutFrame) (first puts : Option (List PutFrame)) → IsNewRecord wires first
-    → puts ≡ option_map (λ (old : List PutFrame). old ++ more) first → AreRecorded wires puts
+still-recorded : (wires : ℕ) (more : List KeptFrame) (first puts : Option (List KeptFrame)) → IsNewRecord wires first
+    → puts ≡ option_map (λ (old : List KeptFrame). old ++ more) first → AreRecorded wires puts
 still-recorded wires more None puts new is = subst (AreRecorded wires) (sym is) new
 still-recorded wires more (Some old) puts new is = subst (AreRecorded wires) (sym is) tt
 
 -- what the record of a run has of wires is what was put
-same-puts : (more old : List PutFrame) (puts : Option (List PutFrame)) → old ≡ []
-    → puts ≡ option_map (λ (old : List PutFrame). old ++ more) (Some old) → unwrap_or puts [] ≡ more
+same-puts : (more old : List KeptFrame) (puts : Option (List KeptFrame)) → old ≡ []
+    → puts ≡ option_map (λ (old : List KeptFrame). old ++ more) (Some old) → unwrap_or puts [] ≡ more
 same-puts more old puts none is =
-    ap (λ (p : Option (List PutFrame)). unwrap_or p []) is ∙ ap (λ (l : List PutFrame). l ++ more) none
+    ap (λ (p : Option (List KeptFrame)). unwrap_or p []) is ∙ ap (λ (l : List KeptFrame). l ++ more) none
 
-module _ (unit : Unit) (hosts : List Host) (wires : ℕ) (more : List PutFrame) (old new : List SinkState) (none : wires ≡ length old) where
-  wires-written : (first puts : Option (List PutFrame)) → IsNewRecord wires first
-      → puts ≡ option_map (λ (old : List PutFrame). old ++ more) first
+module _ (unit : Unit) (hosts : List Host) (wires : ℕ) (more : List KeptFrame) (old new : List SinkState) (none : wires ≡ length old) where
+  wires-written : (first puts : Option (List KeptFrame)) → IsNewRecord wires first
+      → puts ≡ option_map (λ (old : List KeptFrame). old ++ more) first
       → AreWritten unit (length old) (wire_texts hosts (unwrap_or puts []) (wire_names hosts)) old new
       → AreWritten unit (length old) (wire_texts hosts more (wire_names hosts)) old new
   wires-written None puts first is wrote = record {
@@ -235,16 +254,16 @@ module _ (unit : Unit) (hosts : List Host) (wires : ℕ) (more : List PutFrame) 
     others = wrote.others;
   }
   wires-written (Some first) puts new_is is wrote =
-      subst (λ (ps : List PutFrame). AreWritten unit (length old) (wire_texts hosts ps (wire_names hosts)) old new)
+      subst (λ (ps : List KeptFrame). AreWritten unit (length old) (wire_texts hosts ps (wire_names hosts)) old new)
       (same-puts more first puts new_is is) wrote
 
-  wires-failed : (failed : ℕ) (first puts : Option (List PutFrame)) → IsNewRecord wires first
-      → puts ≡ option_map (λ (old : List PutFrame). old ++ more) first
+  wires-failed : (failed : ℕ) (first puts : Option (List KeptFrame)) → IsNewRecord wires first
+      → puts ≡ option_map (λ (old : List KeptFrame). old ++ more) first
       → AreWrittenUpTo unit failed (wire_texts hosts (unwrap_or puts []) (wire_names hosts)) old new
       → AreWrittenUpTo unit failed (wire_texts hosts more (wire_names hosts)) old new
   wires-failed failed None puts first is wrote = absurd (omega (arith, wrote.sink, first, none))
   wires-failed failed (Some first) puts new_is is wrote =
-      subst (λ (ps : List PutFrame). AreWrittenUpTo unit failed (wire_texts hosts ps (wire_names hosts)) old new)
+      subst (λ (ps : List KeptFrame). AreWrittenUpTo unit failed (wire_texts hosts ps (wire_names hosts)) old new)
       (same-puts more first puts new_is is) wrote
 
 -- A scenario that was played.
@@ -262,9 +281,6 @@ module _ (scenario : Scenario) (traces : List (List (List ℕ))) (first play : P
 
   abbrev pub plays_in : PlaysScenario scenario traces
   plays_in = plays_of scenario said first play begins has.played
-
-  pub sockets_counted : (count : ℕ) → count ≡ length (sockets_from 0 (hosts_of plans)) → count ≡ length play.record.sockets.items
-  sockets_counted count is = is ∙ sym (sockets_count plans said first play begins has.played)
 
   hosts-told : {summary : Summary} → IsOfPlay play hosts summary → TellsHosts (hosts_of plans) (history acts) play.lan summary.hosts.items
   hosts-told {summary} of_play = hosts_tell plans said first play summary.hosts.items begins has.played
@@ -295,12 +311,12 @@ module _ (scenario : Scenario) (traces : List (List (List ℕ))) (first play : P
         };
       }
 
-  same-texts : socket_texts play ≡ texts_of plays_in
+  same-texts : socket_texts_in plans play ≡ texts_of plays_in
   same-texts = texts_are plans said first play begins has.played
 
-  puts-are : play.record.puts ≡ option_map (λ (old : List PutFrame). old ++ put_from 0 acts) first.record.puts
+  puts-are : play.record.puts ≡ option_map (λ (old : List KeptFrame). old ++ put_from 0 acts) first.record.puts
   puts-are = has.played.noted.puts
-      ∙ ap (λ (n : ℕ). option_map (λ (old : List PutFrame). old ++ put_from n acts) first.record.puts) begins.number
+      ∙ ap (λ (n : ℕ). option_map (λ (old : List KeptFrame). old ++ put_from n acts) first.record.puts) begins.number
 
   pub recorded : (wires : ℕ) → IsNewRecord wires first.record.puts → AreRecorded wires play.record.puts
   recorded wires new = still-recorded wires (put_from 0 acts) first.record.puts play.record.puts new puts-are
@@ -308,7 +324,7 @@ module _ (scenario : Scenario) (traces : List (List (List ℕ))) (first play : P
   module _ (unit : Unit) (sinks : BenchSinks) (wires : ℕ) (new : IsNewRecord wires first.record.puts)
       (counts : wires ≡ length sinks.wires_old) where
     pub benched : (events : Bool) {summary : Summary} → first.record.log ≡ new_log (map plan_name plans) events
-        → IsOfPlay play hosts summary → AreAllWritten unit (socket_texts play) (wire_texts_in plans play) sinks
+        → IsOfPlay play hosts summary → AreAllWritten unit (socket_texts_in plans play) (wire_texts_in plans play) sinks
         → Benches unit scenario traces events summary sinks
     benched events log of_play wrote =
         record {
@@ -323,7 +339,7 @@ module _ (scenario : Scenario) (traces : List (List (List ℕ))) (first play : P
           answers = run-told events log of_play;
         }
 
-    pub bench_failed : (error : BenchError) → StopsWriting unit (socket_texts play) (wire_texts_in plans play) error sinks
+    pub bench_failed : (error : BenchError) → StopsWriting unit (socket_texts_in plans play) (wire_texts_in plans play) error sinks
         → Stops unit scenario traces error sinks
     bench_failed (errors.Plan error) stops = absurd stops
     bench_failed (errors.Run stopped) stops = absurd stops

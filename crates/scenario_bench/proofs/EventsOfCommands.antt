@@ -3,15 +3,14 @@ use Rattle.std.proofs.Common.{◌≡◌, ◌<◌, ◌+◌, ◌/◌, ◌%◌, [],
 use Rattle.std.proofs.Common.{ℕ, zero, suc, List, Option, length, get_or, refl, sym, ap, append_assoc, arith}
 use Rattle.std.specs.List.{range_with_len}
 use Rattle.std.specs.Prelude.{map, option_map, unwrap_or}
-use Rattle.std.proofs.lemmas.List.{length-map, map-append}
+use Rattle.std.proofs.lemmas.List.{length-map}
 use Rattle.std.proofs.lemmas.List.FromFn.{map-range_with_len_more}
 use Rattle.std.proofs.lemmas.Option.{slice_get-get_or, slice_get-map}
 use Rattle.adapter.specs.declared.step.StepKind.TheVariants.{RxData, RxDone}
 use Rattle.eeprom.specs.Image.{address_bytes}
-use Rattle.network_plan.specs.declared.event.Event.{Event}
 use Rattle.network_plan.specs.declared.plan.HostPlan.{HostPlan}
 use Rattle.stations.specs.declared.tick.Tick.TheVariants.{Deliver, Step}
-use Rattle.scenario.specs.SoFar.{Host, Said, Interrupts, Receives, Ticks, event_of, host_of_plan, hosts_of}
+use Rattle.scenario.specs.SoFar.{Host, Said, Interrupts, Receives, Ticks, host_of_plan, hosts_of}
 use Rattle.scenario_bench.specs.EventLists.{address_of, arrival_at, event_drawn, event_of_kind, moves_at}
 
 -- one piece more is moved
@@ -23,16 +22,14 @@ moves-more host (suc piece) =
     ap (moves_at host) next
     ∙ ap (λ (later : List Said). Ticks (Step host RxData) ∷ Ticks (Step host RxDone) ∷ later) (moves-more host piece)
 
-pub moved-more : (before : List Said) (events : List Event) (moved ended : Event) (host piece : ℕ)
-    → map event_of events ≡ before ++ moves_at host piece → event_of moved ≡ Ticks (Step host RxData)
-    → event_of ended ≡ Ticks (Step host RxDone)
-    → map event_of ((events ++ moved ∷ []) ++ ended ∷ []) ≡ before ++ moves_at host (piece + 1)
-moved-more before events moved ended host piece so_far moved_is ended_is =
+pub moved-more : (before so_far more all : List Said) (moved ended : Said) (host piece : ℕ)
+    → so_far ≡ before ++ moves_at host piece → more ≡ so_far ++ moved ∷ [] → all ≡ more ++ ended ∷ []
+    → moved ≡ Ticks (Step host RxData) → ended ≡ Ticks (Step host RxDone) → all ≡ before ++ moves_at host (piece + 1)
+moved-more before so_far more all moved ended host piece is one two moved_is ended_is =
     let both : List Said = Ticks (Step host RxData) ∷ Ticks (Step host RxDone) ∷ [] in
-    ap (map event_of) (append_assoc events (moved ∷ []) (ended ∷ []))
-    ∙ map-append event_of events (moved ∷ ended ∷ [])
-    ∙ ap (λ (said : List Said). said ++ event_of moved ∷ event_of ended ∷ []) so_far
-    ∙ ap (λ (said : Said). (before ++ moves_at host piece) ++ said ∷ event_of ended ∷ []) moved_is
+    two ∙ ap (λ (said : List Said). said ++ ended ∷ []) (one ∙ ap (λ (said : List Said). said ++ moved ∷ []) is)
+    ∙ append_assoc (before ++ moves_at host piece) (moved ∷ []) (ended ∷ [])
+    ∙ ap (λ (said : Said). (before ++ moves_at host piece) ++ said ∷ ended ∷ []) moved_is
     ∙ ap (λ (said : Said). (before ++ moves_at host piece) ++ Ticks (Step host RxData) ∷ said ∷ []) ended_is
     ∙ append_assoc before (moves_at host piece) both
     ∙ ap (λ (more : List Said). before ++ more) (sym (moves-more host piece))
@@ -46,13 +43,12 @@ arrival_at-more pieces host socket =
     ∙ sym (append_assoc (Ticks (Deliver host) ∷ moves_at host pieces) (asked socket) (Receives host socket [] ∷ []))
 
 -- one more socket is asked
-pub arrives-more : (before : List Said) (events : List Event) (one : Event) (pieces host socket : ℕ)
-    → map event_of events ≡ before ++ arrival_at pieces host socket → event_of one ≡ Receives host socket []
-    → map event_of (events ++ one ∷ []) ≡ before ++ arrival_at pieces host (socket + 1)
-arrives-more before events one pieces host socket so_far is =
-    map-append event_of events (one ∷ [])
-    ∙ ap (λ (said : List Said). said ++ event_of one ∷ []) so_far
-    ∙ ap (λ (said : Said). (before ++ arrival_at pieces host socket) ++ said ∷ []) is
+pub arrives-more : (before so_far all : List Said) (one : Said) (pieces host socket : ℕ)
+    → so_far ≡ before ++ arrival_at pieces host socket → all ≡ so_far ++ one ∷ [] → one ≡ Receives host socket []
+    → all ≡ before ++ arrival_at pieces host (socket + 1)
+arrives-more before so_far all one pieces host socket is more one_is =
+    more ∙ ap (λ (said : List Said). said ++ one ∷ []) is
+    ∙ ap (λ (said : Said). (before ++ arrival_at pieces host socket) ++ said ∷ []) one_is
     ∙ append_assoc before (arrival_at pieces host socket) (Receives host socket [] ∷ [])
     ∙ ap (λ (more : List Said). before ++ more) (sym (arrival_at-more pieces host socket))
 

@@ -12,7 +12,7 @@ use Rattle.network_plan.specs.declared.event.Event.{Event}
 use Rattle.network_plan.specs.declared.reply.Reply.{Reply}
 use Rattle.scenario.specs.SoFar.{Said, event_of}
 use Rattle.wire.specs.DrainedNetworks.{NetworkDrains, said_of_drain}
-use Rattle.wire.specs.Equations.{Delivers}
+use Rattle.wire.specs.Equations.{MeetsEquations}
 use Rattle.host_calls.specs.Networks.{NetworkState}
 use Rattle.wire.specs.Runs.{RunsTo, StatesRun, caller_of, happenings, said}
 use Rattle.wire.proofs.Delivering.{delivers-join}
@@ -47,7 +47,7 @@ pub leads-ran : (a : NetworkState) (events : List Event) (replies : List Reply) 
 leads-ran a events replies b runs = record {
   states = states-ran a events runs.replies b runs.states;
   hosts = runs.hosts;
-  delivers = λ k h h' is now. subst (λ (happened : List Happening). Delivers k happened a.stations b.stations h h')
+  delivers = λ k h h' is now. subst (λ (happened : List Happening). MeetsEquations k happened a.stations b.stations h h')
       (history-ran events runs.replies) (runs.delivers k h h' is now);
 }
 
@@ -62,7 +62,7 @@ pub leads-drained : (a : NetworkState) (host steps : ℕ) (given : List GivenFra
 leads-drained a host steps given b drains = record {
   states = (b, record { buffer = refl; steps = steps; drains = drains }, refl);
   hosts = drains.others.count;
-  delivers = λ k h h' is now. subst (λ (happened : List Happening). Delivers k happened a.stations b.stations h h')
+  delivers = λ k h h' is now. subst (λ (happened : List Happening). MeetsEquations k happened a.stations b.stations h h')
       (ap (said_of_drain host buffered) (sym drains.appended) ∙ sym (append-nil (said_of_drain host buffered given)))
       (drains.delivers k h h' is now);
 }
@@ -107,7 +107,7 @@ leads-join a b c acts later one two = record {
       let some = slice_get-some b.hosts k
       (let below = slice_get_within a.hosts k was then in
       let same = one.hosts in omega (arith, below, same)) in
-      subst (λ (happened : List Happening). Delivers k happened a.stations c.stations was now)
+      subst (λ (happened : List Happening). MeetsEquations k happened a.stations c.stations was now)
       (sym (flat_map-append said_in acts later))
       (delivers-join k (history acts) (history later) a.stations b.stations c.stations was some.0 now
       (wires-of a acts b one.states) (one.delivers k was some.0 then some.1) (two.delivers k some.0 now some.1 here));

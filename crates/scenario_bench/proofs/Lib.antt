@@ -1,4 +1,4 @@
-pub mod Gives
+pub mod Appended
 pub mod Puts
 pub mod EventsOfCommands
 pub mod Printed

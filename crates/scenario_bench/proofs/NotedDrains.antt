@@ -8,25 +8,21 @@ use Rattle.std.proofs.lemmas.List.{map-append}
 use Rattle.std.proofs.lemmas.List.Sums.{fold-append}
 use Rattle.std.specs.List.{fold}
 use Rattle.packet_socket.specs.HostCalls.{Given as GivenFrame}
-use Rattle.pcap_trace.specs.Format.{Timed}
-use Rattle.delivery.specs.Happenings.{Given, Happening, Moved, given, given_in_one}
+use Rattle.delivery.specs.Happenings.{Given, Happening, Moved}
 use Rattle.wire.specs.DrainedNetworks.{said_of_drain}
 use Rattle.scenario_bench.specs.Acts.{Act, Drained, history}
 use Rattle.scenario_bench.specs.EventLines.{place_at}
-use Rattle.scenario_bench.specs.Given.{numbered_frame}
 use Rattle.scenario_bench.specs.DrainedView.{drained_frame}
-use Rattle.scenario_bench.specs.Puts.{PutFrame, PutsGrow}
+use Rattle.scenario_bench.specs.Kept.{FramesGrow, KeptFrame, PutsGrow, kept_frame, returned_frame_in, returned_in}
 use Rattle.scenario_bench.specs.RunLogs.{act_logged, acts_in, logged}
-use Rattle.scenario_bench.specs.SocketLists.{SocketFrames, with_socket_frames}
-use Rattle.scenario_bench.specs.Tallies.{AreNoted, GetsGiven, GetsSaid, TalliesGrow, TallyCounts, tallied_by, socket_behind, tally_behind}
-use Rattle.scenario_bench.specs.Tallies.{with_said}
+use Rattle.scenario_bench.specs.Tallies.{AreNoted, TalliesGrow, TallyCounts, tallied_by, tally_behind}
 use Rattle.scenario_bench.specs.declared.record.Record.{Record}
 use Rattle.scenario_bench.specs.declared.run_log.RunLog.{RunLog}
 use Rattle.scenario_bench.specs.declared.drained.DrainedFrame.{DrainedFrame}
 use Rattle.scenario_bench.specs.declared.tally.Passage.TheVariants as passage
 use Rattle.scenario_bench.specs.declared.tally.Tally.{Tally}
-use Rattle.scenario_bench.specs.RecordingLaws.{grows_join, grows_not}
-use Rattle.scenario_bench.proofs.NotedEvents.{gets_given, gets_none, puts_drained}
+use Rattle.scenario_bench.specs.RecordingLaws.{frames_join, grows_join, grows_not}
+use Rattle.scenario_bench.proofs.NotedEvents.{puts_drained, returned_none}
 
 abbrev given-at : (host : ℕ) → GivenFrame → Happening
 given-at host one = Given host one.socket one.frame
@@ -37,9 +33,10 @@ moved-counts : (moves host k : ℕ) (tally : Tally) → fold (tallied_by k) tall
 moved-counts zero host k tally = refl
 moved-counts (suc moves) host k tally = moved-counts moves host k tally
 
-moved-gives : (moves host k s : ℕ) → given k s (replicate moves (Moved host)) ≡ []
-moved-gives zero host k s = refl
-moved-gives (suc moves) host k s = moved-gives moves host k s
+moved-gives : (number host moves : ℕ) (later : List Happening)
+    → returned_in number (replicate moves (Moved host) ++ later) ≡ returned_in number later
+moved-gives number host zero later = refl
+moved-gives number host (suc moves) later = moved-gives number host moves later
 
 moves-count : (host buffered k : ℕ) (frames : List GivenFrame) (tally : Tally)
     → tally_behind (history (Drained host 0 frames ∷ [])) k tally ≡ tally_behind (history (Drained host buffered frames ∷ [])) k tally
@@ -49,26 +46,11 @@ moves-count host buffered k frames tally =
     sym (ap (fold (tallied_by k) tally) (append_assoc moved said []) ∙ fold-append (tallied_by k) tally moved (said ++ [])
     ∙ ap (λ (t : Tally). fold (tallied_by k) t (said ++ [])) (moved-counts buffered host k tally))
 
-moves-give : (host buffered number : ℕ) (frames : List GivenFrame) (socket : SocketFrames)
-    → socket_behind number (Drained host 0 frames ∷ []) socket ≡ socket_behind number (Drained host buffered frames ∷ []) socket
-moves-give host buffered number frames socket =
-    let said = map (given-at host) frames in
-    ap (λ (gs : List (List ℕ)). with_socket_frames (map (numbered_frame number) gs ++ []) socket)
-    (sym (flat_map-append (given_in_one socket.host socket.socket) (replicate buffered (Moved host)) said
-    ∙ ap (λ (gs : List (List ℕ)). gs ++ given socket.host socket.socket said) (moved-gives buffered host socket.host socket.socket)))
-
 same-tally : (host buffered k : ℕ) (frames : List GivenFrame) (found : Option Tally)
     → option_map (tally_behind (history (Drained host 0 frames ∷ [])) k) found
     ≡ option_map (tally_behind (history (Drained host buffered frames ∷ [])) k) found
 same-tally host buffered k frames None = refl
 same-tally host buffered k frames (Some tally) = ap (λ (t : Tally). Some t) (moves-count host buffered k frames tally)
-
-same-socket : (host buffered number : ℕ) (frames : List GivenFrame) (found : Option SocketFrames)
-    → option_map (socket_behind number (Drained host 0 frames ∷ [])) found
-    ≡ option_map (socket_behind number (Drained host buffered frames ∷ [])) found
-same-socket host buffered number frames None = refl
-same-socket host buffered number frames (Some socket) =
-    ap (λ (s : SocketFrames). Some s) (moves-give host buffered number frames socket)
 
 -- a list of one entry
 
@@ -95,8 +77,9 @@ pub noted_moves : (host buffered : ℕ) (frames : List GivenFrame) (a b : Record
 noted_moves host buffered frames a b noted = record {
   number = noted.number;
   hosts = λ k. noted.hosts k ∙ same-tally host buffered k frames (slice_get a.hosts.items k);
-  sockets = λ k. noted.sockets k ∙ same-socket host buffered a.number frames (slice_get a.sockets.items k);
-  puts = subst (λ (more : List PutFrame). PutsGrow (more ++ []) a.puts b.puts)
+  returned = subst (λ (more : List KeptFrame). FramesGrow (more ++ []) a.returned b.returned)
+      (sym (moved-gives a.number host buffered (map (given-at host) frames))) noted.returned;
+  puts = subst (λ (more : List KeptFrame). PutsGrow (more ++ []) a.puts b.puts)
       (puts_drained a.number host 0 frames ∙ sym (puts_drained a.number host buffered frames)) noted.puts;
   logged =
       let one = lone-entry noted.logged.entries (Drained host 0 frames) a.number a.log noted.logged.are in
@@ -105,27 +88,12 @@ noted_moves host buffered frames a b noted = record {
 
 -- Delivered frames, in order.
 
-gets-further : (number : ℕ) (xs ys : List Happening) (found : Option SocketFrames)
-    → option_map (with_said number ys) (option_map (with_said number xs) found) ≡ option_map (with_said number (xs ++ ys)) found
-gets-further number xs ys None = refl
-gets-further number xs ys (Some socket) =
-    let of : List Happening → List (List ℕ) = given socket.host socket.socket in
-    ap (λ (frames : List Timed). Some (record socket { frames = frames }))
-    (append_assoc socket.frames (map (numbered_frame number) (of xs)) (map (numbered_frame number) (of ys))
-    ∙ ap (λ (frames : List Timed). socket.frames ++ frames)
-    (sym (ap (map (numbered_frame number)) (flat_map-append (given_in_one socket.host socket.socket) xs ys)
-    ∙ map-append (numbered_frame number) (of xs) (of ys))))
-
-gets-join : (number : ℕ) (xs ys : List Happening) (a b c : List SocketFrames) → GetsSaid number xs a b → GetsSaid number ys b c
-    → GetsSaid number (xs ++ ys) a c
-gets-join number xs ys a b c one two k =
-    two k ∙ ap (option_map (with_said number ys)) (one k) ∙ gets-further number xs ys (slice_get a k)
-
 pub none_counted : (host : ℕ) (hosts : List Tally) → TalliesGrow (said_of_drain host 0 []) hosts hosts
 none_counted host hosts = grows_not hosts
 
-pub none_got : (host number : ℕ) (sockets : List SocketFrames) → GetsSaid number (said_of_drain host 0 []) sockets sockets
-none_got host number sockets = gets_none number sockets
+pub none_got : (host number : ℕ) (returned : List KeptFrame)
+    → FramesGrow (returned_in number (said_of_drain host 0 [])) returned returned
+none_got host number returned = returned_none returned
 
 -- one more of these frames
 more-said : (host place : ℕ) (all : List DrainedFrame) (one : DrainedFrame) → place < length all → one ≡ slice_index_or all place one
@@ -144,13 +112,15 @@ one_counted host place all one a b c below there has counts =
     subst (λ (l : List Happening). TalliesGrow l a c) (more-said host place all one below there)
     (grows_join (said_of_drain host 0 (map drained_frame (take place all))) (given-at host (drained_frame one) ∷ []) a b c has counts)
 
-pub one_got : (host number place : ℕ) (all : List DrainedFrame) (one : DrainedFrame) (frame : List ℕ) (a b c : List SocketFrames)
+pub one_got : (host number place : ℕ) (all : List DrainedFrame) (one : DrainedFrame) (frame : List ℕ) (a b c : List KeptFrame)
     → place < length all → one ≡ slice_index_or all place one → frame ≡ one.frame
-    → GetsSaid number (said_of_drain host 0 (map drained_frame (take place all))) a b
-    → GetsGiven host one.socket (numbered_frame number frame) b c
-    → GetsSaid number (said_of_drain host 0 (map drained_frame (take (place + 1) all))) a c
-one_got host number place all one frame a b c below there is has gets =
-    subst (λ (l : List Happening). GetsSaid number l a c) (more-said host place all one below there)
-    (gets-join number (said_of_drain host 0 (map drained_frame (take place all))) (given-at host (drained_frame one) ∷ []) a b c has
-    (gets_given host one.socket number one.frame b c
-    (subst (λ (fr : List ℕ). GetsGiven host one.socket (numbered_frame number fr) b c) is gets)))
+    → FramesGrow (returned_in number (said_of_drain host 0 (map drained_frame (take place all)))) a b
+    → c ≡ b ++ kept_frame host one.socket number frame ∷ []
+    → FramesGrow (returned_in number (said_of_drain host 0 (map drained_frame (take (place + 1) all)))) a c
+one_got host number place all one frame a b c below there is has grown =
+    let before = said_of_drain host 0 (map drained_frame (take place all)) in
+    let last = given-at host (drained_frame one) ∷ [] in
+    subst (λ (l : List Happening). FramesGrow (returned_in number l) a c) (more-said host place all one below there)
+    (subst (λ (l : List KeptFrame). FramesGrow l a c) (sym (flat_map-append (returned_frame_in number) before last))
+    (frames_join (returned_in number before) (returned_in number last) a b c has
+    (grown ∙ ap (λ (fr : List ℕ). b ++ kept_frame host one.socket number fr ∷ []) is)))

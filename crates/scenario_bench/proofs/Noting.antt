@@ -4,7 +4,7 @@ use Rattle.std.proofs.Common.{slice_get, slice_set, option_map, if◌then◌else
 use Rattle.std.proofs.lemmas.Bool.Decides.{eqb_tells}
 use Rattle.std.proofs.lemmas.Option.{slice_get_within}
 use Rattle.circular_buffer.proofs.Places.{slice_get-set_other, slice_get-set_same}
-use Rattle.delivery.specs.Happenings.{Moved, told_of}
+use Rattle.delivery.specs.Happenings.{Moved, outcome_happenings}
 use Rattle.adapter.specs.Outcomes.{FrameOutcome}
 use Rattle.adapter.specs.declared.outcome.Outcome.TheVariants as outcome
 use Rattle.scenario_bench.specs.RecordingLaws.{stays}
@@ -82,7 +82,7 @@ some-is : {X : Type 0} → (a b : X) → Some a ≡ Some b → a ≡ b
 some-is a b is = cc
 
 pub told_passage : (host : ℕ) (one : FrameOutcome) (found : Passage) (old new : List Tally) → IsPassage one (Some found)
-    → TallyCounts host found old new → TalliesGrow (told_of host one) old new
+    → TallyCounts host found old new → TalliesGrow (outcome_happenings host one) old new
 told_passage host (outcome.Put frame) found old new is counts k = counts k
     ∙ ap (λ (p : Passage). option_map (counted_at k host p) (slice_get old k)) (some-is found passage.Put is)
 told_passage host (outcome.Delivered frame fate) found old new is counts k = counts k
@@ -93,7 +93,8 @@ stays-moved : (host k : ℕ) (found : Option Tally) → found ≡ option_map (ta
 stays-moved host k None = refl
 stays-moved host k (Some tally) = refl
 
-pub told_nothing : (host : ℕ) (one : FrameOutcome) (old : List Tally) → IsPassage one None → TalliesGrow (told_of host one) old old
+pub told_nothing : (host : ℕ) (one : FrameOutcome) (old : List Tally) → IsPassage one None
+    → TalliesGrow (outcome_happenings host one) old old
 told_nothing host (outcome.Put frame) old is k = cc
 told_nothing host (outcome.Delivered frame fate) old is k = cc
 told_nothing host outcome.Moved old is k = stays-moved host k (slice_get old k)

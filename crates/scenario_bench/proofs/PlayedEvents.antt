@@ -61,7 +61,7 @@ noted-lined : (acts : List Act) (line : ℕ) (a b : Play) → AreNoted acts (lin
 noted-lined acts line a b noted = record {
   number = noted.number;
   hosts = noted.hosts;
-  sockets = noted.sockets;
+  returned = noted.returned;
   puts = noted.puts;
   logged = record { entries = noted.logged.entries; are = noted.logged.are; log = noted.logged.log };
 }
@@ -278,6 +278,12 @@ fed-frames : (hosts : List Host) (sender : ℕ) (traces : List Trace) (place : �
     → unwrap_or (slice_get (map frames_of traces) place) [] ≡ unwrap_or (option_map frames_of found) []
 fed-frames hosts sender traces place found is =
     ap (λ (o : Option (List (List ℕ))). unwrap_or o []) (slice_get-map frames_of traces place ∙ ap (option_map frames_of) is)
+
+-- what holds of the events of a command holds of another name of it
+pub of_same : (Holds : List Said → Type 0) (hosts : List Host) (traces : List (List (List ℕ))) (one other : Command) → one ≡ other
+    → Holds (events_of hosts traces (said_of other)) → Holds (events_of hosts traces (said_of one))
+of_same Holds hosts traces one other is holds =
+    subst Holds (sym (ap (λ (c : Command). events_of hosts traces (said_of c)) is)) holds
 
 -- what holds of these events holds of the command that has them
 as-event : (hosts : List Host) (traces : List (List (List ℕ))) (one : Event)

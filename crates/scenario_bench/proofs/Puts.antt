@@ -1,6 +1,6 @@
--- Frames that were put, and the traces of wires.
+-- Frames that a run records, and the traces of sockets and wires.
 use Rattle.std.proofs.Common.{◌≡◌, ◌<◌, ◌≤◌, ◌+◌, ◌++◌, ◌∷◌, [], ℕ, Bool, true, false, List, Option, Some, length, drop, take}
-use Rattle.std.proofs.Common.{◌||◌, not, get_or, if◌then◌else◌, option_map, slice_get, slice_index_or, sum_by}
+use Rattle.std.proofs.Common.{◌||◌, get_or, if◌then◌else◌, option_map, slice_get, slice_index_or, sum_by}
 use Rattle.std.proofs.Common.{refl, sym, ap, subst, ◌∙◌, append_assoc, append-nil, arith, bytes_eq, string_bytes}
 use Rattle.std.specs.Borrow.{Bor}
 use Rattle.std.specs.Io.KnownBytes.{Appends, append_known}
@@ -13,96 +13,94 @@ use Rattle.network_plan.specs.declared.plan.HostPlan.{HostPlan}
 use Rattle.pcap_trace.specs.Devices.{AppendsFront, Grows}
 use Rattle.pcap_trace.specs.Format.{Timed, file_header, packet_of, written}
 use Rattle.pcap_trace.specs.declared.unit.Unit.{Unit}
-use Rattle.pcap_trace.proofs.Flushed.{GoesOut, goes-header, goes-more, goes-stops}
+use Rattle.pcap_trace.proofs.Flushed.{GoesOut, goes-ends, goes-header, goes-more, goes-stops}
 use Rattle.pcap_trace.proofs.Packets.{written-append, written-push}
 use Rattle.scenario.specs.SoFar.{Host, host_of_plan, hosts_of}
-use Rattle.scenario_bench.specs.EventLists.{wire_name_of}
 use Rattle.scenario_bench.specs.Given.{numbered_frame}
-use Rattle.scenario_bench.specs.PutView.{HasPutSize, frames_from, length_in}
-use Rattle.scenario_bench.specs.Puts.{PutFrame, frames_on_wire, put_frame, wire_names, wire_texts, with_wire_of}
+use Rattle.scenario_bench.specs.Kept.{KeptFrame, frames_where, is_of_socket, socket_texts}
+use Rattle.scenario_bench.specs.KeptView.{HasKeptSize, frame_with, frames_from, length_in}
+use Rattle.scenario_bench.specs.Puts.{frames_on_wire, wire_names, wire_texts, with_wire_of}
 use Rattle.scenario_bench.specs.WireLists.{names_in}
-use Rattle.scenario_bench.specs.declared.put.PutInfo.{PutInfo}
+use Rattle.scenario_bench.specs.declared.kept.FrameInfo.{FrameInfo}
 
 -- A frame more.
 
 -- one more frame, whose bytes follow the others
-frames-more : (infos : List PutInfo) (bytes : List ℕ) (info : PutInfo) (frame : List ℕ) → sum_by length_in infos ≡ length bytes
+frames-more : (infos : List FrameInfo) (bytes : List ℕ) (info : FrameInfo) (frame : List ℕ) → sum_by length_in infos ≡ length bytes
     → info.length ≡ length frame
-    → frames_from (infos ++ info ∷ []) (bytes ++ frame) ≡ frames_from infos bytes ++ put_frame info.host info.number frame ∷ []
+    → frames_from (infos ++ info ∷ []) (bytes ++ frame) ≡ frames_from infos bytes ++ frame_with info frame ∷ []
 frames-more [] bytes info frame all is =
     let none : bytes ≡ [] = nil_from_length bytes (sym all) in
     let whole : take info.length frame ≡ frame = ap (λ (n : ℕ). take n frame) is ∙ ap (take (length frame)) (sym (append-nil frame))
     ∙ take_at frame [] (length frame) refl in
-    ap (λ (xs : List ℕ). put_frame info.host info.number (take info.length (xs ++ frame)) ∷ []) none
-    ∙ ap (λ (xs : List ℕ). put_frame info.host info.number xs ∷ []) whole
+    ap (λ (xs : List ℕ). frame_with info (take info.length (xs ++ frame)) ∷ []) none
+    ∙ ap (λ (xs : List ℕ). frame_with info xs ∷ []) whole
 frames-more (first ∷ infos) bytes info frame all is =
     let parts = sum_by-cons length_in first infos in
     let fits : first.length ≤ length bytes = omega (arith, parts, all) in
     let rest : sum_by length_in infos ≡ length (drop first.length bytes) = omega (arith, parts, all, length-drop first.length bytes) in
-    ap (λ (xs : List ℕ). put_frame first.host first.number xs ∷ frames_from (infos ++ info ∷ []) (drop first.length (bytes ++ frame)))
+    ap (λ (xs : List ℕ). frame_with first xs ∷ frames_from (infos ++ info ∷ []) (drop first.length (bytes ++ frame)))
     (take-append-le first.length bytes frame fits)
-    ∙ ap (λ (xs : List ℕ). put_frame first.host first.number (take first.length bytes) ∷ frames_from (infos ++ info ∷ []) xs)
+    ∙ ap (λ (xs : List ℕ). frame_with first (take first.length bytes) ∷ frames_from (infos ++ info ∷ []) xs)
     (drop-append-le first.length bytes frame fits)
-    ∙ ap (λ (all : List PutFrame). put_frame first.host first.number (take first.length bytes) ∷ all)
+    ∙ ap (λ (all : List KeptFrame). frame_with first (take first.length bytes) ∷ all)
     (frames-more infos (drop first.length bytes) info frame rest is)
 
-pub put_more : (puts : List PutFrame) (info : PutInfo) (frame : List ℕ) (infos more : List PutInfo) (bytes longer : List ℕ)
+pub put_more : (puts : List KeptFrame) (info : FrameInfo) (frame : List ℕ) (infos more : List FrameInfo) (bytes longer : List ℕ)
     → puts ≡ frames_from infos bytes → sum_by length_in infos ≡ length bytes → info.length ≡ length frame → more ≡ infos ++ info ∷ []
-    → longer ≡ bytes ++ frame → frames_from more longer ≡ puts ++ put_frame info.host info.number frame ∷ []
+    → longer ≡ bytes ++ frame → frames_from more longer ≡ puts ++ frame_with info frame ∷ []
 put_more puts info frame infos more bytes longer is all size more_is longer_is =
-    ap (λ (xs : List PutInfo). frames_from xs longer) more_is
+    ap (λ (xs : List FrameInfo). frames_from xs longer) more_is
     ∙ ap (frames_from (infos ++ info ∷ [])) longer_is
     ∙ frames-more infos bytes info frame all size
-    ∙ ap (λ (all : List PutFrame). all ++ put_frame info.host info.number frame ∷ []) (sym is)
+    ∙ ap (λ (all : List KeptFrame). all ++ frame_with info frame ∷ []) (sym is)
 
 -- Writing.
 
--- The first frames of this wire were written or wait; these are left, and these are their bytes.
-pub record HasPut (unit : Unit) (hosts : List Host) (wire : List ℕ) (all : List PutFrame) (infos : List PutInfo) (bytes : List ℕ)
+-- The first of the frames that pass the test were written or wait; these are left, and these are their bytes.
+pub record HasKept (unit : Unit) (test : ℕ → ℕ → Bool) (all : List KeptFrame) (infos : List FrameInfo) (bytes : List ℕ)
     (before now : Option (List ℕ)) (waiting : List ℕ) : Type 0 where
   pub front : List Timed
-  pub parts : frames_on_wire hosts wire all ≡ front ++ frames_on_wire hosts wire (frames_from infos bytes)
+  pub parts : frames_where test all ≡ front ++ frames_where test (frames_from infos bytes)
   pub size : sum_by length_in infos ≡ length bytes
-  pub short : AllByRecursion HasPutSize infos
+  pub short : AllByRecursion HasKeptSize infos
   pub goes : GoesOut before now waiting (written unit front)
 
-module _ (hosts : List Host) (wire : List ℕ) where
-  pub puts-first : (unit : Unit) (all : List PutFrame) (infos list : List PutInfo) (bytes slice : List ℕ) (before : Option (List ℕ))
+module _ (test : ℕ → ℕ → Bool) where
+  pub puts-first : (unit : Unit) (all : List KeptFrame) (infos list : List FrameInfo) (bytes slice : List ℕ) (before : Option (List ℕ))
       (waiting : List ℕ)
       → all ≡ frames_from infos bytes → list ≡ infos → slice ≡ bytes → sum_by length_in infos ≡ length bytes
-      → AllByRecursion HasPutSize infos → waiting ≡ file_header unit → HasPut unit hosts wire all list slice before before waiting
+      → AllByRecursion HasKeptSize infos → waiting ≡ file_header unit → HasKept unit test all list slice before before waiting
   puts-first unit all infos list bytes slice before waiting is list_is slice_is size short begun = record {
     front = [];
-    parts = ap (frames_on_wire hosts wire) (is ∙ sym (ap (λ (xs : List PutInfo). frames_from xs slice) list_is
+    parts = ap (frames_where test) (is ∙ sym (ap (λ (xs : List FrameInfo). frames_from xs slice) list_is
         ∙ ap (frames_from infos) slice_is));
     size = ap (sum_by length_in) list_is ∙ size ∙ sym (ap length slice_is);
-    short = subst (AllByRecursion HasPutSize) (sym list_is) short;
+    short = subst (AllByRecursion HasKeptSize) (sym list_is) short;
     goes = goes-header unit before waiting begun;
   }
-
-  abbrev pub on-wire : PutInfo → Bool
-  on-wire info = bytes_eq (wire_name_of hosts info.host) wire
 
   abbrev if-here : Bool → Timed → List Timed
   if-here here frame = if here then frame ∷ [] else []
 
   -- what the first of the frames that are left adds
-  next : (all : List PutFrame) (info : PutInfo) (infos list : List PutInfo) (frame bytes rest : List ℕ) (here : Bool) (front : List Timed)
-      → list ≡ info ∷ infos → frame ≡ take info.length bytes → rest ≡ drop info.length bytes → on-wire info ≡ here
-      → frames_on_wire hosts wire all ≡ front ++ frames_on_wire hosts wire (frames_from list bytes)
-      → frames_on_wire hosts wire all ≡ (front ++ if-here here (numbered_frame info.number frame))
-      ++ frames_on_wire hosts wire (frames_from infos rest)
+  next : (all : List KeptFrame) (info : FrameInfo) (infos list : List FrameInfo) (frame bytes rest : List ℕ) (here : Bool)
+      (front : List Timed)
+      → list ≡ info ∷ infos → frame ≡ take info.length bytes → rest ≡ drop info.length bytes → test info.host info.socket ≡ here
+      → frames_where test all ≡ front ++ frames_where test (frames_from list bytes)
+      → frames_where test all ≡ (front ++ if-here here (numbered_frame info.number frame))
+      ++ frames_where test (frames_from infos rest)
   next all info infos list frame bytes rest here front is frame_is rest_is on parts =
       let one : List ℕ → Timed = numbered_frame info.number in
-      let later : List ℕ → List Timed = λ xs. frames_on_wire hosts wire (frames_from infos xs) in
+      let later : List ℕ → List Timed = λ xs. frames_where test (frames_from infos xs) in
       parts
-      ∙ ap (λ (xs : List PutInfo). front ++ frames_on_wire hosts wire (frames_from xs bytes)) is
+      ∙ ap (λ (xs : List FrameInfo). front ++ frames_where test (frames_from xs bytes)) is
       ∙ ap (λ (b : Bool). front ++ (if-here b (one (take info.length bytes)) ++ later (drop info.length bytes))) on
       ∙ ap (λ (xs : List ℕ). front ++ (if-here here (one xs) ++ later (drop info.length bytes))) (sym frame_is)
       ∙ ap (λ (xs : List ℕ). front ++ (if-here here (one frame) ++ later xs)) (sym rest_is)
       ∙ sym (append_assoc front (if-here here (one frame)) (later rest))
 
-  left : (info : PutInfo) (infos list : List PutInfo) (bytes rest : List ℕ) → list ≡ info ∷ infos → rest ≡ drop info.length bytes
+  left : (info : FrameInfo) (infos list : List FrameInfo) (bytes rest : List ℕ) → list ≡ info ∷ infos → rest ≡ drop info.length bytes
       → sum_by length_in list ≡ length bytes → sum_by length_in infos ≡ length rest
   left info infos list bytes rest is rest_is size =
       let sizes : sum_by length_in (info ∷ infos) ≡ length bytes = sym (ap (sum_by length_in) is) ∙ size in
@@ -111,45 +109,63 @@ module _ (hosts : List Host) (wire : List ℕ) where
       omega (arith, sizes, parts, length-drop info.length bytes) in
       behind ∙ sym (ap length rest_is)
 
-  -- whether the wire of a frame's host has another name
-  pub on-wire-is : (info : PutInfo) (name : List ℕ) (differs here : Bool) → name ≡ wire_name_of hosts info.host
-      → differs ≡ not (bytes_eq name wire) → differs ≡ not here → on-wire info ≡ here
-  on-wire-is info name differs here named tests is =
-      ap (λ (n : List ℕ). bytes_eq n wire) (sym named) ∙ same-not (bytes_eq name wire) here (sym tests ∙ is)
-    where
-      same-not : (a b : Bool) → not a ≡ not b → a ≡ b
-      same-not true true e = refl
-      same-not true false e = cc
-      same-not false true e = cc
-      same-not false false e = refl
-
-  pub puts-written : (unit : Unit) (all : List PutFrame) (info : PutInfo) (infos list : List PutInfo) (frame bytes rest : List ℕ)
+  pub puts-written : (unit : Unit) (all : List KeptFrame) (info : FrameInfo) (infos list : List FrameInfo) (frame bytes rest : List ℕ)
       (before now later : Option (List ℕ)) (waiting more : List ℕ)
-      → list ≡ info ∷ infos → frame ≡ take info.length bytes → rest ≡ drop info.length bytes → on-wire info ≡ true
-      → HasPut unit hosts wire all list bytes before now waiting
+      → list ≡ info ∷ infos → frame ≡ take info.length bytes → rest ≡ drop info.length bytes → test info.host info.socket ≡ true
+      → HasKept unit test all list bytes before now waiting
       → Appends (append_known now waiting) (append_known later more) (packet_of unit (numbered_frame info.number frame)) → Grows now later
-      → HasPut unit hosts wire all infos rest before later more
+      → HasKept unit test all infos rest before later more
   puts-written unit all info infos list frame bytes rest before now later waiting more is frame_is rest_is on has went grown =
       let one = numbered_frame info.number frame in
       record {
         front = has.front ++ one ∷ [];
         parts = next all info infos list frame bytes rest true has.front is frame_is rest_is on has.parts;
         size = left info infos list bytes rest is rest_is has.size;
-        short = (subst (AllByRecursion HasPutSize) is has.short).1;
+        short = (subst (AllByRecursion HasKeptSize) is has.short).1;
         goes = subst (GoesOut before later more) (sym (written-push unit has.front one))
             (goes-more before now later waiting more (written unit has.front) (packet_of unit one) has.goes went grown);
       }
 
-  pub puts-stops : (unit : Unit) (all : List PutFrame) (infos : List PutInfo) (bytes : List ℕ) (before now later : Option (List ℕ))
-      (waiting : List ℕ) → HasPut unit hosts wire all infos bytes before now waiting → AppendsFront now later waiting
-      → AppendsFront before later (written unit (frames_on_wire hosts wire all))
+  -- a frame that doesn't pass the test is passed over
+  pub puts-passed : (unit : Unit) (all : List KeptFrame) (info : FrameInfo) (infos list : List FrameInfo) (bytes rest : List ℕ)
+      (before now : Option (List ℕ)) (waiting : List ℕ)
+      → list ≡ info ∷ infos → rest ≡ drop info.length bytes → test info.host info.socket ≡ false
+      → HasKept unit test all list bytes before now waiting → HasKept unit test all infos rest before now waiting
+  puts-passed unit all info infos list bytes rest before now waiting is rest_is on has = record {
+    front = has.front;
+    parts = next all info infos list (take info.length bytes) bytes rest false has.front is refl rest_is on has.parts
+        ∙ ap (λ (front : List Timed). front ++ frames_where test (frames_from infos rest)) (append-nil has.front);
+    size = left info infos list bytes rest is rest_is has.size;
+    short = (subst (AllByRecursion HasKeptSize) is has.short).1;
+    goes = has.goes;
+  }
+
+  pub puts-stops : (unit : Unit) (all : List KeptFrame) (infos : List FrameInfo) (bytes : List ℕ) (before now later : Option (List ℕ))
+      (waiting : List ℕ) → HasKept unit test all infos bytes before now waiting → AppendsFront now later waiting
+      → AppendsFront before later (written unit (frames_where test all))
   puts-stops unit all infos bytes before now later waiting has front =
-      let rest = frames_on_wire hosts wire (frames_from infos bytes) in
+      let rest = frames_where test (frames_from infos bytes) in
       subst (λ (bytes : List ℕ). AppendsFront before later bytes) (sym (ap (written unit) has.parts ∙ written-append unit has.front rest))
       (goes-stops before now later waiting (written unit has.front) (flat_map (packet_of unit) rest) has.goes front)
 
+  pub puts-ends : (unit : Unit) (all : List KeptFrame) (infos : List FrameInfo) (bytes : List ℕ) (before now later : Option (List ℕ))
+      (waiting : List ℕ) → infos ≡ [] → HasKept unit test all infos bytes before now waiting → Appends now later waiting
+      → Appends before later (written unit (frames_where test all))
+  puts-ends unit all infos bytes before now later waiting none has went =
+      subst (Appends before later) (sym (ap (written unit) (has.parts
+      ∙ ap (λ (xs : List FrameInfo). has.front ++ frames_where test (frames_from xs bytes)) none ∙ append-nil has.front)))
+      (goes-ends before now later waiting (written unit has.front) has.goes went)
+
+-- a socket's text
+pub socket_text_at : (returned : List KeptFrame) (sockets : List (ℕ × ℕ)) (place : ℕ) (d : ℕ × ℕ) → place < length sockets
+    → slice_get (socket_texts returned sockets) place
+    ≡ Some (frames_where (is_of_socket (get_or sockets place d).0 (get_or sockets place d).1) returned)
+socket_text_at returned sockets place d below =
+    let text : ℕ × ℕ → List Timed = λ at. frames_where (is_of_socket at.0 at.1) returned in
+    slice_get-map text sockets place ∙ ap (option_map text) (slice_get-get_or sockets place d below)
+
 -- a wire's text
-pub wire_text_at : (hosts : List Host) (puts : List PutFrame) (wires : List (Bor (List ℕ))) (place : ℕ) (d : Bor (List ℕ))
+pub wire_text_at : (hosts : List Host) (puts : List KeptFrame) (wires : List (Bor (List ℕ))) (place : ℕ) (d : Bor (List ℕ))
     → place < length wires
     → slice_get (wire_texts hosts puts (names_in wires)) place ≡ Some (frames_on_wire hosts (get_or wires place d).now puts)
 wire_text_at hosts puts wires place d below =

@@ -11,9 +11,9 @@ use Rattle.stations.specs.declared.outcomes.Numbered.{Numbered}
 use Rattle.stations.specs.declared.tick.Tick.{Tick}
 use Rattle.delivery.proofs.ToldAround.{around_ticks}
 use Rattle.delivery.specs.Happenings.{Accepted, Disabled, Enabled, Given, GivenUp, Happening, Put, Reached}
-use Rattle.delivery.specs.Happenings.{given, tick_host, told, told_alone}
-use Rattle.delivery.specs.Happenings.{told_around}
-use Rattle.delivery.specs.Happenings.{told_of}
+use Rattle.delivery.specs.Happenings.{tick_host, tick_happenings, lone_tick_happenings}
+use Rattle.delivery.specs.Happenings.{tick_happenings_around}
+use Rattle.delivery.specs.Happenings.{outcome_happenings}
 use Rattle.network_plan.specs.Answers.{FrameAnswer}
 use Rattle.network_plan.specs.declared.event.Event.{Event}
 use Rattle.network_plan.specs.declared.event.Event.TheVariants as event
@@ -21,22 +21,21 @@ use Rattle.network_plan.specs.declared.reply.Answer.TheVariants as answer
 use Rattle.network_plan.specs.declared.reply.Reply.{Reply}
 use Rattle.wire.specs.RunObservers.{AreOfTicks, TellsReply, ending, happened_of, played_ticks, tick_in}
 use Rattle.wire.specs.RunObserverLaws.{told_happened}
-use Rattle.wire.specs.Runs.{accepted_of, given_of, joined_of, left_of, said}
+use Rattle.wire.specs.Runs.{accepted_by_answer, given_by_answer, joined_of, left_by_answer, said}
 use Rattle.scenario_bench.specs.Acts.{Ran}
 use Rattle.scenario_bench.specs.EventLines.{paired, place_at}
-use Rattle.scenario_bench.specs.Given.{next_number, numbered_frame}
-use Rattle.scenario_bench.specs.Puts.{PutFrame, PutsGrow, put_frame_in, put_frames_in}
+use Rattle.scenario_bench.specs.Given.{next_number}
+use Rattle.scenario_bench.specs.Kept.{FramesGrow, KeptFrame, PutsGrow, put_frame_in, put_frames_in, returned_in}
 use Rattle.scenario_bench.specs.Recording.{IsInOrder, NotesAnswer, NotesLine, HearsTicks, RecordsReplies, TellsReset, answered}
 use Rattle.scenario_bench.specs.RunLogs.{log_ended, log_heard}
-use Rattle.scenario_bench.specs.SocketLists.{SocketFrames, with_socket_frames}
 use Rattle.scenario_bench.specs.Tallies.{TalliesGrow, given_up_of, grown_by, tallied_by, tally_given_up, counted_once}
-use Rattle.scenario_bench.specs.Tallies.{passage_by, tally_behind, with_said}
+use Rattle.scenario_bench.specs.Tallies.{passage_by, tally_behind}
 use Rattle.scenario_bench.specs.declared.record.Record.{Record}
 use Rattle.scenario_bench.specs.declared.tally.Passage.{Passage}
 use Rattle.scenario_bench.specs.declared.tally.Passage.TheVariants as passage
 use Rattle.scenario_bench.specs.declared.tally.Tally.{Tally}
 use Rattle.scenario_bench.proofs.AroundTicks.{AreQuiet, grows_around, joins_quiet, leaves_quiet, puts_around}
-use Rattle.scenario_bench.proofs.NotedEvents.{gets_none, given-accepted, given-said, noted}
+use Rattle.scenario_bench.proofs.NotedEvents.{given-accepted, given-said, noted}
 use Rattle.scenario_bench.specs.RecordingLaws.{grows_join}
 
 first : (a b : Tick) (list : List Tick) (others : List Tick) → b ∷ others ≡ a ∷ list → b ≡ a
@@ -180,7 +179,7 @@ none-more list a b c ticks none =
 
 -- an accepted frame is counted last, and said first
 accepted-last : (list : List Happening) (host : ℕ) (frame : List ℕ) (one : FrameAnswer) (a b c : List Tally) → TalliesGrow list a b
-    → TalliesGrow (accepted_of host frame one) b c → TalliesGrow (accepted_of host frame one ++ list) a c
+    → TalliesGrow (accepted_by_answer host frame one) b c → TalliesGrow (accepted_by_answer host frame one ++ list) a c
 accepted-last list host frame (answer.Sent (Ok u)) a b c ticks sent = λ k.
     sent k ∙ ap (option_map (tally_behind (Accepted host frame ∷ []) k)) (ticks k) ∙ grows-as list host frame k (slice_get a k)
 accepted-last list host frame (answer.Sent (Err error)) a b c ticks sent = none-more list a b c ticks sent
@@ -188,21 +187,22 @@ accepted-last list host frame _ a b c ticks sent = none-more list a b c ticks se
 
 -- the outcome of a tick by itself
 alone : (one : Tick) (ticks : List TickTold) → map tick_in ticks ≡ one ∷ []
-    → told_alone one (map note_of ticks) ≡ flat_map happened_of ticks
+    → lone_tick_happenings one (map note_of ticks) ≡ flat_map happened_of ticks
 alone one [] same = absurd (cc)
-alone one (told ∷ []) same =
-    ap (λ (t : Tick). told_of (tick_host t) told.outcome) (sym (first one told.tick [] [] same))
-    ∙ sym (append-nil (told_of (tick_host told.tick) told.outcome))
-alone one (told ∷ next ∷ later) same =
-    let none : next.tick ∷ map tick_in later ≡ [] = rest one told.tick [] (next.tick ∷ map tick_in later) same in
+alone one (tick_happenings ∷ []) same =
+    ap (λ (t : Tick). outcome_happenings (tick_host t) tick_happenings.outcome) (sym (first one tick_happenings.tick [] [] same))
+    ∙ sym (append-nil (outcome_happenings (tick_host tick_happenings.tick) tick_happenings.outcome))
+alone one (tick_happenings ∷ next ∷ later) same =
+    let none : next.tick ∷ map tick_in later ≡ [] = rest one tick_happenings.tick [] (next.tick ∷ map tick_in later) same in
     absurd (cc)
 
 -- a call of groups is said in the midst of what its ticks say, and changes no count
 around-grows : (middle : List Happening) → AreQuiet middle → (list : List Tick) (outcomes : List Numbered) (happened : List Happening)
-    (a b c : List Tally) → told list outcomes ≡ happened → TalliesGrow happened a b → TalliesGrow [] b c
-    → TalliesGrow (told_around middle list outcomes) a c
+    (a b c : List Tally) → tick_happenings list outcomes ≡ happened → TalliesGrow happened a b → TalliesGrow [] b c
+    → TalliesGrow (tick_happenings_around middle list outcomes) a c
 around-grows middle quiet list outcomes happened a b c same ticked none =
-    grows_around middle (told list outcomes) (told_around middle list outcomes) (around_ticks middle list outcomes) quiet a c
+    grows_around middle (tick_happenings list outcomes) (tick_happenings_around middle list outcomes) (around_ticks middle list outcomes)
+    quiet a c
     (subst (λ (said : List Happening). TalliesGrow said a c) (sym same) (none-more happened a b c ticked none))
 
 reset-grows : (host : ℕ) (one : FrameAnswer) (ticked happened : List Happening) (a b c : List Tally)
@@ -221,49 +221,50 @@ event-grows : (one : Event) (reply : Reply) (ticks : List TickTold) (a b c : Lis
     → reply.outcomes.list ≡ map note_of ticks → IsInOrder one reply → TalliesGrow (flat_map happened_of ticks) a b
     → TalliesGrow (answered one reply.answer) b c → TalliesGrow (said one reply) a c
 event-grows (event.Send host frame list) reply ticks a b c of_ticks outcomes order ticked answers =
-    subst (λ (happened : List Happening). TalliesGrow (accepted_of host frame.items reply.answer ++ happened) a c)
-    (sym (ap (told list.items) outcomes ∙ told_happened list.items ticks of_ticks))
+    subst (λ (happened : List Happening). TalliesGrow (accepted_by_answer host frame.items reply.answer ++ happened) a c)
+    (sym (ap (tick_happenings list.items) outcomes ∙ told_happened list.items ticks of_ticks))
     (accepted-last (flat_map happened_of ticks) host frame.items reply.answer a b c ticked answers)
 event-grows (event.Recv host socket list) reply ticks a b c of_ticks outcomes order ticked answers =
-    subst (λ (happened : List Happening). TalliesGrow (happened ++ given_of host socket reply.answer) a c)
-    (sym (ap (told list.items) outcomes ∙ told_happened list.items ticks of_ticks))
-    (grows_join (flat_map happened_of ticks) (given_of host socket reply.answer) a b c ticked answers)
+    subst (λ (happened : List Happening). TalliesGrow (happened ++ given_by_answer host socket reply.answer) a c)
+    (sym (ap (tick_happenings list.items) outcomes ∙ told_happened list.items ticks of_ticks))
+    (grows_join (flat_map happened_of ticks) (given_by_answer host socket reply.answer) a b c ticked answers)
 event-grows (event.Interrupt host list) reply ticks a b c of_ticks outcomes order ticked answers =
     subst (λ (happened : List Happening). TalliesGrow happened a c)
-    (sym (ap (told list.items) outcomes ∙ told_happened list.items ticks of_ticks))
+    (sym (ap (tick_happenings list.items) outcomes ∙ told_happened list.items ticks of_ticks))
     (none-more (flat_map happened_of ticks) a b c ticked answers)
 event-grows (event.Reset host list) reply ticks a b c of_ticks outcomes order ticked answers =
-    reset-grows host reply.answer (told list.items reply.outcomes.list) (said (event.Reset host list) reply) a b c order
+    reset-grows host reply.answer (tick_happenings list.items reply.outcomes.list) (said (event.Reset host list) reply) a b c order
     (subst (λ (happened : List Happening). TalliesGrow happened a b)
-    (sym (ap (told list.items) outcomes ∙ told_happened list.items ticks of_ticks)) ticked) answers
+    (sym (ap (tick_happenings list.items) outcomes ∙ told_happened list.items ticks of_ticks)) ticked) answers
 event-grows (event.Join host group list) reply ticks a b c of_ticks outcomes order ticked answers =
     around-grows (joined_of host group reply.answer) (joins_quiet host group reply.answer) list.items reply.outcomes.list
-    (flat_map happened_of ticks) a b c (ap (told list.items) outcomes ∙ told_happened list.items ticks of_ticks) ticked answers
+    (flat_map happened_of ticks) a b c (ap (tick_happenings list.items) outcomes ∙ told_happened list.items ticks of_ticks) ticked answers
 event-grows (event.Leave host group list) reply ticks a b c of_ticks outcomes order ticked answers =
-    around-grows (left_of host group reply.answer) (leaves_quiet host group reply.answer) list.items reply.outcomes.list
-    (flat_map happened_of ticks) a b c (ap (told list.items) outcomes ∙ told_happened list.items ticks of_ticks) ticked answers
+    around-grows (left_by_answer host group reply.answer) (leaves_quiet host group reply.answer) list.items reply.outcomes.list
+    (flat_map happened_of ticks) a b c (ap (tick_happenings list.items) outcomes ∙ told_happened list.items ticks of_ticks) ticked answers
 event-grows (event.Tick one) reply ticks a b c of_ticks outcomes order ticked answers =
     subst (λ (happened : List Happening). TalliesGrow happened a c)
-    (sym (ap (told_alone one) outcomes ∙ alone one ticks of_ticks))
+    (sym (ap (lone_tick_happenings one) outcomes ∙ alone one ticks of_ticks))
     (none-more (flat_map happened_of ticks) a b c ticked answers)
 
 -- Only ticks put frames.
 
-puts-accepted : (number host : ℕ) (frame : List ℕ) (one : FrameAnswer) → put_frames_in number (accepted_of host frame one) ≡ []
+puts-accepted : (number host : ℕ) (frame : List ℕ) (one : FrameAnswer) → put_frames_in number (accepted_by_answer host frame one) ≡ []
 puts-accepted number host frame (answer.Sent (Ok u)) = refl
 puts-accepted number host frame (answer.Sent (Err error)) = refl
 puts-accepted number host frame _ = refl
 
-puts-given : (number host socket : ℕ) (one : FrameAnswer) → put_frames_in number (given_of host socket one) ≡ []
+puts-given : (number host socket : ℕ) (one : FrameAnswer) → put_frames_in number (given_by_answer host socket one) ≡ []
 puts-given number host socket (answer.Received (Ok frame)) = refl
 puts-given number host socket (answer.Received (Err error)) = refl
 puts-given number host socket _ = refl
 
 around-puts : (number : ℕ) (middle : List Happening) → AreQuiet middle → (list : List Tick) (outcomes : List Numbered)
-    (happened : List Happening) → told list outcomes ≡ happened
-    → put_frames_in number happened ≡ put_frames_in number (told_around middle list outcomes)
+    (happened : List Happening) → tick_happenings list outcomes ≡ happened
+    → put_frames_in number happened ≡ put_frames_in number (tick_happenings_around middle list outcomes)
 around-puts number middle quiet list outcomes happened same =
-    sym (puts_around middle (told list outcomes) (told_around middle list outcomes) (around_ticks middle list outcomes) quiet number
+    sym (puts_around middle (tick_happenings list outcomes) (tick_happenings_around middle list outcomes)
+    (around_ticks middle list outcomes) quiet number
     ∙ ap (put_frames_in number) same)
 
 puts-given-up : (number host : ℕ) (one : FrameAnswer) → put_frames_in number (given_up_of host one) ≡ []
@@ -283,10 +284,10 @@ reset-puts number host one ticked happened (inr between) =
     let later = between.later in
     let up = given_up_of host one in
     ap of between.ticks ∙ join early (stopping ++ (resting ++ later))
-    ∙ ap (λ (list : List PutFrame). of early ++ list) (join stopping (resting ++ later)
-    ∙ ap (λ (list : List PutFrame). of stopping ++ list) (join resting later
+    ∙ ap (λ (list : List KeptFrame). of early ++ list) (join stopping (resting ++ later)
+    ∙ ap (λ (list : List KeptFrame). of stopping ++ list) (join resting later
     ∙ sym (join up (resting ++ Enabled host ∷ later)
-    ∙ ap (λ (list : List PutFrame). list ++ of (resting ++ Enabled host ∷ later)) (puts-given-up number host one)
+    ∙ ap (λ (list : List KeptFrame). list ++ of (resting ++ Enabled host ∷ later)) (puts-given-up number host one)
     ∙ join resting (Enabled host ∷ later)))
     ∙ sym (join stopping (up ++ (resting ++ Enabled host ∷ later))))
     ∙ sym (join early (Disabled host ∷ (stopping ++ (up ++ (resting ++ Enabled host ∷ later)))))
@@ -298,59 +299,58 @@ event-puts : (number : ℕ) (one : Event) (reply : Reply) (ticks : List TickTold
     number (said one reply)
 event-puts number (event.Send host frame list) reply ticks of_ticks outcomes order =
     let of = put_frames_in number in
-    let before = accepted_of host frame.items reply.answer in
-    sym (ap of (ap (told list.items) outcomes ∙ told_happened list.items ticks of_ticks))
-    ∙ sym (ap (λ (puts : List PutFrame). puts ++ of (told list.items reply.outcomes.list))
+    let before = accepted_by_answer host frame.items reply.answer in
+    sym (ap of (ap (tick_happenings list.items) outcomes ∙ told_happened list.items ticks of_ticks))
+    ∙ sym (ap (λ (puts : List KeptFrame). puts ++ of (tick_happenings list.items reply.outcomes.list))
     (puts-accepted number host frame.items reply.answer))
-    ∙ sym (flat_map-append (put_frame_in number) before (told list.items reply.outcomes.list))
+    ∙ sym (flat_map-append (put_frame_in number) before (tick_happenings list.items reply.outcomes.list))
 event-puts number (event.Recv host socket list) reply ticks of_ticks outcomes order =
     let of = put_frames_in number in
-    let behind = given_of host socket reply.answer in
-    let ticked = told list.items reply.outcomes.list in
-    sym (ap of (ap (told list.items) outcomes ∙ told_happened list.items ticks of_ticks))
+    let behind = given_by_answer host socket reply.answer in
+    let ticked = tick_happenings list.items reply.outcomes.list in
+    sym (ap of (ap (tick_happenings list.items) outcomes ∙ told_happened list.items ticks of_ticks))
     ∙ sym (append-nil (of ticked))
-    ∙ sym (ap (λ (puts : List PutFrame). of ticked ++ puts) (puts-given number host socket reply.answer))
+    ∙ sym (ap (λ (puts : List KeptFrame). of ticked ++ puts) (puts-given number host socket reply.answer))
     ∙ sym (flat_map-append (put_frame_in number) ticked behind)
 event-puts number (event.Interrupt host list) reply ticks of_ticks outcomes order =
-    sym (ap (put_frames_in number) (ap (told list.items) outcomes ∙ told_happened list.items ticks of_ticks))
+    sym (ap (put_frames_in number) (ap (tick_happenings list.items) outcomes ∙ told_happened list.items ticks of_ticks))
 event-puts number (event.Reset host list) reply ticks of_ticks outcomes order =
-    sym (ap (put_frames_in number) (ap (told list.items) outcomes ∙ told_happened list.items ticks of_ticks))
-    ∙ reset-puts number host reply.answer (told list.items reply.outcomes.list) (said (event.Reset host list) reply) order
+    sym (ap (put_frames_in number) (ap (tick_happenings list.items) outcomes ∙ told_happened list.items ticks of_ticks))
+    ∙ reset-puts number host reply.answer (tick_happenings list.items reply.outcomes.list) (said (event.Reset host list) reply) order
 event-puts number (event.Join host group list) reply ticks of_ticks outcomes order =
     around-puts number (joined_of host group reply.answer) (joins_quiet host group reply.answer) list.items reply.outcomes.list
-    (flat_map happened_of ticks) (ap (told list.items) outcomes ∙ told_happened list.items ticks of_ticks)
+    (flat_map happened_of ticks) (ap (tick_happenings list.items) outcomes ∙ told_happened list.items ticks of_ticks)
 event-puts number (event.Leave host group list) reply ticks of_ticks outcomes order =
-    around-puts number (left_of host group reply.answer) (leaves_quiet host group reply.answer) list.items reply.outcomes.list
-    (flat_map happened_of ticks) (ap (told list.items) outcomes ∙ told_happened list.items ticks of_ticks)
+    around-puts number (left_by_answer host group reply.answer) (leaves_quiet host group reply.answer) list.items reply.outcomes.list
+    (flat_map happened_of ticks) (ap (tick_happenings list.items) outcomes ∙ told_happened list.items ticks of_ticks)
 event-puts number (event.Tick one) reply ticks of_ticks outcomes order =
-    sym (ap (put_frames_in number) (ap (told_alone one) outcomes ∙ alone one ticks of_ticks))
+    sym (ap (put_frames_in number) (ap (lone_tick_happenings one) outcomes ∙ alone one ticks of_ticks))
 
 -- A socket returns what the answer says.
 
-given-up-gives : (k s host : ℕ) (one : FrameAnswer) → given k s (given_up_of host one) ≡ []
-given-up-gives k s host (answer.Reset sending holding on_after) = refl
-given-up-gives k s host _ = refl
+given-up-gives : (number host : ℕ) (one : FrameAnswer) → returned_in number (given_up_of host one) ≡ []
+given-up-gives number host (answer.Reset sending holding on_after) = refl
+given-up-gives number host _ = refl
 
-answered-as : (k s : ℕ) (one : Event) (reply : Reply) → given k s (answered one reply.answer) ≡ given k s (said one reply)
-answered-as k s (event.Send host frame list) reply =
-    given-accepted k s host frame.items reply.answer ∙ sym (given-said k s (event.Send host frame list) reply)
-answered-as k s (event.Reset host list) reply =
-    given-up-gives k s host reply.answer ∙ sym (given-said k s (event.Reset host list) reply)
-answered-as k s (event.Recv host socket list) reply = sym (given-said k s (event.Recv host socket list) reply)
-answered-as k s one reply = sym (given-said k s one reply)
+answered-as : (number : ℕ) (one : Event) (reply : Reply)
+    → returned_in number (answered one reply.answer) ≡ returned_in number (said one reply)
+answered-as number (event.Send host frame list) reply =
+    given-accepted number host frame.items reply.answer ∙ sym (given-said number (event.Send host frame list) reply)
+answered-as number (event.Reset host list) reply =
+    given-up-gives number host reply.answer ∙ sym (given-said number (event.Reset host list) reply)
+answered-as number (event.Recv host socket list) reply = sym (given-said number (event.Recv host socket list) reply)
+answered-as number one reply = sym (given-said number one reply)
 
-with-as : (number : ℕ) (xs ys : List Happening) → ((k s : ℕ) → given k s xs ≡ given k s ys) → (found : Option SocketFrames)
-    → option_map (with_said number xs) found ≡ option_map (with_said number ys) found
-with-as number xs ys same None = refl
-with-as number xs ys same (Some socket) =
-    ap (λ (frames : List (List ℕ)). Some (with_socket_frames (map (numbered_frame number) frames) socket)) (same socket.host socket.socket)
+-- no frame is appended
+none-returned : (more old new : List KeptFrame) → more ≡ [] → new ≡ old → FramesGrow more old new
+none-returned more old new none same = same ∙ sym (append-nil old) ∙ ap (λ (list : List KeptFrame). old ++ list) (sym none)
 
 -- A send's answer has no frame for a socket.
 pub sent-answers : (one : Event) (host : ℕ) (frame : Vec ℕ Global) (list : Vec Tick Global) (given : FrameAnswer) (old new : Record)
     → one ≡ event.Send host frame list → new.number ≡ old.number → new.puts ≡ old.puts → new.log ≡ old.log → new.failed ≡ old.failed
-    → new.sockets.items ≡ old.sockets.items
-    → TalliesGrow (accepted_of host frame.items given) old.hosts.items new.hosts.items → NotesAnswer (answered one given) old new
-sent-answers one host frame list given old new is number puts log failed sockets hosts =
+    → new.returned ≡ old.returned
+    → TalliesGrow (accepted_by_answer host frame.items given) old.hosts.items new.hosts.items → NotesAnswer (answered one given) old new
+sent-answers one host frame list given old new is number puts log failed returned hosts =
     subst (λ (e : Event). NotesAnswer (answered e given) old new) (sym is)
     (record {
       number = number;
@@ -358,19 +358,17 @@ sent-answers one host frame list given old new is number puts log failed sockets
       log = log;
       before = λ sound. sym failed ∙ sound;
       hosts = hosts;
-      sockets = λ sound k.
-          ap (λ (list : List SocketFrames). slice_get list k) sockets
-          ∙ gets_none old.number old.sockets.items k
-          ∙ with-as old.number [] (accepted_of host frame.items given)
-          (λ at socket. sym (given-accepted at socket host frame.items given)) (slice_get old.sockets.items k);
+      returned = λ sound.
+          none-returned (returned_in old.number (accepted_by_answer host frame.items given)) old.returned new.returned
+          (given-accepted old.number host frame.items given) returned;
     })
 
 -- A reset's answer has no frame for a socket.
 pub reset-answers : (one : Event) (host : ℕ) (list : Vec Tick Global) (given : FrameAnswer) (old new : Record)
     → one ≡ event.Reset host list → new.number ≡ old.number → new.puts ≡ old.puts → new.log ≡ old.log → new.failed ≡ old.failed
-    → new.sockets.items ≡ old.sockets.items
+    → new.returned ≡ old.returned
     → TalliesGrow (given_up_of host given) old.hosts.items new.hosts.items → NotesAnswer (answered one given) old new
-reset-answers one host list given old new is number puts log failed sockets hosts =
+reset-answers one host list given old new is number puts log failed returned hosts =
     subst (λ (e : Event). NotesAnswer (answered e given) old new) (sym is)
     (record {
       number = number;
@@ -378,18 +376,16 @@ reset-answers one host list given old new is number puts log failed sockets host
       log = log;
       before = λ sound. sym failed ∙ sound;
       hosts = hosts;
-      sockets = λ sound k.
-          ap (λ (list : List SocketFrames). slice_get list k) sockets
-          ∙ gets_none old.number old.sockets.items k
-          ∙ with-as old.number [] (given_up_of host given)
-          (λ at socket. sym (given-up-gives at socket host given)) (slice_get old.sockets.items k);
+      returned = λ sound.
+          none-returned (returned_in old.number (given_up_of host given)) old.returned new.returned
+          (given-up-gives old.number host given) returned;
     })
 
 -- Each outcome belongs to its tick.
 
 paired-all : (ticks : List TickTold) → paired (map tick_in ticks) (map note_of ticks) ≡ ticks
 paired-all [] = refl
-paired-all (told ∷ ticks) = ap (λ (later : List TickTold). told ∷ later) (paired-all ticks)
+paired-all (tick_happenings ∷ ticks) = ap (λ (later : List TickTold). tick_happenings ∷ later) (paired-all ticks)
 
 told-ticks : (one : Event) (ticks : List TickTold) → AreOfTicks one ticks → paired (played_ticks one) (map note_of ticks) ≡ ticks
 told-ticks one ticks of_ticks =
@@ -416,15 +412,12 @@ records-reply one given accesses ticks begin ticked lined after number heard of_
                   noted one reply begin new (next ∙ ap next_number heard.number)
                   (event-grows one reply ticks begin.hosts.items ticked.hosts.items new.hosts.items of_ticks refl order.0 heard.hosts
                   (subst (λ (hosts : List Tally). TalliesGrow (answered one given) hosts new.hosts.items) line.hosts answers.hosts))
-                  (λ k.
-                  answers.sockets sound k
-                  ∙ with-as lined.number (answered one given) (said one reply) (λ host socket. answered-as host socket one reply)
-                  (slice_get lined.sockets.items k)
-                  ∙ ap (λ (n : ℕ). option_map (with_said n (said one reply)) (slice_get lined.sockets.items k))
-                  (line.number ∙ heard.number)
-                  ∙ ap (λ (sockets : List SocketFrames). option_map (with_said begin.number (said one reply)) (slice_get sockets k))
-                  (line.sockets ∙ heard.sockets))
-                  (subst (λ (puts : List PutFrame). PutsGrow puts begin.puts new.puts)
+                  (subst (λ (more : List KeptFrame). FramesGrow more begin.returned new.returned)
+                  (ap (λ (n : ℕ). returned_in n (answered one given)) (line.number ∙ heard.number)
+                  ∙ answered-as begin.number one reply)
+                  (answers.returned sound
+                  ∙ ap (λ (old : List KeptFrame). old ++ returned_in lined.number (answered one given)) (line.returned ∙ heard.returned)))
+                  (subst (λ (puts : List KeptFrame). PutsGrow puts begin.puts new.puts)
                   (event-puts begin.number one reply ticks of_ticks refl order.0)
                   (answers.puts ∙ line.puts ∙ heard.puts before))
                   (record {

@@ -1,5 +1,5 @@
 -- The replies of a run tell their outcomes in order.
-use Rattle.std.proofs.Common.{◌≡◌, ◌<◌, ◌≤◌, ◌+◌, ◌++◌, ◌∷◌, [], ℕ, List, None, Option, Some, length, map}
+use Rattle.std.proofs.Common.{◌≡◌, ◌<◌, ◌+◌, ◌++◌, ◌∷◌, [], ℕ, List, None, Option, Some, map}
 use Rattle.std.proofs.Common.{inl, inr, sym, ap, subst, ◌∙◌, arith}
 use Rattle.std.proofs.lemmas.Option.{slice_get_cases}
 use Rattle.circular_buffer.proofs.Places.{slice_get-some}
@@ -8,11 +8,10 @@ use Rattle.bus.specs.TickGroups.{without_go}
 use Rattle.stations.specs.AtomicRuns.{LeadsTo, is_go, noted_of}
 use Rattle.stations.specs.AtomicSteps.{AtomicStep, tick_of}
 use Rattle.stations.specs.Stations.{StationState}
-use Rattle.stations.specs.declared.outcomes.Numbered.{Numbered}
 use Rattle.stations.specs.declared.tick.Tick.{Tick}
 use Rattle.packet_socket.specs.HostState.{HostState}
 use Rattle.delivery.proofs.Telling.{told-steps, told-without_go}
-use Rattle.delivery.specs.Happenings.{Disabled, Enabled, GivenUp, Happening, happened_in, told}
+use Rattle.delivery.specs.Happenings.{Disabled, Enabled, GivenUp, Happening, happened_in, tick_happenings}
 use Rattle.network_plan.specs.Answers.{FrameAnswer}
 use Rattle.network_plan.specs.declared.event.Event.{Event}
 use Rattle.network_plan.specs.declared.event.Event.TheVariants as event
@@ -20,12 +19,12 @@ use Rattle.network_plan.specs.declared.reply.Answer.TheVariants as answer
 use Rattle.network_plan.specs.declared.reply.Reply.{Reply}
 use Rattle.host_calls.proofs.ResetGives.{enabled-after}
 use Rattle.host_calls.specs.ConnectedHosts.{connected}
-use Rattle.host_calls.specs.Networks.{IsHost, NetworkState}
+use Rattle.host_calls.specs.Networks.{NetworkState}
 use Rattle.host_calls.specs.ResetSteps.{whole_reset}
 use Rattle.wire.proofs.ResetLists.{parts-happened}
 use Rattle.wire.proofs.ResetPlays.{few-slots, parts-counted}
-use Rattle.wire.proofs.ResetTold.{reset-says, reset_said}
-use Rattle.wire.specs.Runs.{AnswersReset, EventRuns, ResetAnswer, StatesRun, reset_answer, said, said_in_reset}
+use Rattle.wire.proofs.ResetTold.{reset-says}
+use Rattle.wire.specs.Runs.{AnswersReset, EventRuns, ResetAnswer, StatesRun, reset_answer, said_in_reset}
 use Rattle.scenario_bench.specs.Recording.{AreInOrder, IsInOrder, TellsReset}
 use Rattle.scenario_bench.specs.Tallies.{given_up_of}
 
@@ -45,10 +44,10 @@ given-up-is host _ found is = none-some found is
 
 -- the ticks of steps tell what the steps did
 steps-tell : (host : ℕ) (ticks : List Tick) (steps : List AtomicStep) (a b : List StationState) → LeadsTo host steps a b
-    → without_go is_go (map tick_of steps) ≡ without_go is_go ticks → told ticks (noted_of 0 steps) ≡ happened_in steps
+    → without_go is_go (map tick_of steps) ≡ without_go is_go ticks → tick_happenings ticks (noted_of 0 steps) ≡ happened_in steps
 steps-tell host ticks steps a b leads played =
     sym (told-without_go ticks (noted_of 0 steps))
-    ∙ ap (λ (list : List Tick). told list (noted_of 0 steps)) (sym played)
+    ∙ ap (λ (list : List Tick). tick_happenings list (noted_of 0 steps)) (sym played)
     ∙ told-without_go (map tick_of steps) (noted_of 0 steps) ∙ told-steps host 0 steps a b leads
 
 -- a reset of a host that is there
@@ -56,7 +55,7 @@ host-tells : (host : ℕ) (ticks : List Tick) (reply : Reply) (steps : List Atom
     → AnswersReset host ticks reply.answer steps (connected h a) (connected h' b) → LeadsTo host steps a b
     → without_go is_go (map tick_of steps) ≡ without_go is_go ticks → reply.outcomes.list ≡ noted_of 0 steps
     → 302 + h.driver.layout.rx < most_accesses
-    → TellsReset host (given_up_of host reply.answer) (told ticks reply.outcomes.list)
+    → TellsReset host (given_up_of host reply.answer) (tick_happenings ticks reply.outcomes.list)
     (said_in_reset host (reset_answer reply.answer) ticks reply.outcomes.list)
 host-tells host ticks reply steps h h' a b answers leads played noted small =
     let given_up = answers.given_up in
@@ -77,7 +76,7 @@ host-tells host ticks reply steps h h' a b answers leads played noted small =
       stopping = happened_in parts.stopping;
       resting = happened_in parts.resting;
       later = happened_in parts.later;
-      ticks = ap (told ticks) noted ∙ steps-tell host ticks steps a b leads played ∙ ap happened_in resets.split
+      ticks = ap (tick_happenings ticks) noted ∙ steps-tell host ticks steps a b leads played ∙ ap happened_in resets.split
           ∙ parts-happened host setup parts;
       all = ap (said_in_reset host (reset_answer reply.answer) ticks) noted
           ∙ ap (λ (found : Option ResetAnswer). said_in_reset host found ticks (noted_of 0 steps)) answers.is

@@ -6,7 +6,19 @@ use Rattle.std.proofs.lemmas.List.{length-append}
 use Rattle.std.proofs.lemmas.List.Sums.{sum_by_push}
 use Rattle.std.specs.List.{flat_map, fold, list_any}
 use Rattle.rx_engine.specs.declared.arrival.Fate.TheVariants as fate
-use Rattle.delivery.specs.Happenings.{Accepted, Given, GivenUp, Happening, Put, Reached, accepted, accepted_in_one, put, put_by, reached}
+use Rattle.delivery.specs.Happenings.{
+  Accepted,
+  Given,
+  GivenUp,
+  Happening,
+  Put,
+  Reached,
+  accepted,
+  accepted_in_one,
+  put,
+  put_in_one,
+  reached,
+}
 use Rattle.delivery.specs.Happenings.{reached_by, stored, stored_by}
 use Rattle.delivery.specs.Lists.{holding_in_one, sending_in_one}
 use Rattle.scenario_bench.specs.Acts.{Act}
@@ -73,7 +85,7 @@ same-numbers a p r s g t h o a' p' r' s' g' t' h' o' b b' is-a is-p is-r is-s is
 -- each list grows by what one happening adds to it
 abbrev behind_one : ℕ → List Happening → Happening → Tally
 behind_one k done one = numbers (length (accepted k done) + length (accepted_in_one k one))
-    (length (put k done) + length (put_by k one))
+    (length (put k done) + length (put_in_one k one))
     (length (reached k done) + length (reached_by k one))
     (length (stored k done) + length (stored_by k one))
     (all_given k done + count_given k one)
@@ -84,14 +96,14 @@ behind_one k done one = numbers (length (accepted k done) + length (accepted_in_
 tally-behind : (k : ℕ) (done : List Happening) (one : Happening) → behind_one k done one ≡ tally_of k (done ++ one ∷ [])
 tally-behind k done one =
     let all = done ++ one ∷ [] in
-    same-numbers (length (accepted k done) + length (accepted_in_one k one)) (length (put k done) + length (put_by k one)) (length
+    same-numbers (length (accepted k done) + length (accepted_in_one k one)) (length (put k done) + length (put_in_one k one)) (length
     (reached k done) + length (reached_by k one)) (length (stored k done) + length (stored_by k one)) (all_given k done + count_given k
     one) (length (flat_map (sending_in_one k) done) + length (sending_in_one k one)) (length (flat_map (holding_in_one k) done) + length
     (holding_in_one k one)) (length (flat_map (off_by k) done) + length (off_by k one))
     (length (accepted k all)) (length (put k all)) (length (reached k all)) (length (stored k all)) (all_given k all) (length (flat_map
     (sending_in_one k) all)) (length (flat_map (holding_in_one k) all)) (length (flat_map (off_by k) all)) (list_any (resets k) done ||
     resets k one) (list_any (resets k) all)
-    (sym (grows-by (accepted_in_one k) done one)) (sym (grows-by (put_by k) done one)) (sym (grows-by (reached_by k) done one))
+    (sym (grows-by (accepted_in_one k) done one)) (sym (grows-by (put_in_one k) done one)) (sym (grows-by (reached_by k) done one))
     (sym (grows-by (stored_by k) done one)) (sym (sum_by_push (count_given k) done one)) (sym (grows-by (sending_in_one k) done one))
     (sym (grows-by (holding_in_one k) done one)) (sym (grows-by (off_by k) done one)) (any-push (resets k) done one)
 

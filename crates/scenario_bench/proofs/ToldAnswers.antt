@@ -1,12 +1,12 @@
 -- What the summary tells of answers, by the record.
-use Rattle.std.proofs.Common.{◌≡◌, ◌++◌, ◌∷◌, [], ℕ, Bool, true, false, List, Option, Some, None, map, option_map}
+use Rattle.std.proofs.Common.{◌≡◌, ◌++◌, ◌∷◌, [], ℕ, Bool, true, false, List, Some, None, map, option_map}
 use Rattle.std.proofs.Common.{if◌then◌else◌, length, refl, sym, ap, ◌∙◌, append_assoc, append-nil}
 use Rattle.std.specs.List.{flat_map, fold}
 use Rattle.stations.specs.ToldTicks.{TickTold}
 use Rattle.network_plan.specs.declared.plan.HostPlan.{HostPlan}
 use Rattle.scenario.specs.SoFar.{Host, hosts_of}
 use Rattle.scenario_bench.specs.Acts.{Act, Drained, Ran}
-use Rattle.scenario_bench.specs.EventLines.{LogState, Place, act_line, drain_logged, end_logged, lines_from, no_lines}
+use Rattle.scenario_bench.specs.EventLines.{LogState, Place, act_line, drain_logged, end_logged, lines_from}
 use Rattle.scenario_bench.specs.EventLines.{place_at, text_of, tick_logged}
 use Rattle.scenario_bench.specs.EventLines.{told_in}
 use Rattle.scenario_bench.specs.EventLogView.{plan_name}

@@ -1,10 +1,10 @@
 -- Sinks that get their texts, one after another.
-use Rattle.std.proofs.Common.{◌≡◌, ◌<◌, ◌+◌, ◌∷◌, [], zero, suc, ℕ, List, Option, Some, None, length, map, get_or, slice_get, slice_set}
+use Rattle.std.proofs.Common.{◌≡◌, ◌<◌, ◌+◌, ◌∷◌, [], zero, suc, ℕ, List, Option, Some, None, length, map, slice_get, slice_set}
 use Rattle.std.proofs.Common.{option_map}
 use Rattle.std.specs.List.{All}
 use Rattle.std.proofs.Common.{inl, inr, refl, sym, ap, subst, ◌∙◌, arith}
 use Rattle.std.proofs.lemmas.Bool.Decides.{eqb_tells}
-use Rattle.std.proofs.lemmas.Option.{get_or_from_slice_get, slice_get-get_or, slice_get-map, slice_get_within}
+use Rattle.std.proofs.lemmas.Option.{get_or_from_slice_get, slice_get-map, slice_get_within}
 use Rattle.circular_buffer.proofs.Places.{slice_get-set_other, slice_get-set_same}
 use Rattle.pcap_trace.specs.Format.{Timed}
 use Rattle.pcap_trace.specs.declared.unit.Unit.{Unit}
@@ -12,11 +12,11 @@ use Rattle.std.proofs.lemmas.List.{length-map}
 use Rattle.std.specs.Prelude.{unwrap_or}
 use Rattle.network_plan.specs.declared.plan.HostPlan.{HostPlan}
 use Rattle.scenario.specs.SoFar.{hosts_of}
-use Rattle.scenario_bench.specs.SocketLists.{SocketFrames, frames_given}
 use Rattle.scenario_bench.specs.Benches.{AreAllWritten, AreWritten, AreWrittenUpTo, FailsAmong, IsFailedSink, SinkState, TakesText}
 use Rattle.scenario_bench.specs.Benches.{sinks_of, states_of}
-use Rattle.scenario_bench.specs.PlayedEvents.{AreRecorded, socket_texts, wire_texts_in}
-use Rattle.scenario_bench.specs.Puts.{PutFrame, wire_names, wire_texts}
+use Rattle.scenario_bench.specs.PlayedEvents.{AreRecorded, socket_texts_in, wire_texts_in}
+use Rattle.scenario_bench.specs.Kept.{KeptFrame}
+use Rattle.scenario_bench.specs.Puts.{wire_names, wire_texts}
 use Rattle.scenario_bench.specs.declared.play.Play.{Play}
 
 pub length-set : {X : Type 0} → (xs : List X) (i : ℕ) (x : X) → length (slice_set xs i x) ≡ length xs
@@ -143,72 +143,87 @@ module _ {S : Type 0} (taken : S → Option (List ℕ)) (failures : S → ℕ) w
       (one_failed unit place texts (map state_of old) (map state_of new) text (state_of now) (state_of later) has text_is
       (at_place new place now there) fails)
 
--- a socket's text
-pub text_at : (sockets : List SocketFrames) (place : ℕ) (one : SocketFrames) → place < length sockets → one ≡ get_or sockets place one
-    → slice_get (map frames_given sockets) place ≡ Some one.frames
-text_at sockets place one below is = slice_get-map frames_given sockets place
-    ∙ ap (option_map frames_given) (slice_get-get_or sockets place one below ∙ ap (λ (s : SocketFrames). Some s) (sym is))
-
 -- The sinks of sockets, and then those of wires.
+
+pub written_as : {S : Type 0} (taken : S → Option (List ℕ)) (failures : S → ℕ) (unit : Unit) (one other : List (List Timed))
+    (sinks after : List S) → one ≡ other
+    → AreWritten unit (length sinks) one (states_of taken failures sinks) (states_of taken failures after)
+    → AreWritten unit (length sinks) other (states_of taken failures sinks) (states_of taken failures after)
+written_as taken failures unit one other sinks after is wrote =
+    subst (λ (texts : List (List Timed)). AreWritten unit (length sinks) texts (states_of taken failures sinks)
+    (states_of taken failures after)) is wrote
+
+pub failed_as : {S : Type 0} (taken : S → Option (List ℕ)) (failures : S → ℕ) (unit : Unit) (one other : List (List Timed))
+    (sinks after : List S) → one ≡ other
+    → (failed : ℕ) × AreWrittenUpTo unit failed one (states_of taken failures sinks) (states_of taken failures after)
+    → (failed : ℕ) × AreWrittenUpTo unit failed other (states_of taken failures sinks) (states_of taken failures after)
+failed_as taken failures unit one other sinks after is stopped = (
+  stopped.0,
+  subst (λ (texts : List (List Timed)). AreWrittenUpTo unit stopped.0 texts (states_of taken failures sinks)
+      (states_of taken failures after)) is stopped.1,
+)
 
 pub socket_failed : {S : Type 0} (taken : S → Option (List ℕ)) (failures : S → ℕ) (unit : Unit) (plans : List HostPlan) (play : Play)
     (sinks after wires : List S)
-    → (failed : ℕ) × AreWrittenUpTo unit failed (socket_texts play) (states_of taken failures sinks) (states_of taken failures after)
-    → IsFailedSink unit (socket_texts play) (wire_texts_in plans play) (sinks_of taken failures sinks after wires wires)
+    → (failed : ℕ) × AreWrittenUpTo unit failed (socket_texts_in plans play) (states_of taken failures sinks)
+    (states_of taken failures after)
+    → IsFailedSink unit (socket_texts_in plans play) (wire_texts_in plans play) (sinks_of taken failures sinks after wires wires)
 socket_failed taken failures unit plans play sinks after wires stopped = inl (stopped, refl)
 
 module _ {S : Type 0} (taken : S → Option (List ℕ)) (failures : S → ℕ) (unit : Unit) (plans : List HostPlan) (play : Play)
     (sinks after : List S)
-    (wrote : AreWritten unit (length sinks) (socket_texts play) (states_of taken failures sinks) (states_of taken failures after)) where
-  all-sinks : AreWritten unit (length (states_of taken failures sinks)) (socket_texts play) (states_of taken failures sinks)
-      (states_of taken failures after)
-  all-sinks = subst (λ (n : ℕ). AreWritten unit n (socket_texts play) (states_of taken failures sinks) (states_of taken failures after))
-      (sym (length-map sinks (state_of taken failures))) wrote
+    (wrote : AreWritten unit (length sinks) (socket_texts_in plans play) (states_of taken failures sinks) (states_of taken failures after))
+  where
+    all-sinks : AreWritten unit (length (states_of taken failures sinks)) (socket_texts_in plans play) (states_of taken failures sinks)
+        (states_of taken failures after)
+    all-sinks = subst (λ (n : ℕ). AreWritten unit n (socket_texts_in plans play) (states_of taken failures sinks)
+        (states_of taken failures after))
+        (sym (length-map sinks (state_of taken failures))) wrote
 
-  -- no trace of a wire was to be written
-  pub sockets_written : (wires : List S) → AreRecorded (length wires) play.record.puts → play.record.puts ≡ None
-      → AreAllWritten unit (socket_texts play) (wire_texts_in plans play) (sinks_of taken failures sinks after wires wires)
-  sockets_written wires recorded none =
-      let empty : length wires ≡ 0 = subst (AreRecorded (length wires)) none recorded in
-      let states : length (states_of taken failures wires) ≡ 0 = length-map wires (state_of taken failures) ∙ empty in
-      record {
+    -- no trace of a wire was to be written
+    pub sockets_written : (wires : List S) → AreRecorded (length wires) play.record.puts → play.record.puts ≡ None
+        → AreAllWritten unit (socket_texts_in plans play) (wire_texts_in plans play) (sinks_of taken failures sinks after wires wires)
+    sockets_written wires recorded none =
+        let empty : length wires ≡ 0 = subst (AreRecorded (length wires)) none recorded in
+        let states : length (states_of taken failures wires) ≡ 0 = length-map wires (state_of taken failures) ∙ empty in
+        record {
+          texts = all-sinks;
+          wires = record {
+            sinks = refl;
+            whole = λ k text before now below. absurd (omega (arith, below, states));
+            others = λ k past. refl;
+          };
+        }
+
+    module _ (wires later : List S) (puts : List KeptFrame) (list : List HostPlan) (names : List (List ℕ)) (same : list ≡ plans)
+        (there : play.record.puts ≡ Some puts) (named : names ≡ wire_names (hosts_of list)) where
+      same-wires : wire_texts (hosts_of list) puts names ≡ wire_texts_in plans play
+      same-wires = ap (wire_texts (hosts_of list) puts) named
+          ∙ ap (λ (hosts : List HostPlan). wire_texts (hosts_of hosts) puts (wire_names (hosts_of hosts))) same
+          ∙ ap (λ (p : Option (List KeptFrame)). wire_texts (hosts_of plans) (unwrap_or p []) (wire_names (hosts_of plans))) (sym there)
+
+      pub all_written :
+          AreWritten unit (length wires) (wire_texts (hosts_of list) puts names) (states_of taken failures wires)
+          (states_of taken failures later)
+          → AreAllWritten unit (socket_texts_in plans play) (wire_texts_in plans play) (sinks_of taken failures sinks after wires later)
+      all_written wires_wrote = record {
         texts = all-sinks;
-        wires = record {
-          sinks = refl;
-          whole = λ k text before now below. absurd (omega (arith, below, states));
-          others = λ k past. refl;
-        };
+        wires = subst (λ (n : ℕ). AreWritten unit n (wire_texts_in plans play) (states_of taken failures wires)
+            (states_of taken failures later))
+            (sym (length-map wires (state_of taken failures)))
+            (subst (λ (texts : List (List Timed)). AreWritten unit (length wires) texts (states_of taken failures wires)
+            (states_of taken failures later)) same-wires wires_wrote);
       }
 
-  module _ (wires later : List S) (puts : List PutFrame) (list : List HostPlan) (names : List (List ℕ)) (same : list ≡ plans)
-      (there : play.record.puts ≡ Some puts) (named : names ≡ wire_names (hosts_of list)) where
-    same-wires : wire_texts (hosts_of list) puts names ≡ wire_texts_in plans play
-    same-wires = ap (wire_texts (hosts_of list) puts) named
-        ∙ ap (λ (hosts : List HostPlan). wire_texts (hosts_of hosts) puts (wire_names (hosts_of hosts))) same
-        ∙ ap (λ (p : Option (List PutFrame)). wire_texts (hosts_of plans) (unwrap_or p []) (wire_names (hosts_of plans))) (sym there)
-
-    pub all_written :
-        AreWritten unit (length wires) (wire_texts (hosts_of list) puts names) (states_of taken failures wires)
-        (states_of taken failures later)
-        → AreAllWritten unit (socket_texts play) (wire_texts_in plans play) (sinks_of taken failures sinks after wires later)
-    all_written wires_wrote = record {
-      texts = all-sinks;
-      wires = subst (λ (n : ℕ). AreWritten unit n (wire_texts_in plans play) (states_of taken failures wires)
-          (states_of taken failures later))
-          (sym (length-map wires (state_of taken failures)))
-          (subst (λ (texts : List (List Timed)). AreWritten unit (length wires) texts (states_of taken failures wires)
-          (states_of taken failures later)) same-wires wires_wrote);
-    }
-
-    pub wire_failed :
-        (failed : ℕ) × AreWrittenUpTo unit failed (wire_texts (hosts_of list) puts names) (states_of taken failures wires)
-        (states_of taken failures later)
-        → IsFailedSink unit (socket_texts play) (wire_texts_in plans play) (sinks_of taken failures sinks after wires later)
-    wire_failed stopped = inr (
-      all-sinks,
-      (
-        stopped.0,
-        subst (λ (texts : List (List Timed)). AreWrittenUpTo unit stopped.0 texts (states_of taken failures wires)
-            (states_of taken failures later)) same-wires stopped.1,
-      ),
-    )
+      pub wire_failed :
+          (failed : ℕ) × AreWrittenUpTo unit failed (wire_texts (hosts_of list) puts names) (states_of taken failures wires)
+          (states_of taken failures later)
+          → IsFailedSink unit (socket_texts_in plans play) (wire_texts_in plans play) (sinks_of taken failures sinks after wires later)
+      wire_failed stopped = inr (
+        all-sinks,
+        (
+          stopped.0,
+          subst (λ (texts : List (List Timed)). AreWrittenUpTo unit stopped.0 texts (states_of taken failures wires)
+              (states_of taken failures later)) same-wires stopped.1,
+        ),
+      )

@@ -8,12 +8,12 @@ use Rattle.delivery.specs.Happenings.{Happening}
 use Rattle.network_plan.specs.declared.event.Event.{Event}
 use Rattle.network_plan.specs.declared.reply.Reply.{Reply}
 use Rattle.wire.specs.DrainedNetworks.{NetworkDrains, said_of_drain}
-use Rattle.wire.specs.Equations.{Delivers}
+use Rattle.wire.specs.Equations.{MeetsEquations}
 use Rattle.host_calls.specs.Networks.{IsHost, NetworkState}
 use Rattle.wire.specs.Runs.{EventRuns, said}
 use Rattle.scenario.specs.SoFar.{Drains, Said, event_of}
 
--- an event with its reply, or the drain of a host, with the number of frames in its packet buffer, and the frames that it delivered
+-- an event with its reply, or the drain of a host, with the number of frames in its packet buffer before, and the frames that it returned
 pub data Act : Type 0 where
   Ran : (event : Event) (reply : Reply) → Act
   Drained : (host buffered : ℕ) (given : List GivenFrame) → Act
@@ -38,13 +38,13 @@ abbrev pub act_of : Act → Said
 act_of (Ran event reply) = event_of event
 act_of (Drained host buffered given) = Drains host
 
--- A host was drained, and delivered these frames. This many were in its packet buffer before.
+-- A host was drained, and returned these frames. Before, `buffered` frames were in its packet buffer.
 pub record DrainRuns (old : NetworkState) (host buffered : ℕ) (given : List GivenFrame) (new : NetworkState) : Type 0 where
   -- the frames in its receive packet buffer before
   pub buffer : buffered ≡ length (world_at old.stations host).adapter.receiver.buffer
-  -- how many steps the drain took
+  -- the number of steps of the drain
   pub steps : ℕ
-  -- what the drain did
+  -- the effect of the drain
   pub drains : NetworkDrains old host steps [] given new
 
 -- An act leads from one state of a network to the next.
@@ -65,4 +65,4 @@ pub record ActsLead (old : NetworkState) (acts : List Act) (new : NetworkState) 
   pub hosts : length new.hosts ≡ length old.hosts
   -- the equations of delivery hold of each host over all acts
   pub delivers : (k : ℕ) (h h' : HostState) → IsHost old k h → IsHost new k h'
-      → Delivers k (history acts) old.stations new.stations h h'
+      → MeetsEquations k (history acts) old.stations new.stations h h'

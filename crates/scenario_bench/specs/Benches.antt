@@ -1,4 +1,4 @@
--- What the bench does with a scenario (our choice).
+-- The run of a scenario by `bench` (our choice).
 use Rattle.std.specs.Prelude.{◌≡◌, ◌<◌, ◌≤◌, ◌+◌, ◌⊎◌, ℕ, Bool, List, Option, Some, Ok, Err, length, map, slice_get, take}
 use Rattle.std.specs.Io.KnownBytes.{Appends}
 use Rattle.pcap_trace.specs.Devices.{AppendsFront}
@@ -14,11 +14,12 @@ use Rattle.scenario_bench.specs.declared.summary.Summary.{Summary}
 use Rattle.scenario_bench.specs.Acts.{Act, ActsLead, act_of, history}
 use Rattle.scenario_bench.specs.EventLists.{all_events}
 use Rattle.scenario_bench.specs.Given.{given_from, sockets_from}
-use Rattle.scenario_bench.specs.Puts.{put_from, wire_names, wire_texts}
+use Rattle.scenario_bench.specs.Kept.{put_from}
+use Rattle.scenario_bench.specs.Puts.{wire_names, wire_texts}
 use Rattle.scenario_bench.specs.RunLogs.{acts_in}
 use Rattle.scenario_bench.specs.Summaries.{TellsAnswers, TellsHosts, as_told}
 
--- The network of the plan was made, and these events and drains were done on it, in order: the delivery theorem holds of them.
+-- The network of the plan was made, and these events and drains were done on it, in order: the delivery theorem holds for them.
 pub record PlaysEvents (scenario : Scenario) (said : List Said) : Type 0 where
   -- the network that was made
   pub made : NetworkState
@@ -44,7 +45,7 @@ PlaysScenario scenario traces = PlaysEvents scenario (scenario_events scenario t
 -- Of these events and drains, only those before one of them were done. `done` is their number, up to the greatest of 64
 -- bits.
 pub record StopsBefore (scenario : Scenario) (said : List Said) (done : ℕ) : Type 0 where
-  -- how many were done
+  -- the number of those that were done
   pub first : ℕ
   -- at least one was left
   pub left : first < length said
@@ -71,7 +72,7 @@ wire_texts_of {scenario} played =
 pub record SinkState : Type 0 where
   -- the bytes that the sink has taken, if contracts know them
   pub taken : Option (List ℕ)
-  -- how often the sink failed
+  -- the number of its failures
   pub failures : ℕ
 
 -- the states of sinks
@@ -92,7 +93,7 @@ pub record FailsAmong (unit : Unit) (text : List Timed) (old new : SinkState) : 
   -- the sink failed once
   pub failures : new.failures ≡ old.failures + 1
 
--- The first sinks, this many, have also taken their whole text; the others have taken nothing.
+-- The first `count` sinks have also taken their whole text; the others have taken nothing.
 pub record AreWritten (unit : Unit) (count : ℕ) (texts : List (List Timed)) (old new : List SinkState) : Type 0 where
   -- there are as many sinks as before
   pub sinks : length new ≡ length old
@@ -122,15 +123,14 @@ pub record AreWrittenUpTo (unit : Unit) (failed : ℕ) (texts : List (List Timed
   -- the sinks after it are unchanged
   pub others : (k : ℕ) → failed < k → slice_get new k ≡ slice_get old k
 
--- The summary has the refused calls and, on request, the lines of the events of the run. Lines have the numbers that
--- the reader of scenarios gave.
+-- The summary has the refused calls and, on request, the lines of the events of the run. The line numbers are those of the scenario's text.
 pub record TellsRun {scenario : Scenario} {said : List Said} (events : Bool) (played : PlaysEvents scenario said) (summary : Summary)
     : Type 0 where
   -- each act with the number of its line
   pub entries : List (ℕ × Act)
   -- these are the acts that were done
   pub are : acts_in entries ≡ played.acts
-  -- the summary is that of their answers
+  -- the summary has the refused calls among these acts, and on request their lines
   pub tells : TellsAnswers (hosts_of scenario.plan.hosts.items) events entries summary
 
 -- the sinks of sockets, and those of wires, before the bench and after it
@@ -180,7 +180,8 @@ StopsWriting unit texts wires (errors.Run stopped) sinks = ⊥
 StopsWriting unit texts wires errors.Memory sinks = AreUntouched sinks
 StopsWriting unit texts wires (errors.Write error) sinks = IsFailedSink unit texts wires sinks
 
--- At Ok each sink has the frames of its socket or of its wire, and the summary is that of the hosts and of the answers.
+-- If the result is Ok, each sink contains the frames of its socket or of its wire, and the summary contains the counts of the hosts and of
+-- the answers.
 pub record Benches (unit : Unit) (scenario : Scenario) (traces : List (List (List ℕ))) (events : Bool) (summary : Summary)
     (sinks : BenchSinks)
     : Type 0 where

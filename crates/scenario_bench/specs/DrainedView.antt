@@ -1,4 +1,4 @@
--- A frame of a drained host, without its place in memory.
+-- A frame that a drained host returned, without its place in memory.
 use Rattle.packet_socket.specs.HostCalls.{Given}
 use Rattle.scenario_bench.specs.declared.drained.DrainedFrame.{DrainedFrame}
 

@@ -16,7 +16,7 @@ use Rattle.scenario_bench.specs.Given.{next_number}
 abbrev pub text_of : (names : List (List ℕ)) → TickTold → List ℕ
 text_of names told = told_text names told.tick told.accesses told.outcome
 
--- where an event stands: its number in the run, and the number of its line in the scenario
+-- the number of an event in the run, and the number of its line in the scenario
 pub record Place : Type 0 where
   -- the number of the event
   pub number : ℕ
@@ -53,7 +53,7 @@ act_line names place (Ran event reply) =
     event_line names place event reply.accesses reply.answer (flat_map (text_of names) (told_in event reply))
 act_line names place (Drained host buffered given) = drain_line names place host (length given)
 
--- the number of an event, and that of its line
+-- the place of an event with this number, of this line
 abbrev pub place_at : (number line : ℕ) → Place
 place_at number line = record { number = number; line = line }
 
@@ -65,8 +65,7 @@ lines_from names number (entry ∷ entries) =
 
 -- A log.
 
--- the names of the hosts, the texts of the ticks of the event that is played, with their outcomes, and the lines of the
--- events before it
+-- a log: the names of the hosts, the text of the ticks so far of the event that is played, and the lines of the events before it
 pub record LogState : Type 0 where
   -- the names of the hosts
   pub names : List (List ℕ)

@@ -16,7 +16,7 @@ use Rattle.stations.specs.declared.tick.Tick.{Tick}
 use Rattle.stations.specs.declared.tick.Tick.TheVariants.{Deliver, Go, Step}
 use Rattle.scenario.specs.SoFar.{Host, Said, Draws, Feeds, Interrupts, Receives, Sends, Ticks}
 
--- how many receive buffers a frame of this size needs after it is padded; one if it is too long for `send`
+-- the number of receive buffers that a frame of this size needs after it is padded; one if it is too long for `send`
 abbrev pub pieces_for : (size : ℕ) → ℕ
 pieces_for size = if nat_le size longest_frame then div_ceil (max size shortest_frame) receive_buffer_bytes else 1
 
@@ -25,8 +25,8 @@ abbrev pub moves_at : (host pieces : ℕ) → List Said
 moves_at host zero = []
 moves_at host (suc pieces) = Ticks (Step host RxData) ∷ Ticks (Step host RxDone) ∷ moves_at host pieces
 
--- A frame at a host's end of the wire is delivered and received in this number of pieces, its interrupt is handled, and
--- each socket is asked once, in order.
+-- A frame is delivered to a host, moved to memory in this number of pieces, the interrupt is handled, and each socket is asked once, in
+-- order.
 abbrev pub arrival_at : (pieces host sockets : ℕ) → List Said
 arrival_at pieces host sockets =
     Ticks (Deliver host) ∷ moves_at host pieces
@@ -52,12 +52,12 @@ behind_send hosts sender pieces =
 abbrev pub fed : List Host → (sender : ℕ) (frame : List ℕ) → List Said
 fed hosts sender frame = Sends sender frame [] ∷ behind_send hosts sender (pieces_for (length frame))
 
--- Drawn events: each by a 32-bit word of PCG32 (XSH RR 64/32), seeded with the start of the line.
+-- the next `count` words of a generator of PCG32 (XSH RR 64/32)
 abbrev pub words_from : (count : ℕ) → Lcg → List ℕ
 words_from zero generator = []
 words_from (suc count) generator = (pcg32 generator).0 ∷ words_from count (pcg32 generator).1
 
--- the first words of PCG32 with this seed
+-- the first `count` words of PCG32 with the seed `start`
 abbrev pub words_drawn : (count start : ℕ) → List ℕ
 words_drawn count start = words_from count (pcg32_of_seed (pcg32_seed 16 start))
 
@@ -69,11 +69,11 @@ broadcast_of address = 0xFF ∷ 0xFF ∷ 0xFF ∷ 0xFF ∷ 0xFF ∷ 0xFF ∷ add
 abbrev pub address_of : List Host → ℕ → List ℕ
 address_of hosts host = unwrap_or (option_map (λ (one : Host). address_bytes one.image) (slice_get hosts host)) []
 
--- a frame finishes after the first access of an interrupt
+-- the ticks of an interrupt in which the adapter finishes a frame after the handler's first access
 abbrev pub late_frame : (host : ℕ) → List Tick
 late_frame host = Go ∷ Step host RxData ∷ Step host RxDone ∷ []
 
--- the event of this kind, of eight, at a host
+-- the event of this kind at a host; there are eight kinds
 abbrev pub event_of_kind : (kind host : ℕ) (address : List ℕ) → Said
 event_of_kind kind host address =
     if kind == 0 then Ticks (Step host TxTake)

@@ -73,7 +73,7 @@ told_text names tick accesses one = numbered (codes " @") accesses ++ tick_text 
 
 -- Events and their answers.
 
--- an event, with the name of its host
+-- an event, with the name of its host, without its ticks
 abbrev pub event_text : (names : List (List ℕ)) → Event → List ℕ
 event_text names (event.Send host frame ticks) = (codes " send " ++ name_at names host) ++ numbered (codes " ") (length frame.items)
 event_text names (event.Recv host socket ticks) = (codes " recv " ++ name_at names host) ++ numbered (codes " ") socket
@@ -108,7 +108,7 @@ abbrev pub handled_text : Handled → List ℕ
 handled_text handled.NotMine = codes " notmine"
 handled_text (handled.Handled taken) = numbered (codes " handled ") taken
 
--- what an event answered, with the size of the frame that a socket returned
+-- the answer to an event, with the size of the frame that a socket returned
 abbrev pub answer_text : FrameAnswer → List ℕ
 answer_text (answer.Sent sent) = sent_word sent
 answer_text (answer.Received (Ok frame)) = numbered (codes " ok ") (length frame)
@@ -118,5 +118,5 @@ answer_text (answer.Joined joined) = group_word joined
 answer_text (answer.Left left) = group_word left
 answer_text (answer.Reset sending holding on_after) =
     numbered (codes " givenup ") (length sending.items) ++ numbered (codes " ") (length holding.items) ++ numbered (codes " on ") on_after
-answer_text answer.Ticked = []
+answer_text answer.NoCall = []
 answer_text answer.NoHost = codes " nohost"

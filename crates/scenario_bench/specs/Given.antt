@@ -10,7 +10,7 @@ use Rattle.scenario_bench.specs.Acts.{Act, said_in}
 abbrev pub greatest_number : ℕ
 greatest_number = 2 ^ 64 - 1
 
--- the next number: one more, up to the greatest
+-- one more than this number, up to the greatest
 abbrev pub next_number : ℕ → ℕ
 next_number number = min (number + 1) greatest_number
 

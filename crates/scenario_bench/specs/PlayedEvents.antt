@@ -4,7 +4,7 @@ use Rattle.std.specs.Prelude.{IfSome, string_bytes, unwrap_or}
 use Rattle.adapter.specs.World.{World}
 use Rattle.packet_socket.specs.HostState.{HostState}
 use Rattle.stations.specs.Stations.{world_at}
-use Rattle.wire.specs.Equations.{IsExact, counted}
+use Rattle.wire.specs.Equations.{IsExact, missed_count}
 use Rattle.host_calls.specs.Networks.{IsHost}
 use Rattle.scenario_bench.specs.declared.summary.HostSummary.{HostSummary}
 use Rattle.scenario_bench.specs.declared.tally.Tally.{Tally}
@@ -18,12 +18,12 @@ use Rattle.scenario_bench.specs.Acts.{Act, ActsLead, act_of}
 use Rattle.scenario_bench.specs.Benches.{scenario_events}
 use Rattle.scenario_bench.specs.EventLists.{behind_send}
 use Rattle.scenario_bench.specs.Given.{sockets_from}
-use Rattle.scenario_bench.specs.Puts.{PutFrame, wire_names, wire_texts}
-use Rattle.scenario_bench.specs.SocketLists.{frames_given}
-use Rattle.scenario_bench.specs.Tallies.{AreNoted, empty_sockets, no_tally, resets_in}
+use Rattle.scenario_bench.specs.Kept.{KeptFrame, socket_texts}
+use Rattle.scenario_bench.specs.Puts.{wire_names, wire_texts}
+use Rattle.scenario_bench.specs.Tallies.{AreNoted, no_tally, resets_in}
 use Rattle.scenario_bench.specs.declared.bench_error.BenchError.{BenchError}
 use Rattle.scenario_bench.specs.declared.bench_error.BenchError.TheVariants as errors
-use Rattle.scenario_bench.specs.declared.play.EventsAfterSend.{EventsAfterSend}
+use Rattle.scenario_bench.specs.declared.events.EventsAfterSend.{EventsAfterSend}
 use Rattle.scenario_bench.specs.declared.play.Play.{Play}
 
 -- These events and drains were done on the network and recorded.
@@ -38,7 +38,7 @@ pub record Begins (plans : List HostPlan) (play : Play) : Type 0 where
   pub made : IsLanAnswer plans (Ok play.lan)
   pub number : play.record.number ≡ 0
   pub hosts : play.record.hosts.items ≡ replicate (length plans) no_tally
-  pub sockets : play.record.sockets.items ≡ empty_sockets (sockets_from 0 (hosts_of plans))
+  pub returned : play.record.returned ≡ []
 
 -- No network was made, or memory was refused.
 abbrev pub StopsAtPlan : List HostPlan → BenchError → Type 0
@@ -79,7 +79,7 @@ pub record TellsTally (plan : HostPlan) (tally : Tally) (host : HostState) (worl
   pub stored : told.stored ≡ tally.stored
   pub given : told.given ≡ tally.given
   pub resets : told.given_up ≡ resets_in tally
-  pub counts : (told.missed ≡ counted host world) × (IsTrue told.exact ↔ IsExact host world) × (told.unclaimed ≡ host.unclaimed)
+  pub counts : (told.missed ≡ missed_count host world) × (IsTrue told.exact ↔ IsExact host world) × (told.unclaimed ≡ host.unclaimed)
 
 -- These are the summaries of the first hosts of a plan, this many.
 pub record TellTallies (first : ℕ) (plans : List HostPlan) (play : Play) (told : List HostSummary) : Type 0 where
@@ -90,24 +90,25 @@ pub record TellTallies (first : ℕ) (plans : List HostPlan) (play : Play) (told
 
 -- A scenario.
 
--- Its commands were played, and these are the summaries of its hosts.
+-- The commands of the scenario were played, and these are the summaries of its hosts.
 pub record HasPlayedScenario (scenario : Scenario) (traces : List (List (List ℕ))) (old new : Play) (hosts : List HostSummary)
     : Type 0 where
   pub played : HasPlayed (scenario_events scenario traces) old new
   pub tells : TellTallies (length scenario.plan.hosts.items) scenario.plan.hosts.items new hosts
 
 -- No frame is recorded yet. Frames that are put are recorded if this many traces of wires are to be written, unless it is 0.
-abbrev pub IsNewRecord : (wires : ℕ) → Option (List PutFrame) → Type 0
+abbrev pub IsNewRecord : (wires : ℕ) → Option (List KeptFrame) → Type 0
 IsNewRecord wires None = wires ≡ 0
 IsNewRecord wires (Some puts) = puts ≡ []
 
-abbrev pub AreRecorded : (wires : ℕ) → Option (List PutFrame) → Type 0
+abbrev pub AreRecorded : (wires : ℕ) → Option (List KeptFrame) → Type 0
 AreRecorded wires None = wires ≡ 0
 AreRecorded wires (Some puts) = ⊤
 
--- the traces of sockets, and those of wires
-abbrev pub socket_texts : Play → List (List Timed)
-socket_texts play = map frames_given play.record.sockets.items
+-- the traces of the sockets of these hosts
+abbrev pub socket_texts_in : List HostPlan → Play → List (List Timed)
+socket_texts_in plans play = socket_texts play.record.returned (sockets_from 0 (hosts_of plans))
 
+-- the traces of the wires of these hosts
 abbrev pub wire_texts_in : List HostPlan → Play → List (List Timed)
 wire_texts_in plans play = wire_texts (hosts_of plans) (unwrap_or play.record.puts []) (wire_names (hosts_of plans))

@@ -1,25 +1,24 @@
 -- What is recorded in two consecutive intervals is recorded in both together.
-use Rattle.std.proofs.Common.{◌≡◌, ◌++◌, ◌∷◌, [], ℕ, List, None, Option, Some, length, map}
+use Rattle.std.proofs.Common.{◌≡◌, ◌++◌, ◌∷◌, [], ℕ, List, None, Option, Some, length}
 use Rattle.std.proofs.Common.{option_map, slice_get, refl, sym, ap, subst, ◌∙◌, append_assoc, append-nil, arith, length-append}
 use Rattle.std.specs.Prelude.{⊤}
 use Rattle.std.specs.List.{flat_map, fold}
 use Rattle.std.proofs.lemmas.Grind.{flat_map-append}
 use Rattle.std.proofs.lemmas.List.{map-append}
 use Rattle.std.proofs.lemmas.List.Sums.{fold-append}
-use Rattle.pcap_trace.specs.Format.{Timed}
-use Rattle.delivery.specs.Happenings.{Happening, given}
+use Rattle.delivery.specs.Happenings.{Happening}
 use Rattle.network_plan.specs.declared.event.Event.{Event}
 use Rattle.network_plan.specs.declared.reply.Reply.{Reply}
 use Rattle.stations.specs.ToldTicks.{ComposesTold, TickTold}
 use Rattle.wire.specs.RunObservers.{ComposesRuns, happened_of}
 use Rattle.scenario_bench.specs.Acts.{Act, Ran, history, ran, said_in}
 use Rattle.scenario_bench.specs.EventLines.{place_at}
-use Rattle.scenario_bench.specs.Given.{given_from, next_number, numbered_frame}
-use Rattle.scenario_bench.specs.Puts.{PutFrame, PutsGrow, put_frame_in, put_frames_in, put_from}
+use Rattle.scenario_bench.specs.Given.{next_number}
+use Rattle.scenario_bench.specs.Kept.{FramesGrow, KeptFrame, PutsGrow, chosen_from, put_frame_in, put_frames_in, put_from}
+use Rattle.scenario_bench.specs.Kept.{returned_frame_in, returned_from}
 use Rattle.scenario_bench.specs.Recording.{AreInOrder, HearsTicks, RecordsReplies}
 use Rattle.scenario_bench.specs.RunLogs.{AreLogged, act_logged, acts_in, log_heard, logged}
-use Rattle.scenario_bench.specs.SocketLists.{SocketFrames}
-use Rattle.scenario_bench.specs.Tallies.{AreNoted, TalliesGrow, tallied_by, number_behind, socket_behind, tally_behind}
+use Rattle.scenario_bench.specs.Tallies.{AreNoted, TalliesGrow, tallied_by, number_behind, tally_behind}
 use Rattle.scenario_bench.specs.declared.record.Record.{Record}
 use Rattle.scenario_bench.specs.declared.run_log.RunLog.{RunLog}
 use Rattle.scenario_bench.specs.declared.tally.Tally.{Tally}
@@ -44,49 +43,32 @@ grows_join xs ys a b c one two k =
 
 -- Frames that were put.
 
-pub puts_not : (puts : Option (List PutFrame)) → PutsGrow [] puts puts
+pub puts_not : (puts : Option (List KeptFrame)) → PutsGrow [] puts puts
 puts_not None = refl
-puts_not (Some puts) = ap (λ (all : List PutFrame). Some all) (sym (append-nil puts))
+puts_not (Some puts) = ap (λ (all : List KeptFrame). Some all) (sym (append-nil puts))
 
-puts-further : (xs ys : List PutFrame) (found : Option (List PutFrame))
-    → option_map (λ (puts : List PutFrame). puts ++ ys) (option_map (λ (puts : List PutFrame). puts ++ xs) found)
-    ≡ option_map (λ (puts : List PutFrame). puts ++ (xs ++ ys)) found
+puts-further : (xs ys : List KeptFrame) (found : Option (List KeptFrame))
+    → option_map (λ (puts : List KeptFrame). puts ++ ys) (option_map (λ (puts : List KeptFrame). puts ++ xs) found)
+    ≡ option_map (λ (puts : List KeptFrame). puts ++ (xs ++ ys)) found
 puts-further xs ys None = refl
-puts-further xs ys (Some puts) = ap (λ (all : List PutFrame). Some all) (append_assoc puts xs ys)
+puts-further xs ys (Some puts) = ap (λ (all : List KeptFrame). Some all) (append_assoc puts xs ys)
 
-pub puts_join : (xs ys : List PutFrame) (a b c : Option (List PutFrame)) → PutsGrow xs a b → PutsGrow ys b c → PutsGrow (xs ++ ys) a c
-puts_join xs ys a b c one two = two ∙ ap (option_map (λ (puts : List PutFrame). puts ++ ys)) one ∙ puts-further xs ys a
+pub puts_join : (xs ys : List KeptFrame) (a b c : Option (List KeptFrame)) → PutsGrow xs a b → PutsGrow ys b c → PutsGrow (xs ++ ys) a c
+puts_join xs ys a b c one two = two ∙ ap (option_map (λ (puts : List KeptFrame). puts ++ ys)) one ∙ puts-further xs ys a
 
-put_from-join : (number : ℕ) (acts later : List Act)
-    → put_from number (acts ++ later) ≡ put_from number acts ++ put_from (number_behind number acts) later
-put_from-join number [] later = refl
-put_from-join number (act ∷ acts) later =
-    let first = put_frames_in number (said_in act) in
+chosen_from-join : (chosen : ℕ → Happening → List KeptFrame) (number : ℕ) (acts later : List Act)
+    → chosen_from chosen number (acts ++ later) ≡ chosen_from chosen number acts ++ chosen_from chosen (number_behind number acts) later
+chosen_from-join chosen number [] later = refl
+chosen_from-join chosen number (act ∷ acts) later =
+    let first = flat_map (chosen number) (said_in act) in
     let next = next_number number in
-    ap (λ (rest : List PutFrame). first ++ rest) (put_from-join next acts later)
-    ∙ sym (append_assoc first (put_from next acts) (put_from (number_behind next acts) later))
+    ap (λ (rest : List KeptFrame). first ++ rest) (chosen_from-join chosen next acts later)
+    ∙ sym (append_assoc first (chosen_from chosen next acts) (chosen_from chosen (number_behind next acts) later))
 
--- Acts, one list after the other.
+-- Frames that sockets returned.
 
-given-join : (host socket number : ℕ) (acts later : List Act) → given_from host socket number (acts ++ later)
-    ≡ given_from host socket number acts ++ given_from host socket (number_behind number acts) later
-given-join host socket number [] later = refl
-given-join host socket number (act ∷ acts) later =
-    let first = map (numbered_frame number) (given host socket (said_in act)) in
-    let next = next_number number in
-    ap (λ (rest : List Timed). first ++ rest) (given-join host socket next acts later)
-    ∙ sym (append_assoc first (given_from host socket next acts) (given_from host socket (number_behind next acts) later))
-
-behind-join : (number : ℕ) (acts later : List Act) (found : Option SocketFrames)
-    → option_map (socket_behind (number_behind number acts) later) (option_map (socket_behind number acts) found)
-    ≡ option_map (socket_behind number (acts ++ later)) found
-behind-join number acts later None = refl
-behind-join number acts later (Some socket) =
-    let first = given_from socket.host socket.socket number acts in
-    let second = given_from socket.host socket.socket (number_behind number acts) later in
-    ap (λ (frames : List Timed). Some (record socket { frames = frames }))
-    (append_assoc socket.frames first second
-    ∙ ap (λ (frames : List Timed). socket.frames ++ frames) (sym (given-join socket.host socket.socket number acts later)))
+pub frames_join : (xs ys a b c : List KeptFrame) → FramesGrow xs a b → FramesGrow ys b c → FramesGrow (xs ++ ys) a c
+frames_join xs ys a b c one two = two ∙ ap (λ (list : List KeptFrame). list ++ ys) one ∙ append_assoc a xs ys
 
 -- Lines of acts, one list after the other.
 
@@ -114,26 +96,21 @@ notes_join acts later a b c one two = record {
   hosts = subst (λ (happened : List Happening). TalliesGrow happened a.hosts.items c.hosts.items)
       (sym (flat_map-append said_in acts later))
       (grows_join (history acts) (history later) a.hosts.items b.hosts.items c.hosts.items one.hosts two.hosts);
-  sockets = λ k. two.sockets k
-      ∙ ap (λ (n : ℕ). option_map (socket_behind n later) (slice_get b.sockets.items k)) one.number
-      ∙ ap (option_map (socket_behind (number_behind a.number acts) later)) (one.sockets k)
-      ∙ behind-join a.number acts later (slice_get a.sockets.items k);
-  puts = subst (λ (puts : List PutFrame). PutsGrow puts a.puts c.puts) (sym (put_from-join a.number acts later))
+  returned = subst (λ (more : List KeptFrame). FramesGrow more a.returned c.returned)
+      (sym (chosen_from-join returned_frame_in a.number acts later))
+      (frames_join (returned_from a.number acts) (returned_from (number_behind a.number acts) later) a.returned b.returned c.returned
+      one.returned (subst (λ (n : ℕ). FramesGrow (returned_from n later) b.returned c.returned) one.number two.returned));
+  puts = subst (λ (puts : List KeptFrame). PutsGrow puts a.puts c.puts) (sym (chosen_from-join put_frame_in a.number acts later))
       (puts_join (put_from a.number acts) (put_from (number_behind a.number acts) later) a.puts b.puts c.puts one.puts
       (subst (λ (n : ℕ). PutsGrow (put_from n later) b.puts c.puts) one.number two.puts));
   logged = logs-join acts later a b c one.number one.logged two.logged;
 }
 
-nothing-more : (number : ℕ) (found : Option SocketFrames) → found ≡ option_map (socket_behind number []) found
-nothing-more number None = refl
-nothing-more number (Some socket) =
-    ap (λ (frames : List Timed). Some (record socket { frames = frames })) (sym (append-nil socket.frames))
-
 pub noted_none : (a : Record) → AreNoted [] a a
 noted_none a = record {
   number = refl;
   hosts = grows_not a.hosts.items;
-  sockets = λ k. nothing-more a.number (slice_get a.sockets.items k);
+  returned = sym (append-nil a.returned);
   puts = puts_not a.puts;
   logged = record { entries = []; are = refl; log = refl };
 }
@@ -145,7 +122,7 @@ ticks_compose = record {
   stays = λ a. record {
     before = λ sound. sound;
     number = refl;
-    sockets = refl;
+    returned = refl;
     hosts = grows_not a.hosts.items;
     puts = λ sound. puts_not a.puts;
     log = λ sound. refl;
@@ -153,18 +130,18 @@ ticks_compose = record {
   joins = λ a b c first later one two. record {
     before = λ sound. one.before (two.before sound);
     number = two.number ∙ one.number;
-    sockets = two.sockets ∙ one.sockets;
+    returned = two.returned ∙ one.returned;
     hosts =
         subst (λ (happened : List Happening). TalliesGrow happened a.hosts.items c.hosts.items)
         (sym (flat_map-append happened_of first later))
         (grows_join (flat_map happened_of first) (flat_map happened_of later) a.hosts.items b.hosts.items c.hosts.items one.hosts
         two.hosts);
     puts = λ sound.
-        let of : List TickTold → List PutFrame = λ ticks. put_frames_in a.number (flat_map happened_of ticks) in
+        let of : List TickTold → List KeptFrame = λ ticks. put_frames_in a.number (flat_map happened_of ticks) in
         let both : of (first ++ later) ≡ of first ++ of later =
         ap (put_frames_in a.number) (flat_map-append happened_of first later)
         ∙ flat_map-append (put_frame_in a.number) (flat_map happened_of first) (flat_map happened_of later) in
-        subst (λ (puts : List PutFrame). PutsGrow puts a.puts c.puts) (sym both)
+        subst (λ (puts : List KeptFrame). PutsGrow puts a.puts c.puts) (sym both)
         (puts_join (of first) (of later) a.puts b.puts c.puts (one.puts (two.before sound))
         (subst (λ (n : ℕ). PutsGrow (put_frames_in n (flat_map happened_of later)) b.puts c.puts) one.number (two.puts sound)));
     log = λ sound. two.log sound ∙ ap (λ (log : RunLog). fold log_heard log later) (one.log (two.before sound))
@@ -200,8 +177,7 @@ record_composes = record {
       noted = record {
         number = heard.number;
         hosts = heard.hosts;
-        sockets = λ k.
-            ap (λ (sockets : List SocketFrames). slice_get sockets k) heard.sockets ∙ (noted_none a).sockets k;
+        returned = heard.returned ∙ sym (append-nil a.returned);
         puts = heard.puts sound;
         logged = record { entries = []; are = refl; log = heard.log sound };
       };

@@ -1,5 +1,5 @@
--- What is recorded of the answers of a run (our choice).
-use Rattle.std.specs.Prelude.{◌≡◌, ◌+◌, ◌-◌, ◌∷◌, [], ℕ, Bool, List, Option, Some, None, Err, if◌then◌else◌, length, map, min}
+-- The record of the answers of a run (our choice).
+use Rattle.std.specs.Prelude.{◌≡◌, ◌+◌, ◌-◌, ◌∷◌, [], ℕ, Bool, List, Some, None, Err, if◌then◌else◌, length, map, min}
 use Rattle.std.specs.Prelude.{option_map}
 use Rattle.std.specs.List.{fold}
 use Rattle.network_plan.specs.Answers.{FrameAnswer}
@@ -46,7 +46,7 @@ abbrev pub asked_after : (asked : Refusals) → Said → (before after : Refusal
 asked_after asked (Draws count start) before after = asked
 asked_after asked said before after = with_later asked before after
 
--- A record of them.
+-- The log.
 
 -- the log before the first event
 abbrev pub new_log : (names : List (List ℕ)) → (events : Bool) → RunLog

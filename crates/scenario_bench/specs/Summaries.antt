@@ -8,7 +8,7 @@ use Rattle.rx_engine.specs.declared.arrival.Fate.TheVariants as fate
 use Rattle.packet_socket.specs.HostState.{HostState}
 use Rattle.adapter.specs.World.{World}
 use Rattle.stations.specs.Stations.{world_at}
-use Rattle.wire.specs.Equations.{IsExact, counted}
+use Rattle.wire.specs.Equations.{IsExact, missed_count}
 use Rattle.host_calls.specs.Networks.{IsHost, NetworkState}
 use Rattle.scenario.specs.SoFar.{Host}
 use Rattle.scenario_bench.specs.Acts.{Act}
@@ -75,7 +75,7 @@ pub record TellsHost (k : ℕ) (plan : Host) (happened : List Happening) (host :
   -- the numbers of frames
   pub frames : TellsFrames k happened told
   -- the count of misses
-  pub missed : told.missed ≡ counted host world
+  pub missed : told.missed ≡ missed_count host world
   -- whether this count is exact
   pub exact : IsTrue told.exact ↔ IsExact host world
   -- the frames without a socket
@@ -89,10 +89,11 @@ pub record TellsHosts (plans : List Host) (happened : List Happening) (network :
   pub each : (k : ℕ) (plan : Host) (host : HostState) (one : HostSummary) → slice_get plans k ≡ Some plan → IsHost network k host
       → slice_get told k ≡ Some one → TellsHost k plan happened host (world_at network.stations k) one
 
--- The answers of these acts, each with the number of its line in the scenario: how many calls were refused, and on request a line for each
--- act.
+-- The summary of the answers of these acts, each with the number of its line in the scenario: the numbers of refused calls, and on request
+-- a
+-- line for each act.
 pub record TellsAnswers (plans : List Host) (events : Bool) (entries : List (ℕ × Act)) (told : Summary) : Type 0 where
-  -- how many calls were refused
+  -- the numbers of refused calls
   pub refusals : told.refusals ≡ fold refusals_by no_refusals (acts_in entries)
   -- the lines of events, if they are asked for
   pub lines : option_map (λ (log : LogState). log.text) told.events

@@ -1,20 +1,18 @@
--- What is recorded during a run (our choice).
+-- The counts and frames that are recorded during a run (our choice).
 use Rattle.std.specs.Prelude.{◌≡◌, ◌==◌, ◌+◌, ℕ, true, false, List, [], ◌∷◌, Option, Some}
-use Rattle.std.specs.Prelude.{None, if◌then◌else◌, length, map, min, option_map}
+use Rattle.std.specs.Prelude.{None, if◌then◌else◌, length, min, option_map}
 use Rattle.std.specs.Prelude.{slice_get}
 use Rattle.std.specs.List.{fold}
 use Rattle.rx_engine.specs.declared.arrival.Fate.{Fate}
 use Rattle.rx_engine.specs.declared.arrival.Fate.TheVariants as fate
-use Rattle.pcap_trace.specs.Format.{Timed}
-use Rattle.delivery.specs.Happenings.{Happening, Accepted, Put, Reached, Given, GivenUp as HasGivenUp, given}
+use Rattle.delivery.specs.Happenings.{Happening, Accepted, Put, Reached, Given, GivenUp as HasGivenUp}
 use Rattle.network_plan.specs.Answers.{FrameAnswer}
 use Rattle.network_plan.specs.declared.reply.Answer.TheVariants as answer
 use Rattle.adapter.specs.Outcomes.{FrameOutcome}
 use Rattle.adapter.specs.declared.outcome.Outcome.TheVariants as outcome
 use Rattle.scenario_bench.specs.Acts.{Act, history}
-use Rattle.scenario_bench.specs.SocketLists.{SocketFrames, no_frames, with_socket_frames, with_given}
-use Rattle.scenario_bench.specs.Given.{given_from, greatest_number, next_number, numbered_frame}
-use Rattle.scenario_bench.specs.Puts.{PutsGrow, put_from}
+use Rattle.scenario_bench.specs.Given.{greatest_number, next_number}
+use Rattle.scenario_bench.specs.Kept.{FramesGrow, PutsGrow, put_from, returned_from}
 use Rattle.scenario_bench.specs.RunLogs.{AreLogged}
 use Rattle.scenario_bench.specs.declared.record.Record.{Record}
 use Rattle.scenario_bench.specs.declared.summary.GivenUp.{GivenUp}
@@ -22,7 +20,7 @@ use Rattle.scenario_bench.specs.declared.tally.Passage.{Passage}
 use Rattle.scenario_bench.specs.declared.tally.Passage.TheVariants as passage
 use Rattle.scenario_bench.specs.declared.tally.Tally.{Tally}
 
--- Of each host.
+-- Counts of a host.
 
 abbrev pub counted_once : Passage → Tally → Tally
 counted_once passage.Accepted tally = record tally { accepted = next_number tally.accepted }
@@ -54,12 +52,12 @@ tally_given_up sending holding tally =
 abbrev pub given_up_at : (k host sending holding : ℕ) → Tally → Tally
 given_up_at k host sending holding tally = if k == host then tally_given_up sending holding tally else tally
 
--- what resets gave up, if there was a reset
+-- the numbers of frames that resets gave up and dropped, if there was a reset
 abbrev pub resets_in : Tally → Option GivenUp
 resets_in tally =
     if tally.is_reset then Some (record { sending = tally.sending; holding = tally.holding; off = tally.off }) else None
 
--- what happens to a frame by the answer of a reset
+-- the happening that the answer of a reset reports
 abbrev pub given_up_of : (host : ℕ) → FrameAnswer → List Happening
 given_up_of host (answer.Reset sending holding on_after) = HasGivenUp host sending.items holding.items ∷ []
 given_up_of host one = []
@@ -86,7 +84,7 @@ no_tally = record {
   is_reset = false;
 }
 
--- Of events and drains.
+-- The record of events and drains.
 
 -- The host's numbers grow by what happened to its frames.
 abbrev pub tally_behind : List Happening → ℕ → Tally → Tally
@@ -94,13 +92,6 @@ tally_behind happened k tally = fold (tallied_by k) tally happened
 
 abbrev pub TalliesGrow : List Happening → (old new : List Tally) → Type 0
 TalliesGrow happened old new = (k : ℕ) → slice_get new k ≡ option_map (tally_behind happened k) (slice_get old k)
-
--- A socket's frames grow by those that it returned in these acts, the first of which has this number.
-abbrev pub socket_behind : (number : ℕ) → List Act → SocketFrames → SocketFrames
-socket_behind number acts socket = with_socket_frames (given_from socket.host socket.socket number acts) socket
-
-abbrev pub SocketsGrow : (number : ℕ) → List Act → (old new : List SocketFrames) → Type 0
-SocketsGrow number acts old new = (k : ℕ) → slice_get new k ≡ option_map (socket_behind number acts) (slice_get old k)
 
 -- the number after these acts
 abbrev pub number_behind : ℕ → List Act → ℕ
@@ -110,11 +101,11 @@ number_behind number acts = fold (λ n act. next_number n) number acts
 pub record AreNoted (acts : List Act) (old new : Record) : Type 0 where
   pub number : new.number ≡ number_behind old.number acts
   pub hosts : TalliesGrow (history acts) old.hosts.items new.hosts.items
-  pub sockets : SocketsGrow old.number acts old.sockets.items new.sockets.items
+  pub returned : FramesGrow (returned_from old.number acts) old.returned new.returned
   pub puts : PutsGrow (put_from old.number acts) old.puts new.puts
   pub logged : AreLogged acts old new
 
--- What the parts of an act add.
+-- Changes of counts by the parts of an act.
 
 -- one passage at a host is counted
 abbrev pub TallyCounts : (host : ℕ) → Passage → (old new : List Tally) → Type 0
@@ -130,18 +121,3 @@ abbrev pub IsPassage : FrameOutcome → Option Passage → Type 0
 IsPassage (outcome.Put frame) found = found ≡ Some passage.Put
 IsPassage (outcome.Delivered frame one) found = found ≡ Some (passage_by one)
 IsPassage one found = found ≡ None
-
--- A socket of a host returned a frame.
-abbrev pub GetsGiven : (host socket : ℕ) → Timed → (old new : List SocketFrames) → Type 0
-GetsGiven host socket frame old new = (k : ℕ) → slice_get new k ≡ option_map (with_given host socket (frame ∷ [])) (slice_get old k)
-
--- Each socket's frames grow by those that it returned in an act with this number.
-abbrev pub with_said : (number : ℕ) → List Happening → SocketFrames → SocketFrames
-with_said number happened socket = with_socket_frames (map (numbered_frame number) (given socket.host socket.socket happened)) socket
-
-abbrev pub GetsSaid : (number : ℕ) → List Happening → (old new : List SocketFrames) → Type 0
-GetsSaid number happened old new = (k : ℕ) → slice_get new k ≡ option_map (with_said number happened) (slice_get old k)
-
--- sockets at these places, without frames
-abbrev pub empty_sockets : List (ℕ × ℕ) → List SocketFrames
-empty_sockets places = map (λ (place : ℕ × ℕ). no_frames place.0 place.1) places

@@ -4,24 +4,24 @@ ghost use Rattle.scenario_bench.specs.DrainedView.{drained_frame};
 
 use descriptors::Frame;
 use std::alloc::{AllocError, Global};
-use wire::Outlet;
+use wire::FrameSink;
 
-/// A frame with the number of its socket.
+/// A frame, with the number of the socket that returned it.
 #[derive(Drop)]
 pub(crate) struct DrainedFrame {
     pub(crate) socket: usize,
     pub(crate) frame: Frame,
 }
 
-/// The frames that a drain delivered, in order. Their room is allocated before the first drain of a run, and again only
-/// if a later one needs more.
+/// The frames that a drain returned, in order. Room for them is allocated before the first drain of a run, and again
+/// only if a later drain needs more.
 #[derive(Drop)]
 pub(crate) struct DrainedFrames {
     pub(crate) list: Vec<DrainedFrame>,
 }
 
 impl DrainedFrames {
-    /// No frames, without room.
+    /// An empty list. Allocates no memory.
     pub(crate) fn new(alloc: Global) -> DrainedFrames
         ensures { result.list.items ≡ [] }
     {
@@ -30,8 +30,7 @@ impl DrainedFrames {
         }
     }
 
-    /// Removes all frames, and makes room for this many. It uses the room that it has, and allocates only if that is
-    /// less.
+    /// Removes all frames, and makes room for this many. Allocates only if the room isn't enough.
     pub(crate) fn make_room(&mut self, room: usize) -> Result<(), AllocError>
         ensures none { self.new.list.items ≡ [] }
         ensures room { OnOk result (room ≤ vec_capacity self.new.list - length self.new.list.items) }
@@ -41,7 +40,7 @@ impl DrainedFrames {
     }
 }
 
-impl Outlet for DrainedFrames {
+impl FrameSink for DrainedFrames {
     ghost frames = { λ drained. map drained_frame drained.list.items };
 
     ghost room_left = { λ drained. vec_capacity drained.list - length drained.list.items };

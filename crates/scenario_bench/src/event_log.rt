@@ -2,7 +2,7 @@
 ghost use Rattle.std.specs.Prelude.{◌≡◌, IfOk, map, string_bytes};
 ghost use Rattle.scenario_bench.specs.EventLogView.{plan_name};
 
-use crate::event_text::{push_answer, push_event, push_host, push_number, push_told};
+use crate::event_text::{push_drain, push_line, push_told};
 use adapter::Outcome;
 use network_plan::{Answer, Event, HostPlan};
 use pcap_trace::{Sink, WriteError, write_all};
@@ -10,15 +10,15 @@ use stations::Tick;
 use std::alloc::{AllocError, Global};
 use std::marker::Model;
 
-/// Room for a tick with its outcome, in bytes: more than the longest name, two numbers and the words need.
+/// Room for a tick with its outcome, in bytes: more than the longest name, two numbers and the words take.
 const LONGEST_TOLD: usize = 96;
 
 /// Room for the rest of a line, in bytes.
 const LONGEST_REST: usize = 192;
 
-/// A line for each event that was played, in order. Before the end of an event, also the outcomes of its ticks so far.
+/// A line for each event or drain that was played, in order. During an event, also the outcomes of its ticks so far.
 ///
-/// In contracts it is a `LogState`: the names of the hosts, and these texts.
+/// In contracts it is a `LogState`: the names of the hosts, the outcomes, and the lines.
 #[derive(Drop)]
 pub struct EventLog {
     names: Vec<String>,
@@ -100,7 +100,7 @@ impl EventLog {
         )
     }
 
-    /// Ends the line of the event with this number. `line` is the number of its line in the scenario.
+    /// Appends the line of the event with this number. `line` is the number of its line in the scenario.
     #[inline(never)]
     pub(crate) fn end(
         &mut self,
@@ -115,18 +115,22 @@ impl EventLog {
             (self.new
             ≡ end_logged (place_at number line) event.now accesses (answer_with frame.now answer.now) self.old) }
     {
-        push_number(&mut self.text, b"", number)?;
-        push_number(&mut self.text, b" line ", line)?;
-        push_event(&mut self.text, self.names.as_slice(), event)?;
-        push_answer(&mut self.text, answer, frame)?;
-        push_number(&mut self.text, b" accesses ", accesses)?;
-        self.text.extend_from_slice(self.outcomes.as_slice())?;
-        self.text.extend_from_slice(b"\n")?;
+        push_line(
+            &mut self.text,
+            self.names.as_slice(),
+            number,
+            line,
+            event,
+            accesses,
+            answer,
+            frame,
+            self.outcomes.as_slice(),
+        )?;
         self.outcomes.clear();
         Ok(())
     }
 
-    /// Records the drain with this number, of a host, which returned this many frames.
+    /// Appends the line of the drain with this number, at which a host returned `count` frames.
     pub(crate) fn drain(
         &mut self,
         number: u64,
@@ -136,15 +140,18 @@ impl EventLog {
     ) -> Result<(), AllocError>
         ensures { OnOk result (self.new ≡ drain_logged (place_at number line) host count self.old) }
     {
-        push_number(&mut self.text, b"", number)?;
-        push_number(&mut self.text, b" line ", line)?;
-        push_host(&mut self.text, b" drain ", self.names.as_slice(), host)?;
-        push_number(&mut self.text, b" ok ", count as u64)?;
-        self.text.extend_from_slice(b"\n")
+        push_drain(
+            &mut self.text,
+            self.names.as_slice(),
+            number,
+            line,
+            host,
+            count,
+        )
     }
 
-    /// Writes the lines to a sink: `EVENT line LINE CALL ANSWER accesses N`, and for each tick ` @N TICK OUTCOME`: N is
-    /// the number of accesses before the tick. Allocates no memory.
+    /// Writes the lines to a sink: `EVENT line LINE CALL ANSWER accesses N`, and for each tick ` @N TICK OUTCOME`,
+    /// whose N is the number of accesses before the tick. Allocates no memory.
     ///
     /// # Errors
     ///

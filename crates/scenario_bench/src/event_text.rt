@@ -2,6 +2,7 @@
 ghost use Rattle.std.specs.Prelude.{◌≡◌, ◌++◌, OnOk, codes, decimal, length, map, string_bytes};
 ghost use Rattle.adapter.specs.Outcomes.{with_frame};
 ghost use Rattle.network_plan.specs.Answers.{answer_with};
+ghost use Rattle.scenario_bench.specs.EventLines as lines;
 ghost use Rattle.scenario_bench.specs.EventTexts as texts;
 
 use adapter::{Fate, Outcome, StepKind};
@@ -14,7 +15,7 @@ use stations::Tick;
 use std::alloc::AllocError;
 
 /// Appends a label and a number.
-pub(crate) fn push_number(text: &mut Vec<u8>, label: &[u8], number: u64) -> Result<(), AllocError>
+fn push_number(text: &mut Vec<u8>, label: &[u8], number: u64) -> Result<(), AllocError>
     ensures { OnOk result (text.new.items ≡ text.old.items ++ (label.now ++ decimal number)) }
 {
     let mut buffer = Buffer::new();
@@ -33,7 +34,7 @@ fn name_of(names: &[String], host: usize) -> &[u8]
 }
 
 /// Appends a label and the name of a host.
-pub(crate) fn push_host(
+fn push_host(
     text: &mut Vec<u8>,
     label: &[u8],
     names: &[String],
@@ -46,7 +47,7 @@ pub(crate) fn push_host(
     text.extend_from_slice(name_of(names, host))
 }
 
-/// The word of a step, as scenarios write it.
+/// The word for a step, as in scenarios.
 fn step_word(kind: StepKind) -> &'static [u8]
     ensures { result.now ≡ texts.step_word kind }
 {
@@ -60,7 +61,7 @@ fn step_word(kind: StepKind) -> &'static [u8]
     }
 }
 
-/// Appends a tick, as scenarios write it.
+/// Appends a tick, as in scenarios.
 fn push_tick(text: &mut Vec<u8>, names: &[String], tick: Tick) -> Result<(), AllocError>
     ensures { OnOk result
         (text.new.items ≡ text.old.items ++ texts.tick_text (map string_bytes names.now) tick) }
@@ -72,7 +73,7 @@ fn push_tick(text: &mut Vec<u8>, names: &[String], tick: Tick) -> Result<(), All
     }
 }
 
-/// The word of a fate.
+/// The word for a fate.
 fn fate_word(fate: Fate) -> &'static [u8]
     ensures { result.now ≡ texts.fate_word fate }
 {
@@ -104,7 +105,7 @@ fn push_outcome(text: &mut Vec<u8>, outcome: &Outcome<()>, frame: &[u8]) -> Resu
     }
 }
 
-/// Appends a tick with its outcome, and the number of accesses that its call had made before it.
+/// Appends a tick with its outcome, and the number of accesses that its call had made before the tick.
 pub(crate) fn push_told(
     text: &mut Vec<u8>,
     names: &[String],
@@ -121,13 +122,9 @@ pub(crate) fn push_told(
     push_outcome(text, outcome, frame)
 }
 
-/// Appends an event, as scenarios write it, but with the size of a frame in place of its bytes, and without a group's
-/// address.
-pub(crate) fn push_event(
-    text: &mut Vec<u8>,
-    names: &[String],
-    event: &Event,
-) -> Result<(), AllocError>
+/// Appends an event, as in scenarios, but with the size of a frame in place of its bytes, and without a group's address
+/// and without ticks.
+fn push_event(text: &mut Vec<u8>, names: &[String], event: &Event) -> Result<(), AllocError>
     ensures { OnOk result
         (text.new.items ≡ text.old.items ++ texts.event_text (map string_bytes names.now) event.now) }
 {
@@ -148,7 +145,7 @@ pub(crate) fn push_event(
     }
 }
 
-/// The word of a send's result.
+/// The words for the result of a send.
 fn sent_word(sent: Result<(), SendError>) -> &'static [u8]
     ensures { result.now ≡ texts.sent_word sent }
 {
@@ -160,7 +157,7 @@ fn sent_word(sent: Result<(), SendError>) -> &'static [u8]
     }
 }
 
-/// The word of a recv that returned no frame.
+/// The words for a recv that returned no frame.
 fn recv_word(error: RecvError) -> &'static [u8]
     ensures { result.now ≡ texts.recv_word error }
 {
@@ -170,7 +167,7 @@ fn recv_word(error: RecvError) -> &'static [u8]
     }
 }
 
-/// The word of the result of a join or a leave.
+/// The words for the result of a join or a leave.
 fn group_word(changed: Result<(), GroupError>) -> &'static [u8]
     ensures { result.now ≡ texts.group_word changed }
 {
@@ -183,7 +180,7 @@ fn group_word(changed: Result<(), GroupError>) -> &'static [u8]
     }
 }
 
-/// Appends what an interrupt answered.
+/// Appends the result of an interrupt handler.
 fn push_handled(text: &mut Vec<u8>, handled: Handled) -> Result<(), AllocError>
     ensures { OnOk result (text.new.items ≡ text.old.items ++ texts.handled_text handled) }
 {
@@ -193,12 +190,8 @@ fn push_handled(text: &mut Vec<u8>, handled: Handled) -> Result<(), AllocError>
     }
 }
 
-/// Appends what an event answered, with the size of the frame that a socket returned.
-pub(crate) fn push_answer(
-    text: &mut Vec<u8>,
-    answer: &Answer<()>,
-    frame: &[u8],
-) -> Result<(), AllocError>
+/// Appends the answer to an event, with the size of the frame that a socket returned.
+fn push_answer(text: &mut Vec<u8>, answer: &Answer<()>, frame: &[u8]) -> Result<(), AllocError>
     ensures { OnOk result
         (text.new.items ≡ text.old.items ++ texts.answer_text (answer_with frame.now answer.now)) }
 {
@@ -219,7 +212,59 @@ pub(crate) fn push_answer(
             push_number(text, b" ", holding.len() as u64)?;
             push_number(text, b" on ", *on_after)
         }
-        Answer::Ticked => Ok(()),
+        Answer::NoCall => Ok(()),
         Answer::NoHost => text.extend_from_slice(b" nohost"),
     }
+}
+
+/// Appends the number of an event, and that of its line in the scenario.
+fn push_place(text: &mut Vec<u8>, number: u64, line: u64) -> Result<(), AllocError>
+    ensures { OnOk result (text.new.items ≡ text.old.items ++ lines.place_text (lines.place_at number line)) }
+{
+    push_number(text, b"", number)?;
+    push_number(text, b" line ", line)
+}
+
+/// Appends the line of the event with this number. `line` is the number of its line in the scenario, and `outcomes` the
+/// text of its ticks.
+pub(crate) fn push_line(
+    text: &mut Vec<u8>,
+    names: &[String],
+    number: u64,
+    line: u64,
+    event: &Event,
+    accesses: u64,
+    answer: &Answer<()>,
+    frame: &[u8],
+    outcomes: &[u8],
+) -> Result<(), AllocError>
+    ensures { OnOk result (text.new.items ≡ text.old.items
+        ++ lines.event_line (map string_bytes names.now) (lines.place_at number line) event.now accesses
+        (answer_with frame.now answer.now) outcomes.now) }
+{
+    push_place(text, number, line)?;
+    push_event(text, names, event)?;
+    push_answer(text, answer, frame)?;
+    push_number(text, b" accesses ", accesses)?;
+    text.extend_from_slice(outcomes)?;
+    text.extend_from_slice(b"\n")
+}
+
+/// Appends the line of the drain with this number, at which a host returned `count` frames. `line` is the number of its
+/// line in the scenario.
+pub(crate) fn push_drain(
+    text: &mut Vec<u8>,
+    names: &[String],
+    number: u64,
+    line: u64,
+    host: usize,
+    count: usize,
+) -> Result<(), AllocError>
+    ensures { OnOk result (text.new.items ≡ text.old.items
+        ++ lines.drain_line (map string_bytes names.now) (lines.place_at number line) host count) }
+{
+    push_place(text, number, line)?;
+    push_host(text, b" drain ", names, host)?;
+    push_number(text, b" ok ", count as u64)?;
+    text.extend_from_slice(b"\n")
 }

@@ -1,8 +1,9 @@
 //! The events of a scenario's commands.
-ghost use Rattle.std.specs.Prelude.{◌≡◌, ◌<◌, ◌++◌, [], IfOk, OnOk, length, map};
+ghost use Rattle.std.specs.Prelude.{◌≡◌, ◌<◌, ◌++◌, ◌∷◌, [], IfOk, None, OnOk, length, map};
 ghost use Rattle.eeprom.specs.Image.{address_bytes};
 ghost use Rattle.scenario.specs.SoFar.{Interrupts, Receives, Sends, Ticks, event_of, hosts_of};
 ghost use Rattle.scenario_bench.specs.EventLists as lists;
+ghost use Rattle.scenario_bench.specs.PlayedEvents.{AreOfSender};
 ghost use Rattle.stations.specs.declared.tick.Tick.TheVariants as ticks;
 
 use adapter::StepKind;
@@ -13,7 +14,7 @@ use network_plan::{Event, HostPlan};
 use stations::Tick;
 use std::alloc::{AllocError, Global};
 
-/// Bytes of a broadcast without data: two addresses and the type (IEEE 802.3, 3.1.1).
+/// The number of bytes of a broadcast without data: two addresses and the type (IEEE 802.3, 3.1.1).
 const HEADER: usize = 14;
 
 /// The event in which a host asks a socket for a frame, without ticks.
@@ -27,16 +28,16 @@ fn recv_event(alloc: Global, host: usize, socket: usize) -> Event
     }
 }
 
-/// The event of a step between calls.
+/// The event of a step outside calls.
 fn step_event(host: usize, kind: StepKind) -> Event
     ensures { event_of result ≡ Ticks (ticks.Step host kind) }
 {
     Event::Tick(Tick::Step(host, kind))
 }
 
-/// How many receive buffers a frame of this size needs after it is padded; one if the frame is too short or too long
-/// for `send` (E20, E21).
-pub fn pieces_of(size: usize) -> usize
+/// The number of receive buffers that a frame of this size needs after it is padded; one if the frame is too short or
+/// too long for `send` (E20, E21).
+pub(crate) fn pieces_of(size: usize) -> usize
     ensures { result ≡ lists.pieces_for size }
 {
     if size > LONGEST_LEGAL {
@@ -46,19 +47,29 @@ pub fn pieces_of(size: usize) -> usize
         .div_ceil(RECEIVE_BUFFER_BYTES as usize)
 }
 
+/// Appends an event.
+fn push_event(events: &mut Vec<Event>, event: Event) -> Result<(), AllocError>
+    ensures { OnOk result
+        (map event_of events.new.items ≡ map event_of events.old.items ++ event_of event ∷ []) }
+{
+    events.push(event)?;
+    Ok(())
+}
+
 /// Appends the steps that move the pieces of a frame to a host's memory.
 fn push_moves(host: usize, pieces: usize, events: &mut Vec<Event>) -> Result<(), AllocError>
     ensures { OnOk result
         (map event_of events.new.items ≡ map event_of events.old.items ++ lists.moves_at host pieces) }
 {
     for _piece in 0..pieces {
-        events.push(step_event(host, StepKind::RxData))?;
-        events.push(step_event(host, StepKind::RxDone))?;
+        push_event(events, step_event(host, StepKind::RxData))?;
+        push_event(events, step_event(host, StepKind::RxDone))?;
     }
     Ok(())
 }
 
-/// Appends the events that bring a frame from a host's end of the wire to its sockets, in this number of pieces.
+/// Appends the events that deliver a frame to a host, move it to memory in this number of pieces, handle the interrupt,
+/// and ask each socket once.
 fn push_arrival(
     alloc: Global,
     pieces: usize,
@@ -69,14 +80,15 @@ fn push_arrival(
     ensures { OnOk result
         (map event_of events.new.items ≡ map event_of events.old.items ++ lists.arrival_at pieces host sockets) }
 {
-    events.push(Event::Tick(Tick::Deliver(host)))?;
+    push_event(events, Event::Tick(Tick::Deliver(host)))?;
     push_moves(host, pieces, events)?;
-    events.push(Event::Interrupt {
+    let interrupt = Event::Interrupt {
         host,
         ticks: Vec::new(alloc),
-    })?;
+    };
+    push_event(events, interrupt)?;
     for socket in 0..sockets {
-        events.push(recv_event(alloc, host, socket))?;
+        push_event(events, recv_event(alloc, host, socket))?;
     }
     Ok(())
 }
@@ -91,9 +103,9 @@ pub(crate) fn wire_of(plans: &[HostPlan], host: usize) -> &str
     }
 }
 
-/// Appends the events by which a sender's frame comes to each other host on its wire, in order: at each the delivery,
-/// the steps that move its pieces, an interrupt, and a recv of each socket. If memory is refused, some of the events
-/// may be appended.
+/// Appends the events by which a sender's frame arrives at each other host on its wire, in order: the delivery, the
+/// steps that move its pieces, an interrupt, and a recv of each socket. If memory is refused, some of the events may be
+/// appended.
 fn push_arrivals(
     alloc: Global,
     plans: &[HostPlan],
@@ -113,9 +125,9 @@ fn push_arrivals(
     Ok(())
 }
 
-/// Replaces the events by those after the send of a fed frame: it is put onto the wire, and arrives in this number of
+/// Replaces the events by those after the send of a fed frame: it is put on the wire, and arrives in this number of
 /// pieces at each other host.
-pub(crate) fn set_behind_send(
+fn set_behind_send(
     alloc: Global,
     plans: &[HostPlan],
     sender: usize,
@@ -126,9 +138,55 @@ pub(crate) fn set_behind_send(
         (map event_of events.new.items ≡ lists.behind_send (hosts_of plans.now) sender pieces) }
 {
     events.clear();
-    events.push(step_event(sender, StepKind::TxTake))?;
-    events.push(step_event(sender, StepKind::TxPut))?;
+    push_event(events, step_event(sender, StepKind::TxTake))?;
+    push_event(events, step_event(sender, StepKind::TxPut))?;
     push_arrivals(alloc, plans, pieces, sender, events)
+}
+
+/// The events after the send of a fed frame from one host. They are made again only if the next frame arrives in a
+/// different number of pieces.
+#[derive(Drop)]
+pub(crate) struct EventsAfterSend {
+    alloc: Global,
+    /// The number of pieces for which `list` is made; `None` if it isn't made.
+    pieces: Option<usize>,
+    pub(crate) list: Vec<Event>,
+}
+
+impl EventsAfterSend {
+    /// A list without events.
+    pub(crate) fn new(alloc: Global) -> EventsAfterSend
+        ensures { result.pieces ≡ None }
+    {
+        EventsAfterSend {
+            alloc,
+            pieces: None,
+            list: Vec::new(alloc),
+        }
+    }
+
+    /// Makes the events after the send of a frame that arrives in this number of pieces.
+    pub(crate) fn make(
+        &mut self,
+        plans: &[HostPlan],
+        sender: usize,
+        pieces: usize,
+    ) -> Result<(), AllocError>
+        requires before { AreOfSender (hosts_of plans.now) sender self.old }
+        ensures events { OnOk result
+            (map event_of self.new.list.items ≡ lists.behind_send (hosts_of plans.now) sender pieces) }
+        ensures kept { AreOfSender (hosts_of plans.now) sender self.new }
+    {
+        if let Some(made) = self.pieces
+            && made == pieces
+        {
+            return Ok(());
+        }
+        self.pieces = None;
+        set_behind_send(self.alloc, plans, sender, pieces, &mut self.list)?;
+        self.pieces = Some(pieces);
+        Ok(())
+    }
 }
 
 /// A broadcast from this EEPROM's address, without data, of the type for experiments (IEEE 802).
@@ -141,7 +199,7 @@ fn broadcast_of(image: &Image) -> [u8; HEADER]
     ]
 }
 
-/// Memory for events that are run one at a time. The next event uses the memory of the event before it.
+/// Memory for events that are run one at a time. An event uses the memory of the event before it.
 #[derive(Drop)]
 pub(crate) struct EventMemory {
     pub(crate) alloc: Global,
@@ -183,7 +241,8 @@ impl EventMemory {
         })
     }
 
-    /// The event in which a host handles an interrupt, and a frame finishes after its first access.
+    /// The event in which a host handles an interrupt, and its adapter finishes a frame after the handler's first
+    /// access.
     fn late_interrupt(&mut self, host: usize) -> Result<Event, AllocError>
         ensures { IfOk result (λ event. event_of event ≡ Interrupts host (lists.late_frame host)) }
     {
@@ -204,8 +263,8 @@ impl EventMemory {
         self.event_of_kind(word % 8, host, &plans[host].image)
     }
 
-    /// The event of one of the eight kinds that `auto` draws, at a host with this EEPROM. The last kind is any number
-    /// from 7 on. Only this memory changes: an event that needs memory takes it from here.
+    /// The event of one of the eight kinds that `auto` draws, at a host with this EEPROM. Each number from 7 on is the
+    /// last kind. An event that needs memory takes it from here.
     fn event_of_kind(&mut self, kind: u32, host: usize, image: &Image) -> Result<Event, AllocError>
         ensures { IfOk result (λ event. event_of event ≡ lists.event_of_kind kind host (address_bytes image.now)) }
     {

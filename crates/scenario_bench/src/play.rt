@@ -1,18 +1,18 @@
 //! Plays a scenario.
 ghost use Rattle.std.specs.Prelude.{◌≡◌, ◌<◌, ◌≤◌, ◌∷◌, [], ℕ, All, Bool, Some, length, map, slice_get};
-ghost use Rattle.std.specs.Prelude.{IfErr, IfOk, None, OnErr, OnOk};
+ghost use Rattle.std.specs.Prelude.{IfErr, IfOk, OnErr, OnOk};
 ghost use Rattle.std.specs.List.{flat_map};
 ghost use Rattle.packet_socket.specs.HostState.{HostState};
 ghost use Rattle.scenario.specs.SoFar.{Drains, event_of, hosts_of, said_of};
-ghost use Rattle.scenario_bench.specs.Benches.{AreAllWritten, AreWritten, AreWrittenUpTo, Benches, Stops, StopsWriting};
-ghost use Rattle.scenario_bench.specs.Benches.{IsFailedSink, scenario_events, sinks_of, states_of};
+ghost use Rattle.scenario_bench.specs.Benches.{AreAllWritten, Benches, Stops, StopsWriting};
+ghost use Rattle.scenario_bench.specs.Benches.{IsFailedSink, scenario_events, sinks_of};
 ghost use Rattle.scenario_bench.specs.EventLists as lists;
 ghost use Rattle.scenario_bench.specs.EventLogView.{plan_name};
 ghost use Rattle.scenario_bench.specs.Given.{sockets_from};
 ghost use Rattle.scenario_bench.specs.PlayedEvents.{AreOfSender, AreRecorded, Begins, HasPlayed, HasPlayedScenario};
 ghost use Rattle.scenario_bench.specs.PlayedEvents.{IsNewRecord};
 ghost use Rattle.scenario_bench.specs.PlayedEvents.{StopsAtPlan, StopsWithin, TellTallies, TellsTally, frames_of};
-ghost use Rattle.scenario_bench.specs.PlayedEvents.{socket_texts, wire_texts_in};
+ghost use Rattle.scenario_bench.specs.PlayedEvents.{socket_texts_in, wire_texts_in};
 ghost use Rattle.scenario_bench.specs.Puts.{wire_names};
 ghost use Rattle.scenario_bench.specs.RunLogs.{asked_after, new_log};
 ghost use Rattle.scenario_bench.specs.WireLists.{names_in};
@@ -22,9 +22,10 @@ ghost use Rattle.host_calls.specs.Networks.{IsHost};
 
 use crate::bench_error::BenchError;
 use crate::drained::DrainedFrames;
-use crate::events::{EventMemory, pieces_of, set_behind_send};
-use crate::put::PutFrames;
+use crate::events::{EventMemory, EventsAfterSend, pieces_of};
+use crate::kept::KeptFrames;
 use crate::record::Record;
+use crate::socket_list::sockets;
 use crate::summary::{HostSummary, Refusals, Summary};
 use crate::wire_list::wires;
 use network_plan::{Event, HostPlan, Plan, Stopped};
@@ -44,47 +45,6 @@ fn line_at(lines: &[u64], place: usize) -> u64 {
     }
 }
 
-/// The events after the send of a fed frame from one host. They are made again only if a frame arrives in another
-/// number of pieces than the frame before it.
-#[derive(Drop)]
-struct EventsAfterSend {
-    alloc: Global,
-    /// The number of pieces for which `list` is made; `None` if it isn't made.
-    pieces: Option<usize>,
-    list: Vec<Event>,
-}
-
-impl EventsAfterSend {
-    /// A list without events.
-    fn new(alloc: Global) -> EventsAfterSend
-        ensures { result.pieces ≡ None }
-    {
-        EventsAfterSend {
-            alloc,
-            pieces: None,
-            list: Vec::new(alloc),
-        }
-    }
-
-    /// Makes the events after the send of a frame that arrives in this number of pieces.
-    fn make(&mut self, plans: &[HostPlan], sender: usize, pieces: usize) -> Result<(), AllocError>
-        requires before { AreOfSender (hosts_of plans.now) sender self.old }
-        ensures events { OnOk result
-            (map event_of self.new.list.items ≡ lists.behind_send (hosts_of plans.now) sender pieces) }
-        ensures kept { AreOfSender (hosts_of plans.now) sender self.new }
-    {
-        if let Some(made) = self.pieces
-            && made == pieces
-        {
-            return Ok(());
-        }
-        self.pieces = None;
-        set_behind_send(self.alloc, plans, sender, pieces, &mut self.list)?;
-        self.pieces = Some(pieces);
-        Ok(())
-    }
-}
-
 /// Hosts on wires, the record of their run, and the room for the frames of a drain.
 #[derive(Drop)]
 struct Play {
@@ -96,7 +56,7 @@ struct Play {
 }
 
 /// The refused calls that commands asked for, after this command. `before` and `after` are all refused calls before and
-/// after it.
+/// after this command.
 fn asked_after(asked: Refusals, command: &Command, before: Refusals, after: Refusals) -> Refusals
     ensures { result ≡ asked_after asked (said_of command.now) before after }
 {
@@ -107,8 +67,8 @@ fn asked_after(asked: Refusals, command: &Command, before: Refusals, after: Refu
 }
 
 impl Play {
-    /// Initializes the hosts of a plan. Frames that adapters put are recorded if this many traces of wires are to be
-    /// written, unless it is 0. `events` says whether there is to be a line for each event.
+    /// Initializes the hosts of a plan. Frames that adapters put are recorded unless `wires`, the number of traces of
+    /// wires to write, is 0. If `events` is true, a line is recorded for each event.
     fn new(alloc: Global, plan: &Plan, wires: usize, events: bool) -> Result<Play, BenchError>
         ensures ok { IfOk result (Begins plan.now.hosts.items) }
         ensures puts { IfOk result (λ play. IsNewRecord wires play.record.puts) }
@@ -147,7 +107,7 @@ impl Play {
         }
     }
 
-    /// Drains a host, and records the frames that it delivered. Makes room for them first.
+    /// Drains a host, and records the frames that it returned. Makes room for them first.
     #[tactic(auto, using(crate::proofs::PlayedEvents::drained))]
     fn drain(&mut self, host: usize) -> Result<(), BenchError>
         ensures ok { OnOk result (HasPlayed (Drains host ∷ []) self.old self.new) }
@@ -159,7 +119,7 @@ impl Play {
         Ok(())
     }
 
-    /// Runs an event, and takes its memory.
+    /// Runs an event, and takes its memory back.
     #[inline(always)]
     fn run_one(&mut self, memory: &mut EventMemory, event: Event) -> Result<(), BenchError>
         ensures ok { OnOk result (HasPlayed (event_of event ∷ []) self.old self.new) }
@@ -171,7 +131,7 @@ impl Play {
         ran
     }
 
-    /// Sends a frame from a host, and lets it arrive at the others on its wire.
+    /// Sends a frame from a host, and lets it arrive at the other hosts on its wire.
     fn feed_frame(
         &mut self,
         memory: &mut EventMemory,
@@ -191,7 +151,7 @@ impl Play {
         self.run(behind.list.as_slice())
     }
 
-    /// Sends each frame of a trace from a host, and lets it arrive at the others on its wire.
+    /// Sends each frame of a trace from a host, and lets it arrive at the other hosts on its wire.
     #[tactic(auto, using(crate::proofs::PlayedEvents::all_fed))]
     fn feed(
         &mut self,
@@ -339,7 +299,7 @@ impl Play {
         Ok(hosts)
     }
 
-    /// The summary of the run, with these summaries of its hosts. It takes the lines of events out of the record.
+    /// The summary of the run, with these summaries of its hosts. The lines of events are moved out of the record.
     fn summary(&mut self, hosts: Vec<HostSummary>) -> Summary
         ensures hosts { result.hosts ≡ hosts }
         ensures refusals { result.refusals ≡ self.old.record.log.refusals }
@@ -374,52 +334,35 @@ impl Play {
         Ok(hosts)
     }
 
-    /// Writes to each sink the frames of its socket.
-    #[tactic(auto, using(crate::proofs::Writing::none_written))]
-    fn write_sockets<W: Sink>(
-        &self,
-        writer: &mut RecordWriter,
-        unit: Unit,
-        sinks: &mut [W],
-    ) -> Result<(), WriteError>
-        requires sinks { length sinks.old ≡ length self.now.record.sockets.items }
-        requires countable { All (λ (sink : W). W.failures sink < u64.MAX) sinks.old }
-        ensures ok { OnOk result (AreWritten unit (length sinks.old) (socket_texts self.now)
-            (states_of W.taken W.failures sinks.old) (states_of W.taken W.failures sinks.new)) }
-        ensures err { OnErr result ((failed : ℕ) × AreWrittenUpTo unit failed (socket_texts self.now)
-            (states_of W.taken W.failures sinks.old) (states_of W.taken W.failures sinks.new)) }
-    {
-        for index in 0..sinks.len() {
-            self.record.sockets[index].write(writer, unit, &mut sinks[index])?;
-        }
-        Ok(())
-    }
-
     /// Writes to each sink the frames of its socket, and then to each of `wire_sinks` those that were put on its wire.
-    /// `names` are those of the wires.
+    /// `sockets` and `names` are those of the plan.
     fn write_traces<W: Sink>(
         &self,
         plan: &Plan,
+        sockets: &[(usize, usize)],
         names: &[&str],
         writer: &mut RecordWriter,
         unit: Unit,
         sinks: &mut [W],
         wire_sinks: &mut [W],
     ) -> Result<(), WriteError>
+        requires sockets { sockets.now ≡ sockets_from 0 (hosts_of plan.now.hosts.items) }
         requires names { names_in names.now ≡ wire_names (hosts_of plan.now.hosts.items) }
-        requires sinks { length sinks.old ≡ length self.now.record.sockets.items }
+        requires sinks { length sinks.old ≤ length sockets.now }
         requires wires { length wire_sinks.old ≤ length names.now }
         requires recorded { AreRecorded (length wire_sinks.old) self.now.record.puts }
         requires countable { All (λ (sink : W). W.failures sink < u64.MAX) sinks.old }
         requires wires_countable { All (λ (sink : W). W.failures sink < u64.MAX) wire_sinks.old }
         ensures ok { OnOk result
-            (AreAllWritten unit (socket_texts self.now) (wire_texts_in plan.now.hosts.items self.now)
+            (AreAllWritten unit (socket_texts_in plan.now.hosts.items self.now) (wire_texts_in plan.now.hosts.items self.now)
             (sinks_of W.taken W.failures sinks.old sinks.new wire_sinks.old wire_sinks.new)) }
         ensures err { OnErr result
-            (IsFailedSink unit (socket_texts self.now) (wire_texts_in plan.now.hosts.items self.now)
+            (IsFailedSink unit (socket_texts_in plan.now.hosts.items self.now) (wire_texts_in plan.now.hosts.items self.now)
             (sinks_of W.taken W.failures sinks.old sinks.new wire_sinks.old wire_sinks.new)) }
     {
-        self.write_sockets(writer, unit, sinks)?;
+        self.record
+            .returned
+            .write_sockets(sockets, writer, unit, sinks)?;
         match &self.record.puts {
             Some(puts) => {
                 let plans = plan.hosts.as_slice();
@@ -438,22 +381,25 @@ impl Play {
         sinks: &mut [W],
         wire_sinks: &mut [W],
     ) -> Result<(), BenchError>
-        requires sinks { length sinks.old ≡ length self.now.record.sockets.items }
+        requires sinks { length sinks.old ≡ length (sockets_from 0 (hosts_of plan.now.hosts.items)) }
         requires wires { length wire_sinks.old ≤ length (wire_names (hosts_of plan.now.hosts.items)) }
         requires recorded { AreRecorded (length wire_sinks.old) self.now.record.puts }
         requires countable { All (λ (sink : W). W.failures sink < u64.MAX) sinks.old }
         requires wires_countable { All (λ (sink : W). W.failures sink < u64.MAX) wire_sinks.old }
         ensures ok { OnOk result
-            (AreAllWritten unit (socket_texts self.now) (wire_texts_in plan.now.hosts.items self.now)
+            (AreAllWritten unit (socket_texts_in plan.now.hosts.items self.now) (wire_texts_in plan.now.hosts.items self.now)
             (sinks_of W.taken W.failures sinks.old sinks.new wire_sinks.old wire_sinks.new)) }
         ensures err { IfErr result (λ error.
-            StopsWriting unit (socket_texts self.now) (wire_texts_in plan.now.hosts.items self.now) error
+            StopsWriting unit (socket_texts_in plan.now.hosts.items self.now) (wire_texts_in plan.now.hosts.items self.now) error
             (sinks_of W.taken W.failures sinks.old sinks.new wire_sinks.old wire_sinks.new)) }
     {
-        let names = wires(alloc, plan.hosts.as_slice())?;
+        let plans = plan.hosts.as_slice();
+        let sockets = sockets(alloc, plans)?;
+        let names = wires(alloc, plans)?;
+        let sockets = sockets.as_slice();
         let names = names.as_slice();
         let mut writer = RecordWriter::new(alloc, unit)?;
-        self.write_traces(plan, names, &mut writer, unit, sinks, wire_sinks)?;
+        self.write_traces(plan, sockets, names, &mut writer, unit, sinks, wire_sinks)?;
         Ok(())
     }
 
@@ -486,14 +432,14 @@ impl Play {
     }
 }
 
-/// The list of the frames that adapters put, if this many traces of wires are to be written, unless it is 0.
-fn new_puts(alloc: Global, wires: usize) -> Option<PutFrames>
+/// An empty list for the frames that adapters put; `None` if no traces of wires are to be written.
+fn new_puts(alloc: Global, wires: usize) -> Option<KeptFrames>
     ensures { IsNewRecord wires result }
 {
     if wires == 0 {
         return None;
     }
-    Some(PutFrames::new(alloc))
+    Some(KeptFrames::new(alloc))
 }
 
 /// Plays a scenario: makes the network of its plan, and runs its events and drains in order. Then it writes to each
@@ -501,9 +447,9 @@ fn new_puts(alloc: Global, wires: usize) -> Option<PutFrames>
 /// frames that were put on its wire. The time of a frame is the number of its event or drain, in microseconds, which is
 /// written in `unit`. Events and drains are numbered from 0, up to the greatest `u64`.
 ///
-/// Pass a trace for each name of [`Scenario::trace_names`], a sink for each socket of [`sockets`](crate::sockets), and
-/// a sink for each wire of [`wires`](crate::wires) or none, in the same order. If `events` is true, the summary has a
-/// line for each event and drain.
+/// Pass a trace for each name of [`Scenario::trace_names`], a sink for each socket, hosts in order and the sockets of
+/// each in order, and a sink for each wire of [`wires`](crate::wires) or none, in the same order. If `events` is true,
+/// the summary has a line for each event and drain.
 ///
 /// # Errors
 ///

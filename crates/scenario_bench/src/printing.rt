@@ -38,7 +38,7 @@ fn push_exact(line: &mut Line, exact: bool)
     line.try_extend_from_slice(word).unwrap();
 }
 
-/// Appends what resets gave up, if there was a reset.
+/// Appends the numbers of frames that resets gave up, if there was a reset.
 fn push_resets(line: &mut Line, given_up: Option<GivenUp>)
     requires room { length line.old.items + 180 ≤ 700 }
     ensures text { line.new.items ≡ line.old.items ++ resets_text given_up }

@@ -1,27 +1,22 @@
 //! The record of a run: counts for each host, the frames that each socket returned, and those that were put on wires.
 ghost use Rattle.std.specs.Prelude.{◌≡◌, ◌≤◌, ◌++◌, ◌∷◌, [], ℕ, List, IfOk, OnOk, length, map, replicate};
 ghost use Rattle.adapter.specs.Outcomes.{with_frame};
-ghost use Rattle.delivery.specs.Happenings.{tick_host, told_of};
+ghost use Rattle.delivery.specs.Happenings.{tick_host, outcome_happenings};
 ghost use Rattle.network_plan.specs.Answers.{answer_with};
-ghost use Rattle.scenario.specs.SoFar.{hosts_of};
 ghost use Rattle.scenario_bench.specs.Acts.{Drained};
 ghost use Rattle.scenario_bench.specs.DrainedView.{drained_frame};
-ghost use Rattle.scenario_bench.specs.Given.{numbered_frame, sockets_from};
-ghost use Rattle.scenario_bench.specs.Puts.{PutsGrow, is_put, put_frames_in};
+ghost use Rattle.scenario_bench.specs.Kept.{FramesGrow, PutsGrow, is_put, put_frames_in, returned_in};
 ghost use Rattle.scenario_bench.specs.EventLogView.{plan_name};
 ghost use Rattle.scenario_bench.specs.Recording.{NotesAnswer, NotesLine, answered};
 ghost use Rattle.scenario_bench.specs.RunLogs.{new_log};
-ghost use Rattle.scenario_bench.specs.Tallies.{AreNoted, GetsGiven, GetsSaid, IsPassage, TalliesGrow, TallyCounts};
-ghost use Rattle.scenario_bench.specs.Tallies.{TallyGivesUp};
-ghost use Rattle.scenario_bench.specs.Tallies.{empty_sockets, given_up_of, no_tally};
+ghost use Rattle.scenario_bench.specs.Tallies.{AreNoted, IsPassage, TalliesGrow, TallyCounts, TallyGivesUp};
+ghost use Rattle.scenario_bench.specs.Tallies.{given_up_of, no_tally};
 ghost use Rattle.wire.specs.DrainedNetworks.{said_of_drain};
-ghost use Rattle.wire.specs.Runs.{accepted_of, given_of};
+ghost use Rattle.wire.specs.Runs.{accepted_by_answer, given_by_answer};
 
 use crate::drained::DrainedFrame;
-use crate::given::GivenFrames;
-use crate::put::PutFrames;
+use crate::kept::KeptFrames;
 use crate::run_log::RunLog;
-use crate::socket_list::sockets;
 use crate::tally::{Passage, Tally};
 use adapter::{Fate, Outcome, StepKind};
 use network_plan::{Answer, Event, HostPlan};
@@ -38,19 +33,18 @@ pub(crate) struct Record {
     pub(crate) line: u64,
     /// The counts of each host.
     pub(crate) hosts: Vec<Tally>,
-    /// The frames of each socket, hosts in order and their sockets in order.
-    pub(crate) sockets: Vec<GivenFrames>,
+    /// The frames that sockets returned.
+    pub(crate) returned: KeptFrames,
     /// The frames that adapters put on wires; `None` if they aren't recorded.
-    pub(crate) puts: Option<PutFrames>,
-    /// What is recorded of answers.
+    pub(crate) puts: Option<KeptFrames>,
+    /// The record of answers.
     pub(crate) log: RunLog,
     /// Whether memory was refused for a frame that a socket returned or that was put on a wire, or for an event's line.
-    /// This doesn't happen, because the memory is allocated before the event. But the proof doesn't use this fact.
+    /// This doesn't happen, because memory is allocated before the event. The proof doesn't use this fact.
     pub(crate) failed: bool,
 }
 
-/// The host that a tick names. A Go names none, and 0 stands for it: the outcome of a Go is `Nothing`, which is not
-/// counted.
+/// The host that a tick names, or 0 for a Go. The outcome of a Go is `Nothing`, which isn't counted.
 fn tick_host(tick: Tick) -> usize
     ensures { result ≡ tick_host tick }
 {
@@ -72,18 +66,6 @@ fn passage_of(outcome: &Outcome<()>) -> Option<Passage>
         Outcome::Delivered(_, _) => Some(Passage::Reached),
         _ => None,
     }
-}
-
-/// The sockets of these hosts, without frames.
-fn no_given(alloc: Global, plans: &[HostPlan]) -> Result<Vec<GivenFrames>, AllocError>
-    ensures { IfOk result (λ given. given.items ≡ empty_sockets (sockets_from 0 (hosts_of plans.now))) }
-{
-    let places = sockets(alloc, plans)?;
-    let mut given = Vec::new(alloc);
-    for place in places.as_slice() {
-        given.push(GivenFrames::new(alloc, place.0, place.1))?;
-    }
-    Ok(given)
 }
 
 /// Counts a passage of a frame at a host.
@@ -110,113 +92,57 @@ fn give_up(hosts: &mut [Tally], host: usize, sending: u64, holding: u64)
 #[tactic(auto, using(crate::proofs::Noting::told_passage, crate::proofs::Noting::told_nothing))]
 #[inline(always)]
 fn note_outcome(hosts: &mut [Tally], host: usize, outcome: &Outcome<()>)
-    ensures { (frame : List ℕ) → TalliesGrow (told_of host (with_frame frame outcome.now)) hosts.old hosts.new }
+    ensures { (frame : List ℕ) → TalliesGrow (outcome_happenings host (with_frame frame outcome.now)) hosts.old hosts.new }
 {
     if let Some(passage) = passage_of(outcome) {
         count(hosts, host, passage);
     }
 }
 
-/// Whether a frame was put onto a wire.
+/// Whether a frame was put on a wire.
 fn is_put(outcome: &Outcome<()>) -> bool
     ensures { result ≡ is_put outcome.now }
 {
     matches!(outcome, Outcome::Put(_))
 }
 
-/// Records the frame of an outcome at a host, if it was put onto a wire, and such frames are recorded.
+/// Records the frame of an outcome at a host, if it was put on a wire, and such frames are recorded.
 #[inline(always)]
 fn note_put(
-    puts: &mut Option<PutFrames>,
+    puts: &mut Option<KeptFrames>,
     host: usize,
     number: u64,
     outcome: &Outcome<()>,
     frame: &[u8],
 ) -> Result<(), AllocError>
     requires { length frame.now ≤ 1518 }
-    ensures { OnOk result (PutsGrow (put_frames_in number (told_of host (with_frame frame.now outcome.now)))
+    ensures { OnOk result (PutsGrow (put_frames_in number (outcome_happenings host (with_frame frame.now outcome.now)))
         puts.old puts.new) }
 {
     if !is_put(outcome) {
         return Ok(());
     }
     match puts {
-        Some(puts) => puts.push(host, number, frame),
+        Some(puts) => puts.push(host, 0, number, frame),
         None => Ok(()),
     }
 }
 
-/// How many of these ticks are steps that may put a frame onto a wire.
-fn puts_among(ticks: &[Tick]) -> usize
-    ensures { result ≤ length ticks.now }
-{
-    let mut count = 0;
-    for tick in ticks {
-        if let Tick::Step(_, StepKind::TxPut) = tick {
-            count += 1;
-        }
-    }
-    count
-}
-
-/// How many frames an event may put onto wires.
-#[inline(never)]
-fn most_puts(event: &Event) -> usize {
-    match event {
-        Event::Send { ticks, .. }
-        | Event::Recv { ticks, .. }
-        | Event::Interrupt { ticks, .. }
-        | Event::Reset { ticks, .. }
-        | Event::Join { ticks, .. }
-        | Event::Leave { ticks, .. } => puts_among(ticks.as_slice()),
-        Event::Tick(tick) => puts_among(std::slice::from_ref(tick)),
-    }
-}
-
-/// Makes room for the frames that an event may put onto wires, if such frames are recorded.
-fn reserve_puts(puts: &mut Option<PutFrames>, event: &Event) -> Result<(), AllocError>
+/// Makes room for the frames that this many ticks may put on wires, if such frames are recorded.
+fn reserve_puts(puts: &mut Option<KeptFrames>, ticks: usize) -> Result<(), AllocError>
     ensures { puts.new ≡ puts.old }
 {
     match puts {
-        Some(puts) => puts.reserve(most_puts(event)),
+        Some(puts) => puts.reserve(ticks),
         None => Ok(()),
     }
-}
-
-/// Records a frame that a socket returned in the event with this number.
-#[inline(never)]
-fn note_frame(
-    sockets: &mut [GivenFrames],
-    host: usize,
-    socket: usize,
-    number: u64,
-    frame: &[u8],
-) -> Result<(), AllocError>
-    requires { length frame.now ≤ 1518 }
-    ensures { OnOk result (GetsGiven host socket (numbered_frame number frame.now) sockets.old sockets.new) }
-{
-    for index in 0..sockets.len() {
-        sockets[index].note(host, socket, number, frame)?;
-    }
-    Ok(())
-}
-
-/// Makes room for a frame that a socket returns.
-#[inline(never)]
-fn reserve_frame(sockets: &mut [GivenFrames], host: usize, socket: usize) -> Result<(), AllocError>
-    ensures { sockets.new ≡ sockets.old }
-{
-    for index in 0..sockets.len() {
-        sockets[index].reserve(host, socket)?;
-    }
-    Ok(())
 }
 
 /// Records the answer to a send.
 #[tactic(auto, using(crate::specs::RecordingLaws::grows_not))]
 fn note_sent(hosts: &mut [Tally], host: usize, answer: &Answer<()>)
     ensures { (frame given : List ℕ)
-        → TalliesGrow (accepted_of host frame (answer_with given answer.now)) hosts.old hosts.new }
+        → TalliesGrow (accepted_by_answer host frame (answer_with given answer.now)) hosts.old hosts.new }
 {
     if let Answer::Sent(Ok(())) = answer {
         count(hosts, host, Passage::Accepted);
@@ -239,50 +165,48 @@ fn note_reset(hosts: &mut [Tally], host: usize, answer: &Answer<()>)
     }
 }
 
-/// Records the frames that a drained host delivered, each for its socket.
+/// Records the frames that a drained host returned.
 fn note_drained(
     hosts: &mut [Tally],
-    sockets: &mut [GivenFrames],
+    returned: &mut KeptFrames,
     host: usize,
     number: u64,
     given: &[DrainedFrame],
 ) -> Result<(), AllocError>
     ensures hosts { OnOk result
         (TalliesGrow (said_of_drain host 0 (map drained_frame given.now)) hosts.old hosts.new) }
-    ensures sockets { OnOk result
-        (GetsSaid number (said_of_drain host 0 (map drained_frame given.now)) sockets.old sockets.new) }
+    ensures returned { OnOk result (FramesGrow
+        (returned_in number (said_of_drain host 0 (map drained_frame given.now))) returned.old returned.new) }
 {
     for one in given {
         count(hosts, host, Passage::Given);
-        note_frame(sockets, host, one.socket, number, one.frame.as_slice())?;
+        returned.push(host, one.socket, number, one.frame.as_slice())?;
     }
     Ok(())
 }
 
 impl Record {
     /// The record of these hosts before a run. If there is a list for frames that are put on wires, they are appended
-    /// to it. `events` is whether there is to be a line for each event.
+    /// to it. If `events` is true, a line is recorded for each event.
     pub(crate) fn new(
         alloc: Global,
         plans: &[HostPlan],
-        puts: Option<PutFrames>,
+        puts: Option<KeptFrames>,
         events: bool,
     ) -> Result<Record, AllocError>
         ensures number { IfOk result (λ noted. noted.number ≡ 0) }
         ensures hosts { IfOk result (λ noted. noted.hosts.items ≡ replicate (length plans.now) no_tally) }
-        ensures sockets { IfOk result
-            (λ noted. noted.sockets.items ≡ empty_sockets (sockets_from 0 (hosts_of plans.now))) }
+        ensures returned { IfOk result (λ noted. noted.returned ≡ []) }
         ensures puts { IfOk result (λ noted. noted.puts ≡ puts) }
         ensures log { IfOk result (λ noted. noted.log ≡ new_log (map plan_name plans.now) events) }
     {
         let hosts = vec![in alloc; Tally::default(); plans.len()]?;
-        let sockets = no_given(alloc, plans)?;
         let log = RunLog::new(alloc, plans, events)?;
         Ok(Record {
             number: 0,
             line: 0,
             hosts,
-            sockets,
+            returned: KeptFrames::new(alloc),
             puts,
             log,
             failed: false,
@@ -306,12 +230,15 @@ impl Record {
     #[inline(always)]
     fn note_received(&mut self, host: usize, socket: usize, answer: &Answer<()>, frame: &[u8])
         requires fits { length frame.now ≤ 1518 }
-        ensures { NotesAnswer (given_of host socket (answer_with frame.now answer.now)) self.old self.new }
+        ensures { NotesAnswer (given_by_answer host socket (answer_with frame.now answer.now)) self.old self.new }
     {
         if let Answer::Received(Ok(())) = answer {
             count(self.hosts.as_mut_slice(), host, Passage::Given);
-            let sockets = self.sockets.as_mut_slice();
-            if note_frame(sockets, host, socket, self.number, frame).is_err() {
+            if self
+                .returned
+                .push(host, socket, self.number, frame)
+                .is_err()
+            {
                 self.failed = true;
             }
         }
@@ -332,7 +259,7 @@ impl Record {
         }
     }
 
-    /// Records the next drain: the frames that a host delivered. The number of frames that its adapter moved isn't
+    /// Records the next drain: the frames that a host returned. The number of frames that its adapter moved isn't
     /// recorded.
     #[tactic(auto, using(crate::proofs::NotedEvents::drain_noted))]
     pub(crate) fn note_drain(
@@ -345,7 +272,7 @@ impl Record {
     {
         self.log.drain(self.number, self.line, host, given.len())?;
         let hosts = self.hosts.as_mut_slice();
-        note_drained(hosts, self.sockets.as_mut_slice(), host, self.number, given)?;
+        note_drained(hosts, &mut self.returned, host, self.number, given)?;
         self.number = self.number.saturating_add(1);
         Ok(())
     }
@@ -389,18 +316,10 @@ impl RunObserver for Record {
 
     #[inline(always)]
     fn make_room(&mut self, event: &Event, ticks: usize) -> bool {
-        if self.failed {
-            return false;
-        }
-        if reserve_puts(&mut self.puts, event).is_err() || self.log.reserve(ticks).is_err() {
-            return false;
-        }
-        match event {
-            Event::Recv { host, socket, .. } => {
-                reserve_frame(self.sockets.as_mut_slice(), *host, *socket).is_ok()
-            }
-            _ => true,
-        }
+        !self.failed
+            && reserve_puts(&mut self.puts, ticks).is_ok()
+            && self.log.reserve(ticks).is_ok()
+            && (!matches!(event, Event::Recv { .. }) || self.returned.reserve(1).is_ok())
     }
 
     // Only the record changes: as `NotesLine` and `NotesAnswer` state, and the number of the next event is one more.

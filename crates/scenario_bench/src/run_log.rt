@@ -1,4 +1,4 @@
-//! What is recorded of the answers of a run: refusals, and on request a line for each event.
+//! The record of the answers of a run: the numbers of refused calls, and on request a line for each event.
 ghost use Rattle.std.specs.Prelude.{◌≡◌, ℕ, List, IfOk, OnOk, map};
 ghost use Rattle.adapter.specs.Outcomes.{with_frame};
 ghost use Rattle.network_plan.specs.Answers.{answer_with};
@@ -15,7 +15,7 @@ use packet_socket::RecvError;
 use stations::Tick;
 use std::alloc::{AllocError, Global};
 
-/// What is recorded of the answers of a run.
+/// The record of the answers of a run.
 #[derive(Drop)]
 pub(crate) struct RunLog {
     /// The calls that were refused.
@@ -25,7 +25,7 @@ pub(crate) struct RunLog {
 }
 
 impl RunLog {
-    /// A log without answers. `events` is whether there is to be a line for each event.
+    /// A log without answers. If `events` is true, a line is recorded for each event.
     pub(crate) fn new(alloc: Global, plans: &[HostPlan], events: bool) -> Result<RunLog, AllocError>
         ensures { IfOk result (λ log. log ≡ new_log (map plan_name plans.now) events) }
     {
@@ -109,7 +109,7 @@ impl RunLog {
         }
     }
 
-    /// Records the drain with this number, of a host, which returned this many frames.
+    /// Records the drain with this number, at which a host returned `count` frames.
     pub(crate) fn drain(
         &mut self,
         number: u64,

@@ -22,12 +22,12 @@ fn push_sockets(
 }
 
 /// The sockets of these hosts, each as the number of its host and its own number: hosts in order, and the sockets of
-/// each in order. It is for callers of [`bench`](crate::bench), which takes a sink for each.
+/// each in order.
 ///
 /// # Errors
 ///
 /// Only if memory was refused.
-pub fn sockets(alloc: Global, plans: &[HostPlan]) -> Result<Vec<(usize, usize)>, AllocError>
+pub(crate) fn sockets(alloc: Global, plans: &[HostPlan]) -> Result<Vec<(usize, usize)>, AllocError>
     ensures { IfOk result (λ sockets. sockets.items ≡ sockets_from 0 (hosts_of plans.now)) }
 {
     let mut sockets = Vec::new(alloc);

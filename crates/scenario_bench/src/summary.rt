@@ -11,7 +11,7 @@ pub struct HostSummary {
     pub name: String,
     /// The number of frames that its sends accepted.
     pub accepted: u64,
-    /// The number of frames that its adapter put onto the wire.
+    /// The number of frames that its adapter put on the wire.
     pub put: u64,
     /// The number of frames that reached its adapter.
     pub reached: u64,
@@ -24,20 +24,20 @@ pub struct HostSummary {
     pub exact: bool,
     /// The number of frames that its sockets returned.
     pub given: u64,
-    /// The number of frames that no socket took.
+    /// The number of received frames that went to no socket.
     pub unclaimed: u64,
-    /// What its resets gave up, if it was reset.
+    /// The numbers of frames that its resets gave up and dropped, if it was reset.
     pub given_up: Option<GivenUp>,
 }
 
-/// What the resets of a host gave up and dropped. Each number saturates at the greatest `u64`.
+/// The numbers of frames that the resets of a host gave up and dropped. Each saturates at the greatest `u64`.
 #[derive(Clone, Copy)]
 pub struct GivenUp {
-    /// The number of frames that were to be sent.
+    /// Frames that were to be sent.
     pub sending: u64,
-    /// The number of frames that were held.
+    /// Frames that the host held outside its sockets' queues.
     pub holding: u64,
-    /// The number of frames that reached its adapter while its receive side was disabled.
+    /// Frames that reached its adapter while its receive side was disabled.
     pub off: u64,
 }
 
@@ -78,7 +78,7 @@ pub struct Summary {
     pub hosts: Vec<HostSummary>,
     /// The calls that were refused.
     pub refusals: Refusals,
-    /// The refused calls that lines of the scenario asked for. The others are of events that were drawn.
+    /// Those of the refused calls that aren't of `auto` lines.
     pub asked: Refusals,
     /// A line for each event, if such lines were asked for.
     pub events: Option<EventLog>,

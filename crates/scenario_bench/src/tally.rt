@@ -22,20 +22,20 @@ pub(crate) struct Tally {
     pub(crate) is_reset: bool,
 }
 
-/// What happened to a frame at a host.
+/// An event of a frame at a host that is counted.
 #[derive(Clone, Copy)]
 pub(crate) enum Passage {
-    /// It was accepted.
+    /// A send accepted the frame.
     Accepted,
-    /// It was put onto the wire.
+    /// It was put on the wire.
     Put,
-    /// It reached the adapter, which didn't store it.
+    /// The frame reached the adapter, which didn't store it.
     Reached,
-    /// It reached the adapter, whose receive side was disabled.
+    /// The frame reached the adapter while its receive side was disabled.
     Off,
-    /// It reached the adapter, which stored it.
+    /// The frame reached the adapter, which stored it.
     Stored,
-    /// A socket returned it.
+    /// A socket returned the frame.
     Given,
 }
 
@@ -74,7 +74,7 @@ impl Tally {
         }
     }
 
-    /// What the resets gave up, if there was a reset.
+    /// The numbers of frames that resets gave up and dropped, if there was a reset.
     pub(crate) fn resets(self) -> Option<GivenUp>
         ensures { result ≡ resets_in self }
     {

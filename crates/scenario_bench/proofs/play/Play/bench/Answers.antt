@@ -4,7 +4,7 @@ use Rattle.std.proofs.lemmas.Result.{err_from_is_err_and}
 use Rattle.scenario_bench.specs.Benches.{sinks_of}
 use Rattle.scenario_bench.specs.PlayedEvents.{frames_of}
 use Rattle.scenario_bench.specs.declared.summary.HostSummary.{HostSummary}
-use Rattle.scenario_bench.proofs.Benching.{bench_failed, benched, recorded, sockets_counted, unplayed}
+use Rattle.scenario_bench.proofs.Benching.{bench_failed, benched, recorded, unplayed}
 use Rattle.scenario_bench.proofs.Writing.{state_of}
 use Rattle.scenario_bench.proofs.play.Play.bench.Goals as goal
 
@@ -15,8 +15,7 @@ returns-in_err-hosts-clause-err g c =
     c.scenario.new.self _ c.requires.begins c.in_err-hosts.ensures.err)
 
 pub write-requires-clause-sinks : goal.write-requires-clause-sinks
-write-requires-clause-sinks g c = sockets_counted c.args.scenario.now (map frames_of c.args.traces.now) c.args.self.now
-    c.scenario.new.self c.in_ok-hosts.hosts.items c.requires.begins c.in_ok-hosts.ensures.ok (length c.args.sinks.now) c.requires.sinks
+write-requires-clause-sinks g c = c.requires.sinks
 
 pub write-requires-clause-recorded : goal.write-requires-clause-recorded
 write-requires-clause-recorded g c = recorded c.args.scenario.now (map frames_of c.args.traces.now) c.args.self.now

@@ -1,9 +1,10 @@
-use Rattle.std.proofs.Common.{List, arith, map, rules}
+use Rattle.std.proofs.Common.{◌∷◌, [], List, arith, map, rules}
 use Rattle.std.proofs.lemmas.Result.{IfErr-weaker, on_ok_weaker}
-use Rattle.scenario.specs.SoFar.{Said, event_of, hosts_of, said_of}
-use Rattle.scenario_bench.specs.EventLists.{events_of}
+use Rattle.scenario.specs.SoFar.{Drains, Said, event_of, hosts_of, said_of}
+use Rattle.scenario_bench.specs.EventLists.{event_drawn, events_of, words_drawn}
 use Rattle.scenario_bench.specs.PlayedEvents.{HasPlayed, StopsWithin, frames_of}
-use Rattle.scenario_bench.proofs.PlayedEvents.{of_event, of_no_feed}
+use Rattle.scenario.specs.declared.command.Command.TheVariants as commands
+use Rattle.scenario_bench.proofs.PlayedEvents.{of_event, of_no_feed, of_same}
 use Rattle.scenario_bench.proofs.play.Play.command.Goals as goal
 
 pub returns-in-Event-clause-ok : goal.returns-in-Event-clause-ok
@@ -24,3 +25,35 @@ returns-in-Event-clause-err c =
 pub returns-in-None-clause-ok : goal.returns-in-None-clause-ok
 returns-in-None-clause-ok c = of_no_feed (hosts_of c.args.plans.now) c.args.traces.now c.args.command.now c.in-Feed.host c.in-Feed.trace
     c.args.self.now c.in-Feed.is (search (rules, arith))
+
+pub returns-in-Auto-clause-ok : goal.returns-in-Auto-clause-ok
+returns-in-Auto-clause-ok c =
+    on_ok_weaker c.draw.result (of_same (λ (said : List Said). HasPlayed said c.args.self.now c.draw.new.self)
+    (hosts_of c.args.plans.now) (map frames_of c.args.traces.now) c.args.command.now (commands.Auto c.in-Auto.count c.in-Auto.start)
+    c.in-Auto.is) c.draw.ensures.ok
+
+pub returns-in-Auto-clause-err : goal.returns-in-Auto-clause-err
+returns-in-Auto-clause-err c =
+    IfErr-weaker c.draw.result
+    (StopsWithin (map (event_drawn (hosts_of c.args.plans.now)) (words_drawn c.in-Auto.count c.in-Auto.start)) c.args.self.now
+    c.draw.new.self)
+    (StopsWithin (events_of (hosts_of c.args.plans.now) (map frames_of c.args.traces.now) (said_of c.args.command.now)) c.args.self.now
+    c.draw.new.self)
+    (λ error. of_same (λ (said : List Said). StopsWithin said c.args.self.now c.draw.new.self error) (hosts_of c.args.plans.now)
+    (map frames_of c.args.traces.now) c.args.command.now (commands.Auto c.in-Auto.count c.in-Auto.start) c.in-Auto.is)
+    c.draw.ensures.err
+
+pub returns-in-Drain-clause-ok : goal.returns-in-Drain-clause-ok
+returns-in-Drain-clause-ok c =
+    on_ok_weaker c.drain.result (of_same (λ (said : List Said). HasPlayed said c.args.self.now c.drain.new.self)
+    (hosts_of c.args.plans.now) (map frames_of c.args.traces.now) c.args.command.now (commands.Drain c.in-Drain.host)
+    c.in-Drain.is) c.drain.ensures.ok
+
+pub returns-in-Drain-clause-err : goal.returns-in-Drain-clause-err
+returns-in-Drain-clause-err c =
+    IfErr-weaker c.drain.result (StopsWithin (Drains c.in-Drain.host ∷ []) c.args.self.now c.drain.new.self)
+    (StopsWithin (events_of (hosts_of c.args.plans.now) (map frames_of c.args.traces.now) (said_of c.args.command.now)) c.args.self.now
+    c.drain.new.self)
+    (λ error. of_same (λ (said : List Said). StopsWithin said c.args.self.now c.drain.new.self error) (hosts_of c.args.plans.now)
+    (map frames_of c.args.traces.now) c.args.command.now (commands.Drain c.in-Drain.host) c.in-Drain.is)
+    c.drain.ensures.err

@@ -4,7 +4,7 @@ use Rattle.std.proofs.lemmas.List.{with_items_is}
 use Rattle.network_plan.specs.Answers.{answer_with}
 use Rattle.scenario_bench.specs.Tallies.{TalliesGrow, given_up_of}
 use Rattle.scenario_bench.specs.declared.tally.Tally.{Tally}
-use Rattle.wire.specs.Runs.{accepted_of}
+use Rattle.wire.specs.Runs.{accepted_by_answer}
 use Rattle.scenario_bench.proofs.RecordLaws.{reset-answers, sent-answers}
 use Rattle.scenario_bench.proofs.record.Record.note_answer.Goals as goal
 
@@ -14,7 +14,7 @@ returns-in-Send c =
     let before : c.args.self.now.hosts.items ≡ c.as_mut_slice.result.now = search rules in
     let after : (with_items c.args.self.now.hosts c.note_sent.new.hosts).items ≡ c.note_sent.new.hosts =
     with_items_is c.args.self.now.hosts c.note_sent.new.hosts (search (rules, arith)) in
-    let happened = accepted_of c.in-Send.host c.in-Send.frame.items given in
+    let happened = accepted_by_answer c.in-Send.host c.in-Send.frame.items given in
     sent-answers c.args.event.now c.in-Send.host c.in-Send.frame c.in-Send.ticks given c.args.self.now _ c.in-Send.is refl refl refl
     refl refl
     (subst (λ (old : List Tally). TalliesGrow happened old (with_items c.args.self.now.hosts c.note_sent.new.hosts).items) (sym before)

@@ -1,12 +1,11 @@
-use Rattle.std.proofs.Common.{◌≡◌, ◌∙◌, ℕ, List, ap, arith, length, map, refl, rules, subst, sym}
+use Rattle.std.proofs.Common.{◌≡◌, ◌∙◌, ℕ, List, ap, arith, map, refl, rules, subst, sym}
 use Rattle.std.specs.Vec.{with_items}
 use Rattle.std.proofs.lemmas.List.{length-map, with_items_is}
 use Rattle.wire.specs.DrainedNetworks.{said_of_drain}
 use Rattle.scenario_bench.specs.DrainedView.{drained_frame}
 use Rattle.scenario_bench.specs.EventLines.{place_at}
 use Rattle.scenario_bench.specs.RunLogs.{act_drained}
-use Rattle.scenario_bench.specs.SocketLists.{SocketFrames}
-use Rattle.scenario_bench.specs.Tallies.{GetsSaid, TalliesGrow}
+use Rattle.scenario_bench.specs.Tallies.{TalliesGrow}
 use Rattle.scenario_bench.specs.declared.tally.Tally.{Tally}
 use Rattle.scenario_bench.proofs.NotedEvents.{drain_noted}
 use Rattle.scenario_bench.proofs.record.Record.note_drain.Goals as goal
@@ -17,18 +16,13 @@ returns c =
     let happened = said_of_drain c.args.host 0 frames in
     let old = c.args.self.now in
     let hosts = c.note_drained.new.hosts in
-    let sockets = c.note_drained.new.sockets in
     let hosts_before : old.hosts.items ≡ c.as_mut_slice-hosts.result.now = search rules in
-    let sockets_before : old.sockets.items ≡ c.as_mut_slice.result.now = search rules in
     let hosts_after : (with_items old.hosts hosts).items ≡ hosts = with_items_is old.hosts hosts (search (rules, arith)) in
-    let sockets_after : (with_items old.sockets sockets).items ≡ sockets = with_items_is old.sockets sockets (search (rules, arith)) in
     drain_noted c.args.host frames old _ (search (rules, arith))
     (subst (λ (a : List Tally). TalliesGrow happened a (with_items old.hosts hosts).items) (sym hosts_before)
     (subst (λ (b : List Tally). TalliesGrow happened c.as_mut_slice-hosts.result.now b) (sym hosts_after)
     c.in_ok-note_drained.ensures.hosts))
-    (subst (λ (a : List SocketFrames). GetsSaid old.number happened a (with_items old.sockets sockets).items) (sym sockets_before)
-    (subst (λ (b : List SocketFrames). GetsSaid old.number happened c.as_mut_slice.result.now b) (sym sockets_after)
-    c.in_ok-note_drained.ensures.sockets)) refl
+    c.in_ok-note_drained.ensures.returned refl
     (c.in_ok-drain.ensures
     ∙ ap (λ (n : ℕ). act_drained (place_at old.number old.line) c.args.host n old.log)
     (sym (length-map c.args.given.now drained_frame)))
