@@ -1,4 +1,4 @@
--- What a command is after an argument or a subcommand more.
+-- A command with one more argument or subcommand.
 use Rattle.std.proofs.Common.{◌≡◌, ◌∙◌, ◌+◌, ◌<◌, ◌||◌, ◌++◌, ℕ, Bool, ap, ap₂, false, get_or, length, List, [], ◌∷◌, map, refl, sym, take}
 use Rattle.std.proofs.lemmas.List.{map-append, take_more}
 use Rattle.clap.specs.Words.{AddsArg, AddsSubcommand, App, Rule, app_of, rule_of, with_rule, with_subcommand}

@@ -1,4 +1,4 @@
--- What holds of the program's command line where clap takes the words: the subcommand is one of its five, and has its files.
+-- If clap accepts the words, the subcommand is one of the program's five, and has its files.
 use Rattle.std.specs.List.{find, list_all, slice_index_or}
 use Rattle.std.specs.Option.{option_map, option_map_or}
 use Rattle.std.specs.Prelude.{Result, Ok, Err, IfErr, IsErrAnd, codes, is_some}
@@ -133,7 +133,7 @@ drive_wants : (rows : List Row)
 unfolding clap_on_literals program_app pass_app run_app show_app serve_app drive_app built_drive
 drive_wants rows = refl
 
--- ---- the subcommand that was met
+-- ---- the subcommand that was found
 
 not_second : (text word : Text) → bytes_eq word text ≡ false → (bytes_eq text word || false) ≡ false
 not_second text word e = go (bytes_eq text word) refl
@@ -166,7 +166,7 @@ IsEnteredAmong first second third fourth fifth words name rows =
     IsEntered first words name rows ⊎ (IsEntered second words name rows
     ⊎ (IsEntered third words name rows ⊎ (IsEntered fourth words name rows ⊎ IsEntered fifth words name rows)))
 
--- the first of six subcommands that answers
+-- the first of six subcommands that has the name
 abbrev first_that : (is_first is_second is_third is_fourth is_fifth is_sixth : Bool)
     → (first second third fourth fifth sixth : Shape) → Option Shape
 first_that is_first is_second is_third is_fourth is_fifth is_sixth first second third fourth fifth sixth =
@@ -273,7 +273,7 @@ drive_taken words name rows it =
     (level_checks built_drive drive_gives [] words false [] it.faultless) in
     inr (inr (inr (inr (it.named ∙ drive_is_named, subst HasTraces (sym it.rows_are) traces))))
 
--- where clap takes the words, the subcommand is one of the program's, with its files
+-- if clap accepts the words, the subcommand is one of the program's, with its files
 pub taken : (words : List Text) (name : Text) (rows : List Row) → refusals words ≡ [] → found_in words ≡ Some (name, rows)
     → IsSubcommand name rows
 unfolding refusals found_in
@@ -295,7 +295,7 @@ taken words name rows f found =
       ]
     ]
 
--- ---- what clap's contracts say of the program
+-- ---- the clauses of clap for the program
 
 pub needs_subcommand : program_app.top.subcommand_required ≡ true
 unfolding program_app
@@ -309,7 +309,7 @@ pub found_is : (a : App) (words : List Text) → a ≡ program_app → subcomman
 unfolding found_in
 found_is a words e = ap (λ (x : App). subcommand_of x words) e
 
--- what clap's error becomes tells of the words what clap's error does
+-- the error made of clap's error states the same of the words
 pub refused_by : (kinds : Kinds) (error : Error) (made : LineError) → HasKind kinds error → IsMadeOf error made → IsRefusedBy kinds made
 refused_by kinds error Memory h m = tt
 refused_by kinds error (Value value) h m = absurd m
@@ -334,7 +334,7 @@ pair_met (Some x) h name rows e f =
     let second : (h x).1 ≡ rows = same_Some (h x).1 rows f in
     ap₂ (λ (u : Text) (v : List Row). Some (u, v)) first second
 
--- the name and the rows that the getter gives are those of the subcommand that was entered
+-- the name and the rows that the getter returns are those of the subcommand that was entered
 pub subcommand_got : (words : List Text) (m : ArgMatches) (got : Option (Bor Text × Bor ArgMatches)) (met : Bor Text × Bor ArgMatches)
     → got ≡ Some met
     → option_map (λ p. p.0.now) got ≡ subcommand_name_of m

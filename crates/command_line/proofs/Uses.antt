@@ -1,4 +1,4 @@
--- Where no use of an argument has a fault, each row has a value.
+-- If no use of an argument has a fault, each row has a value.
 use Rattle.std.specs.List.{find, fold, list_all}
 use Rattle.std.specs.Option.{option_map_or}
 use Rattle.std.specs.Str.{bytes_eq}
@@ -89,7 +89,7 @@ gives_of_either : (b : Bool) (x y : Option Rule) → Gives x → Gives y → Giv
 gives_of_either true x y h k = h
 gives_of_either false x y h k = k
 
--- each argument gives, and so does the one that is found
+-- a property of each argument is one of the argument that is found
 pub found_gives : (p : Rule → Bool) (rules : List Rule) → list_all gives rules ≡ true → Gives (find p rules)
 found_gives p [] e = tt
 found_gives p (a ∷ rest) e =
@@ -101,7 +101,7 @@ some_values_keep : (id : Text) (how : Reading) (s : ValueSource) (values : List 
 some_values_keep id how s [] rows some h = absurd (true≢false (sym some))
 some_values_keep id how s (v ∷ vs) rows some h = with_values_keeps id how s v vs rows h
 
--- a flag has the values that stand for a use with none, if it has none
+-- a flag used without values has the values for such a use
 flag_use_keeps : (a : Rule) (how : Reading) (s : ValueSource) (values : List Text) (rows : List Row) → nat_lt 0 (length a.missing) ≡ true
     → EachHasValue rows → EachHasValue (with_values a.id how s (values_or_missing a values) rows)
 flag_use_keeps a how s [] rows some h = some_values_keep a.id how s a.missing rows some h
@@ -137,7 +137,7 @@ use_found_keeps : (again : Bool) (found : Option Rule) (values : List Text) (row
 use_found_keeps again None values rows g f h = h
 use_found_keeps again (Some a) values rows g f h = use_keeps again a values rows g f h
 
--- ---- what waits is used
+-- ---- an argument that waits is used
 
 module _ (c : List Rule) (again : Bool) (each : list_all gives c ≡ true) where
   settle_rows_keeps : (pending : Option (Text × List Text)) (rows : List Row)
@@ -154,7 +154,7 @@ module _ (c : List Rule) (again : Bool) (each : list_all gives c ≡ true) where
   react_keeps a values h g f has =
       use_keeps again a values (settled c h).rows g (second_none (settle_fault c again h) _ f) (settle_keeps h (first_none _ _ f) has)
 
--- ---- defaults, and what is required
+-- ---- defaults, and required arguments
 
 default_rows_keeps : (id : Text) (how : Reading) (values : List Text) (rows : List Row) → EachHasValue rows
     → EachHasValue (default_rows id how values rows)
@@ -192,7 +192,7 @@ first_there (Some r) h e = first_value_there r.values h
 pub given_has_first : (id : Text) (rows : List Row) → EachHasValue rows → is_given id rows ≡ true → IsSome (first_of id rows)
 given_has_first id rows h e = first_there (find (λ r. bytes_eq r.id id) rows) (found_has_value _ rows h) e
 
--- no check failed, so nothing that is required is missing
+-- if no check fails, no required argument is missing
 pub nothing_missing : (help subcommand argument : Bool) → check_kinds help subcommand argument ≡ [] → argument ≡ false
 nothing_missing true subcommand argument e = some_kind _ _ e
 nothing_missing false true argument e = some_kind _ _ e

@@ -1,4 +1,4 @@
--- Over a walk without faults each row has a value, and `help` isn't the subcommand that was met.
+-- After a walk without faults each row has a value, and the subcommand isn't `help`.
 use Rattle.std.specs.List.{fold, list_all}
 use Rattle.std.specs.Option.{option_map_or}
 use Rattle.std.specs.Prelude.{codes, drop, encode_utf8, if◌then◌else◌, is_some, slice_get}
@@ -25,7 +25,7 @@ use Rattle.command_line.proofs.Uses.{settle_keeps, some_kind}
 abbrev pub IsOther : Bool → Text → Type 0
 IsOther disabled name = disabled ≡ false → bytes_eq name (codes "help") ≡ false
 
--- a subcommand that was met is another than `help`, unless that is disabled
+-- the subcommand that was found isn't `help`, unless `help` is disabled
 abbrev pub MeetsOther : Bool → Step → Type 0
 MeetsOther disabled (subcommand name) = IsOther disabled name
 MeetsOther disabled _ = Unit {0}
@@ -41,7 +41,7 @@ not_help true true k ks e d = absurd (cc)
 not_help true false k ks e d = some_kind k ks e
 
 module _ (s : Shape) (each : list_all gives s.rules ≡ true) where
-  -- the rows after a step have values each, and the step is no `help`
+  -- after a step each row has a value, and the step isn't `help`
   abbrev Keeps : Held × Step → Type 0
   Keeps p = EachHasValue p.0.rows × MeetsOther s.disable_help_subcommand p.1
 
@@ -221,7 +221,7 @@ module _ (s : Shape) (each : list_all gives s.rules ≡ true) where
 
   -- ---- a level
 
-  -- where a level has no fault, its walk has none, and neither have the subcommand, what waits at the end, and the last checks
+  -- if a level has no fault, its walk, the subcommand, the argument that waits at the end, and the last checks have none
   pub level_walk : (names : Names) (words : List Text) (has : Bool) (below : Kinds) → level_fault s names nothing_held words has below ≡ []
       → IsGood (walk s.rules names nothing_held words)
   level_walk names words has below f =

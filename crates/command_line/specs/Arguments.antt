@@ -1,4 +1,4 @@
--- The subcommands and arguments that the code gives clap, as clap's contracts see them (our choice).
+-- The subcommands and arguments that the code passes to clap, as clap's contracts define them (our choice).
 use Rattle.std.specs.Prelude.{Bool, List, [], ◌∷◌, codes, false, map, true}
 use Rattle.clap.specs.Simple.{on_top}
 use Rattle.clap.specs.Words.{App, Rule, Text, new_app, with_rule, with_subcommand}

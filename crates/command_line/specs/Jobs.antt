@@ -1,4 +1,4 @@
--- What clap holds for the words, as a job or as the value that it is refused for (our choice).
+-- The job that the words ask for, or the value for which they are refused, by the values that clap finds in them (our choice).
 use Rattle.std.specs.Prelude.{◌≡◌, ◌≤◌, ◌⊎◌, ◌↔◌, IfSome, IsTrue, ℕ, Bool, List, [], ◌∷◌, IsSomeAnd, Option, Some, None}
 use Rattle.std.specs.Borrow.{Bor}
 use Rattle.std.specs.Prelude.{⊤, ◌||◌, IsNone, IsSome, codes, option_map, true}
@@ -8,7 +8,6 @@ use Rattle.command_line.specs.Shape.{found_in, refusals}
 use Rattle.text.specs.Addresses.{SpellsAddress}
 use Rattle.command_line.specs.Spelling.{IsGroup, IsKilobytes, IsLink, SpellsCount, SpellsDecimal, SpellsGroup}
 use Rattle.command_line.specs.Spelling.{SpellsKilobytes, SpellsLink, SpellsRingSize, SpellsVlan, SpellsWord}
-use Rattle.command_line.specs.declared.drive.Sizes.{Sizes}
 use Rattle.command_line.specs.declared.error.InvalidValue.{InvalidValue}
 use Rattle.command_line.specs.declared.job.DriveJob.{DriveJob}
 use Rattle.command_line.specs.declared.job.Job.{Job}
@@ -23,7 +22,6 @@ use Rattle.command_line.specs.declared.job.ServeLink.{ServeLink}
 use Rattle.command_line.specs.declared.job.ServeLink.TheVariants as links
 use Rattle.command_line.specs.declared.job.ShowJob.{ShowJob}
 use Rattle.command_line.specs.declared.job.ValueOption.{ValueOption}
-use Rattle.command_line.specs.declared.serve.ServedAdapter.{ServedAdapter}
 use Rattle.command_line.specs.declared.job.ValueOption.TheVariants as options
 
 -- the value that an option's text spells; there is none if and only if the option isn't given
@@ -41,7 +39,7 @@ IsValueOr spells default (Some text) value = spells text value
 abbrev pub IsTextOf : Option Text → Option (Bor Text) → Type 0
 IsTextOf text value = text ≡ option_map (λ value. value.now) value
 
--- clap's text for a flag is "true" exactly if the flag is in the words
+-- clap's text for a flag is "true" if and only if the flag is in the words
 abbrev pub IsFlagOf : Option Text → Bool → Type 0
 IsFlagOf text flag = IsTrue flag ↔ (text ≡ Some (codes "true"))
 
@@ -74,12 +72,6 @@ IsImageOf rows (images.Address address) =
     IsNone (first_of (codes "image") rows)
     × IsValueOr SpellsAddress (2 ∷ 0 ∷ 0 ∷ 0 ∷ 0 ∷ 1 ∷ []) (first_of (codes "address") rows) address
 
--- the image, the link and the kilobytes of a `serve`
-pub record IsAdapterOf (rows : List Row) (adapter : ServedAdapter) : Type 0 where
-  pub image : IsImageOf rows adapter.image
-  pub link : IsValueOr SpellsLink (links.After 1) (first_of (codes "link") rows) adapter.link
-  pub kilobytes : IsValueOr SpellsKilobytes 48 (first_of (codes "rxa") rows) adapter.receive_kilobytes
-
 -- each option of a `serve` has the value of its text, or its default
 pub record IsServeJobOf (rows : List Row) (job : ServeJob) : Type 0 where
   pub memory : IsValueOr SpellsWord 0x100000 (first_of (codes "memory") rows) job.memory
@@ -91,12 +83,6 @@ pub record IsServeJobOf (rows : List Row) (job : ServeJob) : Type 0 where
   pub missed : IsValueOr SpellsCount 0 (first_of (codes "missed") rows) job.missed
   pub schedule : IsTextOf (first_of (codes "schedule") rows) job.schedule
   pub «record» : IsTextOf (first_of (codes "record") rows) job.«record»
-
--- the sizes of a `drive`
-pub record AreSizesOf (rows : List Row) (sizes : Sizes) : Type 0 where
-  pub rx : IsValueOr SpellsRingSize 64 (first_of (codes "rx") rows) sizes.rx
-  pub tx : IsValueOr SpellsRingSize 64 (first_of (codes "tx") rows) sizes.tx
-  pub buffers : IsValueOr SpellsRingSize 512 (first_of (codes "buffers") rows) sizes.buffers
 
 -- each option of a `drive` has the value of its text, or its default, and both traces are there
 pub record IsDriveJobOf (rows : List Row) (job : DriveJob) : Type 0 where
@@ -118,11 +104,11 @@ IsJobOf found (Show job) = (found.0 ≡ codes "show") × IsShowJobOf found.1 job
 IsJobOf found (Serve job) = (found.0 ≡ codes "serve") × IsServeJobOf found.1 job
 IsJobOf found (Drive job) = (found.0 ≡ codes "drive") × IsDriveJobOf found.1 job
 
--- what a caller may count on without the words: a group has its group bit, and a VLAN identifier 12 bits
+-- bounds of a filter, whatever the words are: a group has its group bit, and a VLAN identifier has 12 bits
 abbrev pub IsWithinBounds : PassFilter → Type 0
 IsWithinBounds filter = IfSome filter.group IsGroup × IfSome filter.vlan (λ n. n ≤ 4095)
 
--- what a caller may count on of a `serve`: the packet buffer has an allowed size, and the link needs at least one tick
+-- bounds of a `serve`, whatever the words are: the packet buffer has an allowed size, and the link needs at least one tick
 abbrev pub IsServable : ServeJob → Type 0
 IsServable job = IsKilobytes job.receive_kilobytes × IsLink job.link
 
@@ -208,19 +194,19 @@ IsSpelled rows options.Buffers text = (n : ℕ) × SpellsRingSize text n
 IsSpelled rows options.Expect text = (n : ℕ) × SpellsDecimal text n
 IsSpelled rows options.Idle text = (n : ℕ) × SpellsDecimal text n
 
--- the matches have this text for the option, and it doesn't have the option's form, or it excludes another option that
--- is given
+-- The option is given with this text, and the text doesn't have the option's form, or the option excludes another one
+-- that is given.
 pub record IsInvalidIn (rows : List Row) (value : InvalidValue) : Type 0 where
   pub given : first_of (name_of value.option) rows ≡ Some value.text.now
   pub unspelled : ¬ IsSpelled rows value.option value.text.now
 
--- the matches have a text for this option, and it doesn't have the option's form
+-- the option is given, and its text doesn't have its form
 pub record IsMisspelled (rows : List Row) (option : ValueOption) : Type 0 where
   pub text : Text
   pub given : first_of (name_of option) rows ≡ Some text
   pub unspelled : ¬ IsSpelled rows option text
 
--- the same of an option of the subcommand of this name
+-- The option is one of the subcommand of this name, and its text doesn't have its form.
 abbrev pub IsMisspelledOf : Text → List Row → ValueOption → Type 0
 IsMisspelledOf name rows option = (has_option name option ≡ true) × IsMisspelled rows option
 

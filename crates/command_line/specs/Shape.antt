@@ -1,4 +1,4 @@
--- The program's command line, as clap's contracts see it (our choice). Help texts are no part of it.
+-- The program's command line, as clap's contracts see it (our choice). It contains no help texts.
 use Rattle.std.specs.Prelude.{List, Option, Some, codes, true}
 use Rattle.clap.specs.Words.{App, Row, Rule, Text, fault_of, new_app, new_rule, subcommand_of, with_rule, with_subcommand}
 use Rattle.clap.specs.Kinds.{Kinds}
@@ -69,6 +69,6 @@ program_app =
 unfoldable pub refusals : List Text → Kinds
 refusals words = fault_of program_app words
 
--- the subcommand that clap finds in the words, with what it holds for each of its options and files
+-- the subcommand that clap finds in the words, with its options and files and the texts of each
 unfoldable pub found_in : List Text → Option (Text × List Row)
 found_in words = subcommand_of program_app words

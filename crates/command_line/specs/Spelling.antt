@@ -1,5 +1,5 @@
--- Which texts spell a group, a number, a VLAN, a packet buffer's kilobytes and a link. All of it is our choice, but for the meaning of the
--- group bit, the width of a VLAN identifier and the kilobytes that there can be.
+-- The texts that spell a group, a number, a VLAN, the kilobytes of a packet buffer, and a link. All of this is our choice, except the
+-- group bit, the width of a VLAN identifier and the possible numbers of kilobytes.
 use Rattle.std.specs.Prelude.{⊤, ◌≡◌, ◌<◌, ◌≤◌, ◌%◌, ◌^◌, ℕ, List, Some, codes, slice_index, IsBitSet}
 use Rattle.text.specs.Addresses.{SpellsAddress}
 use Rattle.text.specs.Numbers.{number_in, number_spelled}
@@ -14,7 +14,7 @@ IsGroup address = IsBitSet (slice_index address 0) 0
 abbrev pub SpellsGroup : Text → List ℕ → Type 0
 SpellsGroup text address = SpellsAddress text address × IsGroup address
 
--- a number of 64 bits, in decimal digits alone
+-- a number of 64 bits, in decimal digits only
 abbrev pub SpellsDecimal : Text → ℕ → Type 0
 SpellsDecimal text n = number_in 10 64 text ≡ Some n
 
@@ -41,7 +41,7 @@ IsKilobytes n = (2 ≤ n) × (n ≤ 48) × (n % 2 ≡ 0)
 abbrev pub SpellsKilobytes : Text → ℕ → Type 0
 SpellsKilobytes text n = SpellsDecimal text n × IsKilobytes n
 
--- ticks of 16 bits, at least one, after which a link comes up, or none if it never does
+-- the ticks after which a link is up, from 1 to 65,535, or never
 abbrev pub IsLink : ServeLink → Type 0
 IsLink (After ticks) = (1 ≤ ticks) × (ticks ≤ 65535)
 IsLink Never = ⊤

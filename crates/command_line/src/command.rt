@@ -6,17 +6,11 @@ ghost use Rattle.command_line.specs.Arguments.{action_of_form, app_for, bare_app
 ghost use Rattle.command_line.specs.Arguments.{with_subcommands};
 ghost use Rattle.command_line.specs.Shape.{program_app};
 
-use crate::help::{
-    ADDRESS_HELP, BUFFERS_HELP, DRIVE_ABOUT, DRIVE_MEMORY_HELP, DRIVE_NOTE, EEPROM_ADDRESS_HELP,
-    EVENTS_HELP, EXPECT_HELP, GROUP_HELP, IDLE_HELP, IMAGE_HELP, LINK_HELP, MEMORY_HELP,
-    MISSED_HELP, NANOS_HELP, PASS_ABOUT, PASS_NOTE, PROGRAM_NOTE, RECORD_HELP, REGISTERS_HELP,
-    RUN_ABOUT, RUN_NOTE, RX_HELP, RXA_HELP, SCHEDULE_HELP, SEED_HELP, SERVE_ABOUT, SERVE_NOTE,
-    SHOW_ABOUT, SHOW_NOTE, TX_HELP, VERSION, VLAN_HELP, WIRES_HELP,
-};
+use crate::help::*;
 use clap::{Arg, ArgAction, Command};
 use std::alloc::{AllocError, Global};
 
-/// How an argument is used.
+/// The form of an argument.
 #[derive(Clone, Copy)]
 enum Form<'a> {
     /// As an option `--NAME VALUE`, at most once. Help has this name for the value.
@@ -37,9 +31,9 @@ struct Argument<'a>(&'a str, Form<'a>, &'a str);
 #[derive(Clone, Copy)]
 struct Subcommand<'a> {
     name: &'a str,
-    /// What it does.
+    /// The first line of its help.
     about: &'a str,
-    /// The text of its help after its options.
+    /// The text of its help after the options.
     note: &'a str,
     arguments: &'a [Argument<'a>],
 }
@@ -51,7 +45,7 @@ fn is_required(form: Form<'_>) -> bool
     matches!(form, Form::Required(_) | Form::File)
 }
 
-/// What clap does at an argument of this form.
+/// The action of clap at an argument of this form.
 fn action_of(form: Form<'_>) -> ArgAction
     ensures { result ≡ action_of_form form.entry }
 {
@@ -111,7 +105,6 @@ fn add_commands<'a>(
     Ok(program)
 }
 
-/// `pass [--address A] [--group G] [--vlan N] [--nanos] IN OUT`.
 const PASS_ARGUMENTS: [Argument<'static>; 6] = [
     Argument("address", Form::Value("A"), ADDRESS_HELP),
     Argument("group", Form::Value("G"), GROUP_HELP),
@@ -129,7 +122,6 @@ const PASS_ARGUMENTS: [Argument<'static>; 6] = [
     ),
 ];
 
-/// `run [--wires] [--nanos] [--events FILE] SCENARIO OUTDIR`.
 const RUN_ARGUMENTS: [Argument<'static>; 5] = [
     Argument("wires", Form::Flag, WIRES_HELP),
     Argument("nanos", Form::Flag, NANOS_HELP),
@@ -146,15 +138,12 @@ const RUN_ARGUMENTS: [Argument<'static>; 5] = [
     ),
 ];
 
-/// `show TRACE`.
 const SHOW_ARGUMENTS: [Argument<'static>; 1] = [Argument(
     "TRACE",
     Form::File,
     "The trace to read, a pcap file, or - for standard input",
 )];
 
-/// `serve [--memory BYTES] [--registers ADDRESS] [--address A | --image FILE] [--link N|never] [--rxa N] [--seed N]
-/// [--missed N] [--schedule FILE] [--record FILE]`.
 const SERVE_ARGUMENTS: [Argument<'static>; 10] = [
     Argument("memory", Form::Value("BYTES"), MEMORY_HELP),
     Argument("registers", Form::Value("ADDRESS"), REGISTERS_HELP),
@@ -168,8 +157,6 @@ const SERVE_ARGUMENTS: [Argument<'static>; 10] = [
     Argument("record", Form::Value("FILE"), RECORD_HELP),
 ];
 
-/// `drive [--registers ADDRESS] [--memory BYTES] [--rx N] [--tx N] [--buffers N] [--expect N] [--idle N] --send IN
-/// --receive OUT`.
 const DRIVE_ARGUMENTS: [Argument<'static>; 9] = [
     Argument("registers", Form::Value("ADDRESS"), REGISTERS_HELP),
     Argument("memory", Form::Value("BYTES"), DRIVE_MEMORY_HELP),
@@ -190,7 +177,7 @@ const DRIVE_ARGUMENTS: [Argument<'static>; 9] = [
     ),
 ];
 
-/// The commands, in the order of help.
+/// The commands, and the arguments of each, in the order of help.
 const SUBCOMMANDS: [Subcommand<'static>; 5] = [
     Subcommand {
         name: "pass",

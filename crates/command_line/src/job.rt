@@ -1,6 +1,6 @@
-//! What the words may ask for.
+//! The jobs that a command line can ask for.
 
-/// What the program is to do.
+/// A job of the program.
 #[derive(Clone, Copy)]
 pub enum Job<'a> {
     /// `pass`: the frames of a trace go through a receive filter and a ring to another trace.
@@ -15,7 +15,7 @@ pub enum Job<'a> {
     Drive(DriveJob<'a>),
 }
 
-/// The job of `pass [--address A] [--group G] [--vlan N] [--nanos] IN OUT`.
+/// The job of `pass`.
 #[derive(Clone, Copy)]
 pub struct PassJob<'a> {
     /// Which frames pass.
@@ -28,7 +28,7 @@ pub struct PassJob<'a> {
     pub nanos: bool,
 }
 
-/// The job of `run [--wires] [--nanos] [--events FILE] SCENARIO OUTDIR`.
+/// The job of `run`.
 #[derive(Clone, Copy)]
 pub struct RunJob<'a> {
     /// The path of the scenario that is run, SCENARIO.
@@ -43,7 +43,7 @@ pub struct RunJob<'a> {
     pub events: Option<&'a str>,
 }
 
-/// The job of `show TRACE`.
+/// The job of `show`.
 #[derive(Clone, Copy)]
 pub struct ShowJob<'a> {
     /// The path of the trace that is read, TRACE.
@@ -61,17 +61,16 @@ pub struct PassFilter {
     pub vlan: Option<u16>,
 }
 
-/// The job of `serve [--memory BYTES] [--registers ADDRESS] [--address A | --image FILE] [--link N|never] [--rxa N]
-/// [--seed N] [--missed N] [--schedule FILE] [--record FILE]`. Each option that isn't given has its default here.
+/// The job of `serve`. Each option that isn't given has its default here.
 #[derive(Clone, Copy)]
 pub struct ServeJob<'a> {
-    /// How many bytes of memory there are, from address 0 on (`--memory`, 1 MiB).
+    /// The number of bytes of memory, from address 0 on (`--memory`, 1 MiB).
     pub memory: u64,
     /// The address of the first byte of registers (`--registers`, 0xFEB00000).
     pub registers: u64,
     /// The contents of the adapter's EEPROM (`--address`, `--image`, an image of 02:00:00:00:00:01).
     pub image: ServeImage<'a>,
-    /// When the link is up (`--link`; by default after one tick).
+    /// The number of ticks until the link is up (`--link`; by default one tick).
     pub link: ServeLink,
     /// The kilobytes of the adapter's receive packet buffer, an even number from 2 to 48 (`--rxa`, 48).
     pub receive_kilobytes: u8,
@@ -81,17 +80,16 @@ pub struct ServeJob<'a> {
     pub missed: u32,
     /// The path of the schedule that is played (`--schedule`, none).
     pub schedule: Option<&'a str>,
-    /// The path of the file that a schedule of what was played is stored in (`--record`, none).
+    /// The path of the file for a schedule of the steps that were played (`--record`, none).
     pub record: Option<&'a str>,
 }
 
-/// The job of `drive [--registers ADDRESS] [--memory BYTES] [--rx N] [--tx N] [--buffers N] [--expect N] [--idle N]
-/// --send IN --receive OUT`. Addresses and sizes that aren't given have their defaults here.
+/// The job of `drive`. Addresses and sizes that aren't given have their defaults here.
 #[derive(Clone, Copy)]
 pub struct DriveJob<'a> {
     /// The address of the first byte of registers (`--registers`, 0xFEB00000).
     pub registers: u64,
-    /// How many bytes of memory the driver may use, from address 0 on (`--memory`, 1 MiB).
+    /// The number of bytes of memory that the driver may use, from address 0 on (`--memory`, 1 MiB).
     pub memory: u64,
     /// The number of descriptors in the receive ring (`--rx`, 64).
     pub rx: u16,
@@ -103,9 +101,9 @@ pub struct DriveJob<'a> {
     pub send: &'a str,
     /// The path of the trace that received frames are written into, OUT (`--receive`).
     pub receive: &'a str,
-    /// How many received frames end the run (`--expect`).
+    /// The number of received frames after which the run ends (`--expect`).
     pub expect: Option<u64>,
-    /// How many calls of the handler in a row that received nothing end the run (`--idle`).
+    /// The number of calls of the handler in a row without a received frame after which the run ends (`--idle`).
     pub idle: Option<u64>,
 }
 
@@ -127,37 +125,22 @@ pub enum ServeLink {
     Never,
 }
 
-/// An option with a value.
+/// An option with a value. The name of the option is that of the variant: `Address` is `--address`.
 #[derive(Clone, Copy, Debug)]
 pub enum ValueOption {
-    /// `--address`, of `pass` and of `serve`.
     Address,
-    /// `--group`, of `pass`.
     Group,
-    /// `--vlan`, of `pass`.
     Vlan,
-    /// `--memory`, of `serve` and of `drive`.
     Memory,
-    /// `--registers`, of `serve` and of `drive`.
     Registers,
-    /// `--image`, of `serve`.
     Image,
-    /// `--link`, of `serve`.
     Link,
-    /// `--rxa`, of `serve`.
     Rxa,
-    /// `--seed`, of `serve`.
     Seed,
-    /// `--missed`, of `serve`.
     Missed,
-    /// `--rx`, of `drive`.
     Rx,
-    /// `--tx`, of `drive`.
     Tx,
-    /// `--buffers`, of `drive`.
     Buffers,
-    /// `--expect`, of `drive`.
     Expect,
-    /// `--idle`, of `drive`.
     Idle,
 }

@@ -7,12 +7,9 @@ ghost use Rattle.command_line.specs.Jobs.{IsRefusedIn, IsSubcommand};
 ghost use Rattle.command_line.specs.Shape.{found_in, refusals};
 ghost use Rattle.command_line.specs.declared.error.LineError.TheVariants.{NotUnicode};
 
+use crate::adapter_jobs::{drive_job, serve_job};
 use crate::command::program;
-use crate::drive::drive_job;
-use crate::pass::pass_job;
-use crate::run::run_job;
-use crate::serve::serve_job;
-use crate::show::show_job;
+use crate::trace_jobs::{pass_job, run_job, show_job};
 use crate::values::invalid;
 use crate::{Job, LineError, ValueOption};
 use clap::ArgMatches;
@@ -36,7 +33,7 @@ fn job_of<'a>(name: &str, matches: &ArgMatches<'a>) -> Result<Job<'a>, ValueOpti
     }
 }
 
-/// What clap finds in the words, with the subcommand.
+/// The matches that clap finds in the words, which have a subcommand.
 fn matches_of<'a, S: AsStr>(alloc: Global, words: &'a [S]) -> Result<ArgMatches<'a>, LineError<'a>>
     ensures taken { OnOk result (refusals (map S.text words.entry.now) ≡ []) }
     ensures found { IfOk result (λ matches. has_subcommand matches ≡ true
@@ -52,8 +49,8 @@ fn matches_of<'a, S: AsStr>(alloc: Global, words: &'a [S]) -> Result<ArgMatches<
 ///
 /// # Errors
 ///
-/// `Words` if clap refuses the words, or is asked for help or the version; `Value` if the value of an option isn't of
-/// its form, or `--image` and `--address` are both given; E57 if memory was refused. `NotUnicode` never comes.
+/// `Words` if clap refuses the words, or they ask for help or the version; `Value` if the value of an option doesn't
+/// have its form, or `--image` and `--address` are both given; `Memory` if memory was refused. Never `NotUnicode`.
 pub fn line<'a, S: AsStr>(alloc: Global, words: &'a [S]) -> Result<Job<'a>, LineError<'a>>
     ensures job { IfOk result (IsAskedBy (map S.text words.entry.now)) }
     ensures bounds { IfOk result HasBounds }

@@ -3,10 +3,11 @@ ghost use Rattle.std.specs.Prelude.{◌≡◌, ℕ, List, IfSome, IfNone};
 ghost use Rattle.command_line.specs.Spelling.{SpellsCount, SpellsGroup, SpellsKilobytes, SpellsLink, SpellsRingSize};
 ghost use Rattle.command_line.specs.Spelling.{SpellsVlan};
 ghost use Rattle.command_line.specs.declared.job.ServeLink.{ServeLink};
-ghost use Rattle.text.specs.Numbers.{number_in};
+ghost use Rattle.text.specs.Addresses.{SpellsAddress};
+ghost use Rattle.text.specs.Numbers.{number_in, number_spelled};
 
 use crate::ServeLink;
-use text::{address_of, digits_of};
+use text::digits_of;
 
 const DECIMAL: u32 = 10;
 
@@ -21,6 +22,14 @@ const LEAST_KILOBYTES: u64 = 2;
 
 const MOST_KILOBYTES: u64 = 48;
 
+/// The address that a text spells.
+pub(crate) fn address_of(text: &str) -> Option<[u8; 6]>
+    ensures spelled { IfSome result (SpellsAddress text.now) }
+    ensures refused { IfNone result ((address : List ℕ) → ¬ SpellsAddress text.now address) }
+{
+    text::address_of(text)
+}
+
 /// The group address that a text spells: an address whose first byte is odd, as `01:00:5e:00:00:01`. `None` for any
 /// other text, such as an individual address.
 pub(crate) fn group_of(text: &str) -> Option<[u8; 6]>
@@ -34,7 +43,7 @@ pub(crate) fn group_of(text: &str) -> Option<[u8; 6]>
     Some(address)
 }
 
-/// The VLAN identifier that a text spells: decimal digits alone, up to 4095, with or without leading zeros. `None` for
+/// The VLAN identifier that a text spells: only decimal digits, up to 4095, with or without leading zeros. `None` for
 /// any other text, such as one with a sign.
 pub(crate) fn vlan_of(text: &str) -> Option<u16>
     ensures spelled { IfSome result (SpellsVlan text.now) }
@@ -47,15 +56,22 @@ pub(crate) fn vlan_of(text: &str) -> Option<u16>
     Some(vlan as u16)
 }
 
-/// The number below 2^64 that a text spells in decimal digits alone, with or without leading zeros. `None` for any
-/// other text, such as one with a sign.
+/// The number below 2^64 that a text spells in decimal digits, with or without leading zeros. `None` for any other
+/// text, such as one with a sign.
 pub(crate) fn decimal_of(text: &str) -> Option<u64>
     ensures { result ≡ number_in 10 64 text.now }
 {
     digits_of(text, DECIMAL)
 }
 
-/// The count that a text spells in decimal digits alone, below 2^32. `None` for any other text.
+/// The number below 2^64 that a text spells, decimal, or hexadecimal after `0x`.
+pub(crate) fn word_of(text: &str) -> Option<u64>
+    ensures { result ≡ number_spelled text.now }
+{
+    text::number_of(text)
+}
+
+/// The count that a text spells in decimal digits, below 2^32. `None` for any other text.
 pub(crate) fn count_of(text: &str) -> Option<u32>
     ensures spelled { IfSome result (SpellsCount text.now) }
     ensures refused { IfNone result ((n : ℕ) → ¬ SpellsCount text.now n) }
@@ -85,8 +101,8 @@ pub(crate) fn kilobytes_of(text: &str) -> Option<u8>
     Some(kilobytes as u8)
 }
 
-/// When a link comes up, as a text spells it: `never`, or ticks from 1 to 65,535 in decimal digits alone. `None` for
-/// any other text.
+/// The time at which a link is up, as a text spells it: `never`, or ticks from 1 to 65,535 in decimal digits. `None`
+/// for any other text.
 pub(crate) fn link_of(text: &str) -> Option<ServeLink>
     ensures spelled { IfSome result (SpellsLink text.now) }
     ensures refused { IfNone result ((link : ServeLink) → ¬ SpellsLink text.now link) }

@@ -1,17 +1,14 @@
 //! The values of options, from what clap holds for them.
-ghost use Rattle.std.specs.Prelude.{◌≡◌, ℕ, IfErr, IfOk, List, option_map};
+ghost use Rattle.std.specs.Prelude.{◌≡◌, IfErr, IfOk, List, None, Some, option_map};
+ghost use Rattle.std.specs.Fn.{FnOnceReturnsAt};
 ghost use Rattle.clap.specs.Words.{Row, Text, first_of, found_of, rows_of};
-ghost use Rattle.command_line.specs.Jobs.{IsInvalidIn, IsMisspelled, IsSpelled, IsValueOf, IsValueOr, name_of};
-ghost use Rattle.command_line.specs.Spelling.{SpellsDecimal, SpellsRingSize, SpellsWord};
-ghost use Rattle.text.specs.Addresses.{SpellsAddress};
+ghost use Rattle.command_line.specs.Jobs.{IsInvalidIn, IsMisspelled, IsSpelled, IsValueOf, name_of};
 
-use crate::spelling::{decimal_of, ring_size_of};
 use crate::{InvalidValue, ValueOption};
 use clap::ArgMatches;
-use text::{address_of, number_of};
 
 /// The name of an option.
-fn name_of(option: ValueOption) -> &'static str
+pub(crate) fn name_of(option: ValueOption) -> &'static str
     ensures { result.now ≡ name_of option }
 {
     match option {
@@ -33,14 +30,14 @@ fn name_of(option: ValueOption) -> &'static str
     }
 }
 
-/// The text of an option, if the words have it.
+/// The text of an option, if the option is given.
 pub(crate) fn text_of<'a>(matches: &ArgMatches<'a>, option: ValueOption) -> Option<&'a str>
     ensures { first_of (name_of option) (rows_of (found_of matches.now)) ≡ option_map (λ text. text.now) result }
 {
     matches.get_str(name_of(option))
 }
 
-/// An option with its text, which doesn't have its form.
+/// An option with its text, which doesn't have the option's form.
 pub(crate) fn invalid<'a>(matches: &ArgMatches<'a>, option: ValueOption) -> InvalidValue<'a>
     requires { IsMisspelled (rows_of (found_of matches.now)) option }
     ensures option { result.option ≡ option }
@@ -50,83 +47,29 @@ pub(crate) fn invalid<'a>(matches: &ArgMatches<'a>, option: ValueOption) -> Inva
     InvalidValue { option, text }
 }
 
-/// The address of an option, if the words have it.
-pub(crate) fn address(
+/// The value that `read` finds in the text of an option, if the option is given.
+///
+/// # Errors
+///
+/// The option, if its text doesn't have its form: `read` then returns `None`.
+pub(crate) fn value<T, F: FnOnce(&str) -> Option<T>>(
     matches: &ArgMatches<'_>,
     option: ValueOption,
-) -> Result<Option<[u8; 6]>, ValueOption>
-    requires { (rows : List Row) (text : Text) → IsSpelled rows option text
-        → (address : List ℕ) × SpellsAddress text address }
-    ensures value { IfOk result (IsValueOf SpellsAddress (first_of (name_of option) (rows_of (found_of matches.now)))) }
+    read: F,
+) -> Result<Option<T>, ValueOption>
+    requires callable { F.IsAlwaysCallable read }
+    requires exact { (rows : List Row) (text : Text) → FnOnceReturnsAt F.FnOnce read text None
+        → ¬ IsSpelled rows option text }
+    ensures value { IfOk result (IsValueOf (λ text value. FnOnceReturnsAt F.FnOnce read text (Some value))
+        (first_of (name_of option) (rows_of (found_of matches.now)))) }
     ensures refused { IfErr result
         (λ refused. (refused ≡ option) × IsMisspelled (rows_of (found_of matches.now)) refused) }
 {
-    match text_of(matches, option) {
-        Some(text) => match address_of(text) {
-            Some(value) => Ok(Some(value)),
-            None => Err(option),
-        },
-        None => Ok(None),
-    }
-}
-
-/// The number of an option in decimal digits, if the words have it.
-pub(crate) fn decimal(
-    matches: &ArgMatches<'_>,
-    option: ValueOption,
-) -> Result<Option<u64>, ValueOption>
-    requires { (rows : List Row) (text : Text) → IsSpelled rows option text → (n : ℕ) × SpellsDecimal text n }
-    ensures value { IfOk result (IsValueOf SpellsDecimal (first_of (name_of option) (rows_of (found_of matches.now)))) }
-    ensures refused { IfErr result
-        (λ refused. (refused ≡ option) × IsMisspelled (rows_of (found_of matches.now)) refused) }
-{
-    match text_of(matches, option) {
-        Some(text) => match decimal_of(text) {
-            Some(value) => Ok(Some(value)),
-            None => Err(option),
-        },
-        None => Ok(None),
-    }
-}
-
-/// The number of an option in decimal digits, or in hexadecimal ones after `0x`.
-pub(crate) fn word(
-    matches: &ArgMatches<'_>,
-    option: ValueOption,
-    default: u64,
-) -> Result<u64, ValueOption>
-    requires { (rows : List Row) (text : Text) → IsSpelled rows option text → (n : ℕ) × SpellsWord text n }
-    ensures value { IfOk result
-        (IsValueOr SpellsWord default (first_of (name_of option) (rows_of (found_of matches.now)))) }
-    ensures refused { IfErr result
-        (λ refused. (refused ≡ option) × IsMisspelled (rows_of (found_of matches.now)) refused) }
-{
-    match text_of(matches, option) {
-        Some(text) => match number_of(text) {
-            Some(value) => Ok(value),
-            None => Err(option),
-        },
-        None => Ok(default),
-    }
-}
-
-/// The value of an option for a number of descriptors or of buffers.
-pub(crate) fn ring_size(
-    matches: &ArgMatches<'_>,
-    option: ValueOption,
-    default: u16,
-) -> Result<u16, ValueOption>
-    requires { (rows : List Row) (text : Text) → IsSpelled rows option text → (n : ℕ) × SpellsRingSize text n }
-    ensures value { IfOk result
-        (IsValueOr SpellsRingSize default (first_of (name_of option) (rows_of (found_of matches.now)))) }
-    ensures refused { IfErr result
-        (λ refused. (refused ≡ option) × IsMisspelled (rows_of (found_of matches.now)) refused) }
-{
-    match text_of(matches, option) {
-        Some(text) => match ring_size_of(text) {
-            Some(value) => Ok(value),
-            None => Err(option),
-        },
-        None => Ok(default),
+    let Some(text) = text_of(matches, option) else {
+        return Ok(None);
+    };
+    match read(text) {
+        Some(value) => Ok(Some(value)),
+        None => Err(option),
     }
 }

@@ -1,4 +1,4 @@
--- What the words of `serve` ask a server for (our choice).
+-- The options of a server that the words of `serve` ask for (our choice).
 use Rattle.std.specs.Prelude.{◌≡◌, ⊤, ℕ, List}
 use Rattle.eeprom.specs.Image.{image_with}
 use Rattle.command_line.specs.declared.job.ServeImage.{ServeImage}
@@ -14,7 +14,7 @@ abbrev pub link_of : ServeLink → Link
 link_of (asked.After ticks) = links.After ticks
 link_of asked.Never = links.Never
 
--- The image is that of the address. For an image from a file it states nothing.
+-- The image is that of the address. An image from a file may be any image.
 abbrev pub IsImageFor : ServeImage → List ℕ → Type 0
 IsImageFor (images.Address address) image = image ≡ image_with address
 IsImageFor (images.File path) image = ⊤

@@ -1,4 +1,4 @@
--- How many files a run writes (our choice).
+-- The numbers of files that a run writes (our choice).
 use Rattle.std.specs.Prelude.{ℕ, List, length}
 use Rattle.network_plan.specs.declared.plan.HostPlan.{HostPlan}
 use Rattle.scenario.specs.SoFar.{hosts_of}

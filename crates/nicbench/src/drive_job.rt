@@ -9,10 +9,10 @@ use program_files::{FileError, create, read_trace};
 use qtest_bus::QtestBus;
 use std::io::{self, BufReader};
 
-/// After how many turns without a frame a drive ends, unless the job says otherwise.
+/// The number of turns in a row without a frame after which `drive` ends, if `--idle` isn't given.
 const IDLE: u64 = 1_000;
 
-/// Sends frames to the adapter, whose answers come from standard input, and writes the frames received to `sink`.
+/// Sends frames to the adapter, whose answers are read from standard input, and writes the received frames to `sink`.
 fn drive_adapter<S: Sink>(
     rt: &HostRuntime,
     job: &DriveJob<'_>,
@@ -40,7 +40,8 @@ fn drive_adapter<S: Sink>(
     }
 }
 
-/// Sends these frames and writes OUT. Returns the counts, and whether all that was asked for was done.
+/// Sends these frames and writes OUT. Returns the counts, and whether all frames were passed to the driver and the
+/// expected number was received.
 fn exchange_frames(
     rt: &HostRuntime,
     job: &DriveJob<'_>,
@@ -51,7 +52,7 @@ fn exchange_frames(
     Ok((counts, counts.is_all(frames.len() as u64, job.expect)))
 }
 
-/// Reads a trace from a file. Standard input is refused, because answers come from it.
+/// Reads a trace from a file. Standard input is refused, because the answers are read from it.
 fn read_file_trace(rt: &HostRuntime, path: &str) -> Result<Trace, FileError> {
     if path == "-" {
         Err(FileError::open(rt.alloc(), path))
@@ -60,7 +61,8 @@ fn read_file_trace(rt: &HostRuntime, path: &str) -> Result<Trace, FileError> {
     }
 }
 
-/// Sends the frames of IN and writes OUT. Returns the counts, and whether all that was asked for was done.
+/// Sends the frames of IN and writes OUT. Returns the counts, and whether all frames were passed to the driver and the
+/// expected number was received.
 fn exchange(rt: &HostRuntime, job: &DriveJob<'_>) -> Result<(DriveCounts, bool), Fault> {
     let trace = read_file_trace(rt, job.send)?;
     exchange_frames(rt, job, &trace.frames)

@@ -1,4 +1,4 @@
-//! The file of the lines of events.
+//! The file for the lines of events.
 ghost use Rattle.std.specs.Prelude.{◌≡◌, IfOk, IfSome};
 
 use crate::fault::Fault;
@@ -47,7 +47,7 @@ fn is_in_folder(
     Ok(false)
 }
 
-/// Whether a path is that of the file of a socket in OUTDIR.
+/// Whether a path is that of a socket's file in OUTDIR.
 fn is_socket_file(
     rt: &HostRuntime,
     path: &str,
@@ -58,7 +58,7 @@ fn is_socket_file(
     is_in_folder(rt, path, job.directory, names.as_slice())
 }
 
-/// Whether a path is that of the file of a wire in OUTDIR, if the job asks for them.
+/// Whether a path is that of a wire's file in OUTDIR. False if the job doesn't ask for the files of wires.
 fn is_wire_file(
     rt: &HostRuntime,
     path: &str,
@@ -96,7 +96,7 @@ fn refuse_written(
     }
 }
 
-/// The file at this path, which the run mustn't use otherwise.
+/// Opens the file at this path. Refuses a file that the run also reads, or writes in OUTDIR.
 fn create_unused(
     rt: &HostRuntime,
     path: &str,
@@ -108,14 +108,14 @@ fn create_unused(
     if is_read(rt, path, job, scenario.trace_names()) {
         return Err(Fault::same_file(rt.alloc(), path));
     }
-    // A new file is made first, so that a path to it in OUTDIR is found.
+    // The file is created before the check, so that the check finds a new file in OUTDIR, too.
     let sink = create(rt, path)?;
     refuse_written(rt, path, job, scenario.plan.hosts.as_slice())?;
     Ok(sink)
 }
 
-/// The file of the lines of events, if they go to a file, which the run mustn't use otherwise. A file that is there
-/// keeps its bytes, and is empty if it is made.
+/// Opens the file for the lines of events, if the job names one. Refuses a file that the run also reads, or writes in
+/// OUTDIR. An existing file keeps its bytes; a new file is empty.
 pub(crate) fn create_events_sink(
     rt: &HostRuntime,
     job: &RunJob<'_>,

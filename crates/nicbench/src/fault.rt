@@ -1,41 +1,36 @@
 //! Why the program ended.
 ghost use Rattle.std.specs.Prelude.{◌≡◌};
-ghost use Rattle.nicbench.specs.Faults.{file_fault, schedule_fault, status_of};
+ghost use Rattle.nicbench.specs.Faults.{file_fault, pass_fault, schedule_fault, status_of, status_of_bus};
+ghost use Rattle.nicbench.specs.Faults.{status_of_input, status_of_plan};
 ghost use Rattle.nicbench.specs.declared.fault.Fault.TheVariants as faults;
 
+use crate::codes::{
+    Code, E40, E41, E42, E43, E44, E45, E46, E47, E50, E51, E52, E53, E54, E55, E56, E57, E58, E59,
+    E60, E61, E62, E63, E64, E65, E66, E67, E68, E69, E70, E71, E72, E73,
+};
 use adapter_server::ServeError;
 use drive::DriveError;
-use pcap_bench::{ProgramError, WriteError};
+use network_plan::PlanError;
+use pcap_bench::{PassError, ReadError, WriteError};
 use program_files::FileError;
-use scenario::Refusal;
+use qtest_bus::BusFault;
+use scenario::{Fault as LineFault, Refusal};
 use scenario_bench::BenchError;
 use std::alloc::{AllocError, AllocFailed, Global};
 use std::fmt::{self, Display};
 use step_schedules::ScheduleError;
 
-/// The exit status if an image was refused.
-const BAD_IMAGE: u8 = 1;
-
-/// The exit status if `--events` names a file that the run also uses otherwise.
-const SAME_FILE: u8 = 3;
-
-/// The exit status if a schedule was refused, or wasn't met.
-const BAD_SCHEDULE: u8 = 1;
-
-/// The exit status if fewer frames came than were expected.
-const FEWER_FRAMES: u8 = 1;
-
-/// The exit status if standard input or a pipe has more bytes than are read.
-const LONG_PIPE: u8 = 3;
-
-/// The exit status if memory was refused.
-const NO_MEMORY: u8 = 4;
-
 /// Why the program ended.
 #[derive(Drop)]
 pub(crate) enum Fault {
-    /// A trace was refused, or didn't pass, or a file failed.
-    Program(ProgramError),
+    /// The input at this path was refused, or couldn't be read.
+    Input(ReadError, String),
+    /// Memory was refused while a trace was read.
+    TraceMemory,
+    /// Standard input or a pipe has more bytes than are read.
+    Pipe,
+    /// A file or standard output couldn't be written.
+    Write,
     /// The file at this path couldn't be opened or created.
     Open(String),
     /// The file of `--events`, at this path, is also one that the run reads, or another one that it writes.
@@ -46,11 +41,11 @@ pub(crate) enum Fault {
     Bench(BenchError),
     /// A server ended before its input did.
     Serve(ServeError),
-    /// A drive ended before it was done.
+    /// `drive` ended before it was done.
     Drive(DriveError),
-    /// A drive became idle before all frames were sent and received.
+    /// `drive` ended after turns without a frame, before all frames were sent and received.
     Fewer,
-    /// The image of an EEPROM hasn't 128 bytes.
+    /// The image of an EEPROM doesn't have 128 bytes.
     Image,
     /// A text isn't a schedule.
     Schedule(ScheduleError),
@@ -58,22 +53,97 @@ pub(crate) enum Fault {
     Options,
     /// Deviations of a schedule weren't met.
     Unmet,
-    /// Standard input or a pipe has more bytes than are read.
-    Pipe,
-    /// Memory was refused elsewhere.
+    /// Memory was refused, and no other variant states when.
     Memory,
 }
 
+/// The code of an input that was refused, or couldn't be read.
+fn input_code(error: ReadError) -> Code
+    ensures { result.status ≡ status_of_input error }
+{
+    match error {
+        ReadError::Header => E60,
+        ReadError::Magic => E61,
+        ReadError::Version => E62,
+        ReadError::LinkType => E63,
+        ReadError::Record => E64,
+        ReadError::Memory => E65,
+        ReadError::Read => E66,
+    }
+}
+
+/// The code of a faulty line of a scenario.
+fn line_code(fault: LineFault) -> Code
+    ensures { result.status ≡ 1 }
+{
+    match fault {
+        LineFault::Word => E50,
+        LineFault::Count => E51,
+        LineFault::Value => E52,
+        LineFault::Name => E53,
+        LineFault::Order => E54,
+        LineFault::Long => E55,
+        LineFault::Text => E56,
+    }
+}
+
+/// The code of a plan that was refused.
+fn plan_code(error: PlanError) -> Code
+    ensures { result.status ≡ status_of_plan error }
+{
+    match error {
+        PlanError::Name => E40,
+        PlanError::Ends => E41,
+        PlanError::Hosts => E42,
+        PlanError::Address => E43,
+        PlanError::Config => E44,
+        PlanError::Memory => E45,
+        PlanError::Init(_, _) => E46,
+    }
+}
+
+/// The code of a bus that stopped.
+fn bus_code(fault: BusFault) -> Code
+    ensures { result.status ≡ status_of_bus fault }
+{
+    match fault {
+        BusFault::Memory => E57,
+        BusFault::Answer => E59,
+        BusFault::Read => E66,
+        BusFault::Write => E67,
+    }
+}
+
 impl Fault {
-    /// The text of a fault of which nothing else is told.
-    fn word(&self) -> &'static str {
+    /// The code of this fault.
+    pub(crate) fn code(&self) -> Code
+        ensures { result.status ≡ status_of self.now }
+    {
         match self {
-            Fault::Fewer => "E69 Fewer",
-            Fault::Image => "E58 Image",
-            Fault::Options => "E70 Schedule options",
-            Fault::Unmet => "E71 Unmet",
-            Fault::Pipe => "E72 Pipe",
-            _ => "E57 Memory",
+            Fault::Input(error, _) => input_code(*error),
+            Fault::TraceMemory => E65,
+            Fault::Pipe => E72,
+            Fault::Write => E67,
+            Fault::Open(_) => E68,
+            Fault::SameFile(_) => E73,
+            Fault::Scenario(Refusal::Line { line: _, fault }) => line_code(*fault),
+            Fault::Scenario(Refusal::Memory) => E57,
+            Fault::Bench(BenchError::Plan(error)) => plan_code(*error),
+            Fault::Bench(BenchError::Run(_)) => E47,
+            Fault::Bench(BenchError::Memory) => E57,
+            Fault::Bench(BenchError::Write(_)) => E67,
+            Fault::Serve(ServeError::Memory) => E57,
+            Fault::Serve(ServeError::Read) => E66,
+            Fault::Serve(ServeError::Write) => E67,
+            Fault::Drive(DriveError::Memory) => E57,
+            Fault::Drive(DriveError::Init(_)) => E46,
+            Fault::Drive(DriveError::Bus(fault)) => bus_code(*fault),
+            Fault::Drive(DriveError::Write) => E67,
+            Fault::Fewer => E69,
+            Fault::Image => E58,
+            Fault::Schedule(_) | Fault::Options => E70,
+            Fault::Unmet => E71,
+            Fault::Memory => E57,
         }
     }
 }
@@ -81,16 +151,17 @@ impl Fault {
 /// The text that follows `nicbench: ` on standard error.
 impl Display for Fault {
     fn fmt<W: fmt::Write>(&self, f: &mut fmt::Formatter<W>) -> fmt::Result {
+        let code = self.code();
         match self {
-            Fault::Program(error) => error.fmt(f),
-            Fault::Open(path) => write!(f, "{}: {path}", ProgramError::Open),
-            Fault::SameFile(path) => write!(f, "E73 SameFile: {path}"),
-            Fault::Scenario(refusal) => refusal.fmt(f),
-            Fault::Bench(error) => error.fmt(f),
-            Fault::Serve(error) => error.fmt(f),
-            Fault::Drive(error) => error.fmt(f),
-            Fault::Schedule(error) => write!(f, "E70 Schedule {error}"),
-            _ => f.write_str(self.word()),
+            Fault::Scenario(Refusal::Line { line, fault: _ }) => write!(f, "line {line}: {code}"),
+            Fault::Bench(BenchError::Plan(PlanError::Init(_, reason))) => {
+                write!(f, "{code}: {reason}")
+            }
+            Fault::Drive(DriveError::Init(reason)) => write!(f, "{code}: {reason}"),
+            Fault::Open(path) | Fault::SameFile(path) => write!(f, "{code}: {path}"),
+            Fault::Schedule(error) => write!(f, "{code} {error}"),
+            Fault::Options => write!(f, "{code} options"),
+            _ => code.fmt(f),
         }
     }
 }
@@ -105,33 +176,24 @@ impl Fault {
         }
     }
 
-    /// The exit status of the program: 1 for what was refused, 3 for a file that failed, 4 if memory is refused.
-    pub(crate) fn status(&self) -> u8
-        ensures { result ≡ status_of self.now }
-    {
-        match self {
-            Fault::Program(error) => error.status(),
-            Fault::Open(_) => ProgramError::Open.status(),
-            Fault::SameFile(_) => SAME_FILE,
-            Fault::Scenario(refusal) => refusal.status(),
-            Fault::Bench(error) => error.status(),
-            Fault::Serve(error) => error.status(),
-            Fault::Drive(error) => error.status(),
-            Fault::Fewer => FEWER_FRAMES,
-            Fault::Image => BAD_IMAGE,
-            Fault::Schedule(_) | Fault::Options | Fault::Unmet => BAD_SCHEDULE,
-            Fault::Pipe => LONG_PIPE,
-            Fault::Memory => NO_MEMORY,
-        }
+    /// Whether the files in OUTDIR are unchanged after a run that ended with this fault. A run writes them last, so
+    /// only a failed write (E67) changes them.
+    pub(crate) fn leaves_files(&self) -> bool {
+        !matches!(self, Fault::Write | Fault::Bench(BenchError::Write(_)))
     }
 
-    /// Whether a run that ended for this fault didn't change the files in OUTDIR. It writes them last, so it changed
-    /// them only if a file or standard output failed (E67).
-    pub(crate) fn leaves_files(&self) -> bool {
-        !matches!(
-            self,
-            Fault::Program(ProgramError::Write(_)) | Fault::Bench(BenchError::Write(_))
-        )
+    /// The meaning of a fault of an input, with the path of the input and what a user can do. `None` for other faults,
+    /// and if there is no memory for this text.
+    pub(crate) fn advice(&self, alloc: Global) -> Option<String> {
+        match self {
+            Fault::Input(error, path) => {
+                input_code(*error)
+                    .text
+                    .replace(alloc, "IN", path.as_str())
+                    .ok()
+            }
+            _ => None,
+        }
     }
 }
 
@@ -141,7 +203,8 @@ impl From<FileError> for Fault {
     fn from(error: FileError) -> Fault {
         match error {
             FileError::Open(path) => Fault::Open(path),
-            FileError::Read(error) => Fault::Program(ProgramError::Read(error)),
+            FileError::Input(error, path) => Fault::Input(error, path),
+            FileError::TraceMemory => Fault::TraceMemory,
             FileError::Pipe => Fault::Pipe,
             FileError::Memory => Fault::Memory,
         }
@@ -149,8 +212,21 @@ impl From<FileError> for Fault {
 }
 
 impl From<WriteError> for Fault {
-    fn from(error: WriteError) -> Fault {
-        Fault::Program(ProgramError::Write(error))
+    ghost from_gives = { λ _ f. f ≡ faults.Write };
+
+    fn from(_error: WriteError) -> Fault {
+        Fault::Write
+    }
+}
+
+impl From<PassError> for Fault {
+    ghost from_gives = { λ e f. f ≡ pass_fault e };
+
+    fn from(error: PassError) -> Fault {
+        match error {
+            PassError::Memory => Fault::Memory,
+            PassError::Write => Fault::Write,
+        }
     }
 }
 

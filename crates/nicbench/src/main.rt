@@ -1,10 +1,9 @@
-//! `nicbench`: takes the frames of a trace file through the modelled adapter's receive filter and a receive ring, runs
-//! a scenario of hosts on wires, lists the frames of a trace, serves a modelled adapter to a driver, or runs the driver
-//! on an adapter in another program.
+//! The program `nicbench`: does the job that a command line asks for, and reports a fault by its code.
 #![tactic(auto)]
 
 ghost use Rattle.command_line.specs.Jobs.{HasBounds};
 
+mod codes;
 mod drive_job;
 mod events_file;
 mod fault;
@@ -15,6 +14,7 @@ mod serve;
 mod show;
 mod unit;
 
+use crate::codes::E57;
 use crate::drive_job::run_drive;
 use crate::fault::Fault;
 use crate::pass::run_pass;
@@ -26,6 +26,9 @@ use std::env;
 use std::io::ErrorKind;
 use std::process::ExitCode;
 
+/// The exit status if the words are refused, or ask for help or the version.
+const USAGE: u8 = 2;
+
 /// The words that the program was called with.
 fn words(rt: &HostRuntime) -> Result<Vec<String>, LineError<'static>> {
     match env::args(rt) {
@@ -35,28 +38,35 @@ fn words(rt: &HostRuntime) -> Result<Vec<String>, LineError<'static>> {
     }
 }
 
-/// Reports on standard error why the words were refused: clap's text is printed as it is, and the text for refused
-/// memory as that of a fault.
+/// Reports on standard error why the words were refused: the text of the error, or the code of refused memory. Returns
+/// the exit status.
 fn refuse(rt: &HostRuntime, error: &LineError<'_>) -> ExitCode {
-    let _ = match error {
-        LineError::Memory => eprintln!(rt; "nicbench: {error}"),
-        LineError::Words(_) | LineError::Value(_) | LineError::NotUnicode => {
-            eprint!(rt; "{error}")
+    match error {
+        LineError::Memory => {
+            let _ = eprintln!(rt; "nicbench: {E57}");
+            ExitCode::from(E57.status)
         }
-    };
-    ExitCode::from(error.status())
+        LineError::Words(_) | LineError::Value(_) | LineError::NotUnicode => {
+            let _ = eprint!(rt; "{error}");
+            ExitCode::from(USAGE)
+        }
+    }
 }
 
-/// Reports a fault of a job on standard error. The status is the fault's even if standard error accepts nothing.
+/// Reports a fault of a job on standard error: its code, what to do if an input was refused, and whether the files in
+/// OUTDIR are unchanged. Returns the exit status, which is the fault's even if standard error accepts nothing.
 fn report(rt: &HostRuntime, job: &Job<'_>, fault: &Fault) -> ExitCode {
     let _ = eprintln!(rt; "nicbench: {fault}");
+    if let Some(advice) = fault.advice(rt.alloc()) {
+        let _ = eprintln!(rt; "nicbench: {advice}");
+    }
     if matches!(job, Job::Run(_)) && fault.leaves_files() {
         let _ = eprintln!(rt; "nicbench: existing files in OUTDIR are unchanged");
     }
-    ExitCode::from(fault.status())
+    ExitCode::from(fault.code().status)
 }
 
-/// Does what these words asked for: the job.
+/// Does the job that these words ask for. Returns the exit status.
 fn obey(rt: &HostRuntime, words: &[String], job: &Job<'_>) -> ExitCode
     requires { HasBounds job.now }
 {

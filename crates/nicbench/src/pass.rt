@@ -5,12 +5,12 @@ ghost use Rattle.pcap_bench.specs.Options.{HasVlanNumber};
 use crate::fault::Fault;
 use crate::unit::unit_of;
 use command_line::PassJob;
-use pcap_bench::{PassCounts, ProgramError, Sink, Trace, WriterSink, pass, print_pass};
+use pcap_bench::{PassCounts, Sink, Trace, WriterSink, pass, print_pass};
 use program_files::{StandardError, WholeFile, create_whole, read_trace};
 use std::fs::File;
 use std::io;
 
-/// The path that stands for standard output.
+/// The path that means standard output.
 const STANDARD_OUTPUT: &str = "-";
 
 /// Writes the frames of a trace that pass to a sink.
@@ -26,11 +26,11 @@ fn pass_trace<S: Sink>(
     let unit = unit_of(job.nanos);
     match pass(rt.alloc(), trace, &job.filter, unit, sink) {
         Ok(counts) => Ok(counts),
-        Err(error) => Err(Fault::Program(ProgramError::Pass(error))),
+        Err(error) => Err(Fault::from(error)),
     }
 }
 
-/// Gives the file of what passed its name. Its line goes to standard output.
+/// Renames the file with the frames that passed to OUT, and writes the line of counts to standard output.
 fn finish_pass(
     rt: &HostRuntime,
     path: &str,
@@ -43,7 +43,7 @@ fn finish_pass(
     Ok(())
 }
 
-/// Writes the frames of a trace that pass to a file. Its line goes to standard output.
+/// Writes the frames of a trace that pass to a file, and the line of counts to standard output.
 fn pass_to_file(rt: &HostRuntime, job: &PassJob<'_>, trace: &Trace) -> Result<(), Fault>
     requires { HasVlanNumber job.now.filter }
 {
@@ -57,8 +57,8 @@ fn pass_to_file(rt: &HostRuntime, job: &PassJob<'_>, trace: &Trace) -> Result<()
     }
 }
 
-/// Writes the frames of a trace that pass to standard output. Its line goes to standard error; the status is the same
-/// even if standard error accepts nothing.
+/// Writes the frames of a trace that pass to standard output, and the line of counts to standard error. A failed write
+/// to standard error isn't an error.
 fn pass_to_standard_output(rt: &HostRuntime, job: &PassJob<'_>, trace: &Trace) -> Result<(), Fault>
     requires { HasVlanNumber job.now.filter }
 {

@@ -17,7 +17,7 @@ use std::alloc::{AllocError, Global};
 use std::fs::File;
 use std::io;
 
-/// The path that stands for standard output.
+/// The path that means standard output.
 const STANDARD_OUTPUT: &str = "-";
 
 /// The scenario with this text.
@@ -89,8 +89,8 @@ pub(crate) fn socket_files(alloc: Global, plans: &[HostPlan]) -> Result<Vec<Stri
     Ok(names)
 }
 
-/// Appends the name of the file of a wire, `WIRE.pcap`. It is no socket's file: the name of a wire has no dot, and the
-/// name of a socket's file has a second one.
+/// Appends the name of the file of a wire, `WIRE.pcap`. It is never the name of a socket's file: the name of a wire has
+/// no dot, and the name of a socket's file has two.
 fn push_wire_file(alloc: Global, wire: &str, names: &mut Vec<String>) -> Result<(), AllocError>
     ensures { OnOk result (length names.new.items ≡ length names.old.items + 1) }
 {
@@ -109,8 +109,8 @@ fn files_of_wires(alloc: Global, wires: &[&str]) -> Result<Vec<String>, AllocErr
     Ok(names)
 }
 
-/// The name of the file of each wire, in the order in which the hosts first name them, or none if the job doesn't ask
-/// for them.
+/// The name of the file of each wire, in the order in which the hosts first name the wires. No names if the job doesn't
+/// ask for these files.
 pub(crate) fn wire_files(
     alloc: Global,
     job: &RunJob<'_>,
@@ -188,8 +188,7 @@ fn play_to_sinks<W: Sink>(
     }
 }
 
-/// Makes sure that the files of wires can be written, if the job asks for them. Then it plays a scenario, and writes
-/// the traces.
+/// Opens the files of wires, if the job asks for them. Then it plays a scenario, and writes the traces.
 fn play_to_sockets(
     rt: &HostRuntime,
     job: &RunJob<'_>,
@@ -205,8 +204,8 @@ fn play_to_sockets(
     play_to_sinks(rt, job, scenario, traces, sinks, wire_sinks.as_mut_slice())
 }
 
-/// Makes sure that the files in OUTDIR can be written, plays a scenario, and writes the files: those of the sockets,
-/// and then those of the wires, if the job asks for them.
+/// Opens the files in OUTDIR, plays a scenario, and writes the files. Those of the wires, if the job asks for them,
+/// follow those of the sockets.
 fn play(
     rt: &HostRuntime,
     job: &RunJob<'_>,
@@ -219,7 +218,8 @@ fn play(
     play_to_sockets(rt, job, scenario, traces, sinks.as_mut_slice())
 }
 
-/// Warns on standard error, once, if calls that the scenario asked for were refused. The status is the same.
+/// Warns on standard error, once, if calls that the scenario asked for were refused. The exit status doesn't depend on
+/// this.
 fn warn(rt: &HostRuntime, summary: &Summary) {
     let Refusals {
         sends,
@@ -233,8 +233,8 @@ fn warn(rt: &HostRuntime, summary: &Summary) {
     }
 }
 
-/// Writes the lines of events to standard output, and the lines of hosts to standard error. The status is the same even
-/// if standard error accepts nothing.
+/// Writes the lines of events to standard output, and the lines of hosts to standard error. A failed write to standard
+/// error isn't an error.
 fn print_to_standard_output(rt: &HostRuntime, summary: &Summary) -> Result<(), Fault> {
     if let Some(events) = &summary.events {
         events.write(&mut WriterSink::new(io::writer(rt)))?;
@@ -286,8 +286,8 @@ fn print_with_file<W: Sink>(
     print(rt, summary)
 }
 
-/// Plays a scenario, and writes the lines of events to a file, which was opened before the run, if they were asked for.
-/// The lines of hosts go to standard output.
+/// Plays a scenario, and writes the lines of events to a file that was opened before, if they were asked for. The lines
+/// of hosts go to standard output.
 fn play_with_file<W: Sink>(
     rt: &HostRuntime,
     job: &RunJob<'_>,
@@ -302,8 +302,8 @@ fn play_with_file<W: Sink>(
     print_with_file(rt, &summary, file)
 }
 
-/// Plays a scenario, and writes the lines of events to their file, if the job asks for them, and the lines of hosts to
-/// standard output.
+/// Plays a scenario. The lines of events go to their file, if the job asks for them, and the lines of hosts to standard
+/// output.
 fn play_to_file(
     rt: &HostRuntime,
     job: &RunJob<'_>,
@@ -316,7 +316,7 @@ fn play_to_file(
     play_with_file(rt, job, scenario, traces, &mut file)
 }
 
-/// Plays a scenario with these traces, and prints what the job asks for.
+/// Plays a scenario with these traces, and writes its lines where the job asks for them.
 fn play_scenario(
     rt: &HostRuntime,
     job: &RunJob<'_>,
@@ -338,8 +338,8 @@ fn read_and_play(rt: &HostRuntime, job: &RunJob<'_>, scenario: &Scenario) -> Res
     play_scenario(rt, job, scenario, traces.as_slice())
 }
 
-/// Reads SCENARIO and the traces that it feeds, plays the scenario, writes its files, and prints a line for each host,
-/// on request also a line for each event.
+/// Reads SCENARIO and the traces that it feeds, plays the scenario, and writes its files. Prints a line for each host,
+/// and on request a line for each event.
 pub(crate) fn run_scenario(rt: &HostRuntime, job: &RunJob<'_>) -> Result<(), Fault> {
     let scenario = read_scenario(rt, job.scenario)?;
     read_and_play(rt, job, &scenario)

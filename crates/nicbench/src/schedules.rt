@@ -1,16 +1,14 @@
-//! Schedules of `serve`: one that is played, and one that is recorded.
+//! The schedules of `serve`: the one that is played, and the one that is recorded.
 
 use crate::fault::Fault;
 use command_line::ServeJob;
-use pcap_bench::{ProgramError, WriteError};
-use program_files::{FileError, LateFile, create_file, read_bytes};
-use schedule_options::{adapter_options, is_for};
+use program_files::{FileError, LateFile, adapter_options, create_file, is_for, read_bytes};
 use std::alloc::{AllocError, Global};
 use std::fs::{File, OpenFile};
 use std::io::Write;
 use step_schedules::{Player, Schedule};
 
-/// The path that stands for standard input, from which requests come.
+/// The path that means standard input, from which requests are read.
 const STANDARD_INPUT: &str = "-";
 
 /// The first line of a recorded schedule.
@@ -55,7 +53,7 @@ fn playing(rt: &HostRuntime, path: &str, job: &ServeJob<'_>) -> Result<Player, F
     Ok(Player::playing(rt.alloc(), schedule)?)
 }
 
-/// The player that records, if the job needs one.
+/// The player that records, if the job asks for a record.
 fn recording(alloc: Global, job: &ServeJob<'_>) -> Option<Player> {
     match job.record {
         Some(_) => Some(Player::recording(alloc)),
@@ -63,7 +61,7 @@ fn recording(alloc: Global, job: &ServeJob<'_>) -> Option<Player> {
     }
 }
 
-/// The player of a server, if the job needs one.
+/// The player of a server, if the job asks for a schedule or a record.
 pub(crate) fn player_of(rt: &HostRuntime, job: &ServeJob<'_>) -> Result<Option<Player>, Fault> {
     match job.schedule {
         Some(path) => Ok(Some(playing(rt, path, job)?)),
@@ -71,7 +69,8 @@ pub(crate) fn player_of(rt: &HostRuntime, job: &ServeJob<'_>) -> Result<Option<P
     }
 }
 
-/// The file of a recorded schedule, if the job wants one. It keeps its bytes until the schedule is stored.
+/// Opens the file for the recorded schedule, if the job asks for a record. An existing file keeps its bytes until the
+/// schedule is stored.
 pub(crate) fn record_of(
     rt: &HostRuntime,
     job: &ServeJob<'_>,
@@ -82,7 +81,7 @@ pub(crate) fn record_of(
     })
 }
 
-/// The text of what was played, after the options of the adapter in these words.
+/// The text of the steps that were played, as a schedule. The options of the adapter in these words come first.
 fn recorded(alloc: Global, words: &[String], player: &Player) -> Result<String, AllocError> {
     let options = adapter_options(alloc, words)?;
     if options.is_empty() {
@@ -92,7 +91,7 @@ fn recorded(alloc: Global, words: &[String], player: &Player) -> Result<String, 
     }
 }
 
-/// Stores what was played, after the options of the adapter in these words.
+/// Stores the steps that were played, as a schedule. The options of the adapter in these words come first.
 pub(crate) fn store<F: OpenFile + Write>(
     alloc: Global,
     file: &mut LateFile<F>,
@@ -101,7 +100,7 @@ pub(crate) fn store<F: OpenFile + Write>(
 ) -> Result<(), Fault> {
     let text = recorded(alloc, words, player)?;
     if file.write_all(COMMENT).is_err() || file.write_all(text.as_bytes()).is_err() {
-        return Err(Fault::Program(ProgramError::Write(WriteError::Write)));
+        return Err(Fault::Write);
     }
     Ok(())
 }

@@ -38,7 +38,7 @@ fn image_in(bytes: &[u8]) -> Option<Image> {
     Some(Image::from_words(words))
 }
 
-/// The contents of the EEPROM.
+/// The contents of the EEPROM that the job asks for.
 fn image_of(rt: &HostRuntime, image: ServeImage<'_>) -> Result<Image, Fault>
     ensures { IfOk result (IsImageFor image.entry) }
 {
@@ -53,7 +53,7 @@ fn image_of(rt: &HostRuntime, image: ServeImage<'_>) -> Result<Image, Fault>
     }
 }
 
-/// The options of the server, as the job gives them.
+/// The options of the server, from the job.
 fn options_of(job: &ServeJob<'_>, image: Image) -> ServeOptions
     ensures { result ≡ options_of job.now image }
 {
@@ -114,7 +114,7 @@ fn serve_and_store(
     }
 }
 
-/// Serves with this player. The file of its schedule is opened before.
+/// Serves with this player. The file for the recorded schedule is opened first.
 fn serve_with(
     rt: &HostRuntime,
     words: &[String],
@@ -126,8 +126,8 @@ fn serve_with(
     serve_and_store(rt, words, options, player, &mut record)
 }
 
-/// The words of the program are those of the job. A schedule that was recorded is stored at the end, and deviations
-/// that weren't met are reported.
+/// Runs `serve`. `words` are the words of the program, from which the job was read. At the end, a recorded schedule is
+/// stored, and deviations that weren't met are reported.
 pub(crate) fn run_serve(
     rt: &HostRuntime,
     words: &[String],

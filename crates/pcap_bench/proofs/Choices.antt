@@ -1,4 +1,4 @@
--- The sets that the filter's registers stand for, once the options of a pass are written to a new adapter.
+-- The sets that the filter's registers mean after the options of a pass were written to a new adapter.
 use Rattle.std.proofs.Common.{◌≡◌, ◌<◌, ◌≤◌, ◌+◌, ◌/◌, ◌%◌, ◌^◌, ◌↔◌, ◌&&◌, inl, inr, ℕ, Bool, true, false, List, replicate}
 use Rattle.std.proofs.Common.{slice_index, Option, Some, None, refl, sym, ap, subst, ◌∙◌, arith}
 use Rattle.std.specs.Prelude.{slice_set, IfSome, is_none, is_some}
@@ -21,7 +21,7 @@ use Rattle.pcap_bench.specs.Options.{IsOpen, KeptBy, filter_for, HasVlanNumber}
 
 -- ---- the sets of each table
 
--- RAL and RAH of which the first entry alone isn't 0, by an address
+-- RAL and RAH with an address in the first entry, and 0 in the others
 pub low_words : Option (List ℕ) → List ℕ
 low_words None = replicate 16 0
 low_words (Some address) = slice_set (replicate 16 0) 0 (low_word address)
@@ -40,7 +40,7 @@ addresses_of (Some own) address is =
       (λ e. added.1 (inl (sym (same_Some own address e)))),
     )
 
--- A word with one bit alone, in a table of zeros, adds that number.
+-- A word with one bit, in a table of zeros, adds the number of this bit.
 one_number : (number : ℕ) → number < 4096 → with_number (replicate 128 0) number ≡ with_bit (replicate 128 0) number
 one_number number below =
     let none : slice_index (replicate 128 0) (number / 32) ≡ 0 = get_or-replicate 128 (number / 32) 0 0 (omega arith) in
@@ -58,7 +58,7 @@ numbers_of wanted number below =
 abbrev IsGroupNumber : Option (List ℕ) → ℕ → Type 0
 IsGroupNumber o number = (group : List ℕ) × (o ≡ Some group) × (number ≡ group_number 4 group)
 
--- a table with the bit of a number that may be there
+-- a table with the bit of an optional number
 pub with_bit_of : Option ℕ → List ℕ
 with_bit_of None = replicate 128 0
 with_bit_of (Some number) = with_bit (replicate 128 0) number
@@ -252,7 +252,7 @@ same_sets options regs is fits chosen =
       broadcasts = subst (λ (r : ℕ). HasBit r 15 ↔ Unit {0}) (sym chosen.rctl) m.broadcasts;
     }
 
--- ---- what such registers pass
+-- ---- the frames that such registers pass
 
 pub passes_kept : (options : PassFilter) (regs : FilterRegisters) → SameSets (filter_of regs) (filter_for options) → (frame : List ℕ)
     → Passes (filter_of regs) frame ↔ KeptBy options frame

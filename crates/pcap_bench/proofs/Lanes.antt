@@ -1,4 +1,4 @@
--- What a frame, and the offer of its buffer, make of a lane.
+-- A lane after a frame, and after the offer of its buffer.
 use Rattle.std.proofs.Common.{◌≡◌, ◌≤◌, ◌<◌, ◌+◌, ◌*◌, ◌^◌, ◌⊎◌, ◌∙◌}
 use Rattle.std.proofs.Common.{inl, inr, ℕ, true, List, length, sym, ap, subst, arith}
 use Rattle.std.proofs.lemmas.Bool.{cases_lt}
@@ -14,7 +14,7 @@ use Rattle.rx_engine.specs.Finishing.{finished_bytes, IsFinished}
 use Rattle.rx_engine.specs.Laws.{bytes_of_work-moved, descriptor_at-apart, descriptor_at-finished, written_back-finished}
 use Rattle.pcap_bench.specs.Lane.{slots, buffer_at, offered, NameBuffers}
 
--- ---- where things lie
+-- ---- addresses
 
 -- a buffer of a slot
 pub buffer_lies : (memory frame : List ℕ) (slot : ℕ) → slot < slots → length memory ≡ 34816 → IsLegal frame
@@ -24,7 +24,7 @@ buffer_lies memory frame slot below size legal = let most = legal.most in omega 
 desc_lies : (memory : List ℕ) (slot : ℕ) → slot < slots → length memory ≡ 34816 → LiesIn memory (16 * slot) 16
 desc_lies memory slot below size = omega arith
 
--- a slot is another, or the same
+-- a slot is the same or another one
 abbrev IsOther : ℕ → ℕ → Type 0
 IsOther other slot = (other < slot) ⊎ (slot < other)
 
@@ -37,7 +37,7 @@ with_frame memory slot frame = with_bytes memory (named_address memory (16 * slo
 abbrev pub with_finished : List ℕ → ℕ → List ℕ → List ℕ
 with_finished memory slot frame = with_bytes (with_frame memory slot frame) (16 * slot + 8) (finished_bytes (length frame) true)
 
--- The place of the frame lies in memory, behind the descriptors.
+-- The frame's buffer is inside memory, after the descriptors.
 pub record HasRoom (memory : List ℕ) (slot : ℕ) (frame : List ℕ) : Type 0 where
   pub lies : LiesIn memory (named_address memory (16 * slot)) (length frame)
   pub behind : 128 ≤ named_address memory (16 * slot)
@@ -61,7 +61,7 @@ kept_by_frame memory frame slot other below room =
     let behind = room.behind in
     descriptor_at-apart memory frame (16 * other) (named_address memory (16 * slot)) room.lies (inr (omega arith))
 
--- None but its own changes while it is written back.
+-- While a descriptor is written back, no other descriptor changes.
 kept_by_finish : (memory : List ℕ) (slot other n : ℕ) → slot < slots → other < slots → length memory ≡ 34816 → IsOther other slot
     → descriptor_at (with_bytes memory (16 * slot + 8) (finished_bytes n true)) (16 * other) ≡ descriptor_at memory (16 * other)
 kept_by_finish memory slot other n below other_below size apart =
@@ -162,7 +162,7 @@ kept_by_offer memory slot other buffer below size apart =
 abbrev pub NameBelow : List ℕ → ℕ → Type 0
 NameBelow memory bound = (k : ℕ) → k < bound → named_address memory (16 * k) ≡ buffer_at k
 
--- Once the buffer of its slot is offered, a descriptor names it, and the others name theirs still.
+-- After the buffer of a slot is offered, its descriptor names this buffer, and the others name the same buffers as before.
 pub NameBelow-offered : (memory : List ℕ) (slot bound buffer : ℕ) → slot < slots → length memory ≡ 34816 → buffer ≡ buffer_at slot
     → ((k : ℕ) → k < bound → IsOther k slot → named_address memory (16 * k) ≡ buffer_at k)
     → NameBelow (with_offer memory slot buffer) bound

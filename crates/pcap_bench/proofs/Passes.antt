@@ -25,7 +25,7 @@ HaveFates-push keeps [] (u ∷ us) f t right is = absurd right
 HaveFates-push keeps (g ∷ gs) [] f t right is = absurd right
 HaveFates-push keeps (g ∷ gs) (u ∷ us) f t right is = (right.0, HaveFates-push keeps gs us f t right.1 is)
 
--- what is kept of one frame
+-- the kept frames of one frame: it or none
 abbrev kept_of : ℕ → List ℕ → Fate → List Timed
 kept_of n f t = kept_from n (f ∷ []) (t ∷ [])
 
@@ -84,7 +84,8 @@ StopsAmong-same unit keeps others frames before after both stops = record {
 
 -- ---- the loop of a call
 
--- These frames are done, and the others are left; what was written, and what waits, is what is kept of the first.
+-- These frames are done, and the others are left. The bytes written and those that wait are the written form of the kept ones among the
+-- first.
 pub record SoFar (unit : Unit) (keeps : Filter) (frames rest : List (List ℕ)) (next dropped turned_away out : ℕ)
     (before after : Option (List ℕ)) : Type 0 where
   pub done : List (List ℕ)
@@ -115,7 +116,7 @@ SoFar-start unit keeps frames rest dropped turned_away out before after all d t 
   sum = omega arith;
 }
 
--- the done frames and one more, the first of those that are left
+-- the done frames and one more: the first one left
 more_parts : (frames done left rest : List (List ℕ)) (f : List ℕ) → left ≡ f ∷ rest → frames ≡ done ++ left
     → frames ≡ (done ++ f ∷ []) ++ rest
 more_parts frames done left rest f first parts =
@@ -184,7 +185,7 @@ SoFar-kept unit keeps frames left rest f next dropped turned_away out before mid
 
 -- ---- the end
 
--- a front of what waits went out
+-- a front of the bytes that wait was written
 pub SoFar-stops : (unit : Unit) (keeps : Filter) (frames rest : List (List ℕ)) (next dropped turned_away out : ℕ)
     (before mid after : Option (List ℕ)) (waiting : List ℕ)
     → Grows before mid → SoFar unit keeps frames rest next dropped turned_away out before (append_known mid waiting)

@@ -1,4 +1,4 @@
--- A frame's way through the adapter of a lane.
+-- A frame passes through the adapter of a lane.
 use Rattle.std.proofs.Common.{◌≡◌, ◌<◌, ◌+◌, ◌-◌, ◌*◌, ◌%◌, ◌∙◌}
 use Rattle.std.proofs.Common.{ℕ, List, length, Bool, true, leb, take, refl, sym, ap, subst, arith}
 use Rattle.std.specs.Prelude.{if◌then◌else◌}
@@ -26,7 +26,7 @@ use Rattle.pcap_bench.proofs.Lanes.{NameBelow-offered, NameBuffers-finished}
 abbrev pub calm : AdapterState → ℕ → ℕ → AdapterState
 calm state head slot = record state { receive_kilobytes = 48; receiver = new_receiver; receive_ring = ring_at head slot }
 
--- The adapter of a lane is such a one.
+-- The adapter of a lane is such an adapter.
 is_calm : (state : AdapterState) (head slot : ℕ) → state.receive_kilobytes ≡ 48 → state.receiver ≡ new_receiver
     → state.receive_ring ≡ ring_at head slot → state ≡ calm state head slot
 is_calm state head slot room idle ring =
@@ -38,7 +38,7 @@ calm_of : (lane : LaneState) → IsLane lane → IsWaiting lane → lane.adapter
 calm_of lane is waiting =
     is_calm lane.adapter lane.slot lane.slot is.room is.idle (is.ring ∙ ap (λ (head : ℕ). ring_at head lane.slot) waiting)
 
--- such an adapter, once a frame is stored
+-- such an adapter, after a frame was stored
 abbrev pub with_stored : AdapterState → ℕ → List ℕ → AdapterState
 with_stored state slot frame = after_arrive Stored frame (calm state slot slot)
 
@@ -47,11 +47,11 @@ pub is_stored : (lane : LaneState) (frame : List ℕ) (fate : Fate) (after : Ada
 is_stored lane frame fate after is waiting arrives stored =
     arrives ∙ ap (λ (f : Fate). after_arrive f frame lane.adapter) stored ∙ ap (after_arrive Stored frame) (calm_of lane is waiting)
 
--- A ring at address 0 has its descriptors from there on.
+-- The descriptors of a ring at address 0 begin at this address.
 at_slot : (slot : ℕ) → 0 + 16 * slot ≡ 16 * slot
 at_slot slot = omega arith
 
--- A buffer has room for a whole frame, so the frame is moved in one piece.
+-- A buffer has room for a complete frame, so the frame is moved in one piece.
 pub one_piece : (state : AdapterState) (frame : List ℕ) (slot : ℕ) → IsReceiving state.filter.rctl → IsLegal frame
     → next_piece state.filter.rctl (with_stored state slot frame).receiver ≡ frame
 one_piece state frame slot receiving legal =
@@ -86,7 +86,7 @@ after_steps state memory frame slot = record {
   slot = slot;
 }
 
--- memory after both, by the descriptor's address and the piece
+-- memory after both steps, by the descriptor's address and the piece
 abbrev with_piece : List ℕ → ℕ → List ℕ → List ℕ
 with_piece memory at piece =
     let moved = with_bytes memory (named_address memory at) piece in
@@ -127,7 +127,7 @@ received state memory frame slot receiving below size named legal room = record 
 abbrev pub with_tail : AdapterState → ℕ → AdapterState
 with_tail state tail = record state { receive_ring = record state.receive_ring { tail = tail } }
 
--- Once the buffer of the driver's slot is offered and RDT is there, it is a lane with the driver at the next slot.
+-- After the buffer of the driver's slot is offered and RDT is written, the state is a lane with the driver at the next slot.
 pub IsLane-offered : (lane : LaneState) (buffer : ℕ) → IsLane lane → buffer ≡ buffer_at lane.slot
     → IsLane (record {
       adapter = with_tail lane.adapter lane.slot;

@@ -1,4 +1,4 @@
--- What single writes of registers leave of an adapter.
+-- An adapter after single writes of registers.
 use Rattle.std.proofs.Common.{◌≡◌, ◌<◌, ◌≤◌, ◌+◌, ◌-◌, ◌*◌, ◌/◌, ◌%◌, ◌^◌, ℕ, List, Bool, true, false, Option, Some, None, refl, ap, subst}
 use Rattle.std.proofs.Common.{◌∙◌, arith}
 use Rattle.std.specs.Prelude.{bit_and, if◌then◌else◌}
@@ -29,7 +29,7 @@ written register value kept state within plain none =
     ∙ ap (λ (resets : Bool). if resets then after_reset state else by_row (row_of register).kept register value state) none
     ∙ ap (λ (row : Option ℕ). by_row row register value state) plain
 
--- ---- words that are kept whole
+-- ---- words of which all bits are kept
 
 pub kept_word : (value : ℕ) → value < 2 ^ 32 → bit_and value 0xFFFFFFFF ≡ value
 kept_word value small = and_mask value 32 ∙ omega arith

@@ -1,5 +1,5 @@
--- What the options of a pass write to the registers of the receive filter. (Intel's manual, "13.5 Filter Registers" and "13.4.22 Receive
--- Control"; what the options mean: our choice)
+-- The registers of the receive filter for the options of a pass. (Intel's manual, "13.5 Filter Registers" and "13.4.22 Receive
+-- Control"; the meaning of the options: our choice)
 use Rattle.std.specs.Prelude.{◌+◌, ◌/◌, ◌%◌, ◌^◌, ◌&&◌, ℕ, List, Bool, true, false, Option, Some, None, is_none, is_some, slice_set}
 use Rattle.rx_engine.specs.Addresses.{low_word, high_word, group_number}
 use Rattle.rx_engine.specs.Registers.{FilterRegisters}

@@ -1,5 +1,4 @@
 pub mod Choosing
-pub mod ProgramErrors
 pub mod Lane
 pub mod Options
 pub mod Passing

@@ -9,9 +9,8 @@ use Rattle.rx_engine.specs.declared.filter.TheConstants.{VLAN_TYPE}
 abbrev pub IsOpen : PassFilter → Type 0
 IsOpen options = (options.address ≡ None) × (options.group ≡ None)
 
--- The address is the one exact address, the group's number (of bits 47 to 36 of the address) the one number of the
--- group table, the VLAN the one VLAN; broadcast is accepted, and every address if neither an address nor a group is
--- given.
+-- The options' address is the only receive address, and their VLAN the only VLAN. The group table has one number: that of bits 47 to 36
+-- of the options' group. Broadcast is accepted, and every address if neither an address nor a group is given.
 abbrev pub filter_for : PassFilter → ReceiveFilter
 filter_for options = record {
   addresses = λ address. options.address ≡ Some address;
@@ -25,7 +24,7 @@ filter_for options = record {
   broadcasts = Unit {0};
 }
 
--- a padded frame that this filter passes
+-- the filter for these options passes a padded frame
 abbrev pub KeptBy : PassFilter → List ℕ → Type 0
 KeptBy options frame = Passes (filter_for options) frame
 

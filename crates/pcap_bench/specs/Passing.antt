@@ -6,8 +6,8 @@ use Rattle.pcap_trace.specs.Devices.{AppendsFront}
 use Rattle.pcap_trace.specs.Format.{Timed, written}
 use Rattle.pcap_trace.specs.declared.unit.Unit.{Unit}
 use Rattle.pcap_bench.specs.declared.counts.PassCounts.{PassCounts}
-use Rattle.pcap_bench.specs.declared.program_error.PassError.{PassError}
-use Rattle.pcap_bench.specs.declared.program_error.PassError.TheVariants.{Memory, Write}
+use Rattle.pcap_bench.specs.declared.pass_error.PassError.{PassError}
+use Rattle.pcap_bench.specs.declared.pass_error.PassError.TheVariants.{Memory, Write}
 
 -- which padded frames a filter keeps
 abbrev pub Filter : Type 1
@@ -21,7 +21,7 @@ pub data Fate : Type 0 where
   filtered : Fate
   kept : Fate
 
--- A frame below 14 or above 1,518 bytes is illegal; another is kept or filtered as it is padded to 60 bytes.
+-- A frame below 14 or above 1,518 bytes is illegal. Another frame is padded to 60 bytes, and then kept or filtered.
 abbrev pub IsFate : Filter → List ℕ → Fate → Type 0
 IsFate keeps frame illegal = is_sendable frame ≡ false
 IsFate keeps frame filtered = (is_sendable frame ≡ true) × (keeps (padded frame) → ⊥)
@@ -62,14 +62,14 @@ kept_from n (f ∷ fs) (kept ∷ ts) = record { time = n; frame = padded f } ∷
 
 -- ---- the call
 
--- What was written is the written form, in this unit, of the frames that are kept, and each fate is counted.
+-- The written form, in this unit, of the kept frames was written, and each fate is counted.
 pub record WritesKept (unit : Unit) (keeps : Filter) (frames : List (List ℕ)) (counts : PassCounts) (before after : Option (List ℕ))
     : Type 0 where
   -- the fate of each frame
   pub fates : List Fate
   -- each frame has the right fate
   pub right : HaveFates keeps frames fates
-  -- the frames kept were written, padded, each with its number
+  -- the kept frames were written, padded, each with its number
   pub went : Appends before after (written unit (kept_from 0 frames fates))
   -- all frames are counted
   pub read_is : counts.read ≡ length frames
@@ -88,10 +88,10 @@ pub record StopsAmong (unit : Unit) (keeps : Filter) (frames : List (List ℕ)) 
   pub fates : List Fate
   -- each has the right fate
   pub right : HaveFates keeps (take count frames) fates
-  -- a beginning of what is to be written of them was written
+  -- a beginning of the written form of those kept was written
   pub went : AppendsFront before after (written unit (kept_from 0 (take count frames) fates))
 
--- If memory is refused, nothing was written. The sink counts a failed write.
+-- If memory is refused, nothing was written. If a write failed, the sink counts one failure more.
 abbrev pub StopsBy : PassError → Option (List ℕ) → Option (List ℕ) → ℕ → ℕ → Type 0
 StopsBy Memory before after old new = (after ≡ before) × (new ≡ old)
 StopsBy Write before after old new = new ≡ old + 1

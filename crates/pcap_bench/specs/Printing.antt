@@ -1,4 +1,4 @@
--- The line that the program prints of a pass. (our choice)
+-- The line that the program prints after a pass (our choice).
 use Rattle.std.specs.Prelude.{◌++◌, ℕ, List, Bool, true, false, codes, decimal}
 use Rattle.pcap_trace.specs.declared.trace.Trace.{Trace}
 use Rattle.pcap_bench.specs.declared.counts.PassCounts.{PassCounts}

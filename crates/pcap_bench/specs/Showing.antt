@@ -1,5 +1,5 @@
--- What the program shows of a trace: a line for each frame, and a line with the counts (our choice; a frame's parts:
--- IEEE 802.3 clause 3.2)
+-- The lines that the program prints for a trace: one for each frame, and one with the counts (our choice; a frame's parts:
+-- IEEE 802.3 clause 3.2).
 use Rattle.std.specs.Prelude.{◌+◌, ◌++◌, ℕ, List, [], ◌∷◌, length, slice_index, slice_range, codes, decimal, nat_lt, if◌then◌else◌}
 use Rattle.std.specs.List.{flat_map}
 use Rattle.hex.specs.Hex.{encode_lower}
@@ -37,7 +37,7 @@ header_text frame =
 abbrev pub frame_line : ℕ → List ℕ → List ℕ
 frame_line number frame = decimal number ++ field (codes " ") (length frame) ++ header_text frame ++ codes "\n"
 
--- a line a frame, numbered from n on
+-- a line for each frame, numbered from n on
 abbrev pub lines_from : ℕ → List (List ℕ) → List ℕ
 lines_from n [] = []
 lines_from n (frame ∷ frames) = frame_line n frame ++ lines_from (n + 1) frames
@@ -46,6 +46,6 @@ lines_from n (frame ∷ frames) = frame_line n frame ++ lines_from (n + 1) frame
 abbrev pub end_line : Trace → List ℕ
 end_line trace = field (codes "frames ") (length trace.frames) ++ field (codes " skipped ") trace.skipped ++ cut_word trace.cut
 
--- all that is shown of a trace
+-- all lines of a trace
 abbrev pub shown : Trace → List ℕ
 shown trace = lines_from 0 trace.frames ++ end_line trace

@@ -1,22 +1,23 @@
-//! Traces of packets through an adapter's receive ring.
+//! The commands of `nicbench` for traces: the frames of a trace pass through an adapter's receive filter and ring, or
+//! are listed.
 #![tactic(auto)]
 
 mod choosing;
 mod counts;
 mod lane;
+mod pass_error;
 mod passing;
 mod printing;
-mod program_error;
 mod showing;
 mod slots;
 
 pub use command_line::PassFilter;
 pub use counts::PassCounts;
+pub use pass_error::PassError;
 pub use passing::pass;
 pub use pcap_trace::{
     DeviceError, Frames, Iter, ReadError, ReaderSource, Sink, SliceSource, Source, Trace, Unit,
     VecSink, WriteError, WriterSink,
 };
 pub use printing::print_pass;
-pub use program_error::{PassError, ProgramError};
 pub use showing::show;

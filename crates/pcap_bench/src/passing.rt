@@ -1,4 +1,4 @@
-//! The frames of a trace, through an adapter.
+//! The frames of a trace pass through an adapter.
 ghost use Rattle.std.specs.Prelude.{◌≡◌, ◌<◌, ◌≤◌, length, IfOk, IfErr, OnOk, OnErr};
 ghost use Rattle.std.specs.Io.KnownBytes.{Appends, append_known};
 ghost use Rattle.descriptors.specs.Frames.{is_sendable};
@@ -12,7 +12,7 @@ ghost use Rattle.pcap_bench.specs.Lane.{slot_bytes, HasFrame, IsWaiting};
 
 use crate::counts::PassCounts;
 use crate::lane::ReceiveLane;
-use crate::program_error::PassError;
+use crate::pass_error::PassError;
 use command_line::PassFilter;
 use descriptors::{LONGEST_SENDABLE, SHORTEST_SENDABLE};
 use pcap_trace::{RecordWriter, Sink, Trace, Unit, WriteError};
@@ -97,14 +97,14 @@ fn pass_frames<W: Sink>(
 /// count. The trace has its times in `unit`.
 ///
 /// Frames below 14 or above 1,518 bytes are counted as illegal. The filter judges each of the others after padding. If
-/// they are given, it has the options' address as its only exact address, the hash of the options' group (RCTL.MO 00)
-/// as the only bit of MTA, and the options' VLAN as its only VLAN, with the VLAN type 0x8100. If neither an address nor
-/// a group is given, it accepts every address (UPE, MPE). It always accepts broadcast (BAM).
+/// an address is given, it is the only receive address. If a group is given, its hash is the only bit of MTA (RCTL.MO
+/// 00). If a VLAN is given, it is the only VLAN, with the VLAN type 0x8100. If neither an address nor a group is given,
+/// the filter accepts every address (UPE, MPE). It always accepts broadcast (BAM).
 ///
 /// # Errors
 ///
-/// E57 [`Memory`](PassError::Memory) if memory is refused, before anything is written. E67
-/// [`Write`](PassError::Write) if the sink fails during the call; then it has only a beginning of the text.
+/// [`Memory`](PassError::Memory) if memory is refused, before anything is written. [`Write`](PassError::Write) if the
+/// sink fails during the call; then it has only a beginning of the text.
 pub fn pass<W: Sink>(
     alloc: Global,
     trace: &Trace,

@@ -28,7 +28,7 @@ pub(crate) fn push_field(line: &mut Line, label: &[u8], number: u64)
     line.try_extend_from_slice(digits).unwrap();
 }
 
-/// Appends whether the trace was cut off, and ends the line.
+/// Appends ` cut yes` or ` cut no`, and ends the line.
 pub(crate) fn push_cut(line: &mut Line, cut: bool)
     requires room { length line.old.items + 9 ≤ 320 }
     ensures text { line.new.items ≡ line.old.items ++ cut_word cut }
@@ -38,11 +38,11 @@ pub(crate) fn push_cut(line: &mut Line, cut: bool)
 }
 
 /// Writes the program's line of a pass to a sink: `read R skipped K illegal I filtered F written W cut no` (or `cut
-/// yes`), ended by a line feed. It allocates nothing.
+/// yes`), ended by a line feed. The call allocates nothing.
 ///
 /// # Errors
 ///
-/// E67 [`Write`](WriteError::Write) if the sink fails; then it has only a beginning of the line.
+/// [`Write`](WriteError::Write) if the sink fails; then it has only a beginning of the line.
 pub fn print_pass<W: Sink>(
     trace: &Trace,
     counts: &PassCounts,

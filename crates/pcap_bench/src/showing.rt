@@ -8,7 +8,7 @@ ghost use Rattle.pcap_bench.specs.Showing.{shown};
 use crate::printing::{Line, push_cut, push_field};
 use pcap_trace::{Sink, Trace, WriteError, write_all};
 
-/// Bytes of a frame's two addresses and its type (IEEE 802.3 clause 3.2).
+/// The number of bytes of a frame's two addresses and its type (IEEE 802.3 clause 3.2).
 const HEADER: usize = 14;
 
 /// Appends a byte, as two hexadecimal digits.
@@ -84,15 +84,16 @@ fn write_end<W: Sink>(sink: &mut W, trace: &Trace, count: u64) -> Result<(), Wri
     write_all(sink, line.as_slice())
 }
 
-/// Writes the lines of `show` to a sink: for each frame a line `N LEN DST SRC TYPE`, or `N LEN short` if it has fewer
-/// than 14 bytes, and then the line `frames F skipped K cut no` (or `cut yes`), each ended by a line feed.
+/// Writes the lines of `show` to a sink, each ended by a line feed. The line of a frame is `N LEN DST SRC TYPE`, or
+/// `N LEN short` if it has fewer than 14 bytes. The last line is `frames F skipped K cut no` (or `cut yes`).
 ///
-/// N is the frame's number, from 0, LEN its length in bytes, DST and SRC its addresses, as `02:00:00:00:00:01`, and
-/// TYPE its bytes 12 and 13, as `0800`. It allocates nothing, and writes one line at a time.
+/// N is the frame's number, from 0, and LEN is its length in bytes. DST and SRC are its addresses, as
+/// `02:00:00:00:00:01`, and TYPE is its bytes 12 and 13, as `0800`. The call allocates nothing, and writes one line at
+/// a time.
 ///
 /// # Errors
 ///
-/// E67 [`Write`](WriteError::Write) if the sink fails; then it has only a beginning of the text.
+/// [`Write`](WriteError::Write) if the sink fails; then it has only a beginning of the text.
 pub fn show<W: Sink>(trace: &Trace, sink: &mut W) -> Result<(), WriteError>
     requires { W.failures sink.old < u64.MAX }
     ensures ok { OnOk result (Appends (W.taken sink.old) (W.taken sink.new) (shown trace.now)) }

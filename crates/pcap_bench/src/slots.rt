@@ -9,13 +9,13 @@ use bitflags::Flags;
 use descriptors::{RX_DESC_BYTES, RxDesc, RxStatus};
 use dma_memory::{HostMemory, Layout};
 
-/// Descriptors of the ring.
+/// The number of descriptors of the ring.
 pub const SLOTS: u16 = 8;
 
 /// The number of a layout's receive buffers, of 256 bytes each, that make one slot's buffer of 2,048 bytes.
 const BUFFERS_OF_SLOT: u16 = 8;
 
-/// Receive buffers of the layout.
+/// The number of receive buffers of the layout.
 pub const BUFFERS: u16 = SLOTS * BUFFERS_OF_SLOT;
 
 /// The address of the descriptor of a slot.
@@ -52,7 +52,7 @@ pub fn offer(memory: &mut HostMemory, slot: u16, buffer: u64)
     memory.store(address_of(slot), &desc.to_bytes()).unwrap();
 }
 
-/// Offers the buffers of a layout, eight of them in the descriptor of each slot.
+/// Offers the buffers of a layout. The descriptor of each slot names eight consecutive buffers.
 pub fn offer_all(memory: &mut HostMemory, layout: &Layout)
     requires layout { layout.now ≡ record { rx = 8; tx = 8; buffers = 64 } }
     requires size { length memory.old ≡ 34816 }

@@ -1,4 +1,4 @@
--- One answer fits the bytes of a source.
+-- Exactly one result fits the bytes of a source.
 use Rattle.std.proofs.Common.{◌≡◌, ◌≤◌, ◌⊎◌, ℕ, List, [], ◌++◌, length, drop, Bool, true, false, Result, Ok, Err, Option, Some, None, refl}
 use Rattle.std.proofs.Common.{sym, ap, subst, ◌∙◌}
 use Rattle.std.specs.Prelude.{IfSome, IfOk, IfErr}
@@ -16,7 +16,7 @@ use Rattle.pcap_trace.proofs.Orders.{number_first, one_order}
 use Rattle.pcap_trace.proofs.FileHeaders.{header_fault-record, header_fault-none, header_fault-known, told_fault, told_fault-in}
 use Rattle.pcap_trace.proofs.FileHeaders.{told_fault-magic, IsFileHeader-from_none}
 
--- ---- no other answer fits
+-- ---- no other result fits
 
 ending_cut : (a b : Bool) → ending_of a ≡ ending_of b → a ≡ b
 ending_cut true true e = refl
@@ -39,7 +39,7 @@ trace_unique bytes t u p q =
     ∙ ap (λ (x : ℕ). record { frames = t.frames; skipped = x; cut = u.cut }) same.1
     ∙ ap (λ (x : Bool). record { frames = t.frames; skipped = t.skipped; cut = x }) (ending_cut u.cut t.cut same.2)
 
--- a body that ends with an oversized packet, behind a file header
+-- a file header, and then a body that ends with an oversized packet
 abbrev IsOversized : Endianness → List ℕ → Type 0
 IsOversized order bytes = IsFileHeader (number_in order) bytes × HasOversized (number_in order) (drop 24 bytes)
 
@@ -52,7 +52,7 @@ not_both bytes t p q =
     (body_unique (number_in p.0) (number_first p.0) (drop 24 bytes) t.frames big.0 t.skipped big.1
     (ending_of t.cut) oversized p.1.1 big.2).2
 
--- what the header's fault is where an answer fits
+-- the fault of the header if a result fits
 abbrev fault_of : Result Trace ReadError → Option ReadError
 fault_of (Ok t) = None
 fault_of (Err errors.Record) = None
@@ -104,14 +104,14 @@ pub only_from_fits : (o : Option (List ℕ)) (r : Result Trace ReadError) → If
 only_from_fits None r fits = tt
 only_from_fits (Some bytes) r fits = only_answer bytes r fits
 
--- an answer that doesn't speak of the bytes fits them
+-- a result that doesn't depend on the bytes fits them
 pub silent_fits : (o : Option (List ℕ)) (r : Result Trace ReadError) → is_of_bytes r ≡ false → IfSome o (λ bytes. IsAnswer bytes r)
 silent_fits None r silent = tt
 silent_fits (Some bytes) (Err errors.Memory) silent = tt
 silent_fits (Some bytes) (Err errors.Read) silent = tt
 silent_fits (Some bytes) r silent = absurd cc
 
--- ---- the answer of a reader, of whose bytes a block holds the front
+-- ---- the result of a reader if a block contains the front of its bytes
 
 fault_fits : (bytes : List ℕ) (e : ReadError) → IsHeaderFault bytes e → IsAnswer bytes (Err e)
 fault_fits bytes errors.Header h = h
@@ -122,11 +122,11 @@ fault_fits bytes errors.Record h = absurd (header_fault-record (number_in h.0) b
 fault_fits bytes errors.Memory h = tt
 fault_fits bytes errors.Read h = tt
 
--- the bytes are what the block holds, and then what is left
+-- the bytes are those of the block, followed by those that are left
 known_parts : (held bytes rest : List ℕ) → (r : Receives [] held (Some bytes) (Some rest)) → bytes ≡ held ++ rest
 known_parts held bytes rest r = r.2 ∙ ap (λ (t : List ℕ). t ++ rest) (sym r.1)
 
--- the header's fault is that of the front
+-- the fault of the header is the fault of the front
 fault_known : (order : Endianness) (held bytes rest : List ℕ) → Receives [] held (Some bytes) (Some rest)
     → (24 ≤ length held) ⊎ IsAtEnd (Some rest) → header_fault (number_in order) bytes ≡ header_fault (number_in order) held
 fault_known order held bytes rest r filled =

@@ -39,7 +39,7 @@ never_record false true true false e h = cc
 never_record false true true true false h = cc
 never_record false true true true true h = cc
 
--- the same in two byte orders, of which the first is looked at where its first word is a magic number
+-- the same in two byte orders; the first one is checked if its first word is a magic number
 abbrev told : Bool → Bool → Bool → Bool → Bool → Bool → Bool → Bool → Bool → Option ReadError
 told short a b c d e f g h = if a then first_fault short a b c d else first_fault short e f g h
 
@@ -82,7 +82,7 @@ told_fault-in Big bytes x is other =
     (is_magic (big_number 4 bytes)) (big_number 2 (drop 4 bytes) == 2) (big_number 2 (drop 6 bytes) == 4)
     (big_number 4 (drop 20 bytes) == 1) x (both_orders bytes) is other
 
--- another fault than the magic number's, in one of the byte orders
+-- a fault other than `Magic` in one of the byte orders
 pub header_fault-in : (order : Endianness) (bytes : List ℕ) (e : ReadError) → (e ≡ errors.Magic → ⊥)
     → header_fault (number_in order) bytes ≡ Some e → IsHeaderFault bytes e
 header_fault-in order bytes errors.Magic other is = absurd (other refl)
@@ -110,7 +110,7 @@ header_fault-none number bytes h =
     let long : nat_lt (length bytes) 24 ≡ false = le-ltb _ _ h.long_enough in
     rw (long, h.magic_is, h.major_is, h.minor_is, h.link_type_is) refl
 
--- what stands behind 24 bytes doesn't matter
+-- bytes after the first 24 don't change the fault
 header_fault-append : (number : Order) → ReadsFirst number → (held rest : List ℕ) → 24 ≤ length held
     → header_fault number (held ++ rest) ≡ header_fault number held
 header_fault-append number first held rest long =

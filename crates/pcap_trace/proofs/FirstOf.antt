@@ -1,4 +1,4 @@
--- A source that gives at most so many bytes of a reader.
+-- A source of the first bytes of a reader, up to a limit.
 use Rattle.std.proofs.Common.{◌≡◌, ◌<◌, ◌≤◌, ◌+◌, ◌-◌, ℕ, zero, suc, min, List, [], ◌++◌, length, take, drop, Option, Some, None, refl, sym}
 use Rattle.std.proofs.Common.{ap, ◌∙◌, arith}
 use Rattle.std.specs.Io.KnownBytes.{Consumes, IsAtEnd}
@@ -31,7 +31,7 @@ take-nil : (k : ℕ) → take k nothing_left ≡ nothing_left
 take-nil zero = refl
 take-nil (suc k) = refl
 
--- nothing came though there was room: the limit is reached, or the reader is at its end
+-- a read into a slice with room returned no byte: the limit is reached, or the reader is at its end
 pub ends : (b : Option (List ℕ)) (limit n : ℕ) (buf into : List ℕ) → length buf ≡ min (length into) limit
     → (n ≡ 0 → 0 < length buf → IsAtEnd b) → n ≡ 0 → 0 < length into → IsAtEnd (first_of (limit - n) b)
 ends None limit n buf into len end none room = tt

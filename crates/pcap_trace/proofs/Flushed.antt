@@ -1,4 +1,4 @@
--- What waits in a block, and goes out.
+-- Bytes that wait in a block, and are then written.
 use Rattle.std.proofs.Common.{◌≡◌, ◌≤◌, ◌+◌, ◌-◌, ℕ, List, [], ◌++◌, length, take, drop, Option, Some, None, refl, sym, ap, subst, ◌∙◌}
 use Rattle.std.proofs.Common.{append_assoc, append-nil, take-append-drop, arith}
 use Rattle.std.specs.Io.KnownBytes.{Appends, append_known}
@@ -16,7 +16,7 @@ flushed (Some xs) None after waiting all h k = absurd h
 flushed (Some xs) (Some ys) None waiting all h k = absurd k
 flushed (Some xs) (Some ys) (Some zs) waiting all h k = k ∙ h
 
--- a front of what waits, behind what went before it, is a front of all
+-- the bytes written before, and then a front of the bytes that wait, are a front of all bytes
 front_of : (n : ℕ) (xs ys waiting all : List ℕ) → ys ++ waiting ≡ xs ++ all → length xs ≤ length ys → (m : ℕ)
     × (ys ++ take n waiting ≡ xs ++ take m all)
 front_of n xs ys waiting all is longer =
@@ -57,7 +57,7 @@ pub header_waits : (unit : Unit) (a : Option (List ℕ)) (waiting : List ℕ) �
 header_waits unit a waiting is = subst (λ (w : List ℕ). Appends a (append_known a w) (written unit [])) (sym is)
     (waits a (file_header unit))
 
--- These bytes went out, or the last of them wait.
+-- These bytes were written, or the last of them wait.
 pub record GoesOut (before now : Option (List ℕ)) (waiting bytes : List ℕ) : Type 0 where
   pub grown : Grows before now
   pub went : Appends before (append_known now waiting) bytes

@@ -1,4 +1,4 @@
--- How a loop goes over the packets of a source, of which a block holds the front.
+-- A loop over the packets of a source; a block contains the front of the bytes.
 use Rattle.std.proofs.Common.{◌≡◌, ◌<◌, ◌≤◌, ◌+◌, ◌⊎◌, inl, inr, ℕ, List, [], ◌∷◌, ◌++◌, length, take, drop, Bool, true, false, not, eqb}
 use Rattle.std.proofs.Common.{Option, Some, None, sym, ap, subst, ◌∙◌, append-nil, append_assoc, arith}
 use Rattle.std.specs.Prelude.{IfSome}
@@ -10,7 +10,7 @@ use Rattle.pcap_trace.specs.Format.{Order, Ending, oversized, ending_of, capture
 use Rattle.pcap_trace.specs.Reading.{HasOversized}
 use Rattle.pcap_trace.proofs.Bodies.{ReadsFirst, word-append, GoesOn, GoesOn-kept, GoesOn-skipped, GoesOn-ends}
 
--- the same of bytes that may not be known
+-- the same for bytes that may be unknown
 abbrev pub GoesOnKnown : Order → Option (List ℕ) → Option (List ℕ) → List (List ℕ) → ℕ → Type 0
 GoesOnKnown number None rest frames skipped = Unit {0}
 GoesOnKnown number (Some bytes) None frames skipped = ⊥
@@ -28,15 +28,15 @@ GoesOnKnown-read number (Some bytes) (Some left) (Some rest) old new frames skip
     ∙ ap (λ (t : List ℕ). t ++ rest) (sym r.1) in
     subst (λ (x : List ℕ). GoesOn number bytes x frames skipped) same so_far
 
--- the words of a header stay where they are
+-- the words of a header don't change
 pub word-read : (number : Order) → ReadsFirst number → (at : ℕ) (old new : List ℕ) (before after : Option (List ℕ)) → at + 4 ≤ length old
     → Receives old new before after → number 4 (drop at new) ≡ number 4 (drop at old)
 word-read number first at old new before after long r = ap (λ (t : List ℕ). number 4 (drop at t)) r.1
     ∙ word-append number first at old r.0 long
 
--- ---- a packet that the block holds
+-- ---- a packet in the block
 
--- the bytes behind it
+-- the bytes after it
 rest_behind : (n : ℕ) (held left : List ℕ) → 16 + n ≤ length held → drop n (drop 16 (held ++ left)) ≡ drop (16 + n) held ++ left
 rest_behind n held left long =
     ap (drop n) (drop-append-le 16 held left (omega arith)) ∙ drop-append-le n (drop 16 held) left (omega (arith, length-drop 16 held))
@@ -123,7 +123,7 @@ ends_cut number a left held frames skipped empty n is told long short cut filled
           (rest_cut number held empty n is told long short cut) so_far
     ]
 
--- a header that asks for more than the most
+-- a header with a captured length above the limit
 pub ends_oversized : (number : Order) → ReadsFirst number
     → (a left : Option (List ℕ)) (held : List ℕ) (frames : List (List ℕ)) (skipped n : ℕ) → n ≡ captured_length number held
     → 16 ≤ length held → most_captured < n

@@ -13,7 +13,7 @@ pub number_first : (order : Endianness) → ReadsFirst (number_in order)
 number_first Big n xs ys long = big_from-append n xs ys long
 number_first Little n xs ys long = little_from-append n xs ys long
 
--- ---- no first word is a magic number in both orders
+-- ---- a first word is a magic number in at most one order
 
 either : (x y : Bool) → IsTrue (x || y) → (IsTrue x) ⊎ (IsTrue y)
 either true y h = inl refl

@@ -1,4 +1,4 @@
--- Packets that go to a sink, one after the other.
+-- Packets that are written to a sink in order.
 use Rattle.std.proofs.Common.{◌≡◌, ◌<◌, ◌+◌, ℕ, List, [], ◌∷◌, ◌++◌, length, get_or, take, drop, map, Option, sym, ap, subst, ◌∙◌}
 use Rattle.std.proofs.Common.{append_assoc, append-nil, take-append-drop}
 use Rattle.std.specs.List.{flat_map}
@@ -17,12 +17,12 @@ pub packets-push : (unit : Unit) (ts : List Timed) (t : Timed)
 packets-push unit ts t = flat_map-append (packet_of unit) ts (t ∷ [])
     ∙ ap (λ (x : List ℕ). flat_map (packet_of unit) ts ++ x) (flat_map-cons (packet_of unit) t [] ∙ append-nil (packet_of unit t))
 
--- what is written of these frames and one more
+-- the written form of these frames and one more
 pub written-push : (unit : Unit) (ts : List Timed) (t : Timed) → written unit (ts ++ t ∷ []) ≡ written unit ts ++ packet_of unit t
 written-push unit ts t = ap (λ (x : List ℕ). file_header unit ++ x) (packets-push unit ts t)
     ∙ sym (append_assoc (file_header unit) (flat_map (packet_of unit) ts) (packet_of unit t))
 
--- what is written of these frames and some more
+-- the written form of these frames and some more
 pub written-append : (unit : Unit) (ts us : List Timed) → written unit (ts ++ us) ≡ written unit ts ++ flat_map (packet_of unit) us
 written-append unit ts us = ap (λ (x : List ℕ). file_header unit ++ x) (flat_map-append (packet_of unit) ts us)
     ∙ sym (append_assoc (file_header unit) (flat_map (packet_of unit) ts) (flat_map (packet_of unit) us))

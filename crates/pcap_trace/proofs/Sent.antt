@@ -1,4 +1,4 @@
--- What went to a sink, in pieces.
+-- Bytes that are written to a sink in pieces.
 use Rattle.std.proofs.Common.{◌≡◌, ◌+◌, ℕ, List, [], ◌∷◌, ◌++◌, length, take, drop, Option, refl, sym, ap, ◌∙◌, append_assoc}
 use Rattle.std.proofs.Common.{take-append-drop, zero-add, suc-add}
 use Rattle.std.proofs.lemmas.List.{take_at}
@@ -19,7 +19,7 @@ take-past n (z ∷ x) y = rw suc-add (ap (λ (t : List ℕ). z ∷ t) (take-past
 pub AppendsFront-then : (a b c : Option (List ℕ)) (x y : List ℕ) → Appends a b x → AppendsFront b c y → AppendsFront a c (x ++ y)
 AppendsFront-then a b c x y went more = (length x + more.0, rw take-past (Appends-trans a b c x (take more.0 y) went more.1))
 
--- a beginning of x is one of anything that begins with x
+-- a beginning of x is a beginning of any list that begins with x
 take-longer : (n : ℕ) (x y : List ℕ) → take n x ≡ take (length (take n x)) (x ++ y)
 take-longer n x y =
     let f = take n x in
@@ -29,9 +29,9 @@ take-longer n x y =
 pub AppendsFront-longer : (a b : Option (List ℕ)) (x y : List ℕ) → AppendsFront a b x → AppendsFront a b (x ++ y)
 AppendsFront-longer a b x y went = (length (take went.0 x), rw (← take-longer went.0 x y) went.1)
 
--- ---- a slice that goes out piece by piece
+-- ---- a slice that is written piece by piece
 
--- a front of these bytes went, and the rest is still to go
+-- a front of these bytes was written, and the rest is still to be written
 abbrev pub SentUpTo : Option (List ℕ) → Option (List ℕ) → List ℕ → List ℕ → Type 0
 SentUpTo a b bytes rest = (front : List ℕ) × (bytes ≡ front ++ rest) × Appends a b front
 

@@ -1,4 +1,4 @@
--- Bytes are packets and a rest in one way alone.
+-- Bytes are packets and a rest in only one way.
 use Rattle.std.proofs.Common.{◌≡◌, ◌+◌, inl, inr, ℕ, List, [], ◌∷◌, ◌++◌, length, take, drop, refl, sym, ap, subst, ◌∙◌, append_assoc}
 use Rattle.std.proofs.Common.{arith}
 use Rattle.std.specs.List.{flat_map, AllByRecursion}
@@ -8,7 +8,7 @@ use Rattle.pcap_trace.specs.Format.{Order, Packet, Ending, complete, cut_off, ov
 use Rattle.pcap_trace.specs.Format.{skipped_of, IsRest, IsBody}
 use Rattle.pcap_trace.proofs.Bodies.{ReadsFirst, word-append}
 
--- a rest does not begin with a whole packet
+-- a rest doesn't begin with a complete packet
 rest_without_packet : (number : Order) → ReadsFirst number → (rest : List ℕ) (e : Ending) (p : Packet) (more : List ℕ)
     → IsRest number rest e → IsPacket number p → rest ≡ p.header ++ (p.captured ++ more) → ⊥
 rest_without_packet number first rest e p more ends whole is =
@@ -43,7 +43,7 @@ regroup p ps rest =
     ap (λ (x : List ℕ). x ++ rest) (flat_map-cons packet_bytes p ps) ∙ append_assoc (packet_bytes p) (flat_map packet_bytes ps) rest
     ∙ append_assoc p.header p.captured (flat_map packet_bytes ps ++ rest)
 
--- the packet at the front is told by the bytes
+-- the bytes determine the packet at the front
 front_unique : (number : Order) → ReadsFirst number → (p q : Packet) (x y : List ℕ) → IsPacket number p → IsPacket number q
     → p.header ++ (p.captured ++ x) ≡ q.header ++ (q.captured ++ y) → (p ≡ q) × (x ≡ y)
 front_unique number first p q x y whole_p whole_q is =

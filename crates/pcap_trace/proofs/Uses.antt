@@ -1,4 +1,4 @@
--- What is left of a source after a read, and after two uses.
+-- The bytes that a source has left after a read, and after two uses.
 use Rattle.std.proofs.Common.{◌++◌, ◌∙◌, ℕ, List, [], Option, Some, None, ap, sym, refl}
 use Rattle.std.proofs.lemmas.List.{append-nil, append_assoc}
 use Rattle.std.specs.Io.KnownBytes.{Consumes, Keeps}
@@ -36,11 +36,11 @@ uses_kept None b kept = record { used = []; consumes = tt }
 uses_kept (Some xs) None kept = absurd kept
 uses_kept (Some xs) (Some ys) kept = record { used = []; consumes = sym kept }
 
--- a read that gave these bytes
+-- a read that returned these bytes
 pub uses_read : (a b : Option (List ℕ)) (bytes : List ℕ) → Consumes a b bytes → Uses a b
 uses_read a b bytes consumes = record { used = bytes; consumes = consumes }
 
--- reads that gave bytes
+-- reads that returned bytes
 pub uses_received : (old new : List ℕ) (a b : Option (List ℕ)) → Receives old new a b → Uses a b
 uses_received old new a b received = record { used = received.0; consumes = received.2 }
 

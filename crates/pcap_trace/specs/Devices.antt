@@ -1,8 +1,8 @@
--- What reads and writes do to a device. `Consumes` and `Appends` state the bytes that move, if the device knows its bytes.
+-- The effect of reads and writes on a device. `Consumes` and `Appends` state the bytes that move, if the device knows its bytes.
 use Rattle.std.specs.Prelude.{◌≡◌, ◌+◌, ◌++◌, ℕ, List, Option, Result, MatchResult, option_map, take}
 use Rattle.std.specs.Io.KnownBytes.{Appends, Consumes}
 
--- Each error counts one failure, and nothing else does. (our choice)
+-- An error adds one to the number of failures, and any other result leaves it. (our choice)
 abbrev pub CountsFailures : {T E : Type 0} → Result T E → ℕ → ℕ → Type 0
 CountsFailures result old new = MatchResult result (λ _. new ≡ old) (λ _. new ≡ old + 1)
 
@@ -19,7 +19,7 @@ pub record Uses (before after : Option (List ℕ)) : Type 0 where
   pub used : List ℕ
   pub consumes : Consumes before after used
 
--- The first bytes that a reader has left, at most this number. (our choice)
+-- the first bytes that a reader has left, at most this number (our choice)
 abbrev pub first_of : ℕ → Option (List ℕ) → Option (List ℕ)
 first_of limit bytes = option_map (take limit) bytes
 

@@ -73,7 +73,7 @@ abbrev pub frames_of : Order → List Packet → List (List ℕ)
 frames_of number [] = []
 frames_of number (p ∷ ps) = if is_partial number p then frames_of number ps else p.captured ∷ frames_of number ps
 
--- how many packets were skipped
+-- the number of skipped packets
 abbrev pub skipped_of : Order → List Packet → ℕ
 skipped_of number [] = 0
 skipped_of number (p ∷ ps) = if is_partial number p then suc (skipped_of number ps) else skipped_of number ps
@@ -129,7 +129,7 @@ pub record Timed : Type 0 where
 abbrev pub frame_of : Timed → List ℕ
 frame_of t = t.frame
 
--- a pair of a time and a frame, as the program has it
+-- a frame with its time, of a pair
 abbrev pub timed : ℕ × List ℕ → Timed
 timed p = record { time = p.0; frame = p.1 }
 

@@ -1,5 +1,4 @@
 pub mod Devices
-pub mod Faults
 pub mod Frames
 pub mod Format
 pub mod Reading

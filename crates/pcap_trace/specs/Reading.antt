@@ -26,7 +26,7 @@ IsHeaderFault bytes e = (order : Endianness) × (header_fault (number_in order) 
 abbrev pub HasOversized : Order → List ℕ → Type 0
 HasOversized number bytes = (frames : List (List ℕ)) × (skipped : ℕ) × IsBody number bytes frames skipped oversized
 
--- The result fits the bytes. Refused memory and a failed device state nothing about them. (our choice)
+-- The result fits the bytes. `Memory` and `Read` fit any bytes. (our choice)
 abbrev pub IsAnswer : List ℕ → Result Trace ReadError → Type 0
 IsAnswer bytes (Ok t) = IsTrace bytes t.frames t.skipped t.cut
 IsAnswer bytes (Err errors.Record) = (order : Endianness) × IsFileHeader (number_in order) bytes
@@ -35,17 +35,17 @@ IsAnswer bytes (Err errors.Memory) = ⊤
 IsAnswer bytes (Err errors.Read) = ⊤
 IsAnswer bytes (Err e) = IsHeaderFault bytes e
 
--- whether a result states something about the bytes
+-- whether a result depends on the bytes: any result but `Memory` and `Read`
 abbrev pub is_of_bytes : Result Trace ReadError → Bool
 is_of_bytes (Err errors.Memory) = false
 is_of_bytes (Err errors.Read) = false
 is_of_bytes _ = true
 
--- No other result that states something about the bytes fits them. (our choice)
+-- No other result that depends on the bytes fits them. (our choice)
 abbrev pub IsOnlyAnswer : List ℕ → Result Trace ReadError → Type 0
 IsOnlyAnswer bytes r = is_of_bytes r ≡ true → (s : Result Trace ReadError) → is_of_bytes s ≡ true → IsAnswer bytes s → s ≡ r
 
--- A failed read of the source is returned as E66, and nothing else is. (our choice)
+-- The source failed once if the result is `Read`; otherwise it didn't fail. (our choice)
 abbrev pub TellsFailure : {T : Type 0} → Result T ReadError → ℕ → ℕ → Type 0
 TellsFailure (Err errors.Read) old new = new ≡ old + 1
 TellsFailure _ old new = new ≡ old

@@ -14,7 +14,7 @@ const CHUNK: usize = 65_536;
 /// Room for a chunk and one longest packet with its header.
 const ROOM: usize = 327_696;
 
-/// Bytes that were read from a source and not used yet. A contract sees it as the list of these bytes.
+/// Bytes that were read from a source and not used yet. In contracts, the value is the list of these bytes.
 #[derive(Drop)]
 pub struct Block {
     bytes: Vec<u8>,
@@ -55,7 +55,7 @@ fn read_behind<S: Source>(
 }
 
 impl Block {
-    /// An empty block. It allocates 320 KiB.
+    /// An empty block. The call allocates 320 KiB.
     ///
     /// # Errors
     ///

@@ -1,4 +1,4 @@
-//! What bytes come from and go to: a file, or memory.
+//! Sources and sinks of bytes, such as a file or memory.
 ghost use Rattle.std.specs.Prelude.{◌≡◌, ◌<◌, ◌≤◌, ◌+◌, List, ℕ, Option, length, MatchResult, IfOk};
 ghost use Rattle.std.specs.Io.KnownBytes.{ReadConsumes, WriteAppends};
 ghost use Rattle.pcap_trace.specs.Devices.{CountsFailures};
@@ -20,14 +20,14 @@ pub trait Source {
     /// The most bytes that the source can still return.
     ghost most: { Self → ℕ };
 
-    /// How often it has failed.
+    /// The number of times the source has failed.
     ghost failures: { Self → ℕ };
 
     /// Reads bytes into the front of a slice, and returns their number. If the slice isn't empty, 0 means the end.
     ///
     /// # Errors
     ///
-    /// [`DeviceError`] if the device fails: it uses up no byte, and adds 1 to the failures.
+    /// [`DeviceError`] if the device fails. Then no byte is used up, and the number of failures grows by 1.
     fn read(&mut self, into: &mut [u8]) -> Result<usize, DeviceError>
         requires { failures self.old < u64.MAX }
         ensures count { IfOk result (λ n. n ≤ length into.old) }
@@ -36,11 +36,11 @@ pub trait Source {
         ensures bytes { ReadConsumes (left self.old) (left self.new) result into.new }
         ensures failures { CountsFailures result (failures self.old) (failures self.new) };
 
-    /// The most bytes that the source can still return. A read lowers it by at least the number of bytes read.
+    /// The most bytes that the source can still return. A read lowers this number by at least the number of bytes read.
     fn limit(&self) -> u64
         ensures { result ≡ most self.now };
 
-    /// How often it has failed.
+    /// The number of times the source has failed.
     fn failures(&self) -> u64
         ensures { result ≡ failures self.now };
 }
@@ -52,14 +52,14 @@ pub trait Sink {
     /// The bytes that were written, if the sink knows them.
     ghost taken: { Self → Option (List ℕ) };
 
-    /// How often it has failed.
+    /// The number of times the sink has failed.
     ghost failures: { Self → ℕ };
 
     /// Writes bytes from the front of a slice, and returns their number: at least 1 if the slice isn't empty.
     ///
     /// # Errors
     ///
-    /// [`DeviceError`] if the device fails: it takes no byte, and adds 1 to the failures.
+    /// [`DeviceError`] if the device fails. Then no byte is taken, and the number of failures grows by 1.
     fn write(&mut self, bytes: &[u8]) -> Result<usize, DeviceError>
         requires { failures self.old < u64.MAX }
         ensures count { IfOk result (λ n. n ≤ length bytes.now) }
@@ -67,7 +67,7 @@ pub trait Sink {
         ensures bytes { WriteAppends (taken self.old) (taken self.new) result bytes.now }
         ensures failures { CountsFailures result (failures self.old) (failures self.new) };
 
-    /// How often it has failed.
+    /// The number of times the sink has failed.
     fn failures(&self) -> u64
         ensures { result ≡ failures self.now };
 }

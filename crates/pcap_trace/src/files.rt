@@ -5,8 +5,8 @@ ghost use Rattle.pcap_trace.specs.Devices.{first_of};
 use crate::device::{DeviceError, Sink, Source};
 use std::io::{Read, Write};
 
-/// The first bytes of a reader as a source. If the limit is the length of a file when it was opened, bytes that are
-/// appended later aren't read.
+/// The first bytes of a reader as a source. With the length of an opened file as the limit, bytes that are appended
+/// later aren't read.
 #[derive(Drop)]
 pub struct ReaderSource<R> {
     reader: R,
@@ -61,7 +61,7 @@ impl<R: Read> Source for ReaderSource<R> {
 
 /// A writer as a sink. A write of some bytes is a failure if the writer takes none of them.
 ///
-/// It never flushes the writer: the owner of a buffered writer must flush it.
+/// The sink never flushes the writer: the owner of a buffered writer must flush it.
 #[derive(Drop)]
 pub struct WriterSink<W> {
     writer: W,

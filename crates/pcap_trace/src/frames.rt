@@ -6,7 +6,7 @@ ghost use Rattle.pcap_trace.specs.Frames.{cut};
 use std::alloc::{AllocError, Global};
 use std::marker::Model;
 
-/// A list of frames, each of any number of bytes below 2^32. A contract sees it as the list of their bytes.
+/// A list of frames, each of any number of bytes below 2^32. In contracts, the value is the list of their bytes.
 ///
 /// The frames are in one piece of memory, one after the other. Their lengths are in another, four bytes each.
 #[derive(Drop)]
@@ -34,22 +34,22 @@ impl Frames {
         }
     }
 
-    /// How many frames there are.
+    /// The number of frames.
     pub fn len(&self) -> usize
         ensures { result ≡ length self.now }
     {
         self.lengths.len()
     }
 
-    /// Whether there are none.
+    /// Whether the list has no frames.
     pub fn is_empty(&self) -> bool
         ensures { IsTrue result ↔ (self.now ≡ []) }
     {
         self.len() == 0
     }
 
-    /// Makes room for one more frame, of at most this many bytes. The list doesn't change. The contract doesn't state
-    /// how much room there is then.
+    /// Makes room for one more frame, of at most this number of bytes. The list doesn't change. The contract doesn't
+    /// state the size of the room.
     ///
     /// # Errors
     ///
@@ -89,7 +89,7 @@ impl Frames {
     }
 }
 
-/// The frames of a [`Frames`] that are left, in order. A contract sees it as their list. After its end, it always
+/// The frames of a [`Frames`] that are left, in order. In contracts, the value is their list. After its end, it always
 /// returns `None`.
 #[derive(Drop)]
 pub struct Iter<'a> {

@@ -47,8 +47,8 @@ fn check_header<T: ByteOrder>(bytes: &[u8]) -> Result<(), ReadError>
 ///
 /// # Errors
 ///
-/// The first of these that the header has: E60 [`Header`](ReadError::Header), E61 [`Magic`](ReadError::Magic), E62
-/// [`Version`](ReadError::Version) and E63 [`LinkType`](ReadError::LinkType).
+/// The first of these that the header has: [`Header`](ReadError::Header), [`Magic`](ReadError::Magic),
+/// [`Version`](ReadError::Version) and [`LinkType`](ReadError::LinkType).
 pub fn byte_order(bytes: &[u8]) -> Result<Endianness, ReadError>
     ensures ok { IfOk result (λ order. header_fault (number_in order) bytes.now ≡ None) }
     ensures fault { IfErr result (λ e. IsHeaderFault bytes.now e) }

@@ -2,7 +2,7 @@
 //! written to a [`Sink`].
 //!
 //! [`Trace::read`] reads a whole trace, [`Trace::write`] writes one, and [`RecordWriter`] writes one packet by packet
-//! in large blocks. Every failure of a device is returned, as E66 or E67.
+//! in large blocks. Every failure of a device is returned, as [`ReadError::Read`] or [`WriteError::Write`].
 #![tactic(auto)]
 
 mod block;

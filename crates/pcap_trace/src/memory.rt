@@ -45,7 +45,7 @@ impl<'a> Source for SliceSource<'a> {
     }
 }
 
-/// A vector as a sink. It fails only if memory is refused, and then takes nothing.
+/// A vector as a sink. A write fails only if memory is refused; then no byte is taken.
 #[derive(Drop)]
 pub struct VecSink {
     bytes: Vec<u8>,
@@ -53,7 +53,7 @@ pub struct VecSink {
 }
 
 impl VecSink {
-    /// A sink that has taken nothing.
+    /// A sink to which nothing was written.
     pub fn new(alloc: Global) -> Self
         ensures taken { ⟦<VecSink as Sink>⟧.taken result ≡ Some [] }
         ensures failures { ⟦<VecSink as Sink>⟧.failures result ≡ 0 }
@@ -64,7 +64,7 @@ impl VecSink {
         }
     }
 
-    /// The bytes that it has taken.
+    /// The bytes that were written to the sink.
     pub fn bytes(&self) -> &[u8]
         ensures { ⟦<VecSink as Sink>⟧.taken self.now ≡ Some result.now }
     {

@@ -30,10 +30,10 @@ const SNAPSHOT_LENGTH: u32 = 65_535;
 /// The link type of Ethernet (libpcap, "pcap-linktype", LINKTYPE_ETHERNET).
 pub const ETHERNET: u32 = 1;
 
-/// Microseconds of a second.
+/// The number of microseconds in a second.
 const MICROSECONDS: u64 = 1_000_000;
 
-/// Nanoseconds of a microsecond.
+/// The number of nanoseconds in a microsecond.
 const NANOSECONDS: u64 = 1_000;
 
 /// The first word of a trace whose times have this unit.

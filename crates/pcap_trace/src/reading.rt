@@ -123,23 +123,23 @@ impl Trace {
     ///
     /// # Errors
     ///
-    /// The faults of the file header, E60 to E63, are looked for in this order, and before any packet. E64
-    /// [`Record`](ReadError::Record) is returned if, after complete packets, a complete packet header has a captured
-    /// length above 262,144 bytes, whatever follows. E65 [`Memory`](ReadError::Memory) is returned if memory is
-    /// refused. A failure of the device is always E66 [`Read`](ReadError::Read). After an error, some bytes of the
-    /// source are used up, and no other byte is lost.
+    /// The faults of the file header, [`Header`](ReadError::Header) to [`LinkType`](ReadError::LinkType), are looked
+    /// for in this order, and before any packet. [`Record`](ReadError::Record) is returned if, after complete packets,
+    /// a complete packet header has a captured length above 262,144 bytes, whatever follows.
+    /// [`Memory`](ReadError::Memory) is returned if memory is refused. A failure of the device is always
+    /// [`Read`](ReadError::Read). After an error, some bytes of the source are used up, and no other byte is lost.
     pub fn read<S: Source>(alloc: Global, source: &mut S) -> Result<Trace, ReadError>
         requires { S.failures source.old < u64.MAX }
 
-        // The result fits the bytes, and no other result does. E65 and E66 state nothing about the bytes.
+        // The result fits the bytes, and no other result does. `Memory` and `Read` state nothing about the bytes.
         ensures fits { IfSome (S.left source.old) (λ bytes. IsAnswer bytes result) }
         ensures only { IfSome (S.left source.old) (λ bytes. IsOnlyAnswer bytes result) }
 
-        // E66 is returned exactly if the source failed.
+        // `Read` is returned exactly if the source failed.
         ensures failure { TellsFailure result (S.failures source.old) (S.failures source.new) }
         ensures end { OnOk result (IsAtEnd (S.left source.new)) }
 
-        // Whatever the result, the bytes that are left are the last ones of those before.
+        // After any result, the bytes that are left are the last ones of those that were left before.
         ensures used { Uses (S.left source.old) (S.left source.new) }
     {
         let mut block = Block::new(alloc)?;

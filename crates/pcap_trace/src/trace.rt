@@ -10,7 +10,7 @@ pub struct Trace {
     pub frames: Frames,
     /// The number of truncated packets: their captured length is below their original length. They are skipped.
     pub skipped: u64,
-    /// Whether the file ends inside a packet header or a packet. The beginning of that packet is neither a frame nor
-    /// counted as skipped.
+    /// Whether the file ends inside a packet header or a packet. The beginning of the last packet is then neither a
+    /// frame nor counted as skipped.
     pub cut: bool,
 }

@@ -37,6 +37,13 @@ impl Model for RecordWriter {
     ghost invariant = { λ w. (length w.block.items ≡ 65536) × (w.end ≤ 65536) };
 }
 
+/// A block of zeros.
+fn new_block(alloc: Global) -> Result<Vec<u8>, AllocError>
+    ensures { IfOk result (λ block. length block.items ≡ 65536) }
+{
+    vec![in alloc; 0; BLOCK]
+}
+
 /// Writes bytes into a block from `start` on.
 fn write_at(block: &mut [u8], start: usize, bytes: &[u8])
     requires room { start + length bytes.now ≤ length block.old }
@@ -45,7 +52,7 @@ fn write_at(block: &mut [u8], start: usize, bytes: &[u8])
     block[start..start + bytes.len()].copy_from_slice(bytes);
 }
 
-/// Writes bytes after the first `end` bytes of a block, and returns how many bytes it then has.
+/// Writes bytes after the first `end` bytes of a block, and returns the number of bytes up to their end.
 fn put(block: &mut [u8], end: usize, bytes: &[u8]) -> usize
     requires room { end + length bytes.now ≤ length block.old }
     ensures put { take result block.new ≡ take end block.old ++ bytes.now }
@@ -57,7 +64,7 @@ fn put(block: &mut [u8], end: usize, bytes: &[u8]) -> usize
 }
 
 impl RecordWriter {
-    /// A writer in which the file header waits. It allocates 64 KiB.
+    /// A writer in which the file header waits. The call allocates 64 KiB.
     ///
     /// # Errors
     ///
@@ -65,7 +72,7 @@ impl RecordWriter {
     pub fn new(alloc: Global, unit: Unit) -> Result<RecordWriter, AllocError>
         ensures { IfOk result (λ w. w ≡ file_header unit) }
     {
-        let mut block = vec![in alloc; 0; BLOCK]?;
+        let mut block = new_block(alloc)?;
         let end = put(block.as_mut_slice(), 0, &file_header(unit));
         Ok(RecordWriter { block, end })
     }
@@ -82,7 +89,7 @@ impl RecordWriter {
     ///
     /// # Errors
     ///
-    /// E67 [`Write`](WriteError::Write) if the sink fails. Then a beginning of the bytes that waited was written, and
+    /// [`Write`](WriteError::Write) if the sink fails. Then a beginning of the bytes that waited was written, and
     /// all of them still wait, without this packet: another flush would write that beginning again.
     #[inline(always)]
     pub fn write<W: Sink>(
@@ -125,7 +132,7 @@ impl RecordWriter {
     ///
     /// # Errors
     ///
-    /// E67 [`Write`](WriteError::Write) if the sink fails. Then a beginning of the bytes that waited was written, and
+    /// [`Write`](WriteError::Write) if the sink fails. Then a beginning of the bytes that waited was written, and
     /// all of them still wait: another flush would write that beginning again.
     pub fn flush<W: Sink>(&mut self, sink: &mut W) -> Result<(), WriteError>
         requires { W.failures sink.old < u64.MAX }

@@ -15,7 +15,7 @@ use descriptors::Frame;
 ///
 /// # Errors
 ///
-/// E67 [`Write`](WriteError::Write) if the sink fails. Then a beginning of the slice was written.
+/// [`Write`](WriteError::Write) if the sink fails. Then a beginning of the slice was written.
 pub fn write_all<W: Sink>(sink: &mut W, bytes: &[u8]) -> Result<(), WriteError>
     requires { W.failures sink.old < u64.MAX }
     ensures ok { OnOk result (Appends (W.taken sink.old) (W.taken sink.new) bytes.now) }
@@ -51,7 +51,7 @@ impl Trace {
     ///
     /// # Errors
     ///
-    /// E67 [`Write`](WriteError::Write) if the sink fails; then it has only a beginning of the file.
+    /// [`Write`](WriteError::Write) if the sink fails; then it has only a beginning of the file.
     pub fn write<W: Sink>(
         sink: &mut W,
         unit: Unit,

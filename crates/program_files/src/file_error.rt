@@ -8,13 +8,15 @@ use std::alloc::{AllocError, AllocFailed, Global};
 /// Why an input or an output can't be used.
 #[derive(Drop)]
 pub enum FileError {
-    /// E68: the file at this path can't be opened or created.
+    /// The file at this path can't be opened or created.
     Open(String),
-    /// A trace is refused, or an input can't be read.
-    Read(ReadError),
-    /// E72: standard input or a pipe has more bytes than are read.
+    /// The input at this path isn't a trace, or can't be read.
+    Input(ReadError, String),
+    /// Memory was refused while a trace was read.
+    TraceMemory,
+    /// Standard input or a pipe has more bytes than are read.
     Pipe,
-    /// E57: memory was refused.
+    /// Memory was refused otherwise.
     Memory,
 }
 
@@ -26,13 +28,15 @@ impl FileError {
             Err(_) => FileError::Memory,
         }
     }
-}
 
-impl From<ReadError> for FileError {
-    ghost from_gives = { λ e f. f ≡ errors.Read e };
-
-    fn from(error: ReadError) -> FileError {
-        FileError::Read(error)
+    /// The error for a path whose input isn't a trace, or can't be read. It is `Memory` if there is no memory for the
+    /// path.
+    pub(crate) fn input(alloc: Global, error: ReadError, path: &str) -> FileError {
+        match (error, String::from_str(alloc, path)) {
+            (ReadError::Memory, _) => FileError::TraceMemory,
+            (error, Ok(path)) => FileError::Input(error, path),
+            (_, Err(_)) => FileError::Memory,
+        }
     }
 }
 

@@ -32,26 +32,31 @@ enum Opened<F> {
     Piped(Vec<u8>),
 }
 
-/// Reads all bytes up to a limit.
-fn read_up_to<S: Read + Drop>(alloc: Global, reader: S, limit: u64) -> Result<Vec<u8>, FileError> {
+/// Reads all bytes of the input at a path, up to a limit.
+fn read_up_to<S: Read + Drop>(
+    alloc: Global,
+    path: &str,
+    reader: S,
+    limit: u64,
+) -> Result<Vec<u8>, FileError> {
     let mut bytes = Vec::new(alloc);
     match reader.take(limit).read_to_end(&mut bytes) {
         Ok(_) => Ok(bytes),
         Err(error) if error.kind() == ErrorKind::OutOfMemory => Err(FileError::Memory),
-        Err(_) => Err(FileError::Read(ReadError::Read)),
+        Err(_) => Err(FileError::input(alloc, ReadError::Read, path)),
     }
 }
 
 /// Reads standard input or a pipe to its end, which has to come within [`MOST_PIPED`] bytes.
-fn read_pipe<S: Read + Drop>(alloc: Global, reader: S) -> Result<Vec<u8>, FileError> {
-    let bytes = read_up_to(alloc, reader, MOST_PIPED + 1)?;
+fn read_pipe<S: Read + Drop>(alloc: Global, path: &str, reader: S) -> Result<Vec<u8>, FileError> {
+    let bytes = read_up_to(alloc, path, reader, MOST_PIPED + 1)?;
     if bytes.len() as u64 > MOST_PIPED {
         return Err(FileError::Pipe);
     }
     Ok(bytes)
 }
 
-/// Opens a path, and returns what it is.
+/// Opens a path, and returns the file and its metadata.
 fn open_path<R: Files + AllocGlobal>(rt: &R, path: &str) -> Result<(R::File, Metadata), FileError> {
     let Ok(file) = fs::open(rt, path) else {
         return Err(FileError::open(rt.alloc(), path));
@@ -62,21 +67,60 @@ fn open_path<R: Files + AllocGlobal>(rt: &R, path: &str) -> Result<(R::File, Met
     Ok((file, metadata))
 }
 
-/// Opens an input. A pipe is read to its end. A device may have no end, so it is refused.
-fn open<R: Files + Input + AllocGlobal>(rt: &R, path: &str) -> Result<Opened<R::File>, FileError> {
-    if path == STANDARD_INPUT {
-        return Ok(Opened::Piped(read_pipe(rt.alloc(), rt.reader())?));
-    }
-    let (file, metadata) = open_path(rt, path)?;
+/// The kinds of inputs with a path.
+#[derive(Clone, Copy)]
+enum Kind {
+    File,
+    Pipe,
+    Folder,
+    Device,
+}
+
+/// The kind of an input.
+fn kind_of(metadata: &Metadata) -> Kind {
     let kind = metadata.file_type();
     if kind.is_file() {
-        Ok(Opened::File(file, metadata.len()))
+        Kind::File
     } else if kind.is_fifo() {
-        Ok(Opened::Piped(read_pipe(rt.alloc(), file)?))
+        Kind::Pipe
     } else if kind.is_dir() {
-        Err(FileError::Read(ReadError::Read))
+        Kind::Folder
     } else {
-        Err(FileError::open(rt.alloc(), path))
+        Kind::Device
+    }
+}
+
+/// Opens an input with a path. A pipe is read to its end. A device may have no end, so it is refused.
+fn open_input<R: Files + AllocGlobal>(rt: &R, path: &str) -> Result<Opened<R::File>, FileError> {
+    let (file, metadata) = open_path(rt, path)?;
+    match kind_of(&metadata) {
+        Kind::File => Ok(Opened::File(file, metadata.len())),
+        Kind::Pipe => Ok(Opened::Piped(read_pipe(rt.alloc(), path, file)?)),
+        Kind::Folder => Err(FileError::input(rt.alloc(), ReadError::Read, path)),
+        Kind::Device => Err(FileError::open(rt.alloc(), path)),
+    }
+}
+
+/// Opens an input. Standard input is read to its end.
+fn open<R: Files + Input + AllocGlobal>(rt: &R, path: &str) -> Result<Opened<R::File>, FileError> {
+    if path == STANDARD_INPUT {
+        Ok(Opened::Piped(read_pipe(rt.alloc(), path, rt.reader())?))
+    } else {
+        open_input(rt, path)
+    }
+}
+
+/// Reads a trace from an input that was opened.
+fn trace_of<R: Watched + Files + AllocGlobal>(
+    rt: &R,
+    input: Opened<R::File>,
+) -> Result<Trace, ReadError> {
+    match input {
+        Opened::File(file, length) => {
+            let reader = ReportingReader::new(rt, file, length);
+            Trace::read(rt.alloc(), &mut ReaderSource::new(reader, length))
+        }
+        Opened::Piped(bytes) => Trace::read(rt.alloc(), &mut SliceSource::new(bytes.as_slice())),
     }
 }
 
@@ -85,16 +129,11 @@ pub fn read_trace<R: Files + Input + Watched + AllocGlobal>(
     rt: &R,
     path: &str,
 ) -> Result<Trace, FileError> {
-    let trace = match open(rt, path)? {
-        Opened::File(file, length) => {
-            let reader = ReportingReader::new(rt, file, length);
-            Trace::read(rt.alloc(), &mut ReaderSource::new(reader, length))?
-        }
-        Opened::Piped(bytes) => {
-            Trace::read(rt.alloc(), &mut SliceSource::new(bytes.as_slice()))?
-        }
-    };
-    Ok(trace)
+    let input = open(rt, path)?;
+    match trace_of(rt, input) {
+        Ok(trace) => Ok(trace),
+        Err(error) => Err(FileError::input(rt.alloc(), error, path)),
+    }
 }
 
 /// Reads all bytes of an input. Bytes that are appended after a file was opened aren't read.
@@ -103,7 +142,7 @@ pub fn read_bytes<R: Files + Input + AllocGlobal>(
     path: &str,
 ) -> Result<Vec<u8>, FileError> {
     match open(rt, path)? {
-        Opened::File(file, length) => read_up_to(rt.alloc(), file, length),
+        Opened::File(file, length) => read_up_to(rt.alloc(), path, file, length),
         Opened::Piped(bytes) => Ok(bytes),
     }
 }
@@ -115,12 +154,13 @@ pub fn read_front<R: Files + Input + AllocGlobal>(
     limit: u64,
 ) -> Result<Vec<u8>, FileError> {
     match open(rt, path)? {
-        Opened::File(file, _) => read_up_to(rt.alloc(), file, limit),
+        Opened::File(file, _) => read_up_to(rt.alloc(), path, file, limit),
         Opened::Piped(bytes) => Ok(bytes),
     }
 }
 
-/// A file that is written. It is made if there is none; else it keeps its bytes until the first new byte.
+/// Opens a file for writing. A file that doesn't exist is created; an existing one keeps its bytes until the first new
+/// byte is written.
 pub fn create_file<R: Files + AllocGlobal>(
     rt: &R,
     path: &str,
@@ -131,14 +171,15 @@ pub fn create_file<R: Files + AllocGlobal>(
     }
 }
 
-/// A file as a sink. It is made if there is none; else it keeps its bytes until the sink's first byte.
+/// Opens a file as a sink. A file that doesn't exist is created; an existing one keeps its bytes until the first new
+/// byte is written.
 pub fn create<R: Files + AllocGlobal>(rt: &R, path: &str) -> Result<FileSink<R::File>, FileError>
     ensures { IfOk result (λ sink. ⟦<FileSink<R::File> as Sink>⟧.failures sink ≡ 0) }
 {
     Ok(WriterSink::new(create_file(rt, path)?))
 }
 
-/// A file of this name in a folder, as a sink. One in another folder isn't made.
+/// A file with this name in a folder, as a sink. A name with a slash is refused: its file would be in another folder.
 fn create_in<R: Files + AllocGlobal>(
     rt: &R,
     directory: &str,
@@ -170,7 +211,7 @@ pub fn create_all<R: Files + AllocGlobal>(
     Ok(sinks)
 }
 
-/// Checks that a folder exists.
+/// Checks that a path is that of a folder.
 pub fn find_folder<R: Files + AllocGlobal>(rt: &R, path: &str) -> Result<(), FileError> {
     match fs::metadata(rt, path) {
         Ok(metadata) if metadata.is_dir() => Ok(()),
@@ -186,7 +227,7 @@ fn metadata_of<R: Files>(rt: &R, path: &str) -> io::Result<Metadata> {
     fs::metadata(rt, path)
 }
 
-/// Whether the path of an output and that of an input, or of another output, are of one plain file.
+/// Whether the path of an output and another path are of the same plain file.
 pub fn is_same_file<R: Files>(rt: &R, output: &str, other: &str) -> bool {
     match (fs::metadata(rt, output), metadata_of(rt, other)) {
         (Ok(one), Ok(two)) => one.is_file() && one.dev() == two.dev() && one.ino() == two.ino(),

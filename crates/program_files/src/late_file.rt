@@ -1,10 +1,10 @@
-//! A file that keeps its bytes until the first new one is written.
+//! A file that keeps its bytes until the first new byte is written.
 
 use std::fs::OpenFile;
 use std::io::{self, Write};
 
-/// A file that is written from its front. Its old bytes are dropped just before the first byte is written, so a program
-/// that ends earlier doesn't change the file.
+/// A file that is written from its beginning. Its old bytes are dropped just before the first new byte is written, so a
+/// program that ends earlier doesn't change the file.
 #[derive(Drop)]
 pub struct LateFile<F> {
     file: F,

@@ -1,10 +1,13 @@
-//! The inputs and outputs of the program: files, pipes and standard input.
+//! The inputs and outputs of the program: files, pipes and standard input; and the options in the first line of a
+//! schedule's file.
 #![tactic(auto)]
 
 mod file_error;
 mod files;
 mod late_file;
 mod progress;
+mod schedule_adapters;
+mod schedule_words;
 mod standard_error;
 mod whole_file;
 
@@ -15,5 +18,7 @@ pub use files::{
 };
 pub use late_file::LateFile;
 pub use progress::{Watched, report_play};
+pub use schedule_adapters::is_for;
+pub use schedule_words::adapter_options;
 pub use standard_error::StandardError;
 pub use whole_file::{WholeFile, create_whole};

@@ -15,8 +15,8 @@ const MOST_PARTS: u32 = 100;
 
 /// An output that was opened.
 ///
-/// If it can be replaced, its new bytes are written to a part, another file in the same folder, and
-/// [`finish`](WholeFile::finish) renames the part to the output. So the output has its old bytes or all new bytes, also
+/// If it can be replaced, its new bytes are written to a part, which is another file in the same folder.
+/// [`finish`](WholeFile::finish) renames the part to the output. So the output has its old bytes or all new bytes, even
 /// if the program is killed.
 #[derive(Drop)]
 pub struct WholeFile<F> {
@@ -24,6 +24,30 @@ pub struct WholeFile<F> {
     pub sink: FileSink<F>,
     /// The path of the part; `None` if the output is written in place.
     part: Option<String>,
+}
+
+/// The result of making a new file.
+#[derive(Drop)]
+enum NewFile<F> {
+    /// The file was made.
+    Made(F),
+    /// There is a file with this name.
+    Taken,
+    /// No file with this name can be made.
+    Refused,
+}
+
+/// Makes a new file with this name.
+fn new_file<R: Files>(rt: &R, name: &str) -> NewFile<R::File> {
+    match OpenOptions::new()
+        .write(true)
+        .create_new(true)
+        .open(rt, name)
+    {
+        Ok(file) => NewFile::Made(file),
+        Err(error) if error.kind() == ErrorKind::AlreadyExists => NewFile::Taken,
+        Err(_) => NewFile::Refused,
+    }
 }
 
 /// Makes a part, which is a new file, and returns it with its path. Returns `None` if it can't be made.
@@ -36,20 +60,17 @@ fn new_part<R: Files + AllocGlobal>(
     }
     for number in 0..MOST_PARTS {
         let name = format!(in rt.alloc(); "{path}.part{number}")?;
-        match OpenOptions::new()
-            .write(true)
-            .create_new(true)
-            .open(rt, name.as_str())
-        {
-            Ok(file) => return Ok(Some((file, name))),
-            Err(error) if error.kind() == ErrorKind::AlreadyExists => {}
-            Err(_) => return Ok(None),
+        match new_file(rt, name.as_str()) {
+            NewFile::Made(file) => return Ok(Some((file, name))),
+            NewFile::Taken => {}
+            NewFile::Refused => return Ok(None),
         }
     }
     Ok(None)
 }
 
-/// Gives a part the permissions of the file that it replaces. Returns whether it has them, and the same owner.
+/// Sets the permissions of a part to those of the file that it replaces. Returns whether the part has them and the same
+/// owner.
 fn take_after<F: OpenFile>(part: &F, old: &Metadata) -> bool {
     let Ok(new) = part.metadata() else {
         return false;
@@ -93,11 +114,11 @@ impl<F: OpenFile + std::io::Write + Drop> WholeFile<F> {
         WholeFile { sink, part: None }
     }
 
-    /// To call once all is written: the output gets the new bytes.
+    /// Must be called after all bytes were written: the output gets the new bytes.
     ///
     /// # Errors
     ///
-    /// E67 [`Write`](WriteError::Write) if the part can't get the output's name. Then the output is as it was.
+    /// [`Write`](WriteError::Write) if the part can't be renamed. Then the output is unchanged.
     pub fn finish<R: Files>(self, rt: &R, path: &str) -> Result<(), WriteError> {
         let WholeFile { sink: _, part } = self;
         let Some(part) = part else {
@@ -110,7 +131,8 @@ impl<F: OpenFile + std::io::Write + Drop> WholeFile<F> {
         Err(WriteError::Write)
     }
 
-    /// To call if not all is written: removes the part. An output that is written in place keeps the bytes that it has.
+    /// Must be called if not all bytes were written: removes the part. An output that is written in place keeps the
+    /// bytes that were written.
     pub fn abandon<R: Files>(self, rt: &R) {
         let WholeFile { sink: _, part } = self;
         if let Some(part) = part {
@@ -136,6 +158,26 @@ fn open_replaceable<R: Files + AllocGlobal>(
     }
 }
 
+/// Opens an output that is written in place.
+fn create_in_place<R: Files + AllocGlobal>(
+    rt: &R,
+    path: &str,
+) -> Result<WholeFile<R::File>, FileError>
+    ensures { IfOk result (λ file. ⟦<FileSink<R::File> as Sink>⟧.failures file.sink ≡ 0) }
+{
+    Ok(WholeFile::in_place(create(rt, path)?))
+}
+
+/// Creates an output that doesn't exist.
+fn create_new<R: Files + AllocGlobal>(rt: &R, path: &str) -> Result<WholeFile<R::File>, FileError>
+    ensures { IfOk result (λ file. ⟦<FileSink<R::File> as Sink>⟧.failures file.sink ≡ 0) }
+{
+    match new_part(rt, path)? {
+        Some((part, name)) => Ok(WholeFile::beside(part, name)),
+        None => create_in_place(rt, path),
+    }
+}
+
 /// Opens an output. A plain file with one name keeps its bytes until [`finish`](WholeFile::finish), and a new file gets
 /// its name then. Any other output is written in place, as by [`create`]: a link, a file with several names, a device
 /// or a pipe. A file for which no part with its owner and permissions can be made is written in place, too.
@@ -146,15 +188,8 @@ pub fn create_whole<R: Files + AllocGlobal>(
     ensures { IfOk result (λ file. ⟦<FileSink<R::File> as Sink>⟧.failures file.sink ≡ 0) }
 {
     match fs::symlink_metadata(rt, path) {
-        Ok(old) if old.is_file() && old.nlink() == 1 => {
-            return open_replaceable(rt, path, &old);
-        }
-        Err(error) if error.kind() == ErrorKind::NotFound => {
-            if let Some((part, name)) = new_part(rt, path)? {
-                return Ok(WholeFile::beside(part, name));
-            }
-        }
-        _ => {}
+        Ok(old) if old.is_file() && old.nlink() == 1 => open_replaceable(rt, path, &old),
+        Err(error) if error.kind() == ErrorKind::NotFound => create_new(rt, path),
+        _ => create_in_place(rt, path),
     }
-    Ok(WholeFile::in_place(create(rt, path)?))
 }

@@ -25,7 +25,7 @@ use Rattle.command_line.specs.declared.job.ServeImage.{ServeImage}
 use Rattle.command_line.specs.declared.job.ServeImage.TheVariants.{Address, File}
 use Rattle.command_line.specs.declared.job.ServeJob.{ServeJob}
 use Rattle.command_line.specs.declared.job.ServeLink.TheVariants.{After, Never}
-use Rattle.schedule_options.specs.Adapters.{AreSameImage, HasAdapterOf, HaveSameAdapter, IsAnswer}
+use Rattle.program_files.specs.Adapters.{AreSameImage, HasAdapterOf, HaveSameAdapter, IsAnswer}
 use Rattle.program_plants.specs.SameJobs.{AreSameDrives, AreSameImages, AreSameJobs, AreSamePasses, AreSameRuns, AreSameServes}
 
 -- Texts spell one value.

@@ -23,7 +23,7 @@ use Rattle.command_line.specs.declared.job.ServeJob.{ServeJob}
 use Rattle.command_line.specs.declared.job.ValueOption.{ValueOption}
 use Rattle.command_line.specs.declared.job.ValueOption.TheVariants as option
 use Rattle.text.specs.Addresses.{SpellsAddress}
-use Rattle.schedule_options.specs.Adapters.{AreSameImage, HasAdapterOf, IsAnswer}
+use Rattle.program_files.specs.Adapters.{AreSameImage, HasAdapterOf, IsAnswer}
 use Rattle.program_plants.specs.SameJobs.{AreSameImages, AreSameJobs}
 use Rattle.program_plants.proofs.OneJob.{asked_one, not_both}
 

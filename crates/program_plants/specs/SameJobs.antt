@@ -1,4 +1,4 @@
--- Jobs with the same values, wherever their texts lie in memory.
+-- Jobs with the same values, whatever the addresses of their texts.
 use Rattle.std.specs.Prelude.{◌≡◌, List, Option, ℕ}
 use Rattle.std.specs.Borrow.{Bor}
 use Rattle.std.specs.Option.{option_map}

@@ -1,5 +1,5 @@
-//! The call of `command_line`, made twice. Two things are open: when memory is refused, and which of several wrong
-//! words an error names.
+//! The call of `command_line`, made twice. The contract leaves open when memory is refused, and which of several
+//! invalid words an error names.
 
 ghost use Rattle.std.specs.Prelude.{IfErr, IfOk, OnOk};
 ghost use Rattle.command_line.specs.Errors.{IfValue, IfWords};
@@ -9,8 +9,8 @@ use command_line::{Job, LineError};
 use std::alloc::Global;
 use std::convert::AsStr;
 
-/// [`command_line::line`] twice: words ask for one job, and neither clap nor the value of an option refuses words that
-/// ask for a job.
+/// [`command_line::line`] twice: words request only one job, and words that request a job are refused neither by clap
+/// nor for the value of an option.
 #[tactic(auto, using(crate::proofs::OneJob::asked_one, crate::proofs::OneJob::asked_not_refused))]
 pub fn line<'a, S: AsStr>(
     alloc: Global,

@@ -6,7 +6,7 @@ ghost use Rattle.pcap_bench.specs.Options.{HasVlanNumber};
 use pcap_bench::{PassCounts, PassError, PassFilter, Sink, Trace, Unit};
 use std::alloc::Global;
 
-/// [`pcap_bench::pass`] twice. When there is too little memory is open, and when a write fails.
+/// [`pcap_bench::pass`] twice. The contract leaves open when memory is refused, and when a write fails.
 #[tactic(auto, using(crate::proofs::Fates::counts_are_one, crate::proofs::Fates::written_is_one))]
 pub fn pass<W: Sink>(
     alloc: Global,

@@ -9,7 +9,8 @@ use descriptors::Frame;
 use pcap_trace::{ReadError, RecordWriter, Sink, Source, Trace, Unit, WriteError};
 use std::alloc::{AllocError, Global};
 
-/// [`Trace::read`] of two sources with the same bytes. When there is too little memory is open, and when a read fails.
+/// [`Trace::read`] of two sources with the same bytes. The contract leaves open when memory is refused, and when a read
+/// fails.
 pub fn read_trace<S: Source>(
     alloc: Global,
     one: &mut S,
@@ -25,7 +26,7 @@ pub fn read_trace<S: Source>(
     (Trace::read(alloc, one), Trace::read(alloc, other))
 }
 
-/// [`Trace::write`] to two sinks. When a write fails is open.
+/// [`Trace::write`] to two sinks. The contract leaves open when a write fails.
 pub fn write_trace<W: Sink>(
     one: &mut W,
     other: &mut W,
@@ -61,7 +62,7 @@ pub fn new_writer(
     )
 }
 
-/// [`RecordWriter::write`] twice: how many of its bytes a writer keeps is open.
+/// [`RecordWriter::write`] twice: the contract leaves open how many of its bytes a writer keeps.
 pub fn write_record<W: Sink>(
     one: &mut RecordWriter,
     other: &mut RecordWriter,

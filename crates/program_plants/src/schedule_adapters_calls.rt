@@ -1,12 +1,12 @@
-//! The call of `schedule_options` that compares adapters, for one job and for two.
+//! The call of `program_files` that compares adapters, for one job and for two.
 
 ghost use Rattle.std.specs.Prelude.{◌≡◌, IfOk, IsTrue};
-ghost use Rattle.schedule_options.specs.Adapters.{HaveSameAdapter};
+ghost use Rattle.program_files.specs.Adapters.{HaveSameAdapter};
 
 use command_line::ServeJob;
 use std::alloc::{AllocError, Global};
 
-/// [`schedule_options::is_for`] of two jobs: options are for jobs with one adapter.
+/// [`program_files::is_for`] of two jobs: options are for both jobs only if these have the same adapter.
 pub fn is_for(
     alloc: Global,
     options: &[String],
@@ -17,12 +17,12 @@ pub fn is_for(
         → HaveSameAdapter job.now other.now)) }
 {
     (
-        schedule_options::is_for(alloc, options, job),
-        schedule_options::is_for(alloc, options, other),
+        program_files::is_for(alloc, options, job),
+        program_files::is_for(alloc, options, other),
     )
 }
 
-/// [`schedule_options::is_for`] twice.
+/// [`program_files::is_for`] twice.
 #[tactic(auto, using(crate::proofs::WrongValues::answer_one))]
 pub fn is_for_one_job(
     alloc: Global,
@@ -32,7 +32,7 @@ pub fn is_for_one_job(
     ensures { IfOk result.0 (λ is. IfOk result.1 (λ also. is ≡ also)) }
 {
     (
-        schedule_options::is_for(alloc, options, job),
-        schedule_options::is_for(alloc, options, job),
+        program_files::is_for(alloc, options, job),
+        program_files::is_for(alloc, options, job),
     )
 }

@@ -1,10 +1,10 @@
-//! The call of `schedule_options` that takes the options of an adapter out of words.
+//! The call of `program_files` that finds the options of an adapter among words.
 
 ghost use Rattle.std.specs.Prelude.{◌≡◌, IfOk, map, string_bytes};
 
 use std::alloc::{AllocError, Global};
 
-/// [`schedule_options::adapter_options`] twice.
+/// [`program_files::adapter_options`] twice.
 pub fn adapter_options(
     alloc: Global,
     words: &[String],
@@ -16,7 +16,7 @@ pub fn adapter_options(
         (λ others. map string_bytes options.items ≡ map string_bytes others.items)) }
 {
     (
-        schedule_options::adapter_options(alloc, words),
-        schedule_options::adapter_options(alloc, words),
+        program_files::adapter_options(alloc, words),
+        program_files::adapter_options(alloc, words),
     )
 }

@@ -19,14 +19,14 @@ fn record<W: Sink>(writer: &mut RecordWriter, sink: &mut W) -> Result<(), WriteE
     writer.flush(sink)
 }
 
-/// That trace.
+/// The trace of these two frames.
 fn two_frames(alloc: Global) -> Result<VecSink, Fail> {
     let mut sink = VecSink::new(alloc);
     record(&mut RecordWriter::new(alloc, Unit::Micros)?, &mut sink)?;
     Ok(sink)
 }
 
-/// How many frames are read from a source, or why it is refused.
+/// The number of frames that are read from a source, or why the source is rejected.
 fn count<S: Source>(alloc: Global, source: &mut S) -> Result<usize, ReadError>
     requires { S.failures source.old < u64.MAX }
 {
@@ -55,7 +55,7 @@ fn readers_of_the_system(rt: HostRuntime) -> Result<(), Fail> {
     Ok(())
 }
 
-/// A slice of 100 bytes takes no more.
+/// A slice of 100 bytes takes at most 100 bytes.
 #[test]
 fn writers_of_the_system(rt: HostRuntime) -> Result<(), Fail> {
     let whole = two_frames(rt.alloc())?;
@@ -71,8 +71,8 @@ fn writers_of_the_system(rt: HostRuntime) -> Result<(), Fail> {
     Ok(())
 }
 
-/// The seconds have 32 bits: their higher bits are lost. 2^64 - 1 is 18,446,744,073,709 seconds, 4,294 times 2^32 and
-/// 0xF7A0_B5ED more, and 551,615 (0x86ABF) microseconds.
+/// The seconds have 32 bits: their higher bits are lost. 2^64 - 1 microseconds are 18,446,744,073,709 seconds (4,294
+/// times 2^32, plus 0xF7A0_B5ED) and 551,615 (0x86ABF) microseconds.
 #[test]
 fn the_greatest_time(rt: HostRuntime) -> Result<(), Fail> {
     let mut packets = Vec::new(rt.alloc());

@@ -1,4 +1,4 @@
-//! Names of each kind.
+//! The names of targets of each kind.
 
 use access_names::{Engine, Target};
 use adapter::offsets::{MTA_LAST, RAH_LAST, TDT, VFTA};

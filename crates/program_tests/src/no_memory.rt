@@ -5,14 +5,14 @@ use pcap_bench::Frames;
 use pcap_trace::{Trace, Unit, WriterSink};
 use std::alloc::{AllocError, Global};
 
-/// A frame of 60 bytes with its number.
+/// A frame of 60 bytes, with its time.
 fn packets(alloc: Global) -> Result<Vec<(u64, Frame)>, AllocError> {
     let mut packets = Vec::new(alloc);
     packets.push((7, Frame::from_slice(&[0xA5; 60])))?;
     Ok(packets)
 }
 
-/// The same as a trace.
+/// A trace with a frame of 60 bytes.
 fn trace(alloc: Global) -> Result<Trace, AllocError> {
     let mut frames = Frames::new(alloc);
     frames.push(&[0xA5; 60])?;

@@ -1,4 +1,4 @@
-//! The code of a README, word for word.
+//! The code of the README of `pcap_bench`, word for word.
 
 use pcap_bench::{Frames, PassFilter, Trace, Unit, VecSink, pass, print_pass};
 use std::test::Fail;

@@ -1,4 +1,4 @@
-//! The code of a README, word for word.
+//! The code of the README of `pcap_trace`, word for word.
 
 use pcap_trace::{RecordWriter, SliceSource, Trace, Unit, VecSink};
 use std::test::Fail;

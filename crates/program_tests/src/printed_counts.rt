@@ -1,4 +1,4 @@
-//! Lines of a trace with no frame, whose last packet is cut off, behind the most packets that were captured in part.
+//! The lines for a trace with no frame: the greatest number of truncated packets, and then a packet that is cut off.
 
 use pcap_bench::{Frames, PassCounts, Trace, VecSink, print_pass, show};
 use std::alloc::Global;

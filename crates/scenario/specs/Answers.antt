@@ -1,4 +1,4 @@
--- Which lines are good, and the faults of the others (our choice).
+-- Which lines are valid, and the faults of the others (our choice).
 use Rattle.std.specs.Prelude.{◌≡◌, ◌<◌, ◌≤◌, ◌==◌, ℕ, Bool, true, false, List, [], ◌∷◌, Option, Some, None, Result, Ok, Err, if◌then◌else◌}
 use Rattle.std.specs.Prelude.{◌-◌, IsSomeAnd, length, slice_index, take}
 use Rattle.std.specs.List.{fold}
@@ -26,7 +26,7 @@ use Rattle.scenario.specs.declared.refusal.Stop.{Stop}
 abbrev pub most_line_bytes : ℕ
 most_line_bytes = 8192
 
--- a line of this kind is good
+-- A line of this kind is valid.
 pub record IsGood (kind : LineKind) (before : SoFar) (words : List Text) : Type 0 where
   pub count : HasCount kind words
   pub values : HasValues kind words
@@ -47,18 +47,18 @@ abbrev pub IsAnswer : LineKind → SoFar → List Text → Result (Unit {0}) Sto
 IsAnswer kind before words (Ok u) after = IsGood kind before words × (after ≡ after_line kind before words)
 IsAnswer kind before words (Err stop) after = IfFault stop (IsFaulty kind before words)
 
--- Either a host has room for one more item and gets it, or it has no room.
+-- The result of adding an item to a host: the host has room and gets the item, or it has no room.
 abbrev pub IsGrowth : (Host → ℕ) → ℕ → (Host → Host) → Host → Result (Unit {0}) Fault → Host → Type 0
 IsGrowth held most change host (Ok u) after = (held host < most) × (after ≡ change host)
 IsGrowth held most change host (Err stopped) after = (stopped ≡ fault.Name) × (¬ (held host < most))
 
--- Either the host of this name gets one more item, or there is no such host with room.
+-- The result of adding an item to the host of this name: it has room and gets the item, or no host of this name has room.
 abbrev pub IsChange : Text → (Host → ℕ) → ℕ → (Host → Host) → List Host → Result (Unit {0}) Fault → List Host → Type 0
 IsChange name held most change hosts (Ok u) after =
     IsRoomAt name held most hosts × (after ≡ changed_first (has_name name) change hosts)
 IsChange name held most change hosts (Err stopped) after = (stopped ≡ fault.Name) × (¬ IsRoomAt name held most hosts)
 
--- The words of a host line are counted and have their forms, and spell this address and these options.
+-- A host line has the right number of words, each has its form, and they spell this address and these options.
 pub record IsHostRead (words : List Text) (read : List ℕ × HostOptions) : Type 0 where
   pub count : HasCount line.Host words
   pub values : HasValues line.Host words
@@ -83,7 +83,7 @@ IsFaultyCall hosts name ticks fault.Value = ¬ (are_ticks ticks ≡ true)
 IsFaultyCall hosts name ticks fault.Name = (are_ticks ticks ≡ true) × (¬ AreKnown hosts name ticks)
 IsFaultyCall hosts name ticks _ = ⊥
 
--- a line that isn't too long, and is UTF-8
+-- A line isn't too long, and is UTF-8.
 pub record IsReadable (line : Text) : Type 0 where
   pub size : length line ≤ most_line_bytes
   pub text : IsUtf8 line
@@ -93,7 +93,7 @@ abbrev pub is_skipped : List Text → Bool
 is_skipped [] = true
 is_skipped (first ∷ words) = slice_index first 0 == 0x23
 
--- a good line
+-- A line is valid, or it is skipped.
 pub record IsGoodLine (before : SoFar) (line : Text) : Type 0 where
   pub readable : IsReadable line
   pub said : is_skipped (words_of line) ≡ false
@@ -110,7 +110,7 @@ IsFaultyLine before line fault.Long = most_line_bytes < length line
 IsFaultyLine before line fault.Text = (length line ≤ most_line_bytes) × (¬ IsUtf8 line)
 IsFaultyLine before line one = IsReadable line × (is_skipped (words_of line) ≡ false) × IsFaultySaying before (words_of line) one
 
--- what a good line changes, by its words
+-- the hosts, commands and traces after a valid line, by the kind of the line
 abbrev pub after_kind : Option LineKind → SoFar → List Text → SoFar
 after_kind (Some kind) before words = after_line kind before words
 after_kind None before words = before
@@ -130,20 +130,20 @@ abbrev pub IsLineAnswer : SoFar → Text → Result (Unit {0}) Stop → SoFar �
 IsLineAnswer before line (Ok u) after = IsGoodLine before line × (after ≡ after_words before (words_of line))
 IsLineAnswer before line (Err stop) after = IfFault stop (IsFaultyLine before line)
 
--- the hosts, commands and traces of good lines
+-- the hosts, commands and traces of valid lines
 abbrev pub said_by : List Text → SoFar
 said_by lines = fold (λ before line. after_words before (words_of line)) nothing_read lines
 
--- the first lines, this many, are good, each after those before it
+-- The first `count` lines are valid, each after the lines before it.
 abbrev pub AreGood : ℕ → List Text → Type 0
 AreGood count all = (k : ℕ) → k < count → IsGoodLine (said_by (take k all)) (word k all)
 
--- A text is read: all its lines are good, and this is what they add.
+-- A text is read: all its lines are valid, and `read` is what they add.
 pub record IsRead (text : Text) (read : SoFar) : Type 0 where
   pub good : AreGood (length (lines text)) (lines text)
   pub said : read ≡ said_by (lines text)
 
--- This line, numbered from 1, is the first faulty one, and has this fault.
+-- The line with this number, from 1, is the first faulty line, and has this fault.
 pub record IsRefusedAt (text : Text) (line : ℕ) (one : Fault) : Type 0 where
   pub least : 1 ≤ line
   pub there : line ≤ length (lines text)

@@ -37,7 +37,7 @@ abbrev pub use_or_unread : OptionKind → Option HostUse → HostUse
 use_or_unread kind (Some read) = read
 use_or_unread kind None = uses.Unread kind
 
--- an option with its value
+-- the use of an option with its value
 abbrev pub use_of : OptionKind → Text → HostUse
 use_of option.Rx value = use_or_unread option.Rx (option_map uses.Rx (number_in 10 16 value))
 use_of option.Tx value = use_or_unread option.Tx (option_map uses.Tx (number_in 10 16 value))
@@ -50,7 +50,7 @@ abbrev pub takes_value : OptionKind → Bool
 takes_value option.Promiscuous = false
 takes_value _ = true
 
--- an option that no value follows
+-- the use of an option that no value follows
 abbrev pub lone_use : OptionKind → HostUse
 lone_use option.Promiscuous = uses.Promiscuous
 lone_use kind = uses.Lone kind
@@ -99,7 +99,7 @@ abbrev pub is_some_of : OptionKind → Option OptionKind → Bool
 is_some_of kind (Some own) = is_same own kind
 is_some_of kind None = false
 
--- this option is used
+-- whether this option is used
 abbrev pub is_use_of : OptionKind → HostUse → Bool
 is_use_of kind one = is_some_of kind (kind_of_use one)
 
@@ -126,7 +126,7 @@ pub record AreCounted (given : List HostUse) : Type 0 where
   pub whole : All (λ one. is_whole one ≡ true) given
   pub once : AreOnce given
 
--- Each word is an option, and its value has its form.
+-- Each word is an option, and its value, if it has one, has its form.
 pub record AreRead (given : List HostUse) : Type 0 where
   pub all : All (λ one. is_read one ≡ true) given
 

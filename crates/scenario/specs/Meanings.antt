@@ -49,7 +49,7 @@ call_words words = words_before (codes "/") words
 abbrev pub tick_words : List Text → List Text
 tick_words words = words_after (codes "/") words
 
--- the words of the options of a host
+-- the words of the options of a `host` line
 abbrev pub option_words : List Text → List Text
 option_words words = drop 4 words
 
@@ -69,7 +69,7 @@ are_ticks_of hosts words = list_all (λ one. is_some (tick_named hosts one)) wor
 abbrev pub ticks_in : List Host → List Text → List Tick
 ticks_in hosts words = map (λ one. unwrap_or (tick_named hosts one) tick.Go) words
 
--- A host line has enough words, each option has its value, and none occurs twice.
+-- A `host` line has enough words, each option has its value, and no option occurs twice.
 pub record HasHostWords (words : List Text) : Type 0 where
   pub least : 4 ≤ length words
   pub options : AreCounted (uses_in (option_words words))
@@ -128,7 +128,7 @@ vlans_held host = length (vlans_of host.config.vlans)
 abbrev pub sockets_held : Host → ℕ
 sockets_held host = length host.sockets
 
--- the items of this kind that a host has, and the most that it can have
+-- the number of the items of a host that are of the kind of this item
 abbrev pub items_held : Item → Host → ℕ
 items_held (items.Group group) = groups_held
 items_held (items.Vlan vlan) = vlans_held
@@ -170,7 +170,7 @@ HasHostNames line.Feed hosts words = NamesHost (word 1 words) hosts
 HasHostNames line.Auto hosts words = Unit {0}
 HasHostNames line.Drain hosts words = NamesHost (word 1 words) hosts
 
--- Whether lines of this kind set up hosts. They must come before the first event.
+-- whether lines of this kind set up hosts; they must come before the first event
 abbrev pub sets_up : LineKind → Bool
 sets_up line.Host = true
 sets_up (line.Item one) = true
@@ -234,7 +234,7 @@ changing name change before = with_hosts (changed_first (has_name name) change b
 abbrev pub saying : Said → SoFar → SoFar
 saying said before = record before { commands = before.commands ++ said ∷ [] }
 
--- the event in which a host is asked this, with these ticks inside
+-- the event of this call at a host, with these ticks inside
 abbrev pub said_asking : Asked → (host : ℕ) (ticks : List Tick) → Said
 said_asking (asked.Send frame) host ticks = Sends host frame.items ticks
 said_asking (asked.Recv socket) host ticks = Receives host socket ticks
@@ -261,7 +261,7 @@ pub record IsAsked (kind : CallKind) (words : List Text) (one : Asked) : Type 0 
 abbrev pub number_of : Text → List Host → ℕ
 number_of name hosts = unwrap_or (place_of name hosts) 0
 
--- the hosts, commands and traces after a good line
+-- the hosts, commands and traces after a valid line
 abbrev pub after_line : LineKind → SoFar → List Text → SoFar
 after_line line.Host before words = with_hosts (before.hosts ++ host_of_words words ∷ []) before
 after_line (line.Item one) before words = changing (word 1 words) (with_item (item_in one (word 2 words))) before

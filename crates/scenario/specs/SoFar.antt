@@ -40,7 +40,7 @@ host_of_plan plan = record {
   sockets = plan.sockets.items;
 }
 
--- A command, with the bytes of its frame and the list of its ticks.
+-- A command: an event with the bytes of its frame and the list of its ticks, or a feed, random events, or a drain.
 pub data Said : Type 0 where
   Sends : (host : ℕ) (frame : List ℕ) (ticks : List Tick) → Said
   Receives : (host socket : ℕ) (ticks : List Tick) → Said
@@ -53,7 +53,7 @@ pub data Said : Type 0 where
   Draws : (count start : ℕ) → Said
   Drains : (host : ℕ) → Said
 
--- what a line with one event adds
+-- the command of an event
 abbrev pub event_of : Event → Said
 event_of (event.Send host frame ticks) = Sends host frame.items ticks.items
 event_of (event.Recv host socket ticks) = Receives host socket ticks.items
@@ -63,14 +63,14 @@ event_of (event.Join host group ticks) = Joins host group ticks.items
 event_of (event.Leave host group ticks) = Leaves host group ticks.items
 event_of (event.Tick tick) = Ticks tick
 
--- what a line with a command adds
+-- a command of a scenario, with the bytes of its frame and the list of its ticks
 abbrev pub said_of : Command → Said
 said_of (command.Event one) = event_of one
 said_of (command.Feed host trace) = Feeds host trace
 said_of (command.Auto count start) = Draws count start
 said_of (command.Drain host) = Drains host
 
--- the hosts, commands and names of traces so far
+-- the hosts, commands and names of traces of the lines read so far
 pub record SoFar : Type 0 where
   pub hosts : List Host
   pub commands : List Said
@@ -87,7 +87,7 @@ so_far scenario = record {
   traces = map (λ (name : String Global). string_bytes name) scenario.traces.items;
 }
 
--- Before the first line there is nothing.
+-- no hosts, no commands and no traces: before the first line
 abbrev pub nothing_read : SoFar
 nothing_read = record { hosts = []; commands = []; traces = [] }
 

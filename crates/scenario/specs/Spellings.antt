@@ -1,4 +1,4 @@
--- Which words spell a number, an address, a frame and an EtherType, and which one (our choice).
+-- Which words spell an address, a frame, an EtherType and the frames of a socket, and which (our choice).
 use Rattle.std.specs.Prelude.{◌≤◌, ◌+◌, ◌*◌, ℕ, List, [], ◌∷◌, Option, Some, None, if◌then◌else◌}
 use Rattle.std.specs.Prelude.{IsOk, ◌==◌, codes, Ok, Err, Result, length, map, slice_index}
 use Rattle.std.specs.Option.{option_map}
@@ -40,7 +40,7 @@ pub record IsFrame (text : Text) : Type 0 where
   pub size : length text ≤ most_frame_digits
   pub bytes : IsOk (decode_of text)
 
--- the number that four hexadecimal digits spell
+-- the number that a text spells, if it is four hexadecimal digits
 abbrev pub ether_type_in : Text → Option ℕ
 ether_type_in text = if length text == 4 then number_in 16 16 text else None
 

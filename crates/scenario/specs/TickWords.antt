@@ -1,4 +1,4 @@
--- Which words spell a tick, and which one (our choice).
+-- Which words spell a tick, and which tick (our choice).
 use Rattle.std.specs.Prelude.{◌==◌, ◌&&◌, ◌||◌, ℕ, Bool, List, [], ◌∷◌, Option, Some, None, codes, if◌then◌else◌, is_some, length, nat_lt}
 use Rattle.std.specs.List.{after_first, before_first, position_or_len}
 use Rattle.std.specs.Str.{bytes_eq}
@@ -23,7 +23,7 @@ tick_kinds =
     ∷ (codes "deliver", ticks.Deliver)
     ∷ []
 
--- the kind of ticks with this name
+-- the kind of ticks with this name, if there is one
 unfoldable pub tick_kind_named : Text → Option TickKind
 tick_kind_named word = value_in tick_kinds word
 

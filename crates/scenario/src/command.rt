@@ -7,11 +7,11 @@ use network_plan::{Event, Plan};
 pub enum Command {
     /// An event.
     Event(Event),
-    /// For each frame of a trace: the events that send it and let it arrive.
+    /// For each frame of a trace, the events that send the frame and let it arrive.
     Feed {
         /// The host, numbered from 0 in the order of the plan.
         host: usize,
-        /// The trace, numbered from 0 among the names of traces.
+        /// The trace: its place among the names of traces, from 0.
         trace: usize,
     },
     /// Events drawn at random.
@@ -21,7 +21,7 @@ pub enum Command {
         /// The seed.
         start: u64,
     },
-    /// A host delivers all frames that it has for its sockets.
+    /// A host delivers all frames that it holds for its sockets.
     Drain {
         /// The host, numbered from 0 in the order of the plan.
         host: usize,

@@ -59,7 +59,7 @@ fn ticks_of(alloc: Global, hosts: &[HostPlan], words: &[&str]) -> Result<Vec<Tic
 ///
 /// # Errors
 ///
-/// [`Value`](Fault::Value) if a word doesn't spell a tick, and [`Name`](Fault::Name) if a host isn't known.
+/// [`Value`](Fault::Value) if a word doesn't spell a tick, else [`Name`](Fault::Name) if a host isn't known.
 fn call_of(
     alloc: Global,
     hosts: &[HostPlan],
@@ -87,7 +87,7 @@ fn say(scenario: &mut Scenario, command: Command) -> Result<(), AllocError>
     Ok(())
 }
 
-/// What a call asks of its host.
+/// What a call asks of its host, without its ticks.
 #[derive(Drop)]
 enum Asked {
     /// To send a frame.
@@ -105,7 +105,7 @@ enum Asked {
 }
 
 impl Asked {
-    /// The event in which a host is asked this, with these ticks inside.
+    /// The event of this call at a host, with these ticks inside.
     fn event(self, host: usize, ticks: Vec<Tick>) -> Event
         ensures { event_of result ≡ meanings.said_asking self host ticks.items }
     {
@@ -145,11 +145,11 @@ fn group_of(word: &str) -> Result<[u8; 6], Fault>
     }
 }
 
-/// What the words of a call ask.
+/// What the words of a call ask of its host.
 ///
 /// # Errors
 ///
-/// [`Value`](Fault::Value) if a word doesn't have its form.
+/// [`Value`](Fault::Value) if a word doesn't have the form for its place.
 fn asked_of(alloc: Global, kind: CallKind, call: &[&str]) -> Result<Asked, Stop>
     requires { length call.now ≡ meanings.size_of_call kind }
     ensures ok { IfOk result (meanings.IsAsked kind (texts call.now)) }
@@ -225,7 +225,7 @@ pub(crate) fn read_feed(alloc: Global, scenario: &mut Scenario, words: &[&str]) 
     Ok(())
 }
 
-/// The number of events to draw, at most 1,000,000.
+/// The number of events that a word asks to draw, if it is a number of at most 1,000,000.
 fn count_of(text: &str) -> Option<u32>
     ensures { SomeIff result (meanings.is_count text.now ≡ true) (digits_value 10 text.now) }
 {

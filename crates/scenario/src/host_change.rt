@@ -15,7 +15,7 @@ use network_plan::HostPlan;
 use packet_socket::SocketKind;
 use std::alloc::{AllocError, Global};
 
-/// An item that a host can have several of.
+/// An item of a host: its group, VLAN or socket. A host can have several of each.
 #[derive(Clone, Copy)]
 pub(crate) enum Item {
     /// The group with this address.

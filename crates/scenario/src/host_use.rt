@@ -26,10 +26,10 @@ pub(crate) enum OptionKind {
     Promiscuous,
 }
 
-/// A word of a `host` line after its wire, with the value that follows it.
+/// A use of an option: a word of a `host` line after its wire, with the value that follows it.
 #[derive(Clone, Copy)]
 pub(crate) enum HostUse {
-    /// No option.
+    /// The word isn't an option.
     Unknown,
     /// An option that lacks its value.
     Lone(OptionKind),
@@ -49,7 +49,7 @@ pub(crate) enum HostUse {
     Promiscuous,
 }
 
-/// What the options of a `host` line ask for.
+/// The values of the options of a `host` line.
 #[derive(Clone, Copy)]
 pub(crate) struct HostOptions {
     pub(crate) rx: u16,
@@ -105,13 +105,6 @@ impl OptionKind {
             _ => true,
         }
     }
-
-    /// Whether this option and `other` are the same.
-    fn is(self, other: OptionKind) -> bool
-        ensures { result ≡ options.is_same self other }
-    {
-        self == other
-    }
 }
 
 impl HostUse {
@@ -137,7 +130,7 @@ impl HostUse {
         ensures { result ≡ options.is_use_of kind self.now }
     {
         match self.kind() {
-            Some(own) => own.is(kind),
+            Some(own) => own == kind,
             None => false,
         }
     }
@@ -149,7 +142,7 @@ impl HostUse {
         !matches!(self, HostUse::Lone(_))
     }
 
-    /// Whether the word is an option, and its value has its form.
+    /// Whether the word is an option, and its value, if it has one, has its form.
     fn is_read(&self) -> bool
         ensures { result ≡ options.is_read self.now }
     {
@@ -158,7 +151,7 @@ impl HostUse {
 }
 
 impl HostOptions {
-    /// These options with one more use.
+    /// These options with the value of one more use.
     fn with_use(self, one: HostUse) -> HostOptions
         ensures { result ≡ options.with_use self one }
     {
@@ -177,7 +170,7 @@ impl HostOptions {
     }
 }
 
-/// When a link is up.
+/// When a link is up, if the value spells this.
 fn link_of(value: &str) -> Option<Link>
     ensures { result ≡ options.link_in value.now }
 {
@@ -205,7 +198,7 @@ fn option_of(word: &str) -> Option<OptionKind>
     value_of(&OPTION_KINDS, word)
 }
 
-/// The use that a word begins, and the number of words after it that belong to it.
+/// The first use in these words, and the number of words of `behind` that belong to it.
 fn first_use(word: &str, behind: &[&str]) -> (HostUse, usize)
     ensures first { options.uses_in (word.now ∷ texts behind.now)
         ≡ result.0 ∷ options.uses_in (texts (drop result.1 behind.now)) }
@@ -263,7 +256,7 @@ pub(crate) fn are_counted(uses: &[HostUse]) -> bool
     uses.iter().all(|one| one.is_whole()) && are_once(uses)
 }
 
-/// Whether each word is an option, and its value has its form.
+/// Whether each word is an option, and its value, if it has one, has its form.
 pub(crate) fn are_read(uses: &[HostUse]) -> bool
     ensures { IsTrue result ↔ options.AreRead uses.now }
 {

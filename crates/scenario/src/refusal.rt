@@ -6,37 +6,24 @@ ghost use Rattle.scenario.specs.declared.refusal.Stop.TheVariants as stop;
 use std::alloc::{AllocError, AllocFailed};
 use thiserror::Error;
 
-/// The exit status of a program if its input is refused.
-const REFUSED: u8 = 1;
-
-/// The exit status of a program if memory was refused.
-const NO_MEMORY: u8 = 4;
-
 /// The fault of a line. If a line has several, the first one is reported: [`Long`](Fault::Long), then
 /// [`Text`](Fault::Text), then the first of the others in this order.
-#[derive(Clone, Copy, Debug, PartialEq, Eq, Error)]
+#[derive(Clone, Copy, Debug, PartialEq, Eq)]
 pub enum Fault {
-    /// Its first word isn't known.
-    #[error("E50 Word")]
+    /// The first word of the line isn't known.
     Word,
-    /// It has too few or too many words, an option without its value, or an option twice.
-    #[error("E51 Count")]
+    /// The line has too few or too many words, an option without its value, or an option twice.
     Count,
     /// A word doesn't have the form for its place, or an option isn't known.
-    #[error("E52 Value")]
     Value,
-    /// A host that it names isn't known, a host's name is taken, or a host has no room for another socket, group or
-    /// VLAN.
-    #[error("E53 Name")]
+    /// A host that the line names isn't known, or the name of a new host is taken. Or a host has no room for another
+    /// socket, group or VLAN.
     Name,
-    /// It is a `host`, `group`, `vlan` or `socket` line after an event.
-    #[error("E54 Order")]
+    /// A `host`, `group`, `vlan` or `socket` line comes after an event.
     Order,
-    /// It has more than 8,192 bytes.
-    #[error("E55 Long")]
+    /// The line has more than 8,192 bytes.
     Long,
-    /// It isn't UTF-8.
-    #[error("E56 Text")]
+    /// The line isn't UTF-8.
     Text,
 }
 
@@ -44,7 +31,7 @@ pub enum Fault {
 #[derive(Clone, Copy, Debug, PartialEq, Eq, Error)]
 pub enum Refusal {
     /// This line, numbered from 1, is the first faulty one.
-    #[error("line {line}: {fault}")]
+    #[error("line {line}: {fault:?}")]
     Line {
         /// The number of the line.
         line: usize,
@@ -52,28 +39,14 @@ pub enum Refusal {
         fault: Fault,
     },
     /// Memory was refused.
-    #[error("E57 Memory")]
+    #[error("memory was refused")]
     Memory,
-}
-
-impl Refusal {
-    ghost use Rattle.scenario.specs.Statuses.{status_of};
-
-    /// The exit status of a program that ends for this refusal: 1 for a faulty line, 4 if memory was refused.
-    pub fn status(&self) -> u8
-        ensures { result ≡ status_of self.now }
-    {
-        match self {
-            Refusal::Line { .. } => REFUSED,
-            Refusal::Memory => NO_MEMORY,
-        }
-    }
 }
 
 /// Why a line wasn't read.
 #[derive(Clone, Copy)]
 pub(crate) enum Stop {
-    /// It is faulty.
+    /// The line is faulty.
     Fault(Fault),
     /// Memory was refused.
     Memory,

@@ -22,7 +22,7 @@ fn first_feed(text: &[u8]) -> Option<usize>
     text.iter().position(|byte| *byte == b'\n')
 }
 
-/// The number of bytes before the first line feed.
+/// The number of bytes before the first line feed, or of all bytes if there is no line feed.
 #[tactic(auto, using(crate::proofs::TextLines::feed_found, crate::proofs::TextLines::feed_missing))]
 fn line_end(text: &[u8]) -> usize
     ensures end { result ≡ position_or_len is_feed text.now }
@@ -46,7 +46,7 @@ fn without_return(line: &[u8]) -> &[u8]
     kept
 }
 
-/// The first line of a text, and its number of bytes, with its end.
+/// The first line of a text, and the number of its bytes, including its line feed and carriage return.
 fn first_line(text: &[u8]) -> (&[u8], usize)
     requires { 0 < length text.now }
     ensures first { lines text.now ≡ result.0.now ∷ lines (drop result.1 text.now) }
@@ -75,7 +75,7 @@ fn empty_scenario(alloc: Global) -> Scenario
     }
 }
 
-/// If the line had a command, stores the line's number for it. The commands before it already have their numbers.
+/// Stores the line's number for its command, if it had one. The commands before it already have their numbers.
 fn number_command(scenario: &mut Scenario, line: usize) -> Result<(), Stop>
     ensures same { so_far scenario.new ≡ so_far scenario.old }
     ensures memory { IfErr result (λ stopped. stopped ≡ stop.Memory) }

@@ -28,7 +28,7 @@ const HOST_WORDS: usize = 4;
 /// The number of words of a `group`, a `vlan` and a `socket` line.
 const ITEM_WORDS: usize = 3;
 
-/// The words of the options of a `host` line.
+/// The words after the first four of a `host` line: its options.
 fn option_words<'a, 'b>(words: &'b [&'a str]) -> &'b [&'a str]
     requires { HOST_WORDS ≤ length words.now }
     ensures { texts result.now ≡ option_words (texts words.entry.now) }
@@ -49,7 +49,7 @@ fn check_order(scenario: &Scenario) -> Result<(), Fault>
     }
 }
 
-/// The address and the options of a `host` line with these uses of options.
+/// The address and the options of a `host` line, whose words spell these uses of options.
 ///
 /// # Errors
 ///

@@ -24,32 +24,25 @@ const DECIMAL: u32 = 10;
 
 const HEXADECIMAL: u32 = 16;
 
-/// The number of 64 bits that decimal digits spell, if there is nothing else.
+/// The number below 2^64 that a text of decimal digits spells.
 pub(crate) fn number_of(text: &str) -> Option<u64>
     ensures { result ≡ number_in 10 64 text.now }
 {
     digits_of(text, DECIMAL)
 }
 
-/// The number of 16 bits that decimal digits spell, if there is nothing else.
+/// The number below 2^16 that a text of decimal digits spells.
 pub(crate) fn number16_of(text: &str) -> Option<u16>
     ensures { result ≡ number_in 10 16 text.now }
 {
     u16::try_from(number_of(text)?).ok()
 }
 
-/// The number of 8 bits that decimal digits spell, if there is nothing else.
+/// The number below 2^8 that a text of decimal digits spells.
 pub(crate) fn number8_of(text: &str) -> Option<u8>
     ensures { result ≡ number_in 10 8 text.now }
 {
     u8::try_from(number_of(text)?).ok()
-}
-
-/// The number of 16 bits that hexadecimal digits spell, if there is nothing else.
-fn hexadecimal_of(text: &str) -> Option<u16>
-    ensures { result ≡ number_in 16 16 text.now }
-{
-    u16::try_from(digits_of(text, HEXADECIMAL)?).ok()
 }
 
 /// The number that four hexadecimal digits spell.
@@ -59,10 +52,10 @@ fn ether_type_of(text: &str) -> Option<u16>
     if text.len() != ETHER_TYPE_DIGITS {
         return None;
     }
-    hexadecimal_of(text)
+    u16::try_from(digits_of(text, HEXADECIMAL)?).ok()
 }
 
-/// The frames that a socket takes: `all`, or those of an EtherType, four hexadecimal digits.
+/// Which frames a socket takes: `all` is all frames, and four hexadecimal digits are those of an EtherType.
 pub(crate) fn socket_of(text: &str) -> Option<SocketKind>
     ensures { result ≡ socket_in text.now }
 {

@@ -2,20 +2,20 @@
 use Rattle.std.specs.Prelude.{◌≡◌, ◌<◌, ◌+◌, ◌*◌, ℕ, List, length, slice_index}
 use Rattle.std.specs.Char.{digit_value}
 
--- what a hexadecimal digit stands for: 0 to 9 for '0' to '9', and 10 to 15 for 'a' to 'f' and for 'A' to 'F'
+-- the value of a hexadecimal digit: 0 to 9 for '0' to '9', and 10 to 15 for 'a' to 'f' and for 'A' to 'F'
 unfoldable pub hexadecimal_value : ℕ → ℕ
 hexadecimal_value c = digit_value c
 
 abbrev pub IsHexadecimalDigit : ℕ → Type 0
 IsHexadecimalDigit c = hexadecimal_value c < 16
 
--- two characters are hexadecimal digits, the first the upper half of the byte and the second the lower
+-- Two characters are hexadecimal digits: the first is the upper half of the byte, and the second the lower half.
 pub record SpellsByte (high low byte : ℕ) : Type 0 where
   pub upper_half : IsHexadecimalDigit high
   pub lower_half : IsHexadecimalDigit low
   pub value : byte ≡ hexadecimal_value high * 16 + hexadecimal_value low
 
--- six pairs of hexadecimal digits joined by colons (58), a pair for each byte of the address, the first byte first
+-- The text is six pairs of hexadecimal digits with colons (58) between them: a pair for each byte of the address, in order.
 pub record SpellsAddress (text address : List ℕ) : Type 0 where
   pub characters : length text ≡ 17
   pub bytes : length address ≡ 6

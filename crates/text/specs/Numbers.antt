@@ -1,4 +1,4 @@
--- Which texts spell a number, and which one (our choice).
+-- Which texts spell a number, and which number (our choice).
 use Rattle.std.specs.Prelude.{◌^◌, ◌&&◌, ◌==◌, ℕ, Bool, Option, Some, None, codes, if◌then◌else◌, length, nat_lt}
 use Rattle.std.specs.Char.{digit_value}
 use Rattle.std.specs.List.{after_first, before_first, list_all, position_or_len}
@@ -10,11 +10,11 @@ use Rattle.text.specs.Words.{Text}
 abbrev pub is_digit : (radix byte : ℕ) → Bool
 is_digit radix byte = nat_lt (digit_value byte) radix
 
--- one or more digits of this radix and nothing else, which spell a number of this many bits
+-- whether a text is one or more digits of this radix, and spells a number below 2 ^ bits
 abbrev pub is_number : (radix bits : ℕ) → Text → Bool
 is_number radix bits text = nat_lt 0 (length text) && list_all (is_digit radix) text && nat_lt (digits_value radix text) (2 ^ bits)
 
--- the number that one or more digits of this radix spell, if it has this many bits
+-- the number that a text spells in this radix, if it is one or more digits, and the number is below 2 ^ bits
 abbrev pub number_in : (radix bits : ℕ) → Text → Option ℕ
 number_in radix bits text = if is_number radix bits text then Some (digits_value radix text) else None
 
@@ -34,7 +34,7 @@ begins_0x text = bytes_eq (before_first is_x text) (codes "0")
 abbrev pub behind_0x : Text → Text
 behind_0x text = after_first is_x text
 
--- the number of 64 bits that a text spells: decimal digits, or hexadecimal digits after 0x
+-- the number below 2 ^ 64 that a text spells: decimal digits, or hexadecimal digits after 0x
 abbrev pub number_spelled : Text → Option ℕ
 number_spelled text =
     if has_x text then (if begins_0x text then number_in 16 64 (behind_0x text) else None)

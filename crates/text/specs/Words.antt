@@ -18,7 +18,7 @@ is_space byte = byte == 0x20
 abbrev pub is_tab : ℕ → Bool
 is_tab byte = byte == 0x09
 
--- a word has at least a byte
+-- whether a part of a line is a word: it has at least one byte
 abbrev pub is_word : Text → Bool
 is_word part = nat_lt 0 (length part)
 
@@ -33,11 +33,11 @@ word k words = slice_index_or words k []
 abbrev pub is_same : (mark word : Text) → Bool
 is_same mark word = bytes_eq word mark
 
--- the place of the first word that is this one, or the number of words if there is none
+-- the place of the first word that is `mark`, or the number of words if no word is
 abbrev pub place_of : (mark : Text) → List Text → ℕ
 place_of mark words = position_or_len (is_same mark) words
 
--- the words before the first word that is this one, or all if there is none
+-- the words before the first word that is `mark`, or all words if no word is
 abbrev pub words_before : (mark : Text) → List Text → List Text
 words_before mark words = take (place_of mark words) words
 

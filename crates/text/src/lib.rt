@@ -1,4 +1,4 @@
-//! What texts spell: the words of a line, numbers, Ethernet addresses, and values of tables of words.
+//! Reads texts: the words of a line, numbers, Ethernet addresses, and values of tables of words.
 #![tactic(auto)]
 
 mod address;

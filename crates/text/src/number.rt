@@ -7,8 +7,8 @@ const DECIMAL: u32 = 10;
 
 const HEXADECIMAL: u32 = 16;
 
-/// The number that digits of this radix spell, if there is nothing else and it is below 2^64. Digits above 9 are
-/// letters in either case; leading zeros are taken, a sign isn't.
+/// The number that a text spells in this radix, if the text is one or more digits, and the number is below 2^64. Digits
+/// above 9 are letters of either case. Leading zeros are allowed, a sign isn't.
 #[tactic(auto, using(crate::proofs::Numbers::bad_digit, crate::proofs::Numbers::overflows))]
 pub fn digits_of(text: &str, radix: u32) -> Option<u64>
     requires low { 2 ≤ radix }

@@ -24,7 +24,7 @@ pub fn word_at<'a>(words: &[&'a str], place: usize) -> &'a str
     words[place]
 }
 
-/// The place of the first word that is `mark`, if there is one.
+/// The place of the first word that is `mark`, if a word is.
 fn place_of(words: &[&str], mark: &str) -> Option<usize>
     ensures place { result ≡ position (is_same mark.now) (texts words.now) }
     ensures within { IfSome result (λ place. place < length words.now) }
@@ -32,7 +32,7 @@ fn place_of(words: &[&str], mark: &str) -> Option<usize>
     words.iter().position(|word| *word == mark)
 }
 
-/// The words before and after the first word that is this one. Without one, no word is after it.
+/// The words before the first word that is `mark`, and those after it. If no word is `mark`, all words are before it.
 pub fn split_at_word<'a, 'b>(words: &'b [&'a str], mark: &str) -> (&'b [&'a str], &'b [&'a str])
     ensures before { texts result.0.now ≡ words_before mark.now (texts words.entry.now) }
     ensures after { texts result.1.now ≡ words_after mark.now (texts words.entry.now) }

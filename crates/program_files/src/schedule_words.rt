@@ -1,0 +1,52 @@
+//! The words of `serve` that are options of the adapter.
+ghost use Rattle.std.specs.Prelude.{◌≡◌, IfOk, false, map, string_bytes};
+ghost use Rattle.program_files.specs.Words as spec;
+
+use std::alloc::{AllocError, Global};
+
+/// Whether a word is an option of `serve` that isn't an option of the adapter, with its value in the next word.
+fn is_run_option(word: &str) -> bool
+    ensures { result ≡ spec.is_run_option word.now }
+{
+    word == "--schedule" || word == "--record" || word == "--seed"
+}
+
+/// Whether a word is an option of `serve` that isn't one of the adapter, and its value, joined by `=`.
+fn has_run_option(word: &str) -> bool
+    ensures { result ≡ spec.has_run_option word.now }
+{
+    match word.split_once('=') {
+        Some((name, _)) => is_run_option(name),
+        None => false,
+    }
+}
+
+/// Of these words, those that are options of the adapter.
+fn options_in(alloc: Global, words: &[String]) -> Result<Vec<String>, AllocError>
+    ensures { IfOk result (λ options. map string_bytes options.items
+        ≡ spec.options_in false (map string_bytes words.now)) }
+{
+    let mut options = Vec::new(alloc);
+    let mut is_value = false;
+    for word in words {
+        let word = word.as_str();
+        let is_name = is_run_option(word);
+        if !is_value && !is_name && !has_run_option(word) {
+            options.push(String::from_str(alloc, word)?)?;
+        }
+        is_value = !is_value && is_name;
+    }
+    Ok(options)
+}
+
+/// The words that are options of the adapter, in order. The first two words are the program and `serve`.
+pub fn adapter_options(alloc: Global, words: &[String]) -> Result<Vec<String>, AllocError>
+    ensures { IfOk result (λ options. map string_bytes options.items
+        ≡ spec.adapter_options (map string_bytes words.now)) }
+{
+    if words.len() < 2 {
+        return Ok(Vec::new(alloc));
+    }
+    let (_, given) = words.split_at(2);
+    options_in(alloc, given)
+}
