@@ -1,14 +1,20 @@
 """iPXE and U-Boot: guests that boot over the network."""
 
+from __future__ import annotations
+
 import os
 import random
 import shlex
 import shutil
 import tempfile
 import zlib
+from typing import Callable, TYPE_CHECKING
 
 import needs
 from machine import Machine
+
+if TYPE_CHECKING:
+    from argparse import Namespace
 
 WAYS = ("kernel", "rom", "uefi")
 LKRN = "/usr/lib/ipxe/ipxe.lkrn"
@@ -30,18 +36,18 @@ LOAD_AT, SUM_AT = 0x1000000, 0x2000000  # in U-Boot
 WIRE_END = os.path.join(os.path.dirname(os.path.abspath(__file__)), "wire_end")
 
 
-def check_files(name, with_network=True):
+def check_files(name: str, with_network: bool = True) -> None:
     """Whether what a guest needs is there."""
     programs = {**needs.QEMU, **({"dnsmasq": "dnsmasq-base"} if with_network else {})}
     packages = {package for path, package in FILES[name].items() if not os.path.exists(path)}
-    packages = sorted(packages | set(needs.missing_packages(programs)))
-    if packages:
-        raise needs.Missing(f"packages are missing: apt-get install --no-install-recommends {' '.join(packages)}")
+    wanted = sorted(packages | set(needs.missing_packages(programs)))
+    if wanted:
+        raise needs.Missing(f"packages are missing: apt-get install --no-install-recommends {' '.join(wanted)}")
     if with_network:
         needs.check_tap("a boot over the network")
 
 
-def script(name, size, seed, then):
+def script(name: str, size: int, seed: int, then: str) -> str:
     """A script for iPXE of some size. Each line compares a drawn word with its copy and counts, so that no byte can be
     wrong and no line can be missing."""
     draw, lines, used = random.Random(seed), [], 0
@@ -53,7 +59,7 @@ def script(name, size, seed, then):
     return f"#!ipxe\nset right:int32 0\n{''.join(lines)}{end}{then}\n"
 
 
-def write_scripts(folder):
+def write_scripts(folder: str) -> None:
     """What iPXE fetches: by TFTP a script that fetches a larger one by HTTP, which then ends the guest."""
     second = f"chain http://10.0.0.2/large.ipxe || echo > failed http\n{END}"
     first = script("tftp", BY_TFTP, 1, second).replace("#!ipxe\n", "#!ipxe\necho > passed dhcp\n", 1)
@@ -62,7 +68,7 @@ def write_scripts(folder):
             file.write(text)
 
 
-def ipxe(board, way, folder, log, command=FETCH):
+def ipxe(board: list[str], way: str, folder: str, log: str, command: str = FETCH) -> Machine:
     """The machine in which iPXE runs: as a kernel, as the function's option ROM, or as its UEFI driver."""
     if way == "kernel":
         return Machine(board, log, ["-kernel", LKRN, "-append", command], chipset="pc,graphics=off")
@@ -78,7 +84,7 @@ def ipxe(board, way, folder, log, command=FETCH):
     return machine
 
 
-def run_ipxe(words, board, tell):
+def run_ipxe(words: Namespace, board: list[str], tell: Callable[[str], None]) -> bool:
     """Boots iPXE each way. Returns whether it fetched all bytes each time."""
     passed = 0
     ways = words.stages or WAYS
@@ -94,13 +100,16 @@ def run_ipxe(words, board, tell):
     return passed == len(ways)
 
 
-def uboot(words, board, typed):
-    """The machine in which U-Boot runs, with commands that are typed at its prompts. The first key ends its countdown."""
+def uboot(words: Namespace, board: list[str], typed: list[str]) -> Machine:
+    """The machine in which U-Boot runs, with commands that are typed at its prompts. The first key ends its
+    countdown.
+    """
     stop, log = [("Hit any key to stop autoboot:  2 ", " ")], os.path.join(words.cache, "console")
-    return Machine(board, log, ["-bios", words.rom or UBOOT], typed=stop + [(PROMPT, f"{command}\n") for command in typed])
+    return Machine(board, log, ["-bios", words.rom or UBOOT],
+                   typed=stop + [(PROMPT, f"{command}\n") for command in typed])
 
 
-def run_uboot(words, board, tell):
+def run_uboot(words: Namespace, board: list[str], tell: Callable[[str], None]) -> bool:
     """Boots U-Boot. Returns whether DHCP, pings and a file by TFTP were right."""
     check_files("uboot")
     data = random.Random(3).randbytes(BY_HTTP)

@@ -1,16 +1,22 @@
 """A host on DPDK's net_e1000_em: a program in user space that answers pings, and sends some."""
 
+from __future__ import annotations
+
 import glob
 import os
 import shutil
 import subprocess
 import tempfile
+from typing import TYPE_CHECKING, Callable, Iterable
 
 import needs
 import programs
 from guest_image import FILE, base
 from linux import KERNEL_WORDS, clock_words
 from machine import Machine
+
+if TYPE_CHECKING:
+    from argparse import Namespace
 
 HERE = os.path.dirname(os.path.abspath(__file__))
 LIBRARIES = "/usr/lib/x86_64-linux-gnu"
@@ -21,7 +27,7 @@ HEADERS = ("libdpdk-dev", "libbsd-dev")
 APPLETS = "sh mount cat insmod mkdir poweroff".split()
 
 
-def get_headers(cache):
+def get_headers(cache: str) -> str:
     """Downloads the headers of DPDK, and unpacks them; nothing is installed. Returns their folder."""
     folder = os.path.join(cache, "dpdk")
     shutil.rmtree(folder, ignore_errors=True)
@@ -32,7 +38,7 @@ def get_headers(cache):
     return folder
 
 
-def check(cache):
+def check(cache: str) -> None:
     """Whether the libraries and the headers of DPDK are there."""
     needs.check_programs(needs.QEMU)
     if not all(glob.glob(f"{LIBRARIES}/librte_{name}.so.{VERSION}") for name in NEEDED):
@@ -41,25 +47,25 @@ def check(cache):
         raise needs.Missing("there are no headers of DPDK: run `machines/boot --get-dpdk`, which downloads them")
 
 
-def includes(cache):
+def includes(cache: str) -> list[str]:
     """The compiler's words for the headers."""
     folder = os.path.join(cache, "dpdk")
     paths = [folder, os.path.join(folder, "dpdk"), os.path.join(folder, "x86_64-linux-gnu", "dpdk")]
     return ["-march=corei7", "-include", "rte_config.h", *(f"-I{path}" for path in paths), "-Wno-unused-parameter"]
 
 
-def libraries(names):
+def libraries(names: Iterable[str]) -> list[str]:
     """The compiler's words for some libraries of DPDK."""
     return [f"-L{LIBRARIES}", "-Wl,--no-as-needed", *(f"-l:librte_{name}.so.{VERSION}" for name in names)]
 
 
-def host(cache):
+def host(cache: str) -> str:
     """The program of the host."""
     target, sources = os.path.join(cache, "bin", "dpdk_host"), programs.sources_in("dpdk_guest")
     return programs.compile_program(target, sources, *includes(cache), *libraries(NEEDED))
 
 
-def machine_of(words, board, pings):
+def machine_of(words: Namespace, board: list[str], pings: int) -> Machine:
     """The guest, with a new image."""
     check(words.cache)
     kernel, modules = needs.kernel_of(words.cache), needs.modules_of(words.cache, needs.UIO)
@@ -77,7 +83,7 @@ def machine_of(words, board, pings):
     return Machine(board, os.path.join(words.cache, "console"), qemu, megabytes=256, cpu="Nehalem")
 
 
-def run(words, board, tell):
+def run(words: Namespace, board: list[str], tell: Callable[[str], None]) -> bool:
     """Boots DPDK's host. Returns whether all of its pings were answered."""
     results = []
     for line in machine_of(words, board, words.pings).lines():

@@ -1,7 +1,10 @@
 """A sweep without a program in the guest: rounds of echo requests, which the board sends and judges."""
 
+from __future__ import annotations
+
 import os
 import tempfile
+from typing import TYPE_CHECKING
 
 import boot_loaders
 import dpdk
@@ -9,13 +12,17 @@ import programs
 from machine import Ended
 from sweep_report import Report
 
+if TYPE_CHECKING:
+    from argparse import Namespace
+    from machine import Machine
+
 MOST = {"ipxe": 6, "uboot": 6, "dpdk": 40}
 IPXE = "ifopen net0 && set net0/ip 10.0.0.1 && set net0/netmask 255.255.255.0 && sleep 1000000"
 # U-Boot answers pings while it waits for the reply of one that nobody sends
 UBOOT = ["setenv ipaddr 10.0.0.1; setenv netmask 255.255.255.0", "while true; do ping 10.0.0.9; done"]
 
 
-def machine_of(words, board, folder):
+def machine_of(words: Namespace, board: list[str], folder: str) -> Machine:
     """The guest, whose host has the address 10.0.0.1 and answers pings."""
     if words.guest == "dpdk":
         return dpdk.machine_of(words, board, 0)
@@ -27,7 +34,7 @@ def machine_of(words, board, folder):
     return machine
 
 
-def run(words, board):
+def run(words: Namespace, board: list[str]) -> bool:
     """Plays rounds. Returns whether all passed."""
     report, error = Report(words), None
     last = words.first + words.sweep - 1

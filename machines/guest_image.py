@@ -1,8 +1,12 @@
 """The guest's file system: an archive of the format that the kernel unpacks at its start (cpio, newc)."""
 
+from __future__ import annotations
+
+import builtins
 import os
 import re
 import subprocess
+from typing import Iterable
 
 HERE = os.path.dirname(os.path.abspath(__file__))
 APPLETS = ("sh mount cat ping ip sleep sed tr grep dmesg tail head uname insmod rmmod poweroff").split()
@@ -11,17 +15,18 @@ BUSYBOX = "/bin/busybox"
 ALIGN = 4
 
 
-def padded(data):
+def padded(data: bytes) -> bytes:
     return data + bytes(-len(data) % ALIGN)
 
 
 class Archive:
     """The entries of an archive. The same entries lead to the same bytes."""
 
-    def __init__(self):
-        self.parts, self.names = [], set()
+    def __init__(self) -> None:
+        self.parts: list[builtins.bytes] = []
+        self.names: set[str] = set()
 
-    def add(self, name, mode, data=b"", device=(0, 0)):
+    def add(self, name: str, mode: int, data: builtins.bytes = b"", device: tuple[int, int] = (0, 0)) -> None:
         """Adds an entry, after the folders that it is in."""
         folder = os.path.dirname(name)
         if folder and folder not in self.names:
@@ -33,28 +38,28 @@ class Archive:
         header = b"070701" + b"".join(b"%08X" % field for field in fields) + name.encode() + b"\0"
         self.parts += [padded(header), padded(data)]
 
-    def add_file(self, name, path):
+    def add_file(self, name: str, path: str) -> None:
         with open(path, "rb") as file:
             self.add(name, FILE, file.read())
 
-    def add_program(self, name, path):
+    def add_program(self, name: str, path: str) -> None:
         """Adds a program and the libraries that it loads."""
         self.add_file(name, path)
         for library in libraries_of(path):
             self.add_file(library[1:], library)
 
-    def bytes(self):
+    def bytes(self) -> builtins.bytes:
         self.add("TRAILER!!!", 0)
         return b"".join(self.parts)
 
 
-def libraries_of(program):
+def libraries_of(program: str) -> list[str]:
     """The libraries that a program loads, and its loader."""
     listed = subprocess.run(["ldd", program], capture_output=True, text=True, check=True).stdout
     return re.findall(r"(/\S+) \(0x", listed)
 
 
-def base(init, applets):
+def base(init: str, applets: Iterable[str]) -> Archive:
     """An archive with the guest's first process and busybox, by the names of its applets."""
     archive = Archive()
     archive.add("dev/console", DEVICE, device=(5, 1))
@@ -68,7 +73,7 @@ def base(init, applets):
     return archive
 
 
-def image(module, traffic, ethtool):
+def image(module: str, traffic: str, ethtool: str) -> bytes:
     """The archive with a driver's module, the test program, and ethtool."""
     archive = base(os.path.join(HERE, "guest", "init"), APPLETS)
     archive.add_file("e1000.ko", module)

@@ -1,12 +1,18 @@
 """Runs a guest on the board, and passes on what the guest and the board print."""
 
+from __future__ import annotations
+
 import os
 import re
 import select
 import subprocess
 import tempfile
+from typing import IO, Iterable, Iterator, Optional, TYPE_CHECKING
 
 from needs import NAMESPACE
+
+if TYPE_CHECKING:
+    from subprocess import Popen
 
 QUIET = 300  # seconds without a line after which a run is ended
 MARK = "> "
@@ -16,7 +22,13 @@ COLOUR = re.compile(rb"\x1b\[[0-9;?]*[A-Za-z]")
 
 
 class Ended(Exception):
-    """The guest or the board has ended too early; the text says what is known."""
+    """The guest or the board has ended too early; the text has what is known."""
+
+
+def output_of(process: Popen[bytes]) -> int:
+    """The file of the guest's output."""
+    assert process.stdout
+    return process.stdout.fileno()
 
 
 class Machine:
@@ -26,13 +38,14 @@ class Machine:
     is then typed at its console.
     """
 
-    def __init__(self, board, log, words, megabytes=128, cpu="qemu64", chipset="pc", typed=()):
+    def __init__(self, board: list[str], log: str, words: list[str], megabytes: int = 128, cpu: str = "qemu64",
+                 chipset: str = "pc", typed: Iterable[tuple[str, str]] = ()) -> None:
         self.board, self.log, self.words = board, log, words
         self.megabytes, self.cpu, self.chipset, self.typed = megabytes, cpu, chipset, list(typed)
         self.device, self.clock = "x-pci-proxy-dev,id=nic,fd=3", "vm"
-        self.status = None
+        self.status: Optional[int] = None
 
-    def qemu(self, socket, plugin):
+    def qemu(self, socket: str, plugin: str | None) -> list[str]:
         """The words of QEMU. With a plugin, the run is repeatable."""
         memory = f"memory-backend-file,id=ram,size={self.megabytes}M,mem-path=/proc/self/fd/4,share=on"
         clock = ["-rtc", f"base=2026-01-01,clock={self.clock}"]
@@ -43,7 +56,7 @@ class Machine:
             "-no-reboot", "-device", self.device, "-qtest", f"unix:{socket},server=on,wait=off", "-qtest-log", "none",
             *self.words, *extra]
 
-    def command(self, socket, plugin, server):
+    def command(self, socket: str, plugin: str | None, server: str | None) -> list[str]:
         """The words of the board, which starts QEMU."""
         tap = ["--tap", "nic0"] if server else []
         board = [*self.board, "--socket", socket, "--memory", str(self.megabytes << 20), *tap]
@@ -51,7 +64,7 @@ class Machine:
         other = f'{server} </dev/null >/dev/null 2>&1 & exec "$@"'
         return [*NAMESPACE, "sh", "-c", other, "sh", *command] if server else command
 
-    def lines(self, plugin=None, server=None):
+    def lines(self, plugin: str | None = None, server: str | None = None) -> Iterator[str]:
         """Runs the guest. Yields the lines for the user, those with a mark.
 
         `server` is the command of the wire's other end. It runs in a network namespace of its own with a TAP device.
@@ -64,10 +77,11 @@ class Machine:
             finally:
                 process.terminate()
                 self.status = process.wait()
-                process.stdin.close()
-                process.stdout.close()
+                for stream in (process.stdin, process.stdout):
+                    if stream:
+                        stream.close()
 
-    def read(self, process, log):
+    def read(self, process: Popen[bytes], log: IO[str]) -> Iterator[str]:
         """The lines for the user, up to the last one; the log gets all lines."""
         for line in self.console(process):
             log.write(f"{line}\n")
@@ -79,24 +93,26 @@ class Machine:
                 yield line.removeprefix(MARK)
         raise Ended(f"the guest has ended before its last stage; its console is in {self.log}")
 
-    def wait(self, process):
+    def wait(self, process: Popen[bytes]) -> None:
         """Waits until the guest has turned itself off, and reads what it still prints."""
-        while select.select([process.stdout], [], [], QUIET)[0] and os.read(process.stdout.fileno(), 1 << 16):
+        output = output_of(process)
+        while select.select([output], [], [], QUIET)[0] and os.read(output, 1 << 16):
             pass
         process.wait(QUIET)
 
-    def type(self, process, text):
+    def type(self, process: Popen[bytes], text: bytes) -> bool:
         """Types what belongs to the end of the console's text. Returns whether something was typed."""
         if not self.typed or not text.endswith(self.typed[0][0].encode()):
             return False
-        process.stdin.write(self.typed.pop(0)[1].encode())
+        if process.stdin:
+            process.stdin.write(self.typed.pop(0)[1].encode())
         return True
 
-    def console(self, process):
+    def console(self, process: Popen[bytes]) -> Iterator[str]:
         """The lines of the guest's console."""
-        left = b""
-        while select.select([process.stdout], [], [], QUIET)[0]:
-            data = os.read(process.stdout.fileno(), 1 << 16)
+        left, output = b"", output_of(process)
+        while select.select([output], [], [], QUIET)[0]:
+            data = os.read(output, 1 << 16)
             *lines, left = COLOUR.sub(b"", left + data).replace(b"\r", b"\n").split(b"\n")
             yield from (line.decode(errors="replace").strip() for line in lines if line)
             if self.type(process, left):

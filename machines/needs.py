@@ -1,5 +1,7 @@
 """What a run needs besides this repository: programs, and the unpacked kernel package of Debian."""
 
+from __future__ import annotations
+
 import glob
 import lzma
 import os
@@ -7,6 +9,7 @@ import shutil
 import subprocess
 import tarfile
 import tempfile
+from typing import IO, Iterable, Iterator, Optional
 
 TOP = os.path.dirname(os.path.dirname(os.path.abspath(__file__)))
 CACHE = os.path.join(TOP, ".build", "machines")
@@ -27,26 +30,26 @@ class Missing(Exception):
     """Something isn't there; the text names the command that brings it."""
 
 
-def is_static(path):
+def is_static(path: str) -> bool:
     """Whether a program needs no library at run time."""
     listed = subprocess.run(["ldd", path], capture_output=True, text=True) if os.path.exists(path) else None
     return listed is not None and "not a dynamic" in listed.stderr
 
 
-def missing_packages(programs=None):
+def missing_packages(programs: dict[str, str] | None = None) -> list[str]:
     packages = [package for program, package in (programs or PROGRAMS).items() if not shutil.which(program)]
     packages += [] if os.path.exists(HEADER) else ["libc6-dev"]
     return packages + ([] if shutil.which("ldd") and is_static(BUSYBOX) else ["busybox-static"])
 
 
-def check_programs(programs=None):
+def check_programs(programs: dict[str, str] | None = None) -> None:
     """Whether the packages of some programs are installed, by default of those that Linux needs."""
     packages = missing_packages(programs)
     if packages:
         raise Missing(f"packages are missing: apt-get install --no-install-recommends {' '.join(packages)}")
 
 
-def check_tap(what):
+def check_tap(what: str) -> None:
     """Whether a TAP device in a network namespace can be made; `what` needs it."""
     if subprocess.run([*NAMESPACE, "true"], capture_output=True).returncode != 0:
         raise Missing(f"`{' '.join(NAMESPACE)}` fails, so {what} can't run: run boot as root")
@@ -54,7 +57,7 @@ def check_tap(what):
         raise Missing(f"{TUN} can't be opened, so {what} can't run: load the module `tun`")
 
 
-def kernel_of(cache):
+def kernel_of(cache: str) -> str:
     """The folder with the kernel and its modules."""
     folder = os.path.join(cache, "kernel")
     if not all(os.path.exists(os.path.join(folder, name)) for name in KERNEL):
@@ -62,13 +65,13 @@ def kernel_of(cache):
     return folder
 
 
-def modules_of(cache, names):
+def modules_of(cache: str, names: Iterable[str]) -> list[str]:
     """The files of those of some modules that the kernel has."""
     paths = [os.path.join(kernel_of(cache), f"{name}.ko") for name in names]
     return [path for path in paths if os.path.exists(path)]
 
 
-def newest_kernel():
+def newest_kernel() -> str:
     """The package with the newest kernel of this Debian."""
     ran = subprocess.run(["apt-cache", "depends", "linux-image-amd64"], capture_output=True, text=True)
     names = [line.split()[-1] for line in ran.stdout.splitlines() if "Depends:" in line]
@@ -77,7 +80,7 @@ def newest_kernel():
     return names[0]
 
 
-def download(name, folder):
+def download(name: str, folder: str) -> str:
     """Downloads a package of Debian; nothing is installed. Returns its path."""
     os.chmod(folder, 0o755)
     ran = subprocess.run(["apt-get", "download", name], cwd=folder, capture_output=True, text=True)
@@ -87,12 +90,16 @@ def download(name, folder):
     return packages[0]
 
 
-def files_of(package):
+def files_of(package: str) -> Iterator[tuple[str, IO[bytes]]]:
     """The files in a package: for each its path and what reads it."""
     archive = subprocess.Popen(["dpkg-deb", "--fsys-tarfile", package], stdout=subprocess.PIPE, stderr=subprocess.PIPE)
+    assert archive.stdout and archive.stderr
     try:
         with tarfile.open(fileobj=archive.stdout, mode="r|") as files:
-            yield from ((entry.name, files.extractfile(entry)) for entry in files if entry.isfile())
+            for entry in files:
+                file = files.extractfile(entry) if entry.isfile() else None
+                if file:
+                    yield entry.name, file
     except tarfile.ReadError:
         raise Missing(f"{package} isn't a package: {archive.stderr.read().decode().strip()}") from None
     finally:
@@ -100,7 +107,7 @@ def files_of(package):
         archive.wait()
 
 
-def unpack_kernel(package, folder):
+def unpack_kernel(package: str, folder: str) -> Optional[str]:
     """Stores the kernel and the modules that are needed. Returns its release, or None if there is no kernel."""
     wanted = {f"{name}.ko" for name in ("e1000", *VFIO, *UIO)}
     release = None
@@ -116,7 +123,7 @@ def unpack_kernel(package, folder):
     return release
 
 
-def get_kernel(cache, wanted=None):
+def get_kernel(cache: str, wanted: Optional[str] = None) -> str:
     """Unpacks a kernel package, which is downloaded if it isn't a file. Returns the kernel's release."""
     folder = os.path.join(cache, "kernel")
     with tempfile.TemporaryDirectory() as work:

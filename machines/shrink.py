@@ -4,34 +4,42 @@ Each try boots the guest again, plays the rounds before, and then, in the failed
 rings and queues are as they were when the round failed.
 """
 
+from __future__ import annotations
+
 import os
 import subprocess
 import sys
 import tempfile
 from concurrent.futures import ThreadPoolExecutor
+from typing import TYPE_CHECKING, Callable, Optional
+
+if TYPE_CHECKING:
+    from argparse import Namespace
 
 BOOT = os.path.join(os.path.dirname(os.path.abspath(__file__)), "boot")
 NUMBERS = "numbers.txt"
 OWN_FILES = ("console", "image")  # a guest writes them into the cache
 FAILED = 1
+# The first of some parts of the steps with which the round fails, or None
+FirstFailing = Callable[["list[list[int]]"], "Optional[list[int]]"]
 # The options of `boot` that a try repeats
 REPEATED = ("seed", "first", "most", "module", "host", "rom", "adapter", "library", "nicbench")
 
 
-def failed_round(path):
+def failed_round(path: str) -> tuple[int, list[int]]:
     """The number of the round in a trace, and the numbers of its drawn steps that did something."""
     with open(path) as file:
         lines = [line.split() for line in file]
     return int(lines[0][1]), [int(line[-1][1:]) for line in lines if line[-1].startswith("*")]
 
 
-def pieces_of(numbers, count):
+def pieces_of(numbers: list[int], count: int) -> list[list[int]]:
     """The list in `count` pieces of nearly the same length."""
     ends = [len(numbers) * piece // count for piece in range(count + 1)]
     return [numbers[begin:end] for begin, end in zip(ends, ends[1:]) if begin < end]
 
 
-def beginning(numbers, first_failing, probes):
+def beginning(numbers: list[int], first_failing: FirstFailing, probes: int) -> list[int]:
     """The shortest beginning of the numbers with which the round fails; `probes` of them are tried at a time."""
     passing, failing = 0, len(numbers)
     while failing - passing > 1:
@@ -46,7 +54,7 @@ def beginning(numbers, first_failing, probes):
     return numbers[:failing]
 
 
-def shrunk(numbers, first_failing):
+def shrunk(numbers: list[int], first_failing: FirstFailing) -> list[int]:
     """A part of the numbers with which the round fails, and fails no more without any one of them.
 
     `first_failing` takes parts, and returns the first one with which the round fails, or None.
@@ -71,11 +79,11 @@ def shrunk(numbers, first_failing):
 class Tries:
     """Runs of `boot` up to a round that failed. `words` are those of its command line."""
 
-    def __init__(self, words, number, folder, jobs):
+    def __init__(self, words: Namespace, number: int, folder: str, jobs: int) -> None:
         self.words, self.number, self.folder, self.jobs, self.made = words, number, folder, jobs, 0
         self.pool = ThreadPoolExecutor(jobs)
 
-    def cache(self, name):
+    def cache(self, name: str) -> str:
         """A folder for a guest of its own: links to what the cache has."""
         path = os.path.join(self.folder, name)
         os.makedirs(path)
@@ -84,14 +92,14 @@ class Tries:
                 os.symlink(os.path.join(os.path.abspath(self.words.cache), entry), os.path.join(path, entry))
         return path
 
-    def command(self, path):
+    def command(self, path: str) -> list[str]:
         given = vars(self.words)
         repeated = [word for name in REPEATED if given[name] for word in (f"--{name}", str(given[name]))]
         sweep = ["--sweep", str(self.number - self.words.first + 1), "--only", os.path.join(path, NUMBERS)]
         apart = ["--apart"] if self.words.apart else []
         return [sys.executable, BOOT, self.words.guest, *sweep, *repeated, *apart, "--cache", path, "--out", path]
 
-    def fails(self, numbers):
+    def fails(self, numbers: list[int]) -> bool:
         """Whether the round fails if only these of its drawn steps are played."""
         self.made += 1
         path = self.cache(str(self.made))
@@ -101,8 +109,8 @@ class Tries:
         trace = os.path.join(path, "failed.trace")
         return ran.returncode == FAILED and os.path.exists(trace) and failed_round(trace)[0] == self.number
 
-    def first_failing(self, parts):
-        """The first of some parts with which the round fails; as many as `jobs` are tried at a time."""
+    def first_failing(self, parts: list[list[int]]) -> Optional[list[int]]:
+        """The first of some parts with which the round fails; `jobs` parts are tried at a time."""
         for begin in range(0, len(parts), self.jobs):
             tried = parts[begin:begin + self.jobs]
             failing = [part for part, fails in zip(tried, self.pool.map(self.fails, tried)) if fails]
@@ -111,7 +119,7 @@ class Tries:
         return None
 
 
-def smallest(words, tell):
+def smallest(words: Namespace, tell: Callable[[str], None]) -> Optional[tuple[int, str]]:
     """Stores the numbers of a small part of the drawn steps in the folder of the round that failed.
 
     Returns the number of the round and the path of the file; or None if the round can't be played again.
@@ -125,7 +133,7 @@ def smallest(words, tell):
             tell(f"round {number} doesn't fail again with the {len(numbers)} drawn steps that did something")
             return None
         else:
-            def first_failing(parts):
+            def first_failing(parts: list[list[int]]) -> Optional[list[int]]:
                 part = tries.first_failing(parts)
                 if part:
                     tell(f"round {number} fails with {len(part)} of its drawn steps")

@@ -1,9 +1,12 @@
 """What a sweep prints: its progress, the first round that failed, and what the rounds reached."""
 
+from __future__ import annotations
+
 import os
 import sys
 import time
 from collections import Counter
+from typing import Optional, TYPE_CHECKING
 
 from needs import TOP
 from round_trace import Symbols, Trace, chart_rows
@@ -12,57 +15,64 @@ sys.path.insert(0, os.path.join(TOP, "tools"))
 from race_finder.chart import COLUMNS, ChartRow, cut, layout, line_of  # noqa: E402
 from race_finder.names import REGISTERS  # noqa: E402
 
+if TYPE_CHECKING:
+    from argparse import Namespace
+    from round_trace import Row
+
 FILES = ("failed.trace", "schedule.txt", "chart.txt", "reached", "reached.txt")
 LAST = 8  # drawn steps that are marked if no reply is lost
 WRITE = 1 << 32  # in a site: a register is written (board/reached.h)
 MODULES = 1 << 63
 
 
-def tell(text):
+def tell(text: str) -> None:
     print(text, flush=True)
 
 
-def first_line(text):
+def first_line(text: str) -> str:
     """The first line of a message of the kernel, which has its other lines in the form \\x0a."""
     return text.split("\\x0a")[0]
 
 
-def around(places, at):
+def around(places: list[int], at: int) -> list[int]:
     """The last of some places before `at`, and the first one after it."""
     return [*[place for place in places if place < at][-1:], *[place for place in places if place > at][:1]]
 
 
-def steps_of_lost(rows, lost):
-    """The rows that moved the first lost reply that was stored: its arrival, the steps that wrote it to memory, and the
-    stores of its buffer's address before and after."""
-    stored = [at for at, row in enumerate(rows) if row.line == "# arrive" and row.answer.startswith("stored")]
+def steps_of_lost(rows: list[Row], lost: list[str]) -> list[int]:
+    """The rows that moved the first lost reply that was stored. They are its arrival, the steps that wrote it to
+    memory, and the stores of its buffer's address before and after."""
+    stored = [at for at, row in enumerate(rows) if row.line == "# arrive" and (row.answer or "").startswith("stored")]
     arrival = next((at for at in stored if rows[at].name in lost), None)
-    moved = [at for at, row in enumerate(rows) if row.line == "# step rxdata -> moved"]
-    if arrival is None or stored.index(arrival) >= len(moved):
+    all_moved = [at for at, row in enumerate(rows) if row.line == "# step rxdata -> moved"]
+    if arrival is None or stored.index(arrival) >= len(all_moved):
         return []
-    moved = moved[stored.index(arrival)]
+    moved = all_moved[stored.index(arrival)]
     done = [at for at, row in enumerate(rows) if row.line.startswith("# step rxdone") and at > moved][:1]
     stores = [at for at, row in enumerate(rows) if row.name == f"write {rows[moved].name}"]
     return [arrival, moved, *done, *around(stores, moved)]
 
 
-def steps_of_wrong(rows):
+def steps_of_wrong(rows: list[Row]) -> list[int]:
     """The rows that moved the first wrong frame to the wire."""
     sent = [at for at, row in enumerate(rows) if row.line == "frame"]
     wrong = next((number for number, at in enumerate(sent) if rows[at].name == "wrong frame"), None)
     if wrong is None:
         return []
-    steps = [[at for at, row in enumerate(rows) if row.line == f"# step {step}"] for step in ("txtake -> took", "txput -> put")]
+    steps = [[at for at, row in enumerate(rows) if row.line == f"# step {step}"]
+             for step in ("txtake -> took", "txput -> put")]
     return [sent[wrong], *(found[wrong] for found in steps)]
 
 
-def stars_of(trace):
-    """The rows that a chart is about: those of a wrong frame or of the lost reply, or the last steps that were drawn."""
+def stars_of(trace: Trace) -> set[int]:
+    """The rows that a chart is about: those of a wrong frame or of the lost reply, or the last steps that were
+    drawn.
+    """
     drawn = [at for at, row in enumerate(trace.rows) if row.drawn]
     return set(steps_of_wrong(trace.rows) or steps_of_lost(trace.rows, trace.lost) or drawn[-LAST:])
 
 
-def chart_of(trace):
+def chart_of(trace: Trace) -> str:
     """The chart of a round."""
     rows = cut(chart_rows(trace, stars_of(trace)))
     heading = ChartRow(dict(zip(COLUMNS, COLUMNS)))
@@ -73,15 +83,16 @@ def chart_of(trace):
 class Report:
     """Takes the guest's lines of a sweep. `words` are those of the command line."""
 
-    def __init__(self, words):
+    def __init__(self, words: Namespace) -> None:
         self.words, self.symbols = words, Symbols()
-        self.fault = None  # of the first round that failed
+        self.fault: Optional[str] = None  # of the first round that failed
         for name in FILES:
             if os.path.exists(self.path(name)):
                 os.remove(self.path(name))
-        self.begun, self.played = time.monotonic(), None
+        self.begun = time.monotonic()
+        self.played: Optional[int] = None
 
-    def line(self, line):
+    def line(self, line: str) -> None:
         """Takes a line of the guest."""
         word, _, rest = line.partition(" ")
         if word == "symbol":
@@ -99,35 +110,36 @@ class Report:
         else:
             tell(first_line(line))
 
-    def path(self, name):
+    def path(self, name: str) -> str:
         return os.path.join(self.words.out, name)
 
-    def show_failed(self):
+    def show_failed(self) -> None:
         """Stores the schedule and the chart of the round that failed, and prints the chart."""
         with open(self.path("failed.trace")) as file:
             trace = Trace(file, self.symbols)
         chart = chart_of(trace)
-        for name, text in (("schedule.txt", trace.schedule([self.fault])), ("chart.txt", chart)):
+        for name, text in (("schedule.txt", trace.schedule([self.fault or ""])), ("chart.txt", chart)):
             with open(self.path(name), "w") as file:
                 file.write(text)
         stored = "their schedule is schedule.txt" if self.words.keeps else "--out FOLDER stores their schedule"
         tell(f"{len(trace.deviations)} steps and arrivals were drawn; {stored}")
         tell(f"\n{chart}")
 
-    def site_name(self, site):
+    def site_name(self, site: int) -> str:
         """The place of an access in the driver, by the name of the function or of the register."""
         if site >= MODULES:
             return self.symbols.name_of(site)
         return f"{'write' if site & WRITE else 'read'} {REGISTERS.get(site % WRITE, hex(site % WRITE))}"
 
-    def function_of(self, site):
+    def function_of(self, site: int) -> str:
         return self.site_name(site).partition("+")[0]
 
-    def show_reached(self):
+    def show_reached(self) -> None:
         """Prints between which accesses steps were played, by functions of the driver."""
         with open(self.path("reached")) as file:
             pairs = [[int(word, base) for word, base in zip(line.split(), (16, 16, 10, 10))] for line in file]
-        seen, cut_in = Counter(), Counter()
+        seen: Counter[str] = Counter()
+        cut_in: Counter[str] = Counter()
         for one, _, _, with_step in pairs:
             seen[self.function_of(one)] += 1
             cut_in[self.function_of(one)] += with_step > 0
@@ -139,7 +151,7 @@ class Report:
         shown = [f"{name} {cut_in[name]}/{seen[name]}" for name in sorted(seen, key=lambda name: (-seen[name], name))]
         tell(f"  after {', '.join(shown[:12])}{', ..' if len(shown) > 12 else ''}")
 
-    def end(self, error=None, with_reached=True):
+    def end(self, error: Optional[str] = None, with_reached: bool = True) -> bool:
         """Prints the rest. Returns whether all rounds passed. `error` is why the guest has ended too early."""
         if self.played is None:
             self.fault = error or "the rounds have not ended"

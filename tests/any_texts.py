@@ -5,10 +5,12 @@ import random
 import re
 import stat
 
-from bench import FILE_HEADER, packet, trace, written
-from scenario_reader import (CALLS, LONGEST_FRAME, MOST_BYTES, MOST_CAPTURED, OPEN, READ, SETUP, SHORTEST_FRAME, STEPS, WORDS, Scenario,
+from codes import failure
+from pcap_files import FILE_HEADER, packet, trace, written
+from scenario_reader import (CALLS, LONGEST_FRAME, MOST_BYTES, MOST_CAPTURED, OPEN, READ, SETUP, SHORTEST_FRAME, STEPS,
+                             WORDS, Scenario,
                              TraceRead)
-from scenarios import ANY_WARNING, UNCHANGED, folder, refusal
+from scenarios import ANY_WARNING, folder, refusal
 
 FRAME = "0200000000020200000000010800"
 TRACE = "t.pcap"
@@ -66,15 +68,19 @@ VLANS = 2, ["5", "4095", "4096", "65535", "65536", "x"]
 ETHER_TYPES = 4, ["all", "0800", "88b5", "fFfF", "800", "00800", "All", "+800", "0x08"]
 FRAMES = 6, [FRAME, "00", FRAME.upper(), "f" * 3036, "f" * 3038, "ff" * 4000, "ff" * 4001, "0", "0g", "-"]
 BAD_TICKS = ["go:a", "Go", "txtake", ":a", "tick:a", "rxdata:", "rxdata:a:b", "phy:f", "/"]
-PATHS = 4, [TRACE, f"./{TRACE}", f"outdir/../{TRACE}", "-", "/", "outdir", "missing.pcap", "s.scenario", "bad.pcap", "/dev/null", "\0", "x" * 300]
+PATHS = 4, [TRACE, f"./{TRACE}", f"outdir/../{TRACE}", "-", "/", "outdir", "missing.pcap", "s.scenario", "bad.pcap",
+            "/dev/null", "\0", "x" * 300]
 HOST_OPTIONS = {
-    "rx": (2, ["8", "16", "12", "4104", "65536"]), "tx": (3, ["8", "4096", "64", "0", "4104", "65536"]), "buffers": (2, ["16", "8192", "15", "8193", "65536"]),
-    "rxa": (3, ["2", "48", "6", "50", "3", "256"]), "link": (2, ["1", "2000", "2001", "0", "never", "65536", "Never"]), "promiscuous": (1, [""]),
+    "rx": (2, ["8", "16", "12", "4104", "65536"]), "tx": (3, ["8", "4096", "64", "0", "4104", "65536"]),
+    "buffers": (2, ["16", "8192", "15", "8193", "65536"]), "rxa": (3, ["2", "48", "6", "50", "3", "256"]),
+    "link": (2, ["1", "2000", "2001", "0", "never", "65536", "Never"]), "promiscuous": (1, [""]),
     "other": (1, ["", "8"])}
 # Lines that are made long: how they begin, and what then fills them.
-LONG_LINES = [("#", "x"), ("", " "), ("send a 00", " "), ("send a ", "0"), ("interrupt a /", "\t"), ("interrupt a / ", "go "), ("fly ", "y"), ("# ", "\u00e9"),
+LONG_LINES = [("#", "x"), ("", " "), ("send a 00", " "), ("send a ", "0"), ("interrupt a /", "\t"),
+              ("interrupt a / ", "go "), ("fly ", "y"), ("# ", "\u00e9"),
               ("recv a ", "0"), ("host f 02:00:00:00:00:06 w", "\t"), ("feed a ", "x")]
-COUNTS = re.compile(rb" accepted \d+ put \d+ reached \d+ stored \d+ missed \d+ (exact|atleast) given \d+ unclaimed \d+( givenup \d+ \d+ off \d+)?$")
+COUNTS = (re.compile(rb" accepted \d+ put \d+ reached \d+ stored \d+ missed \d+ (exact|atleast) given \d+ unclaimed "
+                     rb"\d+( givenup \d+ \d+ off \d+)?$"))
 
 
 def fed_fault(bench, path, given):
@@ -95,7 +101,7 @@ def fed_fault(bench, path, given):
 
 
 def answer(bench, text, given=b"", options=()):
-    """The status, the fault or None, the files in OUTDIR, and the names of the hosts."""
+    """The status, the fault or None, the files in OUTDIR, and the names of the hosts, or of the refused trace."""
     scenario = Scenario(text)
     if scenario.fault:
         line, fault = scenario.fault
@@ -103,7 +109,7 @@ def answer(bench, text, given=b"", options=()):
     for place, path in enumerate(scenario.traces):
         fault = fed_fault(bench, path, given if path not in scenario.traces[:place] else b"")
         if fault:
-            return *fault, [], []
+            return *fault, [], [path]
     files, stuck = scenario.files("--wires" in options)
     if stuck:
         return 3, f"{OPEN}: outdir/{stuck}", files, []
@@ -130,7 +136,7 @@ def runs(bench, met, name, text, given=b"", options=()):
     told = [COUNTS.sub(b"", line) for line in ran.stdout.splitlines()]
     if fault:
         met.add(fault.split(": ", 1)[1] if fault.startswith("line ") else OPEN if fault.startswith(OPEN) else fault)
-        wanted = (status, refusal(fault), [], {file: b"" for file in files})
+        wanted = (status, refusal(fault, *hosts), [], {file: b"" for file in files})
     else:
         wanted = (status, b"", hosts, {file: FILE_HEADER for file in files})
         held = {file: data[:len(FILE_HEADER)] for file, data in held.items()}
@@ -142,10 +148,12 @@ def cut_texts(bench, met):
     for size in range(len(BASE) + 1):
         runs(bench, met, f"cut after {size} bytes", BASE[:size])
     bench.check("cut: the whole text is valid", answer(bench, BASE)[:2], (0, None))
-    bench.check("cut: kinds of lines", {line.split()[0] for line in BASE.decode().splitlines() if line.strip()}, set(WORDS) | {"#"})
+    bench.check("cut: kinds of lines", {line.split()[0] for line in BASE.decode().splitlines() if line.strip()},
+                set(WORDS) | {"#"})
     faulty = [Scenario(BASE[:size]).fault or (0, "") for size in range(len(BASE))]
     bench.check("cut: only the last line is invalid, and only if it is cut",
-                [size for size, (line, _) in enumerate(faulty) if line not in (0, BASE[:size].count(b"\n") + 1) or line and BASE[:size].endswith(b"\n")], [])
+                [size for size, (line, _) in enumerate(faulty)
+                 if line not in (0, BASE[:size].count(b"\n") + 1) or line and BASE[:size].endswith(b"\n")], [])
 
 
 def changed_texts(bench, met):
@@ -153,7 +161,8 @@ def changed_texts(bench, met):
     drawn = random.Random(1)
     for number in range(4000):
         place = drawn.randrange(len(BASE))
-        byte = bytes([drawn.choice([drawn.choice(SPECIAL), drawn.choice(BASE), drawn.choice(BASE), drawn.randrange(256)])])
+        byte = bytes([drawn.choice([drawn.choice(SPECIAL), drawn.choice(BASE), drawn.choice(BASE),
+                                    drawn.randrange(256)])])
         kind = drawn.randrange(5)
         text = BASE[:place] + (b"" if kind == 0 else byte) + BASE[place + (kind < 3):]
         runs(bench, met, f"changed byte {number}", text)
@@ -194,14 +203,16 @@ def random_options(drawn):
 
 
 def random_ticks(drawn, hosts):
-    ticks = (len(hosts) * len(STEPS) + 1, ["go", *(f"{step}:{host}" for step in sorted(STEPS) for host in hosts), *BAD_TICKS])
+    ticks = (len(hosts) * len(STEPS) + 1,
+             ["go", *(f"{step}:{host}" for step in sorted(STEPS) for host in hosts), *BAD_TICKS])
     return [pick(drawn, ticks) for _ in range(drawn.randrange(5))]
 
 
 def random_line(drawn, kind, hosts):
     """A line of this kind, nearly always of its form."""
     host = pick(drawn, (len(hosts), hosts + NAMES))
-    tables = {"group": GROUPS, "vlan": VLANS, "socket": ETHER_TYPES, "send": FRAMES, "recv": NUMBERS, "join": GROUPS, "leave": GROUPS, "feed": PATHS,
+    tables = {"group": GROUPS, "vlan": VLANS, "socket": ETHER_TYPES, "send": FRAMES, "recv": NUMBERS, "join": GROUPS,
+              "leave": GROUPS, "feed": PATHS,
               "auto": NUMBERS}
     if kind == "host":
         hosts.append(pick(drawn, (3, [f"h{len(hosts)}", f"_{len(hosts)}", "f", "a", *NAMES])))
@@ -217,7 +228,8 @@ def random_line(drawn, kind, hosts):
         words += ["/", *random_ticks(drawn, hosts)]
     if drawn.random() < 0.05:
         place = drawn.randrange(len(words))
-        words[place:place + drawn.randrange(2)] = drawn.sample([*NAMES, *NUMBERS[1], *BAD_TICKS, *WORDS], drawn.randrange(2))
+        words[place:place + drawn.randrange(2)] = drawn.sample([*NAMES, *NUMBERS[1], *BAD_TICKS, *WORDS],
+                                                               drawn.randrange(2))
     return drawn.choice([" ", " ", " ", "\t", "  "]).join(words) + drawn.choice(["", "", "", "\r", " "])
 
 
@@ -230,9 +242,11 @@ def random_lines(bench, met):
         lines = begin[:drawn.choice([0, 2, 2, 2, 3, 3, 4])]
         hosts = list("abcd"[:len(lines)]) or ["f"]
         lines += [random_line(drawn, drawn.choice(setup), hosts) for _ in range(drawn.randrange(5))]
-        lines += [random_line(drawn, drawn.choice(events if drawn.random() < 0.98 else setup), hosts) for _ in range(drawn.randrange(5))]
+        lines += [random_line(drawn, drawn.choice(events if drawn.random() < 0.98 else setup), hosts)
+                  for _ in range(drawn.randrange(5))]
         given = drawn.choice([b"", trace(packet(bytes.fromhex(FRAME))), b"x" * 30])
-        runs(bench, met, f"random lines {number}", "\n".join(lines).encode(), given, drawn.choice([(), (), ("--wires",)]))
+        runs(bench, met, f"random lines {number}", "\n".join(lines).encode(), given,
+             drawn.choice([(), (), ("--wires",)]))
 
 
 def each_word(bench, met):
@@ -240,18 +254,22 @@ def each_word(bench, met):
     begin = [line.decode() for line in BASE.split(b"\n")[1:3]]
     host = "host f 02:00:00:00:00:06 w"
     lines = [f"host {name} 02:00:00:00:00:06 w\nsocket {name} all\nsocket {name} 0800" for name in NAMES]
-    lines += [f"host f {address} w" for address in ADDRESSES[1]] + [f"host f 02:00:00:00:00:06 {wire}" for wire in WIRES[1]]
+    lines += [f"host f {address} w" for address in ADDRESSES[1]] + [f"host f 02:00:00:00:00:06 {wire}"
+                                                                    for wire in WIRES[1]]
     lines += [f"{host} {option} {value}" for option, (_, values) in HOST_OPTIONS.items() for value in values]
     lines += [f"{host} {option} {values[0]} {option} {values[0]}" for option, (_, values) in HOST_OPTIONS.items()]
     lines += [f"{host} rx {rx} buffers {buffers}" for rx in (4088, 4096, 4104) for buffers in (rx - 1, rx, rx + 1)]
     lines += [f"{kind} a {group}" for kind in ("group", "join", "leave") for group in GROUPS[1]]
     lines += [f"vlan a {vlan}" for vlan in VLANS[1]] + [f"socket a {word}" for word in ETHER_TYPES[1]]
-    lines += [f"send a {frame}" for frame in FRAMES[1]] + [f"recv a {number}" for number in NUMBERS[1]] + [f"feed a {path}" for path in PATHS[1]]
+    lines += [f"send a {frame}" for frame in FRAMES[1]] + [f"recv a {number}"
+                                                           for number in NUMBERS[1]] + [f"feed a {path}"
+                                                                                        for path in PATHS[1]]
     lines += [f"auto {number} 1" for number in NUMBERS[1]] + [f"auto 1 {number}" for number in NUMBERS[1]]
     ticks = [*(f"{step}:{name}" for step in sorted(STEPS) for name in ("a", "b", "f", "")), *BAD_TICKS]
     lines += [f"tick {tick}" for tick in ticks] + [f"interrupt a / go {tick} go" for tick in ticks]
     for kind in CALLS:
-        lines += [f"{kind} a{words} / {tick}" for words in ("", " 00", " 0 0", " ff:ff:ff:ff:ff:ff") for tick in ("", "go", "go / go", "/")]
+        lines += [f"{kind} a{words} / {tick}" for words in ("", " 00", " 0 0", " ff:ff:ff:ff:ff:ff")
+                  for tick in ("", "go", "go / go", "/")]
     for line in lines:
         text = "\n".join([*begin, line])
         for options in ((), ("--wires",)):
@@ -289,7 +307,8 @@ def other_texts(bench, met):
         for place in range(len(line) + 1):
             for other in (drawn.choice(NOT_TEXT), drawn.choice(CHARACTERS).encode()):
                 changed = line[:place] + other + line[place:]
-                runs(bench, met, f"other text in line {number + 1}", b"\n".join([*lines[:number], changed, *lines[number + 1:]]))
+                runs(bench, met, f"other text in line {number + 1}",
+                     b"\n".join([*lines[:number], changed, *lines[number + 1:]]))
     for other in [*NOT_TEXT, *(character.encode() for character in CHARACTERS)]:
         for text in (other, b"#" + other, BASE + b"\n" + other, BASE + b"\n# " + other + b"\n", other + b"\n" + BASE):
             runs(bench, met, f"other text {other.hex()}", text)
@@ -302,7 +321,7 @@ def passes(bench, name, data):
     read = TraceRead(data)
     ran = bench.run("pass", "in.pcap", "out.pcap")
     line, frames = read.passed()
-    wanted = (1, b"", f"nicbench: {read.fault}\n".encode(), None) if read.fault else (0, line, b"", written(frames))
+    wanted = (1, b"", failure(read.fault, "in.pcap"), None) if read.fault else (0, line, b"", written(frames))
     bench.check(f"{name}: {data[:200].hex()}", (ran.returncode, ran.stdout, ran.stderr, bench.get("out.pcap")), wanted)
     return read.fault
 
@@ -312,11 +331,14 @@ def traces(bench):
     drawn = random.Random(6)
     data = trace(packet(bytes.fromhex(FRAME)), packet(bytes(range(70)), time=1))
     met = {passes(bench, "a trace", data)}
-    for length in (0, SHORTEST_FRAME - 1, SHORTEST_FRAME, 59, 60, 61, LONGEST_FRAME, LONGEST_FRAME + 1, MOST_CAPTURED, MOST_CAPTURED + 1):
+    for length in (0, SHORTEST_FRAME - 1, SHORTEST_FRAME, 59, 60, 61, LONGEST_FRAME, LONGEST_FRAME + 1, MOST_CAPTURED,
+                   MOST_CAPTURED + 1):
         for original in (0, length, length + 1):
-            met.add(passes(bench, f"{length} bytes of {original}", trace(packet(bytes(length), original), packet(bytes(60)))))
+            met.add(passes(bench, f"{length} bytes of {original}",
+                           trace(packet(bytes(length), original), packet(bytes(60)))))
     for place in range(len(data)):
-        for byte in {0, 1, 4, 0x7F, 0x80, 0xFF, data[place] ^ 1, data[place] + 1 & 0xFF, drawn.randrange(256)} - {data[place]}:
+        for byte in {0, 1, 4, 0x7F, 0x80, 0xFF, data[place] ^ 1, data[place] + 1 & 0xFF,
+                     drawn.randrange(256)} - {data[place]}:
             met.add(passes(bench, f"byte {place} of a trace", data[:place] + bytes([byte]) + data[place + 1:]))
     for number in range(300):
         tail = bytes(drawn.choice([0, 0, 0, 1, 14, 60, drawn.randrange(256)]) for _ in range(drawn.randrange(120)))
@@ -325,15 +347,18 @@ def traces(bench):
         for _ in range(drawn.randrange(2, 6)):
             other[drawn.randrange(len(data))] = drawn.randrange(256)
         met.add(passes(bench, f"random bytes in a trace {number}", bytes(other)))
-    bench.check("traces: each fault was met", met, {None, "E60 Header", "E61 Magic", "E62 Version", "E63 LinkType", "E64 Record"})
+    bench.check("traces: each fault was met", met,
+                {None, "E60 Header", "E61 Magic", "E62 Version", "E63 LinkType", "E64 Record"})
 
 
 def all_cases(bench):
     met = set()
     bench.put(TRACE, trace(packet(bytes.fromhex(FRAME)), packet(bytes(range(80)))))
     bench.put("bad.pcap", FILE_HEADER + b"\xff" * 16)
-    for part in [cut_texts, changed_texts, moved_lines, random_bytes, random_lines, each_word, full_hosts, long_lines, other_texts]:
+    for part in [cut_texts, changed_texts, moved_lines, random_bytes, random_lines, each_word, full_hosts, long_lines,
+                 other_texts]:
         part(bench, met)
     bench.check("texts: each fault was met", met, LINE_FAULTS | {
-        "E40 Name", "E41 Ends", "E42 Hosts", "E43 Address", "E44 Config", "E46 Init: E14 NoLink", "E60 Header", "E61 Magic", "E64 Record", READ, OPEN})
+        "E40 Name", "E41 Ends", "E42 Hosts", "E43 Address", "E44 Config", "E46 Init: E14 NoLink", "E60 Header",
+        "E61 Magic", "E64 Record", READ, OPEN})
     traces(bench)

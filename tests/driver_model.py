@@ -1,11 +1,12 @@
 """A model of `nicbench drive`: each access of its driver, in order, by the answers of the device.
 
-The model is a generator. It yields an access, and is sent the device's answer: the value of a register, the bytes of a load, or for a store the
-bytes that the driver stored. An access is a tuple of a kind, a place and a value or a size; the bytes of a stored descriptor of a receive slot
-aren't predicted, because the driver may offer any buffer that is free.
+The model is a generator. It yields an access, and is sent the device's answer: the value of a register, the bytes of a
+load, or the stored bytes. An access is a tuple of a kind, a place and a value or a size. The bytes of a stored
+descriptor of a receive slot aren't predicted. The driver may offer any buffer that is free.
 """
 
-CTRL, EERD, MDIC, ICR, IMS, IMC, RCTL, TCTL, PBA = 0x0000, 0x0014, 0x0020, 0x00C0, 0x00D0, 0x00D8, 0x0100, 0x0400, 0x1000
+CTRL, EERD, MDIC, ICR, IMS = 0x0000, 0x0014, 0x0020, 0x00C0, 0x00D0
+IMC, RCTL, TCTL, PBA = 0x00D8, 0x0100, 0x0400, 0x1000
 RDBAL, RDT, TDBAL, TDT, MPC, MTA, RAL, VFTA = 0x2800, 0x2818, 0x3800, 0x3818, 0x4010, 0x5200, 0x5400, 0x5600
 # TXDW, RXDMT0, RXO and RXT0, which the driver handles
 HANDLED = 1 << 0 | 1 << 4 | 1 << 6 | 1 << 7
@@ -115,8 +116,10 @@ class Driver:
         for _ in range(count):
             stored = yield store(DESCRIPTOR * ((self.oldest + len(self.ring)) % self.rx))
             number = (int.from_bytes(stored[:8], "little") - self.receive_buffers) // PIECE
-            if number not in self.free() or stored != (self.receive_buffers + PIECE * number).to_bytes(8, "little") + bytes(8):
-                raise AssertionError(f"the descriptor {stored.hex()} is stored, and these buffers are free: {sorted(self.free())}")
+            if number not in self.free() or stored != (self.receive_buffers
+                                                       + PIECE * number).to_bytes(8, "little") + bytes(8):
+                raise AssertionError(f"the descriptor {stored.hex()} is stored, and these buffers are free: "
+                                     f"{sorted(self.free())}")
             self.ring.append(number)
 
     def refill(self):
@@ -126,7 +129,9 @@ class Driver:
             yield write(RDT, (self.oldest + len(self.ring)) % self.rx)
 
     def look(self):
-        """The lengths of the oldest finished slots up to one with EOP, or of six, and whether they are a frame; None if there are none such."""
+        """The lengths of the oldest finished slots up to one with EOP, or of six, and whether they are a frame. None
+        without such slots.
+        """
         lengths, sound = [], True
         while len(lengths) < min(MOST_PARTS, len(self.ring)):
             descriptor = yield load(DESCRIPTOR * ((self.oldest + len(lengths)) % self.rx), DESCRIPTOR)
@@ -184,7 +189,8 @@ class Driver:
         buffer = self.transmit_buffers + TRANSMIT_BUFFER * slot
         yield store(buffer, frame)
         # EOP, IFCS and RS
-        yield store(self.transmit_slot(slot), buffer.to_bytes(8, "little") + len(frame).to_bytes(2, "little") + bytes([0, 0x0B, 0, 0, 0, 0]))
+        yield store(self.transmit_slot(slot),
+                    buffer.to_bytes(8, "little") + len(frame).to_bytes(2, "little") + bytes([0, 0x0B, 0, 0, 0, 0]))
         yield write(TDT, (slot + 1) % self.tx)
         self.sending += 1
         return True
@@ -232,6 +238,7 @@ class Drive:
             return f"nicbench: E46 Init: {self.error}\n", 1
         sent = sum(SHORTEST_SENDABLE <= len(frame) <= MOST for frame in self.handed)
         exact = "exact" if self.driver.is_exact else "atleast"
-        line = f"sent {sent} illegal {len(self.handed) - sent} received {len(self.received)} missed {self.driver.missed} {exact}\n"
+        line = (f"sent {sent} illegal {len(self.handed) - sent} received {len(self.received)} missed "
+                f"{self.driver.missed} {exact}\n")
         is_all = len(self.handed) == len(self.frames) and len(self.received) >= (self.expect or 0)
         return (line, 0) if is_all else (line + "nicbench: E69 Fewer\n", 1)

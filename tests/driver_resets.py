@@ -1,18 +1,12 @@
 """Resets of the drivers in examples/drivers: their accesses, the slots that they offer, and runs with random steps."""
 
-import os
-import sys
-
-from server_pages import TOP
-
-sys.path.append(os.path.join(TOP, "examples", "drivers"))
-import resets  # noqa: E402
-import sweep  # noqa: E402
-from adapter import REGISTERS, Adapter  # noqa: E402
-from driver import CTRL, ICR, IMC, IMS, MPC, MTA, PBA, RAL, RCTL, TCTL, VFTA  # noqa: E402
-from driver import RDBAL, RDBAH, RDH, RDLEN, RDT, TDBAH, TDBAL, TDH, TDLEN, TDT  # noqa: E402
-from driver import DESCRIPTOR, QUEUE, RECEIVE_RING, RIGHT, SLOTS, SPARE_BUFFERS, TRANSMIT_RING, driver_of  # noqa: E402
-from traffic import OTHER, SELF, STEPS, frame_of  # noqa: E402
+import resets
+import sweep
+from adapter import REGISTERS, Adapter
+from driver import CTRL, ICR, IMC, IMS, MPC, MTA, PBA, RAL, RCTL, TCTL, VFTA
+from driver import RDBAL, RDBAH, RDH, RDLEN, RDT, TDBAH, TDBAL, TDH, TDLEN, TDT
+from driver import DESCRIPTOR, QUEUE, RECEIVE_RING, RIGHT, SLOTS, SPARE_BUFFERS, TRANSMIT_RING, driver_of
+from traffic import OTHER, SELF, STEPS, frame_of
 
 BUFFERS = SLOTS + SPARE_BUFFERS
 SEEDS = 20
@@ -20,7 +14,8 @@ SEEDS = 20
 ORDER = [*(("register", register) for register in (RCTL, MPC, CTRL, IMC, ICR, PBA, CTRL)),
          *(("register", table + 4 * n) for table, size in ((MTA, 128), (VFTA, 128), (RAL, 32)) for n in range(size)),
          *(("register", register) for register in (RDBAL, RDBAH, RDLEN, RDH, RDT)),
-         *(("memory", RECEIVE_RING + DESCRIPTOR * slot) for slot in range(SLOTS)), ("register", RDT), ("register", RCTL), ("memory", TRANSMIT_RING),
+         *(("memory", RECEIVE_RING + DESCRIPTOR * slot) for slot in range(SLOTS)), ("register", RDT),
+         ("register", RCTL), ("memory", TRANSMIT_RING),
          *(("register", register) for register in (TDBAL, TDBAH, TDLEN, TDH, TDT, TCTL, IMS))]
 
 
@@ -52,12 +47,14 @@ def reset_with(server, name, held):
 def all_accesses(server):
     """Each driver makes the accesses of a reset in their order. RDT is the number of slots that are offered."""
     for name, held, offered in [*((name, 3, SLOTS - 1) for name in RIGHT),
-                                *(("queue", held, min(SLOTS - 1, BUFFERS - held)) for held in (0, 3, 5, 6, BUFFERS - 1, BUFFERS))]:
+                                *(("queue", held, min(SLOTS - 1, BUFFERS - held))
+                                  for held in (0, 3, 5, 6, BUFFERS - 1, BUFFERS))]:
         got = reset_with(server, name, held)
         server.check(f"resets: accesses of {name} that holds {held} frames", [place for place, _ in got], ORDER)
         tail = [value for place, value in got if place == ("register", RDT)]
         server.check(f"resets: RDT of {name} that holds {held} frames", tail, [0, offered])
-        empty = [place[1] for place, value in got if place[0] == "memory" and place[1] < TRANSMIT_RING and int(value, 0) == 0]
+        empty = [place[1] for place, value in got
+                 if place[0] == "memory" and place[1] < TRANSMIT_RING and int(value, 0) == 0]
         wanted = [RECEIVE_RING + DESCRIPTOR * slot for slot in range(offered, SLOTS)] if name in QUEUE else []
         server.check(f"resets: cleared descriptors of {name} that holds {held} frames", empty, wanted)
 

@@ -1,7 +1,8 @@
-"""The tests with windows of examples/drivers: which seed finds which bug, and whether the tests have the windows that the page describes.
+"""The tests with windows of examples/drivers: which seed finds which bug, and whether the tests have the windows that
+the page describes.
 
-The tables of examples/drivers/README.md state the first seed that fails, for each bug and test. The runs are deterministic, so the seeds must be
-exactly these. `Seen` computes from the log of a run which windows the run had.
+The tables of examples/drivers/README.md state the first seed that fails, for each bug and test. The runs are
+deterministic, so the seeds must be exactly these. `Seen` computes from the log of a run which windows the run had.
 """
 
 import os
@@ -10,16 +11,15 @@ import subprocess
 import sys
 from functools import partial
 
+from harness import DRIVERS
 from server import LIMIT
-from server_pages import TOP, read_page
+from server_pages import read_page
 
-DRIVERS = os.path.join(TOP, "examples", "drivers")
-sys.path.append(DRIVERS)
-import arrivals  # noqa: E402
-import stages  # noqa: E402
-import sweep  # noqa: E402
-from driver import CAUSES, ICR, IMS, RDT, RECEIVE_BUFFER, RIGHT, SLOTS, TDT, TRANSMIT_BUFFERS, TRANSMIT_RING  # noqa: E402
-from adapter import REGISTERS  # noqa: E402
+import arrivals
+import stages
+import sweep
+from driver import CAUSES, ICR, IMS, RDT, RECEIVE_BUFFER, RIGHT, SLOTS, TDT, TRANSMIT_BUFFERS, TRANSMIT_RING
+from adapter import REGISTERS
 
 # The seeds that a table with "none" promises
 SEEDS = 200
@@ -33,8 +33,11 @@ WINDOWS_HEADING = f"| Without | {' | '.join(f'`{bug}`' for bug in sweep.WINDOW_B
 
 
 def cells_of(heading):
-    """The rows of the table in the README with this heading, each as a list of cells, without the heading and the line below it."""
-    table = re.search(rf"^{re.escape(heading)}\n\|[-|]+\n((?:\|.*\n)+)", read_page("examples", "drivers", "README.md"), re.M)
+    """The rows of the table in the README with this heading, each as a list of cells, without the heading and the line
+    below it.
+    """
+    table = re.search(rf"^{re.escape(heading)}\n\|[-|]+\n((?:\|.*\n)+)", read_page("examples", "drivers", "README.md"),
+                      re.M)
     return [[cell.strip() for cell in line.strip("|").split("|")] for line in table[1].splitlines()] if table else []
 
 
@@ -48,8 +51,10 @@ def first_seed(server, name, test, wanted):
 def table_of_tests(server):
     """For each bug and each test, the first seed that fails is in the table. Each bug is found by a test."""
     rows = cells_of(TESTS_HEADING)
-    server.check("windows: the drivers in the table", [row[:2] for row in rows], [[f"`{name}`", text] for name, text in sweep.DRIVERS.items()])
-    server.check("windows: drivers without a bug", [row[2:] for row in rows[:len(RIGHT)]], [["none"] * len(sweep.TESTS)] * len(RIGHT))
+    server.check("windows: the drivers in the table", [row[:2] for row in rows],
+                 [[f"`{name}`", text] for name, text in sweep.DRIVERS.items()])
+    server.check("windows: drivers without a bug", [row[2:] for row in rows[:len(RIGHT)]],
+                 [["none"] * len(sweep.TESTS)] * len(RIGHT))
     for name, _, *cells in rows[len(RIGHT):]:
         got = [first_seed(server, name.strip("`"), test, cell) for test, cell in zip(sweep.TESTS.values(), cells)]
         server.check(f"windows: {name}, first seeds", got, cells)
@@ -60,7 +65,8 @@ def table_of_windows(server):
     """For each bug and each window, the first seed that fails without this window is in the table."""
     bugs = sweep.WINDOW_BUGS
     rows = cells_of(WINDOWS_HEADING)
-    server.check("windows: the windows in the table", [row[0] for row in rows], [f"`{window}`" for window in stages.WINDOWS])
+    server.check("windows: the windows in the table", [row[0] for row in rows],
+                 [f"`{window}`" for window in stages.WINDOWS])
     for window, *cells in rows:
         test = sweep.test_of("stages", window.strip("`"))
         got = [first_seed(server, bug, test, cell) for bug, cell in zip(bugs, cells)]
@@ -68,7 +74,9 @@ def table_of_windows(server):
 
 
 def right_drivers(server):
-    """The drivers without a bug pass all tests, also without windows. To save time, these are the first of the seeds in the table."""
+    """The drivers without a bug pass all tests, also without windows. To save time, these are the first of the seeds in
+    the table.
+    """
     for name in RIGHT:
         for test, play in sweep.TESTS.items():
             failed = sweep.first_to_fail(server.program, RIGHT_SEEDS, name, play, False)
@@ -82,9 +90,12 @@ class Seen:
     """What happened in a run, computed from its log after initialization."""
 
     def __init__(self, log):
-        self.waiting, self.unfinished, self.piece = 0, 0, None  # frames in the packet buffer, frames without DD and EOP, the piece in progress
-        self.rx_used, self.rx_tail = 0, 0  # descriptors that the adapter used and that the driver offered, from the start
-        self.taken, self.tx_tail, self.put = 0, 0, 0  # frames that the adapter took, that the driver offered, and on the wire
+        # frames in the packet buffer, frames without DD and EOP, the piece in progress
+        self.waiting, self.unfinished, self.piece = 0, 0, None
+        # descriptors that the adapter used and that the driver offered, from the start
+        self.rx_used, self.rx_tail = 0, 0
+        # frames that the adapter took, that the driver offered, and on the wire
+        self.taken, self.tx_tail, self.put = 0, 0, 0
         self.arrived = 0
         self.sending = None  # the newest store of a frame to be sent, until TDT is written
         self.line = False  # whether the interrupt line is asserted
@@ -140,7 +151,8 @@ class Seen:
 
     def note(self):
         """Notes the windows that are open now."""
-        now = {"dry": self.waiting and not self.piece and self.rx_used == self.rx_tail, "full": self.tx_tail - self.put == SLOTS - 1,
+        now = {"dry": self.waiting and not self.piece and self.rx_used == self.rx_tail,
+               "full": self.tx_tail - self.put == SLOTS - 1,
                "both": self.unfinished and self.tx_tail > self.put, "receive ring wraps": self.rx_used > SLOTS,
                "transmit ring wraps": self.taken > SLOTS}
         self.had |= {window for window, is_open in now.items() if is_open}
@@ -177,18 +189,24 @@ def windows_seen(server):
     for seed in (1, 2, 3):
         # The adapter may put an answer on the wire before the next frame arrives or after it.
         fault, had, slots = seen_in(server, stages.cuts, "right", seed)
-        server.check(f"windows: of cuts, seed {seed}", (fault, had - {"both"}, slots), (None, RINGS_WRAP | {"work"}, {1, 2, 3, 4, 5, 6}))
+        server.check(f"windows: of cuts, seed {seed}", (fault, had - {"both"}, slots),
+                     (None, RINGS_WRAP | {"work"}, {1, 2, 3, 4, 5, 6}))
     for name in ("right", "cuts"):
         for test in ("exchange", "stages", "cuts"):
             had = set().union(*(seen_in(server, sweep.TESTS[test], name, seed)[1] for seed in range(1, 11)))
             cuts = {"cut after data", "cut after descriptor"} if (name, test) == ("cuts", "cuts") else set()
-            server.check(f"windows: where the handler of {name} cuts in, test {test}", {window for window in had if window.startswith("cut")}, cuts)
+            server.check(f"windows: where the handler of {name} cuts in, test {test}",
+                         {window for window in had if window.startswith("cut")}, cuts)
 
 
 def offered(server):
-    """The random steps of the server let offered frames arrive, too. A race that needs this isn't found if they arrive by request."""
+    """The random steps of the server let offered frames arrive, too. A race that needs this isn't found if they arrive
+    by request.
+    """
     by_request = partial(arrivals.offers, is_offered=False)
-    for name, test, seeds, wanted in [("rxo", arrivals.offers, 2, 2), ("rxo", by_request, 100, None)] + [(name, arrivals.offers, RIGHT_SEEDS, None) for name in RIGHT]:
+    for name, test, seeds, wanted in [("rxo", arrivals.offers, 2, 2),
+                                      ("rxo", by_request, 100, None)] + [(name, arrivals.offers, RIGHT_SEEDS, None)
+                                                                         for name in RIGHT]:
         failed = sweep.first_to_fail(server.program, seeds, name, test, False)
         server.check(f"windows: offered frames, {name}", failed and failed[0], wanted)
 
@@ -203,12 +221,15 @@ def same_again(server):
 
 def swept(server, *words):
     """Runs sweep.py with these words. Returns the exit status, the output, and the beginning of the errors."""
-    ran = subprocess.run([sys.executable, os.path.join(DRIVERS, "sweep.py"), server.program, *words], capture_output=True, timeout=LIMIT)
+    ran = subprocess.run([sys.executable, os.path.join(DRIVERS, "sweep.py"), server.program, *words],
+                         capture_output=True, timeout=LIMIT)
     return ran.returncode, ran.stdout.decode(), ran.stderr.decode()[:10]
 
 
 def sweeps(server):
-    """The options of sweep.py: a test for all drivers, one run, a window that is left out, the tables, and invalid words."""
+    """The options of sweep.py: a test for all drivers, one run, a window that is left out, the tables, and invalid
+    words.
+    """
     for test, missed in [("exchange", {"late", "length", "rdt", "masks-late", "cuts"}), ("stages", {"cuts"})]:
         status, out, errors = swept(server, "1", "--test", test)
         passed = set(re.findall(r"^(\S+): seeds 1 to 1 pass$", out, re.M))
@@ -216,12 +237,16 @@ def sweeps(server):
         server.check(f"sweep: {test}", (status, passed, errors), (0, set(RIGHT) | missed, ""))
         server.check(f"sweep: {test}, the bugs", set(failed), set(sweep.DRIVERS) - set(RIGHT) - missed)
         server.check(f"sweep: {test}, the logs", re.findall(r"^(\S+): .*\. Seed 1, its log:$", out, re.M), failed)
-    for words, last in [(["--test", "cuts", "--bug", "right", "1"], "passes"), (["--test", "stages", "--bug", "masks", "1"], "passes"),
-                        (["--bug", "rdt", "1"], "passes"), (["--test", "stages", "--bug", "rdt", "1"], "frame 17 was received with wrong bytes"),
+    for words, last in [(["--test", "cuts", "--bug", "right", "1"], "passes"),
+                        (["--test", "stages", "--bug", "masks", "1"], "passes"),
+                        (["--bug", "rdt", "1"], "passes"),
+                        (["--test", "stages", "--bug", "rdt", "1"], "frame 17 was received with wrong bytes"),
                         (["--test", "stages", "--without", "dry", "--bug", "rdt", "1"], "passes")]:
         status, out, errors = swept(server, *words)
-        server.check(f"sweep: {' '.join(words)}", (status, out.splitlines()[-1], errors), (int(last != "passes"), last, ""))
-    for words in [["--test", "stage"], ["--bug", "lat", "1"], ["--bug", "late", "x"], ["--without", "dry"], ["--test", "cuts", "--without", "dry"],
+        server.check(f"sweep: {' '.join(words)}", (status, out.splitlines()[-1], errors),
+                     (int(last != "passes"), last, ""))
+    for words in [["--test", "stage"], ["--bug", "lat", "1"], ["--bug", "late", "x"], ["--without", "dry"],
+                  ["--test", "cuts", "--without", "dry"],
                   ["--test", "stages", "--without", "wet"], ["x"], ["-1"], ["0"]]:
         server.check(f"sweep: {' '.join(words)} is invalid", swept(server, *words)[::2], (2, "sweep.py: "))
 
@@ -232,9 +257,11 @@ def printed_tables(server):
     wanted = [[*row[:2], *(cell if cell == "1" else "none" for cell in row[2:])] for row in cells_of(TESTS_HEADING)]
     wanted += [[row[0], *(cell if cell == "1" else "none" for cell in row[1:])] for row in cells_of(WINDOWS_HEADING)]
     server.check("sweep: the tables", (status, errors), (0, ""))
-    server.check("sweep: rows of the tables", [[cell.strip() for cell in line.strip("|").split("|")] for line in out.splitlines() if line], wanted)
+    server.check("sweep: rows of the tables",
+                 [[cell.strip() for cell in line.strip("|").split("|")] for line in out.splitlines() if line], wanted)
 
 
 def all_cases(server):
-    for part in [table_of_tests, table_of_windows, right_drivers, windows_seen, offered, same_again, sweeps, printed_tables]:
+    for part in [table_of_tests, table_of_windows, right_drivers, windows_seen, offered, same_again, sweeps,
+                 printed_tables]:
         part(server)

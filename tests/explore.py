@@ -1,9 +1,10 @@
-#!/usr/bin/env python3
+#!/usr/bin/env -S python3 -B
 """Checks the explorer of bindings/c/explore with the examples of examples/explore.
 
 usage: tests/explore.py PROGRAM LIBRARY
 
-PROGRAM is `nicbench`, and LIBRARY is what `tools/library` wrote. The last line is 'N passed, M failed', and the exit status is 1 if anything failed.
+PROGRAM is `nicbench`, and LIBRARY is what `tools/library` wrote. The last line is 'N passed, M failed', and the exit
+status is 1 if anything failed.
 """
 
 import json
@@ -12,13 +13,10 @@ import re
 import shutil
 import subprocess
 import sys
-import tempfile
 
-sys.dont_write_bytecode = True
-from bench import Bench  # noqa: E402
-from explorer_results import check_results  # noqa: E402
+from harness import TOP, Ended, Program, test_all, words_of_script
+from explorer_results import check_results
 
-TOP = os.path.dirname(os.path.dirname(os.path.abspath(__file__)))
 EXPLORER, EXAMPLES = os.path.join(TOP, "bindings", "c", "explore"), os.path.join(TOP, "examples", "explore")
 LIMIT = 3600
 PASSES, FOUND, USAGE, NOT_RUN, NOTHING = range(5)
@@ -30,16 +28,18 @@ OFFERS, EXCHANGE, CUTS, HELD = (108, 6_306), 286, 210, 586
 # Of all schedules of up to one and two deviations: how many fail, by a search that plays each
 FAILING = ("late", 3, 130), ("freed", 112, 39_220)
 # Each bug: the test, options, and its smallest schedule, whose place is the earliest one
-BUGS = [("late", "", "4.6 rxdone before read ICR"), ("length", "", "4.8 rxdone before read rx[1]+12"), ("freed", "", "63.4 txtake before read TDH"),
-        ("rdt", "", "58.5 rxdata before write rx[2]"), ("tdt", "", "63.3 txtake before write tx[0]"),
-        ("masks-late", "", "4.7 rxdone before read ICR"), ("eerd", "--holds", "0.5 hold eeprom before read EERD"),
+BUGS = [("late", "", "4.6 rxdone before read ICR"), ("length", "", "4.8 rxdone before read rx[1]+12"),
+        ("freed", "", "63.4 txtake before read TDH"), ("rdt", "", "58.5 rxdata before write rx[2]"),
+        ("tdt", "", "63.3 txtake before write tx[0]"), ("masks-late", "", "4.7 rxdone before read ICR"),
+        ("eerd", "--holds", "0.5 hold eeprom before read EERD"),
         ("cuts:cuts", "", "2.1 rxdone before write 0x20000"), ("offers:rxo", "", "39.3 arrive before write ICR")]
 BY_ITSELF = "head", "part"
 RIGHT = "right", "masks", "pool"
 # The tests of which every schedule is searched, each with its number of schedules
-EVERY = {"exchange:right": "1.52e+57", "exchange:masks": "3.75e+59", "exchange:pool": "1.52e+57", "offers:right": "2.64e+96",
-         "offers:masks": "1.86e+104", "offers:pool": "2.64e+96", "right": "7.47e+105", "masks": "1.17e+112", "pool": "7.47e+105",
-         "cuts:right": "2.02e+52", "cuts:masks": "2.34e+56", "cuts:pool": "2.02e+52", "2exchange:right": "4.95e+114",
+EVERY = {"exchange:right": "1.52e+57", "exchange:masks": "3.75e+59", "exchange:pool": "1.52e+57",
+         "offers:right": "2.64e+96", "offers:masks": "1.86e+104", "offers:pool": "2.64e+96", "right": "7.47e+105",
+         "masks": "1.17e+112", "pool": "7.47e+105", "cuts:right": "2.02e+52", "cuts:masks": "2.34e+56",
+         "cuts:pool": "2.02e+52", "2exchange:right": "4.95e+114",
          "2cuts:right": "4.51e+104"}
 # A test that keeps a count outside of its state, so that its accesses change from run to run
 FORGETS = """
@@ -82,8 +82,8 @@ static const char *test(void *word)
 }
 int main(int count, char **words) { return nic82540em_explore(count, words, test, 0); }
 """
-# Tests that use what an earlier frame has left behind: its bytes in the buffer of a shorter one, the length in a descriptor
-# whose frame was sent, and the counter of received frames; if a frame was finished before the first look
+# Tests that use what remains of an earlier frame: its bytes in a buffer, the length in its descriptor, and the counter
+# of received frames. If a frame was finished before the first look
 LEFT_BEHIND = """
 #include <nic82540em_explore.h>
 static uint8_t is_done(uint64_t descriptor)
@@ -127,7 +127,8 @@ static const char *test(void *word)
 }
 int main(int count, char **words) { return nic82540em_explore(count, words, test, 0); }
 """
-USES = {"a buffer": ("if (early > 2 && last == 255) return \"old\";", FOUND), "a buffer, rightly": ("if (last != 255) return \"new\";", PASSES),
+USES = {"a buffer": ("if (early > 2 && last == 255) return \"old\";", FOUND),
+        "a buffer, rightly": ("if (last != 255) return \"new\";", PASSES),
         "a descriptor": ("if (early > 2 && length == 60) return \"old\";", FOUND),
         "a counter": ("if (early > 2 && x_read(NIC_GPRC) == 2) return \"two\";", FOUND),
         "a counter, rightly": ("if (x_read(NIC_GPRC) != 2) return \"other\";", PASSES)}
@@ -166,7 +167,7 @@ int main(int count, char **words) { return nic82540em_explore(count, words, test
 """
 
 
-class Explorer(Bench):
+class Explorer(Program):
     """The programs that are built here."""
 
     def __init__(self, program, library, folder):
@@ -177,23 +178,19 @@ class Explorer(Bench):
     def build(self, name, *sources, words=(), objects=()):
         """Compiles a test, and links it with the explorer."""
         out = os.path.join(self.folder, name)
-        line = [self.compiler, *(words or ZEROED), *WARNINGS, "-I", os.path.join(self.library, "include"), "-o", out, *sources, *objects,
+        line = [self.compiler, *(words or ZEROED), *WARNINGS, "-I", os.path.join(self.library, "include"), "-o", out,
+                *sources, *objects,
                 os.path.join(self.library, "lib", "libnic82540em_explore.a")]
         ran = subprocess.run(line, capture_output=True, text=True)
         self.check(f"{name}: it is compiled without a warning", (ran.returncode, ran.stderr), (0, ""))
         return out
 
     def source(self, name, text):
-        path = os.path.join(self.folder, name)
-        with open(path, "w") as file:
-            file.write(text)
-        return path
+        return self.put(name, text.encode())
 
     def run(self, *words, env=None, data=None):
         """The exit status of a program, its output and its errors."""
-        env = {**os.environ, **(env or {})}
-        ran = subprocess.run(words, cwd=self.folder, capture_output=True, text=True, errors="replace", timeout=LIMIT, env=env, input=data)
-        return ran.returncode, ran.stdout, ran.stderr
+        return self.execute(*words, env=env, given=data, limit=LIMIT)
 
     def none_of(self, *words):
         """How many schedules a search that passes stands for, or its output."""
@@ -202,17 +199,20 @@ class Explorer(Bench):
         return int(found[1]) if found and status == PASSES and not errors else (status, out, errors)
 
 
-def counts(bench, stages):
+def counts(bench):
     """The exact numbers of schedules."""
     total = 1
     for depth, count in enumerate(STAGES, 1):
         total += count
-        bench.check(f"counts: stages, depth {depth}", bench.none_of(stages, "right", "--explore", str(depth)), total)
-    bench.check("counts: offers, depth 2", bench.none_of(stages, "offers:right", "--explore", "2"), 1 + sum(OFFERS))
+        bench.check(f"counts: stages, depth {depth}", bench.none_of(bench.stages, "right", "--explore", str(depth)),
+                    total)
+    bench.check("counts: offers, depth 2", bench.none_of(bench.stages, "offers:right", "--explore", "2"),
+                1 + sum(OFFERS))
     for words, count in [(["offers:right"], OFFERS[0]), (["exchange:right"], EXCHANGE), (["cuts:right"], CUTS),
                          (["right", "--holds"], HELD)]:
-        bench.check(f"counts: {words}", bench.none_of(stages, *words, "--explore", "1"), 1 + count)
-    bench.check("counts: each run from nothing", bench.none_of(stages, "right", "--explore", "1", "--again"), 1 + STAGES[0])
+        bench.check(f"counts: {words}", bench.none_of(bench.stages, *words, "--explore", "1"), 1 + count)
+    bench.check("counts: each run from nothing", bench.none_of(bench.stages, "right", "--explore", "1", "--again"),
+                1 + STAGES[0])
     fast = bench.build("stages-O2", *sources("stages.c", "driver.c"), words=["-O2"])
     bench.check("counts: another build", bench.none_of(fast, "right", "--explore", "2"), 1 + sum(STAGES[:2]))
 
@@ -221,156 +221,188 @@ def sources(*names):
     return [os.path.join(EXAMPLES, name) for name in names]
 
 
-def bugs(bench, stages):
+def bugs(bench):
     """Each bug is found, by one deviation; its schedule is stored and played again, and the right driver passes it."""
     for name, words, deviation in BUGS:
         found = os.path.join(bench.folder, "found.txt")
-        status, out, errors = bench.run(stages, name, *words.split(), "--out", found, "--serve", bench.program)
+        status, out, errors = bench.run(bench.stages, name, *words.split(), "--out", found, "--serve", bench.program)
         with open(found) as file:
             lines = file.read().splitlines()
         bench.check(f"bugs: {name}", (status, lines[2:], errors), (FOUND, [deviation], ""))
         bench.check(f"bugs: {name}: smallest", "\nsmallest: no schedule with fewer deviations fails\n" in out, True)
-        bench.check(f"bugs: {name}: served", out.splitlines()[-1], f"{bench.program} serve plays it, with the same result")
+        bench.check(f"bugs: {name}: served", out.splitlines()[-1],
+                    f"{bench.program} serve plays it, with the same result")
         fault = lines[1].removeprefix("# ")
-        bench.check(f"bugs: {name}: again", bench.run(stages, name, "--replay", found), (FOUND, f"{fault}\n", ""))
+        bench.check(f"bugs: {name}: again", bench.run(bench.stages, name, "--replay", found), (FOUND, f"{fault}\n", ""))
         right = f"{name.partition(':')[0]}:right" if ":" in name else "right"
-        bench.check(f"bugs: {name}: right", bench.run(stages, right, "--replay", found)[1].splitlines()[-1:], ["The test passes."])
+        bench.check(f"bugs: {name}: right", bench.run(bench.stages, right, "--replay", found)[1].splitlines()[-1:],
+                    ["The test passes."])
     for name in BY_ITSELF:
-        status, out, _ = bench.run(stages, name)
-        bench.check(f"bugs: {name}", (status, "\nno race: the test fails by itself, without any deviation\n" in out), (FOUND, True))
+        status, out, _ = bench.run(bench.stages, name)
+        bench.check(f"bugs: {name}", (status, "\nno race: the test fails by itself, without any deviation\n" in out),
+                    (FOUND, True))
 
 
-def all_that_fail(bench, stages):
+def all_that_fail(bench):
     """With --all, each schedule that fails is found, and each seed."""
     for name, *wanted in FAILING:
         for depth, count in enumerate(wanted, 1):
-            out = bench.run(stages, name, "--explore", str(depth), "--all")[1]
+            out = bench.run(bench.stages, name, "--explore", str(depth), "--all")[1]
             bench.check(f"all: {name}, depth {depth}", int(re.search(r"holds: (\d+) of \d+ fail\n", out)[1]), count)
-    # With --all, a search leaves nothing out of states.
+    # With --all, a search skips no state.
     for name, depth in ("cuts:right", "3"), ("offers:masks", "5"):
-        numbers = [bench.none_of(stages, name, "--explore", depth, *words) for words in ([], ["--all"])]
+        numbers = [bench.none_of(bench.stages, name, "--explore", depth, *words) for words in ([], ["--all"])]
         bench.check(f"all: {name}, the same schedules", numbers[0], numbers[1])
-    out = bench.run(stages, "late", "--explore", "1", "--all")[1]
+    out = bench.run(bench.stages, "late", "--explore", "1", "--all")[1]
     bench.check("all: kinds", "\n3 of rxdone before read ICR, such as 4.6 rxdone before read ICR\n" in out, True)
-    out = bench.run(stages, "late", "--all", "--runs", "200")[1]
+    out = bench.run(bench.stages, "late", "--all", "--runs", "200")[1]
     seeds, count = re.findall(r"^seed \d+: ", out, re.M), int(re.search(r"^(\d+) of them fail$", out, re.M)[1])
     bench.check("all: seeds", (len(seeds), count > 10), (count, True))
 
 
-def by_priorities(bench, stages):
+def by_priorities(bench):
     """PCT finds races of depth 2, and no fault of the right driver. The probability is that of the finder's formula."""
     for name in ("late", "freed"):
-        status, out, _ = bench.run(stages, name, "--pct", "2")
+        status, out, _ = bench.run(bench.stages, name, "--pct", "2")
         events, bound = map(int, re.search(r"^PCT, depth 2: (\d+) events, .* at least 1/(\d+)$", out, re.M).groups())
         bench.check(f"pct: {name}", (status, bound), (FOUND, 4 * events))
-    status, out, _ = bench.run(stages, "right", "--pct", "3", "--runs", "300")
+    status, out, _ = bench.run(bench.stages, "right", "--pct", "3", "--runs", "300")
     bench.check("pct: right", (status, "\nno run fails\n" in out), (PASSES, True))
 
 
-def races(bench, stages):
+def races(bench):
     """By --pipe, tools/races plays the same test: it fails with the same schedule, and has a chart."""
     schedule = bench.source("late.txt", "4.6 rxdone before read ICR\n")
     finder = [sys.executable, "-S", os.path.join(TOP, "tools", "races"), "--server", bench.program]
-    status, out, errors = bench.run(*finder, "--replay", schedule, "--", stages, "late", "--pipe")
-    bench.check("races: late", (status, out.splitlines()[-1:], errors), (FOUND, ["   exit status 1: frame 1 was never received"], ""))
+    status, out, errors = bench.run(*finder, "--replay", schedule, "--", bench.stages, "late", "--pipe")
+    bench.check("races: late", (status, out.splitlines()[-1:], errors),
+                (FOUND, ["   exit status 1: frame 1 was never received"], ""))
     bench.check("races: its chart", "*  " in out and "rx[1] is written back" in out, True)
     for name in ("right", "cuts:right", "offers:right"):
-        status, out, errors = bench.run(*finder, "--replay", "/dev/null", "--", stages, name, "--pipe")
+        status, out, errors = bench.run(*finder, "--replay", "/dev/null", "--", bench.stages, name, "--pipe")
         bench.check(f"races: {name}", (status, out.splitlines()[-1:], errors), (PASSES, ["   The test passes."], ""))
 
 
-def drawn(bench, stages):
+def drawn(bench):
     """Drawn runs, from saved states and from nothing, have the same answers. What isn't saved is found."""
-    status, out, errors = bench.run(stages, "right", "--check", "--runs", "100")
-    bench.check("drawn: check", (status, out.splitlines()[-1:], errors), (PASSES, ["each has the answers of a run from nothing"], ""))
-    status, out, _ = bench.run(stages, "length", "--check", "--runs", "50")
+    status, out, errors = bench.run(bench.stages, "right", "--check", "--runs", "100")
+    bench.check("drawn: check", (status, out.splitlines()[-1:], errors),
+                (PASSES, ["each has the answers of a run from nothing"], ""))
+    status, out, _ = bench.run(bench.stages, "length", "--check", "--runs", "50")
     bench.check("drawn: the smallest of --check", (status, "\n4.8 rxdone before read rx[1]+12\n" in out), (FOUND, True))
-    status, out, _ = bench.run(stages, "right", "--states", "10", "--runs", "20")
-    bench.check("drawn: too many states", (status, bool(re.match(r"ended by --states 10, after \d+ states and \d+ schedules?: none of these fails\n", out))), (NOT_RUN, True))
+    status, out, _ = bench.run(bench.stages, "right", "--states", "10", "--runs", "20")
+    bench.check("drawn: too many states",
+                (status, bool(re.match(r"ended by --states 10, after \d+ states and \d+ schedules?: none of these "
+                                       r"fails\n", out))), (NOT_RUN, True))
     for name in RIGHT:
-        bench.check(f"drawn: {name}", bench.run(stages, name, "--runs", "300")[::2], (PASSES, ""))
+        bench.check(f"drawn: {name}", bench.run(bench.stages, name, "--runs", "300")[::2], (PASSES, ""))
     forgets = bench.build("forgets", bench.source("forgets.c", FORGETS))
     status, out, _ = bench.run(forgets, "--check", "--runs", "300")
-    bench.check("drawn: a count that isn't saved", (status, "some of the state of the test isn't saved" in out), (NOT_RUN, True))
+    bench.check("drawn: a count that isn't saved", (status, "some of the state of the test isn't saved" in out),
+                (NOT_RUN, True))
 
 
 def left_behind(bench):
     """What nobody reads parts no states; what a run reads is as it was left."""
     for name, (use, wanted) in USES.items():
-        test = bench.build("left", bench.source("left.c", LEFT_BEHIND.replace("USE", f"(void)early, (void)last, (void)length; {use}")))
+        test = bench.build("left", bench.source("left.c",
+                                                LEFT_BEHIND.replace("USE", f"(void)early, (void)last, (void)length; "
+                                                                           f"{use}")))
         for words in (["--explore", "every"], ["--explore", "3"], ["--explore", "2", "--again"]):
             status, out, errors = bench.run(test, *words)
-            bench.check(f"left behind: {name} {words}", (status, "from nothing. What" in out, errors), (wanted, False, ""))
+            bench.check(f"left behind: {name} {words}", (status, "from nothing. What" in out, errors),
+                        (wanted, False, ""))
     static = bench.build("static", bench.source("static.c", STATIC))
     for words in ([], ["--explore", "every"]):
         status, out, _ = bench.run(static, *words, "--json")
-        bench.check(f"left behind: a static variable {words}", (status, json.loads(out)["result"]), (NOT_RUN, "unsaved"))
+        bench.check(f"left behind: a static variable {words}", (status, json.loads(out)["result"]),
+                    (NOT_RUN, "unsaved"))
 
 
-def logs(bench, stages):
+def logs(bench):
     """The log of a schedule has each access and step of the run."""
     late = bench.source("late.txt", "4.6 rxdone before read ICR\n")
-    status, out, errors = bench.run(stages, "late", "--replay", late, "--log")
-    wanted = "  4.5    read rx[1]+8, 5 bytes: 0000000000\n*        rxdone: done\n  4.6    read ICR 0x84\n         the line is lowered\n"
-    bench.check("logs: late", (status, wanted in out, out.splitlines()[-1], errors), (FOUND, True, "frame 1 was never received", ""))
-    wanted = USAGE, "", "explore: --log: it needs --replay, and goes without --json\nFor more information, try '--help'.\n"
-    bench.check("logs: without a schedule", bench.run(stages, "late", "--log"), wanted)
+    status, out, errors = bench.run(bench.stages, "late", "--replay", late, "--log")
+    wanted = ("  4.5    read rx[1]+8, 5 bytes: 0000000000\n*        rxdone: done\n  4.6    read ICR 0x84\n"
+              "         the line is lowered\n")
+    bench.check("logs: late", (status, wanted in out, out.splitlines()[-1], errors),
+                (FOUND, True, "frame 1 was never received", ""))
+    wanted = (USAGE, "",
+              "explore: --log: it needs --replay, and goes without --json\nFor more information, try '--help'.\n")
+    bench.check("logs: without a schedule", bench.run(bench.stages, "late", "--log"), wanted)
     finder = [sys.executable, "-S", os.path.join(TOP, "tools", "races"), "--server", bench.program, "--replay", late]
-    shown = bench.run(*finder, "--rows", "all", "--", stages, "late", "--pipe")[1].splitlines()
+    shown = bench.run(*finder, "--rows", "all", "--", bench.stages, "late", "--pipe")[1].splitlines()
     places = [line.split()[0] for line in shown if re.match("   [0-9]+[.][0-9]+ ", line)]
     bench.check("logs: all rows of the chart", (places[0], places[-1] > "4", ".." in places), ("0.1", True, False))
 
 
 def ends(bench):
-    """A test that ends by a signal fails; one that makes no access isn't searched; and each run from nothing shows the same."""
-    for name, code in [("SIGABRT", "abort()"), ("SIGSEGV", "*(volatile int *)0 = 0"), ("SIGFPE", "status[1] /= status[0]")]:
+    """A test that ends by a signal fails; one that makes no access isn't searched; and each run from nothing shows the
+    same.
+    """
+    for name, code in [("SIGABRT", "abort()"), ("SIGSEGV", "*(volatile int *)0 = 0"),
+                       ("SIGFPE", "status[1] /= status[0]")]:
         test = bench.build(name, bench.source(f"{name}.c", ENDS.replace("END", code)), words=["-O0"])
         for words in ([], ["--again", "--explore", "2"]):
             status, out, _ = bench.run(test, *words, "--json")
             result = json.loads(out)
             got = result["result"], result["fault"], result["schedule"]
-            bench.check(f"ends: {name} {words}", (status, *got), (FOUND, "fails", f"ended by {name}", ["1.2 rx before read rx[0]+12"]))
+            bench.check(f"ends: {name} {words}", (status, *got),
+                        (FOUND, "fails", f"ended by {name}", ["1.2 rx before read rx[0]+12"]))
     empty = bench.build("empty", bench.source("empty.c", EMPTY))
     for words in ([], ["--explore", "2"], ["--explore", "every"]):
         status, out, _ = bench.run(empty, *words)
-        bench.check(f"ends: nothing {words}", (status, out.splitlines()[-1]), (NOTHING, "nothing was searched: in no run did a deviation do anything"))
+        bench.check(f"ends: nothing {words}", (status, out.splitlines()[-1]),
+                    (NOTHING, "nothing was searched: in no run did a deviation do anything"))
     return empty
 
 
-def arguments(bench, stages):
+def arguments(bench):
     """Wrong words and wrong schedules; variables in place of words."""
     for words, wanted in [(["--fly"], "--fly: there is no such option"), (["--runs"], "--runs: it has no value"),
                           (["--explore", "x"], "--explore: its value isn't a number, or is too great"),
                           (["--explore", "17"], "--explore: its value isn't a number, or is too great")]:
-        got = bench.run(stages, "right", *words)
-        bench.check(f"arguments: {words}", got, (USAGE, "", f"explore: {wanted}\nFor more information, try '--help'.\n"))
+        got = bench.run(bench.stages, "right", *words)
+        bench.check(f"arguments: {words}", got,
+                    (USAGE, "", f"explore: {wanted}\nFor more information, try '--help'.\n"))
     bad = bench.source("bad.txt", "4.6 rz before read ICR\n")
-    bench.check("arguments: a schedule", bench.run(stages, "right", "--replay", bad), (USAGE, "", f"explore: {bad}: line 1: it has no deviation, such as rx\n"))
-    served = bench.run(stages, "right", "--replay", "/dev/null", "--serve", "nonesuch")
-    bench.check("arguments: no program", served, (PASSES, "The test passes.\nnonesuch serve can't play it: it can't be started\n", ""))
-    got = bench.run(stages, "right", "--explore", "every", "--all")
-    bench.check("arguments: all of every", got, (USAGE, "", "explore: --all: with --explore, it needs a number: of every schedule, more may fail than can be listed\nFor more information, try '--help'.\n"))
+    bench.check("arguments: a schedule", bench.run(bench.stages, "right", "--replay", bad),
+                (USAGE, "", f"explore: {bad}: line 1: it has no deviation, such as rx\n"))
+    served = bench.run(bench.stages, "right", "--replay", "/dev/null", "--serve", "nonesuch")
+    bench.check("arguments: no program", served,
+                (PASSES, "The test passes.\nnonesuch serve can't play it: it can't be started\n", ""))
+    got = bench.run(bench.stages, "right", "--explore", "every", "--all")
+    bench.check("arguments: all of every", got,
+                (USAGE, "",
+                 "explore: --all: with --explore, it needs a number: of every schedule, more may fail than can be "
+                 "listed\nFor more information, try '--help'.\n"))
     other = bench.source("other.txt", "4.6 rxdone before read RDH\n999.1 rx before read ICR\n")
-    status, out, _ = bench.run(stages, "right", "--replay", other)
-    bench.check("arguments: another access", (status, out.splitlines()[0]), (FOUND, "4.6 rxdone before read RDH: at this place, the test makes another access: read rx[1]+8"))
-    served = bench.run(stages, "right", "--replay", other, "--serve", bench.program, "--json")[1]
+    status, out, _ = bench.run(bench.stages, "right", "--replay", other)
+    bench.check("arguments: another access", (status, out.splitlines()[0]),
+                (FOUND, "4.6 rxdone before read RDH: at this place, the test makes another access: read rx[1]+8"))
+    served = bench.run(bench.stages, "right", "--replay", other, "--serve", bench.program, "--json")[1]
     bench.check("arguments: another access, served", json.loads(served)["served"], False)
-    bench.check("arguments: NIC_EXPLORE", bench.run(stages, "late", env={"NIC_EXPLORE": "1"})[0], FOUND)
+    bench.check("arguments: NIC_EXPLORE", bench.run(bench.stages, "late", env={"NIC_EXPLORE": "1"})[0], FOUND)
     late = bench.source("late.txt", "4.6 rxdone before read ICR\n")
-    bench.check("arguments: NIC_REPLAY", bench.run(stages, "late", env={"NIC_REPLAY": late})[:2], (FOUND, "frame 1 was never received\n"))
-    bench.check("arguments: help", bench.run(stages, "--help")[0::2], (PASSES, ""))
+    bench.check("arguments: NIC_REPLAY", bench.run(bench.stages, "late", env={"NIC_REPLAY": late})[:2],
+                (FOUND, "frame 1 was never received\n"))
+    bench.check("arguments: help", bench.run(bench.stages, "--help")[0::2], (PASSES, ""))
 
 
 def pointers(bench):
     """A driver with pointers is explored as it is."""
     driver = os.path.join(bench.folder, "pointers.o")
-    words = [bench.compiler, "-c", "-O1", "-ftrivial-auto-var-init=zero", "-fsanitize=thread", "--param=tsan-distinguish-volatile=1"]
+    words = [bench.compiler, "-c", "-O1", "-ftrivial-auto-var-init=zero", "-fsanitize=thread",
+             "--param=tsan-distinguish-volatile=1"]
     ran = subprocess.run([*words, "-o", driver, *sources("pointers.c")], capture_output=True, text=True)
     bench.check("pointers: the driver is compiled", (ran.returncode, ran.stderr), (0, ""))
     hooks = os.path.join(EXPLORER, "pointers", "hooks.c")
-    test = bench.build("pointers", *sources("pointers_test.c"), hooks, words=[*ZEROED, "-Wl,--wrap=memcpy"], objects=[driver])
+    test = bench.build("pointers", *sources("pointers_test.c"), hooks, words=[*ZEROED, "-Wl,--wrap=memcpy"],
+                       objects=[driver])
     status, out, _ = bench.run(test, "right", "--explore", "every")
-    bench.check("pointers: every schedule", (status, out.startswith("every schedule, with any number of deviations, without holds: none of ")), (PASSES, True))
+    bench.check("pointers: every schedule",
+                (status, out.startswith("every schedule, with any number of deviations, without holds: none of ")),
+                (PASSES, True))
     result = json.loads(bench.run(test, "late", "--json")[1])
     bench.check("pointers: late", (result["result"], result["schedule"]), ("fails", ["4.7 rx before read ICR"]))
     bench.check("pointers: no chart", "tools/races" in bench.run(test, "late")[1], False)
@@ -395,45 +427,44 @@ def rust(bench):
         return
     crate, folder = os.path.join(TOP, "bindings", "rust_explore", "src", "lib.rs"), os.path.join(bench.library, "lib")
     compiler = ["rustc", "--edition", "2021", "-D", "warnings", "-L", f"native={folder}"]
-    for name, words in [("the crate", ["--crate-type", "rlib", "--crate-name", "nic82540em_explore", "-l", "static=nic82540em_explore", "-o", "libex.rlib", crate]),
-                        ("the test", ["--extern", "nic82540em_explore=libex.rlib", "-o", "receive", *sources("receive.rs")])]:
+    for name, words in [("the crate", ["--crate-type", "rlib", "--crate-name", "nic82540em_explore", "-l",
+                                       "static=nic82540em_explore", "-o", "libex.rlib", crate]),
+                        ("the test", ["--extern", "nic82540em_explore=libex.rlib", "-o", "receive",
+                                      *sources("receive.rs")])]:
         bench.check(f"rust: {name} is compiled", bench.run(*compiler, *words), (0, "", ""))
     test = os.path.join(bench.folder, "receive")
     status, out, errors = bench.run(test, "right", "--explore", "every")
     bench.check("rust: every schedule", (status, ": none of " in out, errors), (PASSES, True, ""))
     bench.check("rust: check", bench.run(test, "right", "--check", "--runs", "100")[::2], (PASSES, ""))
     result = json.loads(bench.run(test, "late", "--json")[1])
-    bench.check("rust: late", [result[key] for key in ("result", "fault", "schedule")], ["fails", "frame 1 was never received", ["4.6 rx before read ICR"]])
+    bench.check("rust: late", [result[key] for key in ("result", "fault", "schedule")],
+                ["fails", "frame 1 was never received", ["4.6 rx before read ICR"]])
 
 
-def every(bench, stages):
+def every(bench):
     """Every schedule of drivers without a bug."""
     for name, number in EVERY.items():
-        status, out, errors = bench.run(stages, name, "--explore", "every")
+        status, out, errors = bench.run(bench.stages, name, "--explore", "every")
         found = re.search(r": none of (\S+) fails\n", out)
         bench.check(f"every: {name}", (status, found and found[1], errors), (PASSES, number, ""))
         print(f"{name}: {out}", end="", flush=True)
 
 
-def main():
-    program, given = map(os.path.abspath, sys.argv[1:3])
-    with tempfile.TemporaryDirectory() as folder:
-        library = shutil.copytree(given, os.path.join(folder, "nic"))
-        bench = Explorer(program, library, folder)
-        if not bench.compiler:
-            print("there is no C compiler\n0 passed, 1 failed")
-            return 1
-        stages = bench.build("stages", *sources("stages.c", "driver.c"))
-        for part in (counts, bugs, all_that_fail, by_priorities, races, drawn, logs, arguments):
-            part(bench, stages)
-        left_behind(bench)
-        check_results(bench, stages, ends(bench))
-        pointers(bench)
-        rust(bench)
-        lab(bench)
-        every(bench, stages)
-        print(f"{bench.passed} passed, {bench.failed} failed")
-        return 1 if bench.failed else 0
+def results(bench):
+    """How a test ends, and what is printed."""
+    check_results(bench, bench.stages, ends(bench))
 
 
-sys.exit(main())
+def make(folder):
+    program, given = map(os.path.abspath, words_of_script())
+    bench = Explorer(program, shutil.copytree(given, os.path.join(folder, "nic")), folder)
+    if not bench.compiler:
+        raise Ended("there is no C compiler")
+    bench.stages = bench.build("stages", *sources("stages.c", "driver.c"))
+    return bench
+
+
+PARTS = (counts, bugs, all_that_fail, by_priorities, races, drawn, logs, arguments, left_behind, results, pointers,
+         rust, lab, every)
+
+test_all(make, PARTS)

@@ -1,4 +1,6 @@
-"""What the explorer prints: results and JSON, ends by signals, progress, and where a handler cuts in. tests/explore.py runs this."""
+"""What the explorer prints: results and JSON, ends by signals, progress, and where a handler cuts in. tests/explore.py
+runs this.
+"""
 
 import json
 import os
@@ -10,7 +12,8 @@ import subprocess
 import sys
 import time
 
-TOP = os.path.dirname(os.path.dirname(os.path.abspath(__file__)))
+from harness import TOP, text_of
+
 EXAMPLES = os.path.join(TOP, "examples", "explore")
 PASSES, FOUND, USAGE, NOT_RUN, NOTHING = range(5)
 SIGNALS = signal.SIGINT, signal.SIGTERM, signal.SIGHUP
@@ -18,7 +21,8 @@ WITHOUT_TOUCH = "the handler cut in only after accesses and requests: between tw
 KEYS = {"result", "seed", "fault", "schedule", "runs", "search", "served"}
 SEARCH_KEYS = {"complete", "tried", "smallest", "holds", "first", "schedules", "states", "depth"}
 # Where the handler of my_test.c reads ICR, and where it loops
-READS_ICR, LOOPS = "    x_read(NIC_ICR); /* first: a frame that is finished later raises the line again */\n", "    }\n}\n\nstatic void send("
+READS_ICR, LOOPS = ("    x_read(NIC_ICR); /* first: a frame that is finished later raises the line again */\n",
+                    "    }\n}\n\nstatic void send(")
 # A counter in a static variable that no run sets back, and a fault of two lines that needs escapes in JSON
 COUNTER = r"""
 #include <nic82540em_explore.h>
@@ -48,8 +52,8 @@ static const char *test(void *word)
 }
 int main(int count, char **words) { return nic82540em_explore(count, words, test, count > 1 && words[1][0] == 'f' ? words : 0); }
 """
-# A queue that is stopped when it is full, and started by the handler. If the handler cuts in between the look and the stop, after all
-# frames were sent, nobody starts the queue again. AGAIN: the driver looks once more.
+# A queue that is stopped when it is full, and started by the handler. If the handler cuts in between the look and the
+# stop, after all frames were sent, nobody starts the queue again. AGAIN: the driver looks once more.
 STOPPED = """
 #include <nic82540em_explore.h>
 enum { RING = 0x2000, BUFFERS = 0x20000, SLOTS = 8, FRAMES = MOST + 3 };
@@ -110,11 +114,6 @@ int main(int count, char **words) { return nic82540em_explore(count, words, test
 """
 
 
-def text_of(path):
-    with open(path) as file:
-        return file.read()
-
-
 def result_of(bench, *words):
     """The exit status and the JSON object of a call, whose keys are checked."""
     status, out, errors = bench.run(*words, "--json")
@@ -129,7 +128,8 @@ def build_all(bench):
     """A driver with a static counter, and one whose queue is stopped: wrong, with a longer queue, and right."""
     counter = bench.build("counter", bench.source("counter.c", COUNTER), words=["-O0", "-ftrivial-auto-var-init=zero"])
     text = [("stopped", 5, 0), ("longer", 7, 0), ("looks", 5, 1)]
-    paths = [bench.source(f"{name}.c", STOPPED.replace("AGAIN", str(again)).replace("MOST", str(most))) for name, most, again in text]
+    paths = [bench.source(f"{name}.c", STOPPED.replace("AGAIN", str(again)).replace("MOST", str(most)))
+             for name, most, again in text]
     return counter, *(bench.build(name, path) for (name, _, _), path in zip(text, paths))
 
 
@@ -140,7 +140,8 @@ def unsaved(bench, counter):
         got = status, "isn't saved, such as a counter." in out, "fails" in out, errors
         bench.check(f"unsaved: a counter {words}", got, (NOT_RUN, True, False, ""))
         status, result = result_of(bench, counter, *words)
-        bench.check(f"unsaved: a counter {words} as JSON", (status, result["result"], result["fault"]), (NOT_RUN, "unsaved", None))
+        bench.check(f"unsaved: a counter {words} as JSON", (status, result["result"], result["fault"]),
+                    (NOT_RUN, "unsaved", None))
 
 
 def faults(bench, counter):
@@ -152,16 +153,23 @@ def faults(bench, counter):
     status, out, errors = bench.run(counter, "f", "--replay", found)
     bench.check("faults: again", (status, "early" in out, errors), (FOUND, True, ""))
     status, result = result_of(bench, counter, "f")
-    bench.check("faults: as JSON", (status, result["fault"], len(result["schedule"])), (FOUND, 'a "frame" \\ was\nearly: \xff ä', 1))
+    bench.check("faults: as JSON", (status, result["fault"], len(result["schedule"])),
+                (FOUND, 'a "frame" \\ was\nearly: \xff ä', 1))
     status, result = result_of(bench, counter, "f", "--replay", found)
-    bench.check("faults: a replay as JSON", (status, result["result"], result["search"]["complete"]), (FOUND, "fails", None))
+    bench.check("faults: a replay as JSON", (status, result["result"], result["search"]["complete"]),
+                (FOUND, "fails", None))
 
 
 def template(bench):
-    """my_test.c passes every schedule. Its race on the page, if ICR is read last, is the one that is printed. Returns the program."""
+    """my_test.c passes every schedule. Its race on the page, if ICR is read last, is the one that is printed. Returns
+    the program.
+    """
     path = os.path.join(EXAMPLES, "my_test.c")
-    text, page, readme = (text_of(file) for file in (path, os.path.join(TOP, "docs", "RACES.md"), os.path.join(TOP, "README.md")))
-    mine, late = bench.build("my_test", path), text.replace(READS_ICR, "").replace(LOOPS, f"    }}\n    x_read(NIC_ICR);{LOOPS[5:]}")
+    text, page, readme = (text_of(file) for file in (path, os.path.join(TOP, "docs", "RACES.md"),
+                                                     os.path.join(TOP, "README.md")))
+    mine, late = bench.build("my_test", path), text.replace(READS_ICR,
+                                                            "").replace(LOOPS, f"    }}\n    "
+                                                                               f"x_read(NIC_ICR);{LOOPS[5:]}")
     status, out, errors = bench.run(mine, "--explore", "every")
     lines = out.splitlines()
     got = status, f"$ ./my_test --explore every\n{lines[0]}\n{lines[1].split(', ')[0]}, " in page, lines[-1], errors
@@ -170,21 +178,27 @@ def template(bench):
     bench.check("template: drawn", bench.run(mine)[1].splitlines()[-1], WITHOUT_TOUCH)
     late = bench.build("late", bench.source("late.c", late))
     status, out, _ = bench.run("./late")
-    bench.check("template: ICR is read last", (status, out.partition("\n\nTo play")[0].replace("late", "my_test") in page), (FOUND, True))
+    bench.check("template: ICR is read last",
+                (status, out.partition("\n\nTo play")[0].replace("late", "my_test") in page), (FOUND, True))
     out = bench.run(late, "--explore", "2", "--all")[1]
-    bench.check("template: what all have", "\nall have rx before read ICR\n2 of rx before write TDT; rx before read ICR, such as 6.3 " in out, True)
+    bench.check("template: what all have",
+                "\nall have rx before read ICR\n2 of rx before write TDT; rx before read ICR, such as 6.3 " in out,
+                True)
     return mine
 
 
 def lengths(bench, stages):
     """A test that is twice as long has twice the states, if both rings come to the same slots in between."""
     for name in "exchange:right", "cuts:right", "offers:right", "right":
-        states = [int(re.search(r"^(\d+) states", bench.run(stages, f"{times}{name}", "--explore", "every")[1], re.M)[1]) for times in ("", "2.")]
+        states = [int(re.search(r"^(\d+) states", bench.run(stages, f"{times}{name}", "--explore", "every")[1],
+                                re.M)[1]) for times in ("", "2.")]
         bench.check(f"lengths: {name}, {states}", 2 <= states[1] / states[0] < 2.1, True)
 
 
 def handlers(bench, stopped, looks):
-    """The template passes every schedule; what a pass with a handler doesn't show is said. A race of two variables is found quickly."""
+    """The template passes every schedule; what a pass with a handler doesn't show is said. A race of two variables is
+    found quickly.
+    """
     mine = template(bench)
     status, out, _ = bench.run(looks, "--explore", "every")
     bench.check("handlers: with x_touch", (status, "none of" in out, WITHOUT_TOUCH in out), (PASSES, True, False))
@@ -192,12 +206,17 @@ def handlers(bench, stopped, looks):
     status, result = result_of(bench, stopped, "--explore", "5")
     took = resource.getrusage(resource.RUSAGE_CHILDREN).ru_utime - before
     got = status, result["schedule"], result["search"]["smallest"], took < 3
-    bench.check(f"handlers: the race of two variables, {took:.1f} s", got, (FOUND, ["0.25 tx before write 0"] * 5, True, True))
+    bench.check(f"handlers: the race of two variables, {took:.1f} s", got,
+                (FOUND, ["0.25 tx before write 0"] * 5, True, True))
     schedule = bench.source("frames.txt", "2.1 rx before write 0x20000\n")
     out = bench.run(mine, "--replay", schedule, "--log")[1]
-    wanted = "         the line is raised\n  2.1    write 0x20000, 60 bytes: ffffffffffff00000000000000000000..\n         the handler cuts in\n  2.2    read ICR 0x80\n"
-    bench.check("handlers: the log", (wanted in out, out.count("the handler cuts in") == out.count("the handler returns")), (True, True))
-    finder = [sys.executable, "-S", os.path.join(TOP, "tools", "races"), "--server", bench.program, "--replay", schedule, "--rows", "all"]
+    wanted = ("         the line is raised\n  2.1    write 0x20000, 60 bytes: ffffffffffff00000000000000000000..\n"
+              "         the handler cuts in\n  2.2    read ICR 0x80\n")
+    bench.check("handlers: the log", (wanted in out,
+                                      out.count("the handler cuts in") == out.count("the handler returns")),
+                (True, True))
+    finder = [sys.executable, "-S", os.path.join(TOP, "tools", "races"), "--server", bench.program, "--replay",
+              schedule, "--rows", "all"]
     out = bench.run(*finder, "--", mine, "--pipe")[1]
     wanted = out.splitlines()[-1:], out.count("the handler cuts in") == out.count("the handler returns") > 0
     bench.check("handlers: the chart", wanted, (["   The test passes."], True))
@@ -211,22 +230,26 @@ def as_json(bench, stages, longer):
     bench.check("json: by default", got, (PASSES, [1, 518, 139_447, 25_630_662], 25_770_628, True, None, 1000))
     status, result = result_of(bench, stages, "late", "--explore", "2", "--all")
     search = result["search"]
-    got = status, search["tried"], len(search["failed"]), search["complete"], search["smallest"], len(result["schedule"])
+    got = (status, search["tried"], len(search["failed"]), search["complete"], search["smallest"],
+           len(result["schedule"]))
     bench.check("json: all of two deviations", got, (FOUND, [1, 526, 141_914], 130, True, True, 1))
     status, result = result_of(bench, stages, "late", "--all", "--runs", "100")
     failed = result["search"]["failed"]
     got = status, result["seed"] == failed[0]["seed"], all(one["fault"] for one in failed), result["search"]["complete"]
     bench.check("json: all seeds", got, (FOUND, True, True, True))
     status, result = result_of(bench, stages, "exchange:right", "--explore", "every")
-    bench.check("json: every", (status, result["search"]["tried"], result["search"]["schedules"] > 1e57), (PASSES, [], True))
+    bench.check("json: every", (status, result["search"]["tried"], result["search"]["schedules"] > 1e57),
+                (PASSES, [], True))
     status, result = result_of(bench, stages, "right", "--pct", "2", "--runs", "20")
     pct = result["pct"]
-    bench.check("json: PCT", (status, pct["depth"], pct["actors"], round(1 / pct["bound"])), (PASSES, 2, 4, 4 * pct["events"]))
+    bench.check("json: PCT", (status, pct["depth"], pct["actors"], round(1 / pct["bound"])),
+                (PASSES, 2, 4, 4 * pct["events"]))
     status, result = result_of(bench, stages, "right", "--check", "--runs", "20")
     bench.check("json: --check", (status, result["result"], result["runs"]), (PASSES, "passes", 20))
     other = bench.source("other.txt", "4.6 rxdone before read RDH\n")
     status, result = result_of(bench, stages, "right", "--replay", other)
-    bench.check("json: another access", (status, result["result"], "another access" in result["fault"]), (FOUND, "mismatch", True))
+    bench.check("json: another access", (status, result["result"], "another access" in result["fault"]),
+                (FOUND, "mismatch", True))
     status, result = result_of(bench, longer, "--explore", "every")
     bench.check("json: a long one is shrunk", (len(result["schedule"]), result["search"]["smallest"]), (7, True))
 
@@ -256,7 +279,7 @@ def ended_by(number, after, *words):
 
 
 def signals(bench, stages):
-    """Each signal ends each search, which says what it has tried."""
+    """Each signal ends each search, which prints what it has tried."""
     long = [stages, "2right", "--explore", "every"]
     for number, status in (signal.SIGINT, 130), (signal.SIGTERM, 143), (signal.SIGHUP, 129):
         got, out = ended_by(number, 1, *long)
@@ -273,7 +296,8 @@ def signals(bench, stages):
     got = status, bool(shown), "\nthe smallest so far has 1 deviation\n" in out, out.count("\n# ")
     bench.check("signals: the smallest so far", got, (130, True, True, 2))
     status, out = ended_by(signal.SIGINT, 2, stages, "late", "--all", "--runs", "100000000")
-    got = status, "\nsmallest: " in out or "\nended by SIGINT: not all schedules with fewer deviations were tried\n" in out
+    got = (status, "\nsmallest: " in out
+           or "\nended by SIGINT: not all schedules with fewer deviations were tried\n" in out)
     bench.check("signals: of seeds that fail", got, (130, True))
 
 
@@ -306,14 +330,18 @@ def words(bench, stages):
     kinds = re.findall(r"^(\d+) of (.*), such as [^\n]*$", out, re.M)
     bench.check("words: kinds", (len(kinds), kinds[0]), (6, ("3", "rxdone before read ICR")))
     bench.check("words: larger ones", "such as 4.6 rxdone before read ICR; 107 with others, too\n" in out, True)
-    bench.check("words: progress", bool(re.search(r"\r\d+ states, [0-9.e+]+ schedules so far\x1b\[K\r", progress(stages))), True)
+    bench.check("words: progress", bool(re.search(r"\r\d+ states, [0-9.e+]+ schedules so far\x1b\[K\r",
+                                                  progress(stages))), True)
 
 
 def sanitized(bench):
     """With AddressSanitizer, no state is saved, and the same race is found."""
-    program, files = os.path.join(bench.folder, "sanitized"), [os.path.join(EXAMPLES, name) for name in ("stages.c", "driver.c")]
-    archive, include = os.path.join(bench.library, "lib", "libnic82540em_explore.a"), os.path.join(bench.library, "include")
-    status, _, errors = bench.run(bench.compiler, "-O1", "-fsanitize=address", "-I", include, "-o", program, *files, archive)
+    program, files = os.path.join(bench.folder,
+                                  "sanitized"), [os.path.join(EXAMPLES, name) for name in ("stages.c", "driver.c")]
+    archive, include = os.path.join(bench.library, "lib",
+                                    "libnic82540em_explore.a"), os.path.join(bench.library, "include")
+    status, _, errors = bench.run(bench.compiler, "-O1", "-fsanitize=address", "-I", include, "-o", program, *files,
+                                  archive)
     if status:
         print(f"sanitized: not built: {errors.strip().splitlines()[-1]}")
         return

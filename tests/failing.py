@@ -1,4 +1,6 @@
-"""Makes calls of functions for input and output fail, or transfer one byte at a time; used by tests/failing_devices.py."""
+"""Makes calls of functions for input and output fail, or transfer one byte at a time; used by
+tests/failing_devices.py.
+"""
 
 import os
 import subprocess
@@ -46,5 +48,6 @@ class Failing:
         self.bench.put("given", given)
         env = {**os.environ, "LD_PRELOAD": self.library, "FAILED": self.bench.path("failed"), **environment}
         with open(self.bench.path("given"), "rb") as file:
-            ran = subprocess.run([self.bench.program, *words], cwd=self.bench.folder, stdin=file, capture_output=True, timeout=LIMIT, env=env)
+            ran = subprocess.run([self.bench.program, *words], cwd=self.bench.folder, stdin=file, capture_output=True,
+                                 timeout=LIMIT, env=env)
         return ran.returncode, ran.stdout, ran.stderr, self.bench.get("failed") is not None

@@ -2,7 +2,8 @@
 
 import os
 
-from bench import FILE_HEADER, packet, trace, written
+from codes import TABLE, failure
+from pcap_files import FILE_HEADER, packet, trace, written
 from failing import FAILING, OTHERS, Failing, functions_of
 from scenario_reader import TraceRead
 from scenarios import EXAMPLE_FRAME, OF_D, TRAFFIC, TWO_WIRES, UNCHANGED
@@ -15,9 +16,11 @@ MOST_CALLS = 10_000
 # The files that the scenario of `run` writes in OUTDIR, in order.
 SOCKET_FILES = ["outdir/b.0.pcap", "outdir/b.1.pcap", "outdir/d.0.pcap"]
 WIRE_FILES = ["outdir/w.pcap", "outdir/v.pcap"]
-SCENARIO = TWO_WIRES.replace(b"socket d", b"socket b 88b5\nsocket d") + TRAFFIC + b"feed a %s\nauto 60 9\ndrain b\ndrain d\n"
+SCENARIO = TWO_WIRES.replace(b"socket d",
+                             b"socket b 88b5\nsocket d") + TRAFFIC + b"feed a %s\nauto 60 9\ndrain b\ndrain d\n"
 SHORT = [{"SHORT_READ": "1"}, {"SHORT_WRITE": "1"}, {"SHORT_READ": "1", "SHORT_WRITE": "1"}]
-# What happens when a read is interrupted: a trace file fails, other inputs are read again. SOME: the first input is read again, the last one fails.
+# What happens when a read is interrupted: a trace file fails, other inputs are read again. SOME: the first input is
+# read again, the last one fails.
 FAILS, GOES_ON, SOME = range(3)
 
 
@@ -28,9 +31,10 @@ class Job:
     """
 
     def __init__(self, name, words, inputs, outputs=(), given=b"", interrupted=FAILS, olds=(None, OLD)):
-        self.name, self.words, self.inputs, self.outputs, self.given, self.interrupted = name, words, inputs, list(outputs), given, interrupted
+        self.name, self.words, self.inputs, self.outputs = name, words, inputs, list(outputs)
+        self.given, self.interrupted = given, interrupted
         self.folders, self.olds = 1 if words[0] == "run" else 0, olds
-        # `pass` writes a part beside its output, and gives it the output's name at the end.
+        # `pass` writes a part next to its output, and renames the part to the output at the end.
         self.part = f"{self.outputs[0]}.part0" if words[0] == "pass" else None
         # the answer of a run without a failure, and the number of bytes that it reads
         self.whole, self.read_bytes = None, 0
@@ -41,7 +45,15 @@ class Job:
 
     def refusal(self, fault):
         """What standard error reports. If nothing was written, `run` reports that, too."""
-        return f"nicbench: {fault}\n".encode() + (UNCHANGED if self.folders and fault != WRITE else b"")
+        return failure(fault) + (UNCHANGED if self.folders and fault != WRITE else b"")
+
+    def without_name(self, errors):
+        """What standard error reports, without the second line about one of the inputs."""
+        fault = errors.partition(b"\n")[0].decode(errors="replace").removeprefix("nicbench: ")
+        for path in [*self.inputs, "-"] if fault in TABLE else ():
+            if errors.startswith(failure(fault, path)):
+                return failure(fault) + errors[len(failure(fault, path)):]
+        return errors
 
     def play(self, failing, old, **environment):
         """Runs the command: the status, both outputs and the files; and whether a call failed."""
@@ -49,12 +61,13 @@ class Job:
             failing.bench.remove(file)
             if old is not None:
                 failing.bench.put(file, old)
-        *got, is_failed = failing.run(self.words, self.given, **environment)
-        return (*got, [failing.bench.get(file) for file in self.outputs]), is_failed
+        status, out, errors, is_failed = failing.run(self.words, self.given, **environment)
+        return (status, out, self.without_name(errors), [failing.bench.get(file) for file in self.outputs]), is_failed
 
     def cut(self, old, count):
-        """The answer after this number of bytes was written, if then a write failed. The next file has lost its old contents, unless it
-        has a part."""
+        """The answer after this number of bytes was written, if then a write failed. The next file has lost its old
+        contents, unless it has a part.
+        """
         texts, files = self.whole[3], []
         for text in texts:
             if self.part and count < len(text):
@@ -68,7 +81,9 @@ class Job:
         return sum(map(len, self.whole[3])) + len(self.whole[1])
 
     def in_turn(self, failing, function, old, **environment):
-        """Makes each call of a function fail in turn: pairs of a number, from 1, and the answer. At last a run without a failure is checked."""
+        """Makes each call of a function fail in turn: pairs of a number, from 1, and the answer. At last a run without
+        a failure is checked.
+        """
         for number in range(1, MOST_CALLS):
             got, is_failed = self.play(failing, old, FAIL=function, FAIL_AT=str(number), **environment)
             if not is_failed:
@@ -85,12 +100,15 @@ def long_trace(lengths):
 
 def jobs(bench):
     """The commands, with files for them."""
-    small = trace(packet(EXAMPLE_FRAME), packet(OF_D), packet(bytes(13)), packet(EXAMPLE_FRAME, 100), packet(EXAMPLE_FRAME + bytes(range(200)))) + b"x"
+    small = trace(packet(EXAMPLE_FRAME), packet(OF_D), packet(bytes(13)), packet(EXAMPLE_FRAME, 100),
+                  packet(EXAMPLE_FRAME + bytes(range(200)))) + b"x"
     big, wide = long_trace([1518, 1517] * 250), long_trace([60_000] * 12)
     # No send is refused in a run, which would be warned of.
-    fed = trace(packet(EXAMPLE_FRAME), packet(OF_D), packet(EXAMPLE_FRAME, 100), packet(EXAMPLE_FRAME + bytes(range(200)))) + b"x"
+    fed = trace(packet(EXAMPLE_FRAME), packet(OF_D), packet(EXAMPLE_FRAME, 100),
+                packet(EXAMPLE_FRAME + bytes(range(200)))) + b"x"
     scenario, from_input = SCENARIO % b"fed.pcap", SCENARIO % b"-"
-    for name, data in [("small.pcap", small), ("fed.pcap", fed), ("same.pcap", small), ("big.pcap", big), ("wide.pcap", wide), ("s.scenario", scenario),
+    for name, data in [("small.pcap", small), ("fed.pcap", fed), ("same.pcap", small), ("big.pcap", big),
+                       ("wide.pcap", wide), ("s.scenario", scenario),
                        ("in.scenario", from_input)]:
         bench.put(name, data)
     os.makedirs(bench.path("outdir"), exist_ok=True)
@@ -119,7 +137,8 @@ def plays(failing, job):
     job.whole, _ = job.play(failing, job.olds[0])
     status, out, err, files = job.whole
     failing.bench.check(f"{job.name}: without a failure", (status, err), (0, b""))
-    failing.bench.check(f"{job.name}: its files", [file and file[:len(FILE_HEADER)] for file in files], [FILE_HEADER] * len(files))
+    failing.bench.check(f"{job.name}: its files", [file and file[:len(FILE_HEADER)] for file in files],
+                        [FILE_HEADER] * len(files))
     if job.words[0] == "pass":
         line, frames = TraceRead(read).passed()
         failing.bench.check(f"{job.name}: what is written", (out, files), (line, [written(frames)]))
@@ -130,13 +149,15 @@ def reads(failing, job):
     for old in job.olds:
         number = 0
         for number, got in job.in_turn(failing, "read", old):
-            failing.bench.check(f"{job.with_files(old)}: read {number} fails", got, (3, b"", job.refusal(READ), [old] * len(job.outputs)))
+            failing.bench.check(f"{job.with_files(old)}: read {number} fails", got,
+                                (3, b"", job.refusal(READ), [old] * len(job.outputs)))
         failing.bench.check(f"{job.with_files(old)}: reads failed", number > len(job.inputs), True)
     old = job.olds[0]
     results = [got == job.whole for _, got in job.in_turn(failing, "read", old, FAIL_INTERRUPTED="1")
                if got in (job.whole, (3, b"", job.refusal(READ), [old] * len(job.outputs)))]
     wanted = {FAILS: [False], GOES_ON: [True], SOME: [True, False]}[job.interrupted]
-    failing.bench.check(f"{job.name}: a read is interrupted", [good for n, good in enumerate(results) if n == 0 or good != results[n - 1]], wanted)
+    failing.bench.check(f"{job.name}: a read is interrupted",
+                        [good for n, good in enumerate(results) if n == 0 or good != results[n - 1]], wanted)
     failing.bench.check(f"{job.name}: each interrupted read", len(results), number)
 
 
@@ -147,18 +168,23 @@ def opens(failing, job):
         untouched = [old or b""] * count
         wanted = [(job.refusal(OPEN + path), [old] * count) for path in job.inputs]
         refused = [(job.refusal(OPEN + "outdir"), [old] * count)]
-        created = [(job.refusal(OPEN + path), untouched[:place] + [old] * (count - place)) for place, path in enumerate(job.outputs)]
+        created = [(job.refusal(OPEN + path), untouched[:place] + [old] * (count - place))
+                   for place, path in enumerate(job.outputs)]
         begun = [(job.refusal(WRITE), texts[:place] + untouched[place:]) for place in range(count)]
-        for function, answers in [("open", wanted + created), ("statx", wanted + refused * job.folders + begun), ("ftruncate", begun)]:
+        for function, answers in [("open", wanted + created), ("statx", wanted + refused * job.folders + begun),
+                                  ("ftruncate", begun)]:
             got = [got for _, got in job.in_turn(failing, function, old)]
-            failing.bench.check(f"{job.with_files(old)}: each {function} fails", got, [(3, b"", *answer) for answer in answers])
+            failing.bench.check(f"{job.with_files(old)}: each {function} fails", got,
+                                [(3, b"", *answer) for answer in answers])
 
 
 def parts(failing, job):
-    """Calls fail of a command that writes a part. If no part can be made, the output is written in place. After any other failure the output
-    is as it was."""
+    """Calls fail of a command that writes a part. If no part can be made, the output is written in place. After any
+    other failure the output is as it was.
+    """
     for old in job.olds if job.part else ():
-        given, kept = ([(3, b"", job.refusal(OPEN + path), [old]) for path in paths] for paths in (job.inputs, job.outputs))
+        given, kept = ([(3, b"", job.refusal(OPEN + path), [old]) for path in paths]
+                       for paths in (job.inputs, job.outputs))
         lost = [(3, b"", job.refusal(WRITE), [old])]
         there = int(old is not None)
         for function, answers in [("open", given + kept * there + [job.whole]),
@@ -169,8 +195,10 @@ def parts(failing, job):
         for environment in ({}, {"FAIL_ON": "1"}, {"FAIL_INTERRUPTED": "1"}):
             got = [got for _, got in job.in_turn(failing, "write", old, **environment)]
             begun = [answer for answer in got if answer != lost[0]]
-            failing.bench.check(f"{job.with_files(old)}: each write fails, {environment}", got, lost * (len(got) - len(begun)) + begun)
-            failing.bench.check(f"{job.with_files(old)}: each write of the line fails", begun, [(3, b"", job.refusal(WRITE), job.whole[3])])
+            failing.bench.check(f"{job.with_files(old)}: each write fails, {environment}", got,
+                                lost * (len(got) - len(begun)) + begun)
+            failing.bench.check(f"{job.with_files(old)}: each write of the line fails", begun,
+                                [(3, b"", job.refusal(WRITE), job.whole[3])])
             failing.bench.check(f"{job.with_files(old)}: writes failed", len(got) > 1, True)
         failing.bench.check(f"{job.with_files(old)}: no part is left", failing.bench.get(job.part), None)
 
@@ -184,20 +212,26 @@ def writes(failing, job):
                 texts, files = job.whole[3], got[3]
                 done = next((place for place, pair in enumerate(zip(texts, files)) if pair[0] != pair[1]), len(texts))
                 count = sum(map(len, texts[:done])) + len(got[1] if done == len(texts) else files[done] or b"")
-                failing.bench.check(f"{job.with_files(old)}: write {number} fails, {environment}", got, job.cut(old, count))
-                failing.bench.check(f"{job.with_files(old)}: write {number} fails: more bytes than before", counts[-1] < count < job.size(), True)
+                failing.bench.check(f"{job.with_files(old)}: write {number} fails, {environment}", got,
+                                    job.cut(old, count))
+                failing.bench.check(f"{job.with_files(old)}: write {number} fails: more bytes than before",
+                                    counts[-1] < count < job.size(), True)
                 counts.append(count)
-            failing.bench.check(f"{job.with_files(old)}: writes failed", (len(counts) > 1 + len(job.outputs), counts[1]), (True, 0))
+            failing.bench.check(f"{job.with_files(old)}: writes failed",
+                                (len(counts) > 1 + len(job.outputs), counts[1]), (True, 0))
 
 
 def places(texts, last):
     """Numbers of bytes: before and after each boundary of these texts, and some others up to the last."""
     ends = [sum(map(len, texts[:place])) for place in range(len(texts) + 1)]
-    return sorted({place for end in ends for place in (end - 1, end, end + 1)} | {last * part // 9 for part in range(10)})
+    return sorted({place for end in ends for place in (end - 1, end, end + 1)}
+                  | {last * part // 9 for part in range(10)})
 
 
 def bytes_apart(failing, job):
-    """One byte at a time: the answer is the same. If a read or a write fails then, exactly the bytes before it went out."""
+    """One byte at a time: the answer is the same. If a read or a write fails then, exactly the bytes before it went
+    out.
+    """
     for short in SHORT:
         for old in job.olds:
             failing.bench.check(f"{job.with_files(old)}: {short}", job.play(failing, old, **short), (job.whole, False))
@@ -224,7 +258,8 @@ def cut_inputs(failing, job, data):
             for old in job.olds:
                 got, _ = job.play(failing, old, SHORT_READ="1", END_AT=str(size + 1))
                 refused = (1, b"", f"nicbench: {read.fault}\n".encode(), [old])
-                failing.bench.check(f"{job.with_files(old)}: IN ends after {size} bytes", got, refused if read.fault else (0, line, b"", [written(frames)]))
+                failing.bench.check(f"{job.with_files(old)}: IN ends after {size} bytes", got,
+                                    refused if read.fault else (0, line, b"", [written(frames)]))
 
 
 def errors(failing):
@@ -232,9 +267,10 @@ def errors(failing):
     failing.bench.put("bad.pcap", b"x" * 24)
     failing.bench.put("bad.scenario", b"fly\n")
     failing.bench.put("plan.scenario", b"host a 02:00:00:00:00:01 w\n")
-    for status, *words in [(1, "pass", "bad.pcap", "none.pcap"), (1, "show", "bad.pcap"), (1, "run", "bad.scenario", "outdir"),
-                           (1, "run", "plan.scenario", "outdir"), (2,), (2, "--help"), (2, "--version"), (2, "run", "a"),
-                           (2, "pass", "--vlan", "x", "a", "b"), (2, "serve", "a"), (3, "pass", "missing", "none.pcap"), (3, "run", "outdir", "outdir"),
+    for status, *words in [(1, "pass", "bad.pcap", "none.pcap"), (1, "show", "bad.pcap"),
+                           (1, "run", "bad.scenario", "outdir"), (1, "run", "plan.scenario", "outdir"), (2,),
+                           (2, "--help"), (2, "--version"), (2, "run", "a"), (2, "pass", "--vlan", "x", "a", "b"),
+                           (2, "serve", "a"), (3, "pass", "missing", "none.pcap"), (3, "run", "outdir", "outdir"),
                            (4, "serve", "--memory", "18446744073709551615")]:
         *whole, _ = failing.run(words)
         failing.bench.check(f"errors: {words}", (whole[0], whole[1], whole[2] != b""), (status, b"", True))
@@ -251,8 +287,10 @@ def errors_in_turn(failing, words, status, lines, short):
         got, out, text, is_failed = failing.run(words, FAIL="write", FAIL_AT=str(number), **short)
         if not is_failed:
             break
-        possible = {b"".join([*lines[:place], line[:count], *lines[place + 1:]]) for place, line in enumerate(lines) for count in range(len(line))}
-        failing.bench.check(f"errors: {words} {short}: write {number} fails", (got, out, text in possible), (status, b"", True))
+        possible = {b"".join([*lines[:place], line[:count], *lines[place + 1:]]) for place, line in enumerate(lines)
+                    for count in range(len(line))}
+        failing.bench.check(f"errors: {words} {short}: write {number} fails", (got, out, text in possible),
+                            (status, b"", True))
     failing.bench.check(f"errors: {words} {short}: writes failed", number > 1, True)
 
 
@@ -261,16 +299,21 @@ STEPS = ["txtake", "txput", "rxdata", "rxdone", "eeprom", "phy"]
 ZERO = "OK 0x" + 16 * "0"
 # Requests of each kind, each with the lines up to its answer.
 TALK = [
-    ("events on", "OK"), ("writel 0xFEB000D0 0x80", "OK"), ("writel 0xFEB000C8 0x80", "IRQ raise 0\nOK"), ("line", "OK 0x0000000000000001"),
-    ("readl 0xFEB000C0", "IRQ lower 0\nOK 0x0000000000000080"), ("write 0x1000 9000 0x" + 9000 * "5a", "OK"), ("read 0x1000 9000", "OK 0x" + 9000 * "5a"),
-    ("memset 0 65536 0", "OK"), ("log on", "OK"), ("read 0 2", "# read 0 2\nOK 0x0000"), ("step phy", "# step phy -> nothing\nOK nothing"),
-    ("arrive 00", "# arrive 00\nOK off"), ("settle", "".join(f"# step {step} -> nothing\n" for step in STEPS) + ZERO), ("log off", "OK"),
-    ("interleave 0", "OK"), ("endianness", "OK little"), ("", "FAIL unknown"), ("fly", "FAIL unknown"), ("readl", "ERR count"), ("readb x", "ERR value"),
-    ("read 0 65537", "ERR size"), ("readb 0x100000", "ERR address"), (f"write 0x800 18 0x{SENT}", "OK"),
-    ("write 0 16 0x00080000000000001200000900000000", "OK"), ("writel 0xFEB03808 128", "OK"), ("writel 0xFEB00400 0xA", "OK"), ("writel 0xFEB03818 1", "OK"),
-    ("step txtake", "OK took"), ("step txput", f"frame {SENT.ljust(120, '0')}\nOK put"), ("b64write 0x900 3 AQID", "OK"), ("b64read 0x900 3", "OK AQID"),
-    ("pace 1", "OK"), ("writel 0xFEB03818 2", "fault tx 1 eop\nOK"), ("frames", "OK"), ("faults", "OK"), ("outl 0xCF8 0x80002000", "OK"),
-    ("inl 0xCFC", "OK 0x00000000100e8086"), ("clock_step 5", "OK 5"), ("readb 0xFEB00000", "ERR register"), ("readw 0xFFFFE", ZERO)]
+    ("events on", "OK"), ("writel 0xFEB000D0 0x80", "OK"), ("writel 0xFEB000C8 0x80", "IRQ raise 0\nOK"),
+    ("line", "OK 0x0000000000000001"), ("readl 0xFEB000C0", "IRQ lower 0\nOK 0x0000000000000080"),
+    ("write 0x1000 9000 0x" + 9000 * "5a", "OK"), ("read 0x1000 9000", "OK 0x" + 9000 * "5a"),
+    ("memset 0 65536 0", "OK"), ("log on", "OK"), ("read 0 2", "# read 0 2\nOK 0x0000"),
+    ("step phy", "# step phy -> nothing\nOK nothing"), ("arrive 00", "# arrive 00\nOK off"),
+    ("settle", "".join(f"# step {step} -> nothing\n" for step in STEPS) + ZERO), ("log off", "OK"),
+    ("interleave 0", "OK"), ("endianness", "OK little"), ("", "FAIL unknown"), ("fly", "FAIL unknown"),
+    ("readl", "ERR count"), ("readb x", "ERR value"), ("read 0 65537", "ERR size"), ("readb 0x100000", "ERR address"),
+    (f"write 0x800 18 0x{SENT}", "OK"), ("write 0 16 0x00080000000000001200000900000000", "OK"),
+    ("writel 0xFEB03808 128", "OK"), ("writel 0xFEB00400 0xA", "OK"), ("writel 0xFEB03818 1", "OK"),
+    ("step txtake", "OK took"), ("step txput", f"frame {SENT.ljust(120, '0')}\nOK put"),
+    ("b64write 0x900 3 AQID", "OK"), ("b64read 0x900 3", "OK AQID"), ("pace 1", "OK"),
+    ("writel 0xFEB03818 2", "fault tx 1 eop\nOK"), ("frames", "OK"), ("faults", "OK"), ("outl 0xCF8 0x80002000", "OK"),
+    ("inl 0xCFC", "OK 0x00000000100e8086"), ("clock_step 5", "OK 5"), ("readb 0xFEB00000", "ERR register"),
+    ("readw 0xFFFFE", ZERO)]
 # The last line has no LF.
 REQUESTS = "\n".join(request for request, _ in TALK).encode()
 
@@ -286,7 +329,9 @@ def answered(size):
 
 
 def server_reads(failing):
-    """Each read of standard input fails in turn: requests whose lines were read are answered. An interrupted read is tried again."""
+    """Each read of standard input fails in turn: requests whose lines were read are answered. An interrupted read is
+    tried again.
+    """
     bench, error, possible = failing.bench, b"nicbench: E66 Read\n", [answers(count) for count in range(len(TALK) + 1)]
     counts = []
     for number in range(1, MOST_CALLS):
@@ -295,7 +340,8 @@ def server_reads(failing):
             break
         bench.check(f"serve: read {number} fails", (got[0], got[1] in possible, got[2]), (3, True, error))
         counts.append(len(got[1]))
-        bench.check(f"serve: read {number} is interrupted", failing.run(["serve"], REQUESTS, FAIL="read", FAIL_AT=str(number), FAIL_INTERRUPTED="1"),
+        bench.check(f"serve: read {number} is interrupted",
+                    failing.run(["serve"], REQUESTS, FAIL="read", FAIL_AT=str(number), FAIL_INTERRUPTED="1"),
                     (0, possible[-1], b"", True))
     bench.check("serve: reads failed", (len(counts) > 3, counts[:1], counts), (True, [0], sorted(counts)))
     # the last line ends with the input; a read after that fails, too
@@ -303,7 +349,8 @@ def server_reads(failing):
     for place in places([request.encode() + b"\n" for request, _ in TALK], size):
         if 0 <= place <= size + 1:
             wanted = answered(place) if place <= size else possible[-1]
-            bench.check(f"serve: the read of byte {place + 1} fails", failing.run(["serve"], REQUESTS, FAIL="read", FAIL_AT=str(place + 1), SHORT_READ="1"),
+            bench.check(f"serve: the read of byte {place + 1} fails",
+                        failing.run(["serve"], REQUESTS, FAIL="read", FAIL_AT=str(place + 1), SHORT_READ="1"),
                         (3, wanted, error, True))
 
 
@@ -318,18 +365,23 @@ def server_writes(failing):
         bench.check(f"serve: all writes fail from {number} on", (status, whole.startswith(out), err), (3, True, error))
         lengths.append(len(out))
         status, again, err, _ = failing.run(["serve"], REQUESTS, FAIL="write", FAIL_AT=str(number))
-        bench.check(f"serve: write {number} fails", (status, again.startswith(out) and whole.startswith(again), err), (3, True, error))
-        bench.check(f"serve: write {number} is interrupted", failing.run(["serve"], REQUESTS, FAIL="write", FAIL_AT=str(number), FAIL_INTERRUPTED="1"),
+        bench.check(f"serve: write {number} fails", (status, again.startswith(out) and whole.startswith(again), err),
+                    (3, True, error))
+        bench.check(f"serve: write {number} is interrupted",
+                    failing.run(["serve"], REQUESTS, FAIL="write", FAIL_AT=str(number), FAIL_INTERRUPTED="1"),
                     (0, whole, b"", True))
-    bench.check("serve: writes failed", (lengths[:1], len(lengths) >= len(TALK), len(set(lengths)), lengths), ([0], True, len(lengths), sorted(lengths)))
+    bench.check("serve: writes failed", (lengths[:1], len(lengths) >= len(TALK), len(set(lengths)), lengths),
+                ([0], True, len(lengths), sorted(lengths)))
     told = [answers(count)[len(answers(count - 1)):] for count in range(1, len(TALK) + 1)]
     for place in places(told, len(whole)):
         if 0 <= place < len(whole):
             asked = {"FAIL": "write", "FAIL_AT": str(place + 1), "SHORT_WRITE": "1"}
-            bench.check(f"serve: all bytes fail from {place + 1} on", failing.run(["serve"], REQUESTS, **asked, FAIL_ON="1"), (3, whole[:place], error, True))
+            bench.check(f"serve: all bytes fail from {place + 1} on",
+                        failing.run(["serve"], REQUESTS, **asked, FAIL_ON="1"), (3, whole[:place], error, True))
             status, out, err, _ = failing.run(["serve"], REQUESTS, **asked)
             end = next(len(answers(count)) for count in range(len(TALK) + 1) if len(answers(count)) > place)
-            bench.check(f"serve: byte {place + 1} fails", (status, whole.startswith(out), place <= len(out) <= end, err), (3, True, True, error))
+            bench.check(f"serve: byte {place + 1} fails",
+                        (status, whole.startswith(out), place <= len(out) <= end, err), (3, True, True, error))
 
 
 def serves(failing):
@@ -346,7 +398,8 @@ def all_cases(bench):
     bench.check("devices: a C compiler is here", failing.library is not None, True)
     if failing.library is None:
         return
-    bench.check("devices: the program names the functions that fail, and no others", functions_of(bench.program), FAILING | OTHERS)
+    bench.check("devices: the program names the functions that fail, and no others", functions_of(bench.program),
+                FAILING | OTHERS)
     small, long = jobs(bench)
     for job in small + long:
         for part in [plays, reads, opens, writes, parts, *([bytes_apart] if job in small else [])]:

@@ -1,11 +1,14 @@
-"""`nicbench run` from outside: groups that are joined and left in a run, between the accesses of a call and the deliveries of frames."""
+"""`nicbench run` from outside: groups that are joined and left in a run, between the accesses of a call and the
+deliveries of frames.
+"""
 
 import random
 
 from races import FINISH, INTERRUPT, RECV, SOCKET, Schedule, bring, frame, row, send
 from scenarios import TO_SOCKET, folder
 
-GROUP, SAME_NUMBER, SAME_WORD, OTHER_WORD = "01:00:5e:00:00:01", "01:00:5f:00:00:01", "01:00:5e:00:10:01", "01:00:5e:00:00:02"
+GROUP, SAME_NUMBER, SAME_WORD, OTHER_WORD = ("01:00:5e:00:00:01", "01:00:5f:00:00:01", "01:00:5e:00:10:01",
+                                             "01:00:5e:00:00:02")
 INDIVIDUAL, BROADCAST = "02:00:00:00:00:01", "ff:ff:ff:ff:ff:ff"
 MOST_GROUPS = 32
 # Random runs
@@ -50,7 +53,9 @@ class Groups(Schedule):
         return self.gets(*frames) if stored else self
 
     def cuts(self, line, *pairs):
-        """Frames are delivered to b inside a call, with a `go` between any two: pairs of a frame, and whether b stores it."""
+        """Frames are delivered to b inside a call, with a `go` between any two: pairs of a frame, and whether b stores
+        it.
+        """
         self.reached += len(pairs)
         self.does(waiting(*(data for data, _ in pairs)), [f"{line} / {' go '.join(['deliver:b'] * len(pairs))}"])
         return self.gets(*(data for data, is_stored in pairs if is_stored))
@@ -58,22 +63,30 @@ class Groups(Schedule):
     def plays(self, bench, name, options="", setup=()):
         """Plays the schedule. At its end, b holds no frame."""
         sent = {"accepted": self.reached, "put": self.reached}
-        row(bench, name, self.does(RECV), sent, {"reached": self.reached, "stored": self.stored, "given": self.stored}, options, (SOCKET, *setup))
+        row(bench, name, self.does(RECV), sent, {"reached": self.reached, "stored": self.stored, "given": self.stored},
+            options, (SOCKET, *setup))
 
 
 def changes(bench):
     """A group is joined or left: the filter changes if and only if no other joined group has its number."""
     one, two = to(GROUP, 1), to(GROUP, 2)
     joined = f"group b {GROUP}"
-    Groups().delivers(one, stored=False).does([f"join b {GROUP}"]).delivers(one, stored=True).delivers(to(OTHER_WORD), stored=False).does(
-        [f"leave b {GROUP}"]).delivers(two, stored=False).plays(bench, "a group is joined and left")
+    Groups().delivers(one, stored=False).does([f"join b {GROUP}"]).delivers(one, stored=True).delivers(
+        to(OTHER_WORD), stored=False).does([f"leave b {GROUP}"]).delivers(two, stored=False).plays(
+        bench, "a group is joined and left")
     Groups().does([f"join b {GROUP}", f"join b {SAME_NUMBER}", f"leave b {GROUP}"]).delivers(one, stored=True).does(
-        [f"leave b {SAME_NUMBER}"]).delivers(two, stored=False).plays(bench, "two groups with the same number are left one after the other")
-    Groups().does([f"join b {SAME_WORD}", f"leave b {GROUP}"]).delivers(one, stored=False).delivers(to(SAME_WORD), stored=True).plays(
+        [f"leave b {SAME_NUMBER}"]).delivers(two, stored=False).plays(bench, "two groups with the same number are left "
+                                                                             "one after the other")
+    Groups().does([f"join b {SAME_WORD}",
+                   f"leave b {GROUP}"]).delivers(one, stored=False).delivers(to(SAME_WORD), stored=True).plays(
         bench, "a group with a bit in the same word stays", setup=(joined,))
-    Groups().does([f"leave b {GROUP}"]).delivers(one, stored=False).plays(bench, "a configured group is left", setup=(joined,))
-    Groups().does([f"leave b {GROUP}"]).delivers(one, stored=False).plays(bench, "a group is configured twice, and left once", setup=(joined, joined))
-    Groups().does([f"leave b {GROUP}", f"join a {GROUP}"]).delivers(one, stored=False).plays(bench, "another host joins the group", setup=(joined,))
+    Groups().does([f"leave b {GROUP}"]).delivers(one, stored=False).plays(bench, "a configured group is left",
+                                                                          setup=(joined,))
+    Groups().does([f"leave b {GROUP}"]).delivers(one, stored=False).plays(bench, "a group is configured twice, and "
+                                                                                 "left once", setup=(joined, joined))
+    Groups().does([f"leave b {GROUP}",
+                   f"join a {GROUP}"]).delivers(one, stored=False).plays(bench, "another host joins the group",
+                                                                         setup=(joined,))
     Groups().does([f"join b {GROUP}", f"leave b {GROUP}"]).delivers(one, two, stored=True).plays(
         bench, "a promiscuous host gets all groups", "promiscuous")
     Groups().does([f"join b {BROADCAST}", f"leave b {BROADCAST}"]).delivers(to(BROADCAST), stored=True).plays(
@@ -81,16 +94,21 @@ def changes(bench):
 
 
 def between_accesses(bench):
-    """Before the write of MTA, the groups before the call decide about a delivery, and after it those after the call."""
+    """Before the write of MTA, the groups before the call decide about a delivery, and after it those after the
+    call.
+    """
     one, two, three = (to(GROUP, mark) for mark in (1, 2, 3))
     joined, shared = f"group b {GROUP}", f"group b {SAME_NUMBER}"
     Groups().cuts(f"join b {GROUP}", (one, False), (two, True)).plays(bench, "a join between two deliveries")
-    Groups().cuts(f"leave b {GROUP}", (one, True), (two, False)).plays(bench, "a leave between two deliveries", setup=(joined,))
+    Groups().cuts(f"leave b {GROUP}", (one, True), (two, False)).plays(bench, "a leave between two deliveries",
+                                                                       setup=(joined,))
     Groups().cuts(f"join b {GROUP}", (one, False), (two, True), (three, True)).plays(bench, "a join makes one access")
-    Groups().cuts(f"leave b {GROUP}", (one, True), (two, False), (three, False)).plays(bench, "a leave makes one access", setup=(joined,))
+    Groups().cuts(f"leave b {GROUP}", (one, True), (two, False),
+                  (three, False)).plays(bench, "a leave makes one access", setup=(joined,))
     for line in (f"join b {GROUP}", f"leave b {SAME_NUMBER}"):
         setup = (shared,) if line.startswith("join") else (joined, shared)
-        Groups().cuts(line, (one, True), (two, True), (three, True)).plays(bench, f"{line} with a shared number", setup=setup)
+        Groups().cuts(line, (one, True), (two, True), (three, True)).plays(bench, f"{line} with a shared number",
+                                                                           setup=setup)
     Groups().cuts(f"join a {GROUP}", (one, False), (two, False)).plays(bench, "deliveries to b inside a join of a")
 
 
@@ -101,13 +119,17 @@ def rejected(bench):
     Groups().cuts(f"join b {INDIVIDUAL}", (one, False), (two, False)).delivers(to(INDIVIDUAL), stored=False).plays(
         bench, "a join of an individual address")
     Groups().cuts(f"leave b {GROUP}", (one, False), (two, False)).plays(bench, "a leave of a group that isn't joined")
-    Groups().cuts(f"leave b {SAME_NUMBER}", (one, True), (two, True)).plays(bench, "a leave of another group with the same number", setup=(joined,))
-    Groups().cuts(f"join b {GROUP}", (one, True), (two, True)).does([f"leave b {GROUP}"]).delivers(one, stored=False).plays(
+    Groups().cuts(f"leave b {SAME_NUMBER}", (one, True),
+                  (two, True)).plays(bench, "a leave of another group with the same number", setup=(joined,))
+    Groups().cuts(f"join b {GROUP}", (one, True),
+                  (two, True)).does([f"leave b {GROUP}"]).delivers(one, stored=False).plays(
         bench, "a join of a joined group", setup=(joined,))
     # the groups with these numbers
     most = [f"01:00:5e:01:{n % 16:x}0:{n // 16:02x}" for n in range(40, 40 + MOST_GROUPS)]
-    full = Groups().cuts(f"join b {OTHER_WORD}", (last, False), (last, False)).cuts(f"join b {most[0]}", (last, False), (to(most[0]), True))
-    full.does([f"leave b {most[1]}"]).delivers(to(most[1]), stored=False).does([f"join b {OTHER_WORD}"]).delivers(last, stored=True)
+    full = Groups().cuts(f"join b {OTHER_WORD}", (last, False), (last, False)).cuts(f"join b {most[0]}", (last, False),
+                                                                                    (to(most[0]), True))
+    full.does([f"leave b {most[1]}"]).delivers(to(most[1]),
+                                               stored=False).does([f"join b {OTHER_WORD}"]).delivers(last, stored=True)
     full.plays(bench, "a join of the 33rd group", setup=[f"group b {group}" for group in most])
 
 
@@ -125,7 +147,9 @@ def changed(line, joined):
 
 
 def drawn(bench):
-    """Random joins and leaves. A frame is delivered before the first access of each call, and another after it, or after the call."""
+    """Random joins and leaves. A frame is delivered before the first access of each call, and another after it, or
+    after the call.
+    """
     addresses = [GROUP, SAME_NUMBER, SAME_WORD, OTHER_WORD, INDIVIDUAL, BROADCAST]
     for seed in SEEDS:
         drawing, schedule, joined = random.Random(seed), Groups(), set()

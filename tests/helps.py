@@ -27,18 +27,18 @@ Run it from the top of the repository:
   0 60 02:00:00:00:00:02 02:00:00:00:00:01 0800
   frames 1 skipped 0 cut no
 
-Exit status: 0 success, 1 a trace, a scenario, an image or an answer is invalid, or drive ended too
-early, 2 usage error, help or version, 3 a file failed, 4 out of memory. If the status is 1, 3 or 4,
-nicbench prints 'nicbench: CODE NAME' on standard error, or 'nicbench: line N: CODE NAME' if a line
-of a scenario is invalid. IN is any input: also the TRACE of show, and the SCENARIO of run with each
-FILE that it feeds. If IN is -, it is standard input, which can be read only once. Standard input
-and named pipes are read to their end first, up to 1 GiB. OUT is any output: also each file in the
-OUTDIR of run, and its FILE of --events. E68 and E73 are followed by the path. Codes E40 to E56 come
-from run only (E46 from drive, too): nicbench run --help. For E57, E66, E67 and E68 of serve:
-nicbench serve --help
+Exit status: 0 success, 1 a trace, a scenario, an image, a schedule or an answer is invalid, or
+drive ended too early, 2 usage error, help or version, 3 a file failed, 4 out of memory. If the
+status is 1, 3 or 4, nicbench prints 'nicbench: CODE NAME' on standard error, or 'nicbench: line N:
+CODE NAME' if a line of a scenario is invalid. IN is any input: of pass and drive, the TRACE of
+show, and the SCENARIO of run with each FILE that it feeds. If IN is - (not for drive), it is
+standard input, which can be read only once. Standard input and named pipes are read to their end
+first, up to 1 GiB. OUT is any output: of pass and drive, each file in the OUTDIR of run, and its
+FILE of --events. E68 and E73 are followed by the path. Codes E40 to E56 come from run only (E46
+from drive, too): nicbench run --help. For E57, E66, E67 and E68 of serve: nicbench serve --help
 
   E57 Memory    Out of memory before anything was written. Free some, or split IN
-  E58 Image     The file of --image of serve hasn't 128 bytes. Name another file
+  E58 Image     The file of --image of serve doesn't have 128 bytes. Name another file
   E59 Answer    A line isn't the answer to a request of drive. Check the program that answers
   E60 Header    IN has fewer than 24 bytes, so it isn't a trace. Name another file, or check the
                 program that writes into the pipe
@@ -55,7 +55,7 @@ nicbench serve --help
                 SIZE DEVICE
   E69 Fewer     drive ended before all frames of IN were sent and N were received. Check the
                 adapter, or use a larger --idle
-  E70 Schedule  The file of --schedule of serve isn't a schedule, or one for other options. Correct
+  E70 Schedule  The file of --schedule of serve isn't a schedule, or is for other options. Correct
                 it, or use the options in its first line
   E71 Unmet     Deviations of the schedule of serve weren't met. Standard error lists them
   E72 Pipe      Standard input or a pipe has more than 1 GiB. Copy it to a file first, and name the
@@ -102,14 +102,8 @@ Run this example from the top of the repository:
   written   frames in OUT
   cut       whether IN ends inside a packet
 
-If pass fails, it prints 'nicbench: CODE NAME' on standard error:
-
-  E60 to E64  IN is invalid, status 1
-  E66 to E68  Opening, reading or writing failed, status 3
-  E72         Standard input or a pipe is too long, status 3
-  E57, E65    Out of memory, status 4
-
-What each code means, and what to do: nicbench --help
+If pass fails, it prints 'nicbench: CODE NAME' on standard error. What each code means, and what to
+do: nicbench --help
 """
 
 RUN_HELP = b"""Run a scenario: hosts on wires, step by step
@@ -273,14 +267,8 @@ the frames and the packets that were captured in part, and says whether TRACE en
   2 1518 02:00:00:00:00:02 02:00:00:00:00:01 0800
   frames 3 skipped 0 cut no
 
-If show fails, it prints 'nicbench: CODE NAME' on standard error:
-
-  E60 to E64  TRACE is invalid, status 1
-  E66 to E68  Opening, reading or writing failed, status 3
-  E72         Standard input or a pipe is too long, status 3
-  E57, E65    Out of memory, status 4
-
-What each code means, and what to do: nicbench --help
+If show fails, it prints 'nicbench: CODE NAME' on standard error. What each code means, and what to
+do: nicbench --help
 """
 
 SERVE_HELP = b"""Serve an adapter and its memory to a driver, one request per line
@@ -326,17 +314,18 @@ The requests. QEMU's qtest protocol has the first ten lines of this list, too:
   irq_intercept_in PATH   nothing: IRQ lines always come; also irq_intercept_out PATH
   step KIND               a step of the adapter: txtake, txput, rxdata, rxdone, eeprom or phy
   arrive HEX              a frame arrives from the wire
-  settle                  all offered frames arrive; then steps in rounds, until a round does
+  settle                  all offered frames arrive; then steps in cycles, until a cycle does
                           nothing
   line                    1 if the interrupt line is asserted, else 0
   interleave COUNT        from now on, plays up to COUNT random steps before each access; COUNT is
                           at most 65535, and 0 turns this off
-  pace COUNT              from now on, plays up to COUNT rounds of steps after each access and
+  pace COUNT              from now on, plays up to COUNT cycles of steps after each access and
                           arrival
   wire full, wire free    wire full makes the wire full: the step txput puts no frame, and its
                           outcome is wirefull; wire free makes room again, as there is at the start
   log on, log off         log on prints each step, access and arrival from now on; log off stops
                           this
+  log targets             as log on, and the line of an access ends with the name of its target
   events on, events off   events on prints frames on the wire, faults, and arrivals of offered
                           frames, before the answers; events off, as at the start, stops this
   frames, faults          the frames and the faults that came while events were off
@@ -346,6 +335,11 @@ The requests. QEMU's qtest protocol has the first ten lines of this list, too:
                           settings; restore brings the last copy back
   digest                  a number that depends on the adapter and on memory, to see that a state
                           comes back
+  enabled                 the kinds of steps that would do something
+  choose LIMIT            a number below LIMIT: that of the schedule, or random after interleave,
+                          or 0
+  target ADDR SIZE        the name that a schedule has for an access of SIZE bytes at ADDR
+  rings                   base, length, head and tail of each ring: receive, then transmit
 
 Numbers are decimal, or hexadecimal after 0x. A register is read and written as four bytes, by
 readl, writel, read, write or memset. The adapter takes no step by itself: each step is a request,
@@ -360,14 +354,14 @@ At the end of its input the server ends with exit status 0. If it fails, it prin
 NAME' on standard error:
 
   E57 Memory    Out of memory, status 4. Free some, or reduce --memory
-  E58 Image     The file of --image hasn't 128 bytes, status 1. Name another file
+  E58 Image     The file of --image doesn't have 128 bytes, status 1. Name another file
   E66 Read      Standard input or the file of --image or --schedule could not be read, status 3.
                 Check where it comes from
   E67 Write     Standard output or the file of --record could not be written, or nobody reads
                 standard output any more, status 3. Free space there, or read all answers
   E68 Open      The file of --image or --schedule couldn't be opened or is a device, or that of
                 --record couldn't be created, status 3. Check its path
-  E70 Schedule  The file of --schedule isn't a schedule, or one for other options, status 1. Correct
+  E70 Schedule  The file of --schedule isn't a schedule, or is for other options, status 1. Correct
                 it, or use the options in its first line
   E71 Unmet     Deviations of the schedule weren't met, status 1: standard error lists them before
                 this
@@ -407,17 +401,9 @@ it prints its counts on standard error:
   received  frames in OUT
   missed    frames that the adapter missed ('atleast' in place of 'exact' if there may be more)
 
-If drive fails, it prints 'nicbench: CODE NAME' on standard error:
-
-  E46           The adapter could not be initialized, status 1. The reason follows, such as E15
-                Config: the size of a ring isn't allowed, or --memory is too small
-  E59, E69      An answer isn't right, or drive ended too early, status 1
-  E60 to E64    IN is invalid, status 1
-  E66 to E68    Opening, reading or writing failed, status 3
-  E72           IN is a pipe that is too long, status 3
-  E57, E65      Out of memory, status 4
-
-What each code means, and what to do: nicbench --help
+If drive fails, it prints 'nicbench: CODE NAME' on standard error. After E46 the reason follows,
+such as E15 Config: the size of a ring isn't allowed, or --memory is too small. What each code
+means, and what to do: nicbench --help
 """
 
 HELPS = [HELP, PASS_HELP, RUN_HELP, SHOW_HELP, SERVE_HELP, DRIVE_HELP]

@@ -1,4 +1,6 @@
-"""The server with clients that send any lines, close their ends at any time or are killed; ten million requests; and tests/published_faults.txt."""
+"""The server with clients that send any lines, close their ends at any time or are killed; ten million requests; and
+tests/published_faults.txt.
+"""
 
 import os
 import re
@@ -14,7 +16,8 @@ import hostile_lines
 
 WRITE_FAILED = (3, b"nicbench: E67 Write\n")
 ENDED = (0, b"")
-# More answers than a pipe holds: they follow the session, so that the server never writes its last answer before its client is gone.
+# More answers than a pipe holds: they follow the session, so that the server never writes its last answer before its
+# client is gone.
 MANY = [b"read 0x10000 4096"] * 40
 MANY_TOLD = (b"OK 0x" + b"00" * 4096 + b"\n") * 40
 # Numbers of bytes around a page and around the room of a pipe.
@@ -58,7 +61,9 @@ def read_exactly(end, size):
 
 
 def closes_answers(server):
-    """The client closes the end of answers after each number of bytes, while the server has more to write: status 3, no signal."""
+    """The client closes the end of answers after each number of bytes, while the server has more to write: status 3, no
+    signal.
+    """
     asked = joined([line for line, _ in ACTIVE] + MANY)
     told = b"".join(answer for _, answer in ACTIVE)
     whole = told + MANY_TOLD
@@ -71,11 +76,13 @@ def closes_answers(server):
         os.close(answers[1])
         got = read_exactly(answers[0], size)
         os.close(answers[0])
-        server.check(f"closed answers: after {size} bytes", (got == whole[:size], *end_of(process)), (True, *WRITE_FAILED))
+        server.check(f"closed answers: after {size} bytes", (got == whole[:size], *end_of(process)),
+                     (True, *WRITE_FAILED))
 
 
 # What the client still sends after it closed the end of answers, and how the server ends.
-CLOSINGS = [("both ends", b"", ENDED), ("the end of answers", b"line\n", WRITE_FAILED), ("the end of answers, in a line", b"lin", WRITE_FAILED),
+CLOSINGS = [("both ends", b"", ENDED), ("the end of answers", b"line\n", WRITE_FAILED),
+            ("the end of answers, in a line", b"lin", WRITE_FAILED),
             ("the end of answers, before a rejected line", b"\xff\n", WRITE_FAILED)]
 
 
@@ -109,7 +116,9 @@ def byte_by_byte(server):
 
 
 def closes_between(server):
-    """The client closes its ends after each answered request: both, or first the end of answers and then it sends more, or a part of a line."""
+    """The client closes its ends after each answered request. It closes both, or only the end of answers, and then
+    sends more, or a part of a line.
+    """
     for count in range(len(ACTIVE) + 1):
         for name, sent, wanted in CLOSINGS:
             talk = Talk(server)
@@ -128,7 +137,9 @@ def closes_between(server):
 
 
 def killed(server, client):
-    """How a server ends whose client is a process that is killed at the end of `client`. Nobody else has the client's ends."""
+    """How a server ends whose client is a process that is killed at the end of `client`. Nobody else has the client's
+    ends.
+    """
     asked, answers = os.pipe(), os.pipe()
     process = started(server, stdin=asked[0], stdout=answers[1])
     child = os.fork()
@@ -153,16 +164,20 @@ def answered(asks, answers, count):
 
 
 def kills(server):
-    """The client is killed: after each answered request, in a line, and while the server waits until its answers are read."""
+    """The client is killed: after each answered request, in a line, and while the server waits until its answers are
+    read.
+    """
     for count in range(len(ACTIVE) + 1):
-        server.check(f"killed: after {count} requests", killed(server, lambda asks, answers: answered(asks, answers, count)), ENDED)
+        server.check(f"killed: after {count} requests",
+                     killed(server, lambda asks, answers: answered(asks, answers, count)), ENDED)
 
         def in_a_line(asks, answers):
             answered(asks, answers, count)
             os.write(asks, b"readl")
 
         # The kernel closes the client's two ends in any order.
-        server.check(f"killed: in a line after {count} requests", killed(server, in_a_line) in (ENDED, WRITE_FAILED), True)
+        server.check(f"killed: in a line after {count} requests", killed(server, in_a_line) in (ENDED, WRITE_FAILED),
+                     True)
 
         def in_answers(asks, answers):
             answered(asks, answers, count)
@@ -172,31 +187,38 @@ def kills(server):
         server.check(f"killed: in answers after {count} requests", killed(server, in_answers), WRITE_FAILED)
 
 
-# Requests that leave the adapter as it was: a frame is received, a frame is sent, random steps are played, and lines are rejected.
+# Requests that leave the adapter as it was: a frame is received, a frame is sent, random steps are played, and lines
+# are rejected.
 DESCRIPTOR = "00080000000000000000000000000000"
 SENT = "00080000000000003c00000900000000"
-OPEN = ["events on", "writel 0xFEB02808 128", "writel 0xFEB03808 128", "writel 0xFEB03800 0x80", "writel 0xFEB00100 0x8002", "writel 0xFEB00400 0xA",
+OPEN = ["events on", "writel 0xFEB02808 128", "writel 0xFEB03808 128", "writel 0xFEB03800 0x80",
+        "writel 0xFEB00100 0x8002", "writel 0xFEB00400 0xA",
         "writel 0xFEB000D0 0x81"]
 ROUND = [
-    (f"write 0 16 0x{DESCRIPTOR}", "OK"), ("writel 0xFEB02810 0", "OK"), ("writel 0xFEB02818 1", "OK"), ("arrive " + "ff" * 60, "OK stored"),
-    ("step rxdata", "OK moved"), ("step rxdata", "OK nothing"), ("step rxdone", "IRQ raise 0\nOK done"), ("line", number(1)),
-    ("readl 0xFEB000C0", "IRQ lower 0\n" + number(0x80)), ("read 0 16", "OK 0x00080000000000003c00000003000000"), ("readl 0xFEB04074", number(1)),
-    (f"write 0x80 16 0x{SENT}", "OK"), ("writel 0xFEB03810 0", "OK"), ("writel 0xFEB03818 1", "OK"), ("step txtake", "OK took"),
-    ("step txput", "frame " + "ff" * 60 + "\nIRQ raise 0\nOK put"), ("readl 0xFEB000C0", "IRQ lower 0\n" + number(3)), ("readl 0xFEB04080", number(1)),
-    ("frames", "OK"), ("settle", ZERO), ("pace 2", "OK"), ("b64write 0x300 3 AQID", "OK"), ("b64read 0x301 2", "OK AgM="), ("pace 0", "OK"),
-    ("outl 0xCF8 0x80002004", "OK"), ("inw 0xCFC", number(6)), ("irq_intercept_in ioapic", "OK"), ("clock_set 1000", "OK 1000"), ("events off", "OK"),
-    ("faults", "OK"), ("events on", "OK"), ("interleave 3", "OK"), ("readl 0xFEB00008", ZERO), ("writeq 0x100 1", "OK"), ("interleave 0", "OK"), ("fly", "FAIL unknown"),
-    ("readl", "ERR count"), ("readl x", "ERR value"), ("read 0 65537", "ERR size"), ("readl 0x100000", "ERR address"), ("log on", "OK"),
-    ("memset 0x200 4 9", "# memset 0x200 4 9\nOK"), ("log off", "OK"), ("endianness", "OK little"), ("readq 0x100", number(1)), ("", "FAIL unknown"),
-    ("arrive 00", "OK illegal"), ("readb 0x200", number(9)), ("\u00e9", "FAIL unknown"), ("readw 0x201", number(0x0909)), ("step phy", "OK nothing"),
+    (f"write 0 16 0x{DESCRIPTOR}", "OK"), ("writel 0xFEB02810 0", "OK"), ("writel 0xFEB02818 1", "OK"),
+    ("arrive " + "ff" * 60, "OK stored"), ("step rxdata", "OK moved"), ("step rxdata", "OK nothing"),
+    ("step rxdone", "IRQ raise 0\nOK done"), ("line", number(1)), ("readl 0xFEB000C0", "IRQ lower 0\n" + number(0x80)),
+    ("read 0 16", "OK 0x00080000000000003c00000003000000"), ("readl 0xFEB04074", number(1)),
+    (f"write 0x80 16 0x{SENT}", "OK"), ("writel 0xFEB03810 0", "OK"), ("writel 0xFEB03818 1", "OK"),
+    ("step txtake", "OK took"), ("step txput", "frame " + "ff" * 60 + "\nIRQ raise 0\nOK put"),
+    ("readl 0xFEB000C0", "IRQ lower 0\n" + number(3)), ("readl 0xFEB04080", number(1)), ("frames", "OK"),
+    ("settle", ZERO), ("pace 2", "OK"), ("b64write 0x300 3 AQID", "OK"), ("b64read 0x301 2", "OK AgM="),
+    ("pace 0", "OK"), ("outl 0xCF8 0x80002004", "OK"), ("inw 0xCFC", number(6)), ("irq_intercept_in ioapic", "OK"),
+    ("clock_set 1000", "OK 1000"), ("events off", "OK"), ("faults", "OK"), ("events on", "OK"), ("interleave 3", "OK"),
+    ("readl 0xFEB00008", ZERO), ("writeq 0x100 1", "OK"), ("interleave 0", "OK"), ("fly", "FAIL unknown"),
+    ("readl", "ERR count"), ("readl x", "ERR value"), ("read 0 65537", "ERR size"), ("readl 0x100000", "ERR address"),
+    ("log on", "OK"), ("memset 0x200 4 9", "# memset 0x200 4 9\nOK"), ("log off", "OK"), ("endianness", "OK little"),
+    ("readq 0x100", number(1)), ("", "FAIL unknown"), ("arrive 00", "OK illegal"), ("readb 0x200", number(9)),
+    ("\u00e9", "FAIL unknown"), ("readw 0x201", number(0x0909)), ("step phy", "OK nothing"),
     ("writel 0xFEB1FFFC 1", "OK")]
 # The requests that need the most memory, once in each block.
-LARGE = [("x" * (LONGEST + 1), "ERR long"), ("read 0x10000 65536", "OK 0x" + "00" * 65_536), ("write 0x10000 65536 0x" + "00" * 65_536, "OK"),
+LARGE = [("x" * (LONGEST + 1), "ERR long"), ("read 0x10000 65536", "OK 0x" + "00" * 65_536),
+         ("write 0x10000 65536 0x" + "00" * 65_536, "OK"),
          ("memset 0x10000 65536 0", "OK"), ("arrive " + "00" * 65_000, "OK illegal")]
 BLOCK = 100_000
 BLOCKS = 100
-# Kilobytes by which the most resident memory may grow: pages of the program's file that are read late count, too. A server
-# that kept one byte of each request would need 9,668 more.
+# Kilobytes by which the most resident memory may grow: pages of the program's file that are read late count, too. A
+# server that kept one byte of each request would need 9,668 more.
 ROOM = 2048
 
 
@@ -205,7 +227,8 @@ def block():
     rounds = (BLOCK - len(LARGE)) // len(ROUND)
     idle = BLOCK - len(LARGE) - rounds * len(ROUND)
     rows = [*LARGE, *[("line", ZERO)] * idle]
-    asked, told = (lines([row[place] for row in ROUND]) * rounds + lines([row[place] for row in rows]) for place in (0, 1))
+    asked, told = (lines([row[place] for row in ROUND]) * rounds + lines([row[place] for row in rows])
+                   for place in (0, 1))
     return asked, told, rounds * len(ROUND) + len(rows)
 
 
@@ -241,11 +264,14 @@ def is_answered(talk, asked, told, count):
 
 
 def many_requests(server):
-    """Ten million requests: each has its answer, and the memory of the server doesn't grow after the first hundred thousand."""
+    """Ten million requests: each has its answer, and the memory of the server doesn't grow after the first hundred
+    thousand.
+    """
     asked, told, count = block()
     server.check("many requests: their number", (count, asked.count(b"\n"), count * BLOCKS), (BLOCK, BLOCK, 10_000_000))
     talk, most = Talk(server), []
-    server.check("many requests: the rings are set up", [talk.ask(line.encode(), b"OK\n") for line in OPEN], [True] * len(OPEN))
+    server.check("many requests: the rings are set up", [talk.ask(line.encode(), b"OK\n") for line in OPEN],
+                 [True] * len(OPEN))
     for number_of_blocks in (1, BLOCKS - 1):
         right = is_answered(talk, asked, told, number_of_blocks)
         server.check(f"many requests: {number_of_blocks} blocks", right, True)
@@ -257,14 +283,17 @@ def many_requests(server):
 
 
 def plays_shown(server, shown):
-    """Plays a session of a page: a command that prints requests into the server, with the output below it, or requests with the answers next to them."""
+    """Plays a session of a page. It is a command that prints requests into the server, with the output below, or
+    requests with the answers next to them.
+    """
     begun = re.match(r"\$ ((?:printf .*? \| )?)\./nicbench serve([^\n]*)\n", shown, re.S)
     server.check(f"page: a session begins with a command: {shown[:60]!r}", begun is not None, True)
     if begun is None:
         return
     rest = shown[begun.end():]
     if begun[1]:
-        ran = subprocess.run(f"{begun[1]}{server.program} serve{begun[2]}", shell=True, capture_output=True, timeout=LIMIT)
+        ran = subprocess.run(f"{begun[1]}{server.program} serve{begun[2]}", shell=True, capture_output=True,
+                             timeout=LIMIT)
         server.check(f"page: {begun[1][:60]!r}", (ran.returncode, ran.stdout.decode(), ran.stderr), (0, rest, b""))
         return
     rows = [re.fullmatch(r"(\S+(?: \S+)*)?(?:  +(\S+(?: \S+)*))?", row) for row in rest.splitlines()]
@@ -276,12 +305,15 @@ def plays_shown(server, shown):
 
 
 def page(server):
-    """The sessions of tests/published_faults.txt have the output in this file; docs/FAULTS.md has the session that it shows from there."""
+    """The sessions of tests/published_faults.txt have the output in this file; docs/FAULTS.md has the session that it
+    shows from there.
+    """
     text = read_page("tests", "published_faults.txt")
     sessions = re.findall(r"^```\n(.*?)^```$", text, re.M | re.S)
     server.check("page: there are sessions", len(sessions) > 20, True)
     shown = re.findall(r"^```\n(\$ .*?)^```$", read_page("docs", "FAULTS.md"), re.M | re.S)
-    server.check("page: the sessions of docs/FAULTS.md", [one for one in shown if one not in sessions] or len(shown) > 0, True)
+    server.check("page: the sessions of docs/FAULTS.md",
+                 [one for one in shown if one not in sessions] or len(shown) > 0, True)
     for shown in sessions:
         plays_shown(server, shown)
 

@@ -5,26 +5,31 @@ import subprocess
 import threading
 import time
 
-from bench import FILE_HEADER, packet, trace, written
+from codes import failure
+from pcap_files import FILE_HEADER, packet, trace, written
 import scenarios
 
 
 def cases():
-    """Words that read one input, whose path is None here, with bytes for it: name, words, bytes, status, both outputs, and out.pcap."""
+    """Words that read one input, whose path is None here, with bytes for it: name, words, bytes, status, both outputs,
+    and out.pcap. The output for errors may be a fault of the input.
+    """
     frames = [bytes([number]) * (14 + number) for number in range(100)]
     data, passed = trace(*map(packet, frames)), written(list(enumerate(frames)))
     line = b"read 100 skipped 0 illegal 0 filtered 0 written 100 cut "
-    header, magic = b"nicbench: E60 Header\n", b"nicbench: E61 Magic\n"
+    header, magic = "E60 Header", "E61 Magic"
     return [
         ("a trace", ["pass", None, "out.pcap"], data, 0, line + b"no\n", b"", passed),
         ("a trace that is cut", ["pass", None, "out.pcap"], data + b"x", 0, line + b"yes\n", b"", passed),
-        ("a trace to show", ["show", None], trace(packet(b"")), 0, b"0 0 short\nframes 1 skipped 0 cut no\n", b"", None),
+        ("a trace to show", ["show", None], trace(packet(b"")), 0, b"0 0 short\nframes 1 skipped 0 cut no\n", b"",
+         None),
         ("no byte", ["pass", None, "out.pcap"], b"", 1, b"", header, None),
         ("23 bytes", ["show", None], FILE_HEADER[:23], 1, b"", header, None),
         ("no trace", ["pass", None, "out.pcap"], bytes(100000), 1, b"", magic, None),
         ("a scenario", ["run", None, "outdir"], scenarios.EXAMPLE, 0, scenarios.EXAMPLE_LINES, b"", None),
         ("no scenario", ["run", None, "outdir"], b"", 1, b"", scenarios.refusal("E42 Hosts"), None),
-        ("a line", ["run", None, "outdir"], b"#\n" * 100000 + b"fly\n", 1, b"", scenarios.refusal("line 100001: E50 Word"), None),
+        ("a line", ["run", None, "outdir"], b"#\n" * 100000 + b"fly\n", 1, b"",
+         scenarios.refusal("line 100001: E50 Word"), None),
     ]
 
 
@@ -45,7 +50,9 @@ def all_cases(bench):
             bench.remove("out.pcap")
             if path == "pipe":
                 threading.Thread(target=write_slowly, args=(bench.path("pipe"), data), daemon=True).start()
-            bench.ends(f"{path}: {name}", [path if word is None else word for word in words_of], status, out, err, given=given)
+            told = failure(err, path) if isinstance(err, str) else err
+            bench.ends(f"{path}: {name}", [path if word is None else word for word in words_of], status, out, told,
+                       given=given)
             bench.check(f"{path}: {name}: what is written", bench.get("out.pcap"), file)
     bench.put("-", scenarios.EXAMPLE)
     bench.ends("a file of the name -", ["run", "./-", "outdir"], 0, scenarios.EXAMPLE_LINES)
@@ -53,9 +60,12 @@ def all_cases(bench):
     frame = trace(packet(scenarios.EXAMPLE_FRAME))
     bench.put("feed.scenario", feed)
     bench.put("twice.scenario", feed + b"feed a -\n")
-    bench.ends("a trace that is fed from standard input", ["run", "feed.scenario", "outdir"], 0, scenarios.EXAMPLE_LINES, given=frame)
-    bench.ends("standard input is read once", ["run", "twice.scenario", "outdir"], 1, b"", scenarios.refusal("E60 Header"), given=frame)
-    bench.ends("standard input is read once, as the scenario", ["run", "-", "outdir"], 1, b"", scenarios.refusal("E60 Header"), given=feed)
+    bench.ends("a trace that is fed from standard input", ["run", "feed.scenario", "outdir"], 0,
+               scenarios.EXAMPLE_LINES, given=frame)
+    bench.ends("standard input is read once", ["run", "twice.scenario", "outdir"], 1, b"",
+               scenarios.refusal("E60 Header", "-"), given=frame)
+    bench.ends("standard input is read once, as the scenario", ["run", "-", "outdir"], 1, b"",
+               scenarios.refusal("E60 Header", "-"), given=feed)
     for device in ("/dev/zero", "/dev/null"):
         fault = f"E68 Open: {device}"
         bench.fails(f"{device} as a trace", device, fault, 3)
@@ -69,11 +79,12 @@ def ends_of_input(bench):
     bench.put("good.pcap", trace(packet(b"")))
     for name, line, out, err in [
         ("a file", "{} show - <good.pcap", b"0 0 short\nframes 1 skipped 0 cut no\n", (0, b"")),
-        ("a file from the place where it stands", "(head -c 7 >/dev/null; {} show -) <good.pcap", b"", (1, b"nicbench: E61 Magic\n")),
-        ("closed", "{} show - <&-", b"", (3, b"nicbench: E66 Read\n")),
-        ("a folder", "{} show - <.", b"", (3, b"nicbench: E66 Read\n")),
-        ("a device as a pipe", "head -c 1000000 /dev/zero | {} show -", b"", (1, b"nicbench: E61 Magic\n")),
-        ("1 GiB", "head -c 1073741824 /dev/zero | {} show -", b"", (1, b"nicbench: E61 Magic\n")),
+        ("a file from the place where it stands", "(head -c 7 >/dev/null; {} show -) <good.pcap", b"",
+         (1, failure("E61 Magic", "-"))),
+        ("closed", "{} show - <&-", b"", (3, failure("E66 Read", "-"))),
+        ("a folder", "{} show - <.", b"", (3, failure("E66 Read", "-"))),
+        ("a device as a pipe", "head -c 1000000 /dev/zero | {} show -", b"", (1, failure("E61 Magic", "-"))),
+        ("1 GiB", "head -c 1073741824 /dev/zero | {} show -", b"", (1, failure("E61 Magic", "-"))),
         ("a byte more", "head -c 1073741825 /dev/zero | {} show -", b"", (3, b"nicbench: E72 Pipe\n")),
         ("a device without end", "{} show - </dev/zero", b"", (3, b"nicbench: E72 Pipe\n")),
         ("a little memory", "ulimit -v 400000; {} show - </dev/zero", b"", (4, b"nicbench: E57 Memory\n")),

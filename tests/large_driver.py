@@ -1,12 +1,9 @@
-"""The driver in Python with rings of 4,096 descriptors, over `nicbench serve` and over the C library: both rings are filled, and wrap."""
+"""The driver in Python with rings of 4,096 descriptors, over `nicbench serve` and over the C library: both rings are
+filled, and wrap.
+"""
 
-import os
-import sys
-
-TOP = os.path.dirname(os.path.dirname(os.path.abspath(__file__)))
-sys.path.append(os.path.join(TOP, "examples", "drivers"))
-from driver import RDBAL, RDH, RDLEN, RDT, TDBAL, TDH, TDLEN, driver_of  # noqa: E402
-from traffic import OTHER, SELF, STEPS, fault_of, frame_of  # noqa: E402
+from driver import RDBAL, RDH, RDLEN, RDT, TDBAL, TDH, TDLEN, driver_of
+from traffic import OTHER, SELF, STEPS, fault_of, frame_of
 
 SLOTS = 4096
 OFFERED = SLOTS - 1
@@ -32,13 +29,16 @@ def settle(adapter):
 
 def fill_transmit_ring(adapter, driver):
     """Sends until the ring is full. Returns the frames that were sent."""
-    sent = [frame for frame in (frame_of(number % 251, OTHER, SELF, 60) for number in range(SLOTS)) if driver.send(frame)]
+    sent = [frame for frame in (frame_of(number % 251, OTHER, SELF, 60) for number in range(SLOTS))
+            if driver.send(frame)]
     settle(adapter)
     return sent
 
 
 def fill_receive_ring(adapter):
-    """Lets frames arrive until each offered slot is finished, and one more. The driver doesn't run. Returns the frames, and their fates."""
+    """Lets frames arrive until each offered slot is finished, and one more. The driver doesn't run. Returns the frames,
+    and their fates.
+    """
     came = [frame_of(number % 251, SELF, OTHER, 60) for number in range(SLOTS)]
     fates = set()
     for number, frame in enumerate(came):
@@ -86,13 +86,16 @@ def exchange(adapter, driver):
 
 def wanted():
     """What `exchange` finds."""
-    turns = {name: value for turn in range(2) for name, value in ((f"sent, turn {turn}", OFFERED), (f"dry, turn {turn}", ({"stored"}, 0, 0)))}
+    turns = {name: value for turn in range(2)
+             for name, value in ((f"sent, turn {turn}", OFFERED), (f"dry, turn {turn}", ({"stored"}, 0, 0)))}
     heads = 2 * SLOTS % SLOTS, 2 * OFFERED % SLOTS
-    return {"registers": [0x10000, 0x10000, 0, 0x10000, OFFERED], **turns, "heads": heads, "mixed": (MIXED, MIXED), "faults": (None, None)}
+    return {"registers": [0x10000, 0x10000, 0, 0x10000, OFFERED], **turns, "heads": heads, "mixed": (MIXED, MIXED),
+            "faults": (None, None)}
 
 
 def all_cases(check, place, adapter_of, *names):
     """Plays each of these drivers on an adapter of its own, which `adapter_of` makes of options of `serve`."""
     for name in names:
         with adapter_of(*OPTIONS) as adapter:
-            check(f"{place}: the driver {name} with rings of {SLOTS}", exchange(adapter, driver_of(name, adapter, SLOTS)), wanted())
+            check(f"{place}: the driver {name} with rings of {SLOTS}",
+                  exchange(adapter, driver_of(name, adapter, SLOTS)), wanted())

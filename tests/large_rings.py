@@ -1,17 +1,20 @@
-"""`nicbench run` from outside: hosts with the greatest rings, of 4,096 descriptors and 8,192 receive buffers, and a soak of such hosts.
+"""`nicbench run` from outside: hosts with the greatest rings, of 4,096 descriptors and 8,192 receive buffers, and a
+soak of such hosts.
 
-A model of two hosts (reset_model.py) states the frames of each socket and the counts. The rows also state the answers that lines of events have.
+A model of two hosts (reset_model.py) states the frames of each socket and the counts. The rows also state the answers
+that lines of events have.
 """
 
 import os
 import random
 import subprocess
 
-from bench import FILE_HEADER, written
+from pcap_files import FILE_HEADER, written
 from races import B_ADDRESS, EVERYONE, FINISH, INTERRUPT, MOST_BUFFERED, bring, frame, receive, send
 from reset import line_of, reset
 from reset_model import BEFORE_STORES, OTHER_ACCESSES, Host, Wire
-from scenarios import Drawing, folder, held, told, warning
+from scenario_auto import Drawing
+from scenarios import folder, held, told, warning
 
 SLOTS, BUFFERS = 4096, 8192
 # What 16 hosts with such rings may take of memory: 10,616,832 bytes each for rings and buffers, and some more
@@ -21,7 +24,7 @@ GREATEST = {"rx": SLOTS, "tx": SLOTS, "buffers": BUFFERS}
 ADDRESSES = {"a": "020000000001", "b": B_ADDRESS}
 # The access of a reset that enables the receiver again
 ENABLED = BEFORE_STORES + SLOTS + 2
-# A host whose resets have so many accesses that a line of 8,192 bytes has just room for ticks before the last one
+# A host whose resets have many accesses: a line of 8,192 bytes has just room for ticks before the last one
 MANY = {"rx": 2384, "tx": 8, "buffers": 2384}
 MANY_ENABLED, MANY_ACCESSES = BEFORE_STORES + MANY["rx"] + 2, OTHER_ACCESSES + MANY["rx"] + MANY["tx"]
 SMALL_SOAK = 200_000
@@ -30,9 +33,11 @@ LENGTHS = 14, 60, 256, 257, 512, 1518
 
 def setup(hosts):
     """The first lines of a scenario of the model's hosts."""
-    lines = [f"host {name} {':'.join(ADDRESSES[name][at:at + 2] for at in range(0, 12, 2))} w rx {host.rx} tx {host.tx} buffers {host.buffers}"
+    lines = [f"host {name} {':'.join(ADDRESSES[name][at:at + 2] for at in range(0, 12, 2))} w rx {host.rx} tx "
+             f"{host.tx} buffers {host.buffers}"
              for name, host in hosts.items()]
-    return lines + [f"socket {name} {kind.hex() if kind else 'all'}" for name, host in hosts.items() for kind in host.sockets]
+    return lines + [f"socket {name} {kind.hex() if kind else 'all'}" for name, host in hosts.items()
+                    for kind in host.sockets]
 
 
 def wire_of(a=(), b=(None,), of_b=GREATEST):
@@ -51,7 +56,9 @@ def lines_of(wire):
 
 
 def play(bench, name, lines, answers, of_b=GREATEST):
-    """Plays lines on the program and in the model. `answers` are parts of lines of events, by the numbers of their events."""
+    """Plays lines on the program and in the model. `answers` are parts of lines of events, by the numbers of their
+    events.
+    """
     wire = wire_of(of_b=of_b)
     for line in lines:
         wire.play(line)
@@ -63,14 +70,16 @@ def play(bench, name, lines, answers, of_b=GREATEST):
     bench.check(f"large rings: {name}", (ran.returncode, ran.stdout, ran.stderr), (0, lines_of(wire), warned))
     bench.check(f"large rings: {name}: what is written", held(path) == files_of(wire), True)
     events = (bench.get("events.txt") or b"").decode().splitlines()
-    found = {number: event for number, event in enumerate(events) if number % len(events) in {at % len(events) for at in answers}}
+    found = {number: event for number, event in enumerate(events)
+             if number % len(events) in {at % len(events) for at in answers}}
     for at, answer in answers.items():
         bench.check(f"large rings: {name}: event {at}", answer in found.get(at % max(len(events), 1), ""), True)
 
 
 def frames(count, length=60, first=0):
     """Frames for b, each with a number of its own."""
-    return [frame(number % 251, length=length)[:15] + number.to_bytes(3, "big") + bytes(length - 18) for number in range(first, first + count)]
+    return [frame(number % 251, length=length)[:15] + number.to_bytes(3, "big") + bytes(length - 18)
+            for number in range(first, first + count)]
 
 
 def sends(bench):
@@ -83,54 +92,68 @@ def sends(bench):
 
 
 def receives(bench):
-    """A receive ring has room for one frame less than it has slots. The next frame waits, and is none that is missed."""
+    """A receive ring has room for one frame less than it has slots. The next frame waits, and is none that is
+    missed.
+    """
     full = receive(*frames(OFFERED))
     more = bring(*frames(1, first=OFFERED))
     rest = INTERRUPT + FINISH + INTERRUPT + ["recv b 0"] * (SLOTS + 1)
     play(bench, "a receive ring is full", full + more + FINISH[:1] + rest,
-         {len(full) + 3: " stored 60", len(full) + 4: " rxdata:b nothing", len(full) + 5: f" handled {OFFERED} ", len(full) + 6: " rxdata:b moved",
+         {len(full) + 3: " stored 60", len(full) + 4: " rxdata:b nothing", len(full) + 5: f" handled {OFFERED} ",
+          len(full) + 6: " rxdata:b moved",
           len(full) + 8: " handled 1 ", -2: " ok 60 ", -1: " E30 Empty "})
     most = OFFERED // 6
     long = [line for data in frames(most + 1, 1518) for line in bring(data) + FINISH * 6][:-2 * (6 - OFFERED % 6)]
-    play(bench, "a receive ring is full of pieces", long + FINISH[:1] + INTERRUPT + FINISH * 3 + INTERRUPT + ["recv b 0"] * (most + 1),
-         {len(long) - 1: " rxdone:b done", len(long): " rxdata:b nothing", len(long) + 1: f" handled {most} ", len(long) + 8: " handled 1 ",
+    play(bench, "a receive ring is full of pieces",
+         long + FINISH[:1] + INTERRUPT + FINISH * 3 + INTERRUPT + ["recv b 0"] * (most + 1),
+         {len(long) - 1: " rxdone:b done", len(long): " rxdata:b nothing", len(long) + 1: f" handled {most} ",
+          len(long) + 8: " handled 1 ",
           -1: " ok 1518 "})
-    two = [line for part in (frames(SLOTS, first=at * SLOTS) for at in range(2)) for line in receive(*part[:OFFERED]) + INTERRUPT]
+    two = [line for part in (frames(SLOTS, first=at * SLOTS) for at in range(2))
+           for line in receive(*part[:OFFERED]) + INTERRUPT]
     last = [line for data in frames(3, first=2 * SLOTS) for line in receive(data)]
     play(bench, "each buffer is in a queue", two + last + INTERRUPT + FINISH[:1] + ["recv b 0", "tick rxdata:b"],
          {len(two) + len(last): " handled 2 ", -3: " rxdata:b nothing", -2: " ok 60 ", -1: " rxdata:b moved"})
 
 
 def gives_up(bench):
-    """A drain returns all that a host holds, and a reset gives all of it up."""
+    """A drain returns all that a host holds, and a reset drops all of it."""
     held_by_b = receive(*frames(OFFERED)) + bring(*frames(MOST_BUFFERED, first=OFFERED))
     play(bench, "a drain", held_by_b + ["drain b", "drain b"], {-2: f" ok {OFFERED + MOST_BUFFERED}", -1: " ok 0"})
     to_send = [send(data)[0] for data in frames(OFFERED)]
     play(bench, "a reset of the sender", to_send + ["tick txtake:a", "reset a"] + to_send,
          {OFFERED + 1: f" givenup {OFFERED} 0 on {ENABLED} ", -1: " ok "})
-    play(bench, "a reset of the receiver", held_by_b + ["reset b"] + receive(*frames(1, first=SLOTS)) + INTERRUPT + ["recv b 0"],
+    play(bench, "a reset of the receiver",
+         held_by_b + ["reset b"] + receive(*frames(1, first=SLOTS)) + INTERRUPT + ["recv b 0"],
          {len(held_by_b): f" givenup 0 {OFFERED + MOST_BUFFERED} on {ENABLED} ", -2: " handled 1 ", -1: " ok 60 "})
     waiting = [line for data in frames(3, first=SLOTS) for line in bring(data)[:-1]]
-    places = [(3, "deliver:b"), (MANY_ENABLED, "rxdata:b"), (MANY_ENABLED, "deliver:b"), (MANY_ENABLED + 1, "deliver:b"),
+    places = [(3, "deliver:b"), (MANY_ENABLED, "rxdata:b"), (MANY_ENABLED, "deliver:b"),
+              (MANY_ENABLED + 1, "deliver:b"),
               (MANY_ENABLED + 1, "rxdata:b"), (MANY_ACCESSES, "rxdone:b")]
     count = MANY["rx"] - 1
-    play(bench, "steps in a reset of the receiver", receive(*frames(count)) + waiting + reset("b", *places) + INTERRUPT + ["recv b 0"],
-         {-3: f" givenup 0 {count} on {MANY_ENABLED} accesses {MANY_ACCESSES} ", -2: " handled 1 ", -1: " ok 60 "}, MANY)
+    play(bench, "steps in a reset of the receiver",
+         receive(*frames(count)) + waiting + reset("b", *places) + INTERRUPT + ["recv b 0"],
+         {-3: f" givenup 0 {count} on {MANY_ENABLED} accesses {MANY_ACCESSES} ", -2: " handled 1 ", -1: " ok 60 "},
+         MANY)
 
 
 def greatest_plan(bench):
-    """Sixteen hosts with the greatest rings and eight sockets each: a run takes little more memory than that of the hosts."""
+    """Sixteen hosts with the greatest rings and eight sockets each: a run takes little more memory than that of the
+    hosts.
+    """
     lines = [f"host h{n} 02:00:00:00:00:{n:02x} w{n // 8} rx {SLOTS} tx {SLOTS} buffers {BUFFERS}" for n in range(16)]
     lines += [f"socket h{n} {kind:04x}" for n in range(16) for kind in range(8)]
     bench.put("s.scenario", "".join(f"{line}\n" for line in lines).encode())
     folder(bench)
     with open(bench.path("printed"), "w+b") as printed:
-        process = subprocess.Popen([bench.program, "run", "s.scenario", "outdir"], cwd=bench.folder, stdout=printed, stderr=subprocess.STDOUT)
+        process = subprocess.Popen([bench.program, "run", "s.scenario", "outdir"], cwd=bench.folder, stdout=printed,
+                                   stderr=subprocess.STDOUT)
         _, ended, usage = os.wait4(process.pid, 0)
         process.returncode = os.waitstatus_to_exitcode(ended)
         printed.seek(0)
         told_of = printed.read()
-    bench.check("large rings: sixteen hosts", (process.returncode, told_of), (0, b"".join(told(f"h{n}") for n in range(16))))
+    bench.check("large rings: sixteen hosts", (process.returncode, told_of),
+                (0, b"".join(told(f"h{n}") for n in range(16))))
     bench.check("large rings: sixteen hosts: memory", usage.ru_maxrss * 1024 <= ALLOWED_BYTES, True)
 
 
@@ -152,7 +175,8 @@ class Soak:
         """Plays random events, as the line `auto` has them."""
         self.lines.append(f"auto {count} {start}")
         next_word, wire = Drawing(start).next, self.wire
-        hosts = [(name, host, [other for other in wire.hosts.values() if other is not host], bytes.fromhex(EVERYONE + ADDRESSES[name] + "88b5"))
+        hosts = [(name, host, [other for other in wire.hosts.values() if other is not host],
+                  bytes.fromhex(EVERYONE + ADDRESSES[name] + "88b5"))
                  for name, host in wire.hosts.items()]
         for _ in range(count):
             word = next_word()
@@ -181,7 +205,8 @@ class Soak:
             if self.drawing.random() < 0.9:
                 self.play(f"tick txtake:{sender}", f"tick txput:{sender}", f"tick deliver:{receiver}")
             if self.drawing.random() < finished:
-                self.play(*(f"tick {kind}:{receiver}" for _ in range(-(-len(data) // 256)) for kind in ("rxdata", "rxdone")))
+                self.play(*(f"tick {kind}:{receiver}" for _ in range(-(-len(data) // 256))
+                            for kind in ("rxdata", "rxdone")))
 
     def end(self, host):
         """What the host does after a burst."""
@@ -191,7 +216,8 @@ class Soak:
             self.play(*[f"recv {host} 0"] * self.drawing.randrange(500))
         elif kind == "reset":
             places = sorted(self.drawing.choice((1, 2, 3, 4, 5, 1000)) for _ in range(6))
-            self.play(*reset(host, *((place, self.drawing.choice((f"deliver:{host}", f"rxdone:{host}", f"txput:{host}"))) for place in places)))
+            self.play(*reset(host, *((place, self.drawing.choice((f"deliver:{host}", f"rxdone:{host}",
+                                                                  f"txput:{host}"))) for place in places)))
         else:
             self.play(f"{kind} {host}")
 
@@ -199,7 +225,8 @@ class Soak:
         """All frames are sent, delivered and drained, so that no host holds any."""
         for name, host in self.wire.hosts.items():
             while host.ring or host.taken:
-                self.play(f"tick txtake:{name}", f"tick txput:{name}", *(f"tick deliver:{other}" for other in self.wire.hosts))
+                self.play(f"tick txtake:{name}", f"tick txput:{name}",
+                          *(f"tick deliver:{other}" for other in self.wire.hosts))
         while any(host.waiting for host in self.wire.hosts.values()):
             self.play(*(f"tick deliver:{name}" for name in self.wire.hosts))
         self.play(*(f"drain {name}" for name in self.wire.hosts))
@@ -234,7 +261,9 @@ def counts_of(printed):
 
 
 def equations(printed):
-    """Which equations of delivery the counts of two hosts don't meet, if nothing is left to be sent, waiting or held."""
+    """Which equations of delivery the counts of two hosts don't meet, if nothing is left to be sent, waiting or
+    held.
+    """
     counts = counts_of(printed)
     faults = []
     for name, other in ("ab", "ba"):
@@ -259,7 +288,8 @@ def soak(bench, seed=1, events=SMALL_SOAK):
     ran = bench.run("run", "s.scenario", "outdir")
     bench.check(f"large rings: soak, seed {seed}: there are as many events", drawn.wire.number >= events, True)
     bench.check(f"large rings: soak, seed {seed}", (ran.returncode, ran.stdout), (0, lines_of(drawn.wire)))
-    bench.check(f"large rings: soak, seed {seed}: the equations", equations(ran.stdout) if ran.returncode == 0 else None, [])
+    bench.check(f"large rings: soak, seed {seed}: the equations",
+                equations(ran.stdout) if ran.returncode == 0 else None, [])
     bench.check(f"large rings: soak, seed {seed}: what is written", held(path) == files_of(drawn.wire), True)
 
 

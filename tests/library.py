@@ -1,37 +1,32 @@
-#!/usr/bin/env python3
+#!/usr/bin/env -S python3 -B
 """Checks the C library: its header and bindings, the examples, and that it answers as `nicbench serve` does.
 
 usage: tests/library.py PROGRAM [FOLDER | --quick]
 
 PROGRAM is `nicbench`, and FOLDER is what `tools/library FOLDER` wrote. Without FOLDER, the script lets `tools/library`
 write .build/library, or with --quick `tools/library --quick` write .build/quick-library. Examples in C, C++ and Rust
-are compiled and run if there is a compiler, also with AddressSanitizer and valgrind, and through pkg-config, CMake and
-pip. For a compiler or tool that isn't there, the script prints a line. The last line is 'N passed, M failed', and the
-exit status is 1 if anything failed.
+are compiled and run if there is a compiler, also with AddressSanitizer and valgrind. They are built through pkg-config,
+CMake and pip, too. For a compiler or tool that isn't there, the script prints a line. The last line is 'N passed, M
+failed', and the exit status is 1 if anything failed.
 """
 
 import base64
 import os
 import re
-import shutil
+import runpy
 import subprocess
 import sys
-import tempfile
 from functools import partial
 
-TOP = os.path.dirname(os.path.dirname(os.path.abspath(__file__)))
-DRIVERS = os.path.join(TOP, "examples", "drivers")
-EXAMPLES = os.path.join(TOP, "examples", "library")
-sys.dont_write_bytecode = True
-sys.path += [DRIVERS, os.path.join(TOP, "bindings", "python")]
-import adapter  # noqa: E402
-import large_driver  # noqa: E402
-import nic82540em  # noqa: E402
-import sweep  # noqa: E402
-from bench import Bench  # noqa: E402
-from driver import CTRL, EERD, ICR, RCTL, RDH, RDLEN, RDT  # noqa: E402
-from expected import EN, RST  # noqa: E402
-from random_requests import BAM, RandomRequests, Words  # noqa: E402
+from harness import TOOLS, TOP, Program, test_all, text_of, words_of_script
+import adapter
+import large_driver
+import library_examples
+import nic82540em
+import sweep
+from driver import CTRL, EERD, ICR, RCTL, RDH, RDLEN, RDT
+from expected import EN, RST
+from random_requests import BAM, RandomRequests, Words
 
 MEMORY = 8192
 GPRC, MPC = 0x4074, 0x4010
@@ -40,21 +35,11 @@ SEEDS, REQUESTS = 10, 1000
 STEPS = 3
 # The size of the area of all registers in bytes, and the bytes of a register
 AREA, REGISTER_BYTES = 0x20000, 4
-WARNINGS = ["-Wall", "-Wextra", "-Werror"]
-SANITIZERS = "-fsanitize=address,undefined"
-# The runs in which libFuzzer must find a race of the driver in fuzz_driver.c, and the races with their faults
-FUZZ_RUNS = 20000
-RACES = (("LATE", "was never received"), ("PREFETCH", "has other bytes"))
 REFUSED_MEMORY = "WARNING: AddressSanitizer failed to allocate"
 SEEDS_OF_SWEEP = 25
 
 
-def text_of(*path):
-    with open(os.path.join(TOP, *path)) as file:
-        return file.read()
-
-
-class Library(Bench):
+class Library(Program):
     """A built library, and a program that serves the same adapter."""
 
     def __init__(self, library, program, folder):
@@ -62,13 +47,6 @@ class Library(Bench):
         self.root, self.proved = library, None
         self.shared = os.path.join(library, "lib", "libnic82540em.so")
         self.flags = ["-I", os.path.join(library, "include"), os.path.join(library, "lib", "libnic82540em.a")]
-
-    def is_there(self, tool, what):
-        """Whether there is such a tool. Prints a line if there is none."""
-        if shutil.which(tool):
-            return True
-        print(f"not played, because there is no {tool}: {what}")
-        return False
 
     def compiles(self, name, *words, env=None):
         """Compiles something, and returns whether it did. There are no warnings."""
@@ -91,23 +69,30 @@ class Library(Bench):
 
 def names(library):
     offsets = text_of("crates", "adapter", "src", "offsets.rt")
-    known = {name: int(value, 16) for name, value in re.findall(r"^pub const (\w+): u32 = (0x[0-9A-F]{4});$", offsets, re.M)}
+    known = {name: int(value, 16) for name, value in re.findall(r"^pub const (\w+): u32 = (0x[0-9A-F]{4});$", offsets,
+                                                                re.M)}
     known["RAH"] = known["RAL"] + REGISTER_BYTES
     header, rust = text_of("bindings", "c", "nic82540em.h"), text_of("bindings", "rust", "src", "lib.rs")
     table = header[header.index("/* Registers: "):]
     found = {name: int(value, 16) for name, value in re.findall(r"^    NIC_(\w+) = (0x[0-9A-F]{4}),?", table, re.M)}
     library.check("the header's registers", found, {name: known.get(name) for name in found})
     library.check("the number of the header's registers", len(found), 30)
-    constants = {name: int(value, 16) for name, value in re.findall(r"^    pub const (\w+): u32 = (0x[0-9A-F]{4});$", rust, re.M)}
+    constants = {name: int(value, 16) for name, value in re.findall(r"^    pub const (\w+): u32 = (0x[0-9A-F]{4});$",
+                                                                    rust, re.M)}
     library.check("the registers of the crate in Rust", constants, found)
     sources = os.path.join("crates", "nic82540em", "src")
     calls = "\n".join(text_of(sources, name) for name in sorted(os.listdir(os.path.join(TOP, sources))))
     exported = set(re.findall(r'extern "C" fn (nic82540em_\w+)', calls))
-    library.check("the header's calls", set(re.findall(r"^(?!static).*?(nic82540em_\w+)\(struct", header, re.M)), exported)
+    library.check("the header's calls", set(re.findall(r"^(?!static).*?(nic82540em_\w+)\(struct", header, re.M)),
+                  exported)
     library.check("the calls of the crate in Rust", set(re.findall(r"fn (nic82540em_\w+)\(", rust)), exported)
     library.check("the calls in Python", {f"nic82540em_{name}" for name in nic82540em.CALLS}, exported)
     outcomes = re.findall(r"^    NIC_(\w+),?", header[header.index("NIC_NOTHING"):header.index("/* The fates")], re.M)
     library.check("the outcomes in Python", [name.upper() for name in nic82540em.OUTCOMES], ["NOTHING", *outcomes])
+    finder = runpy.run_path(os.path.join(TOOLS, "race_finder", "names.py"))
+    library.check("the steps of the finder of races", sorted(finder["STEP_KINDS"]), sorted(nic82540em.KINDS))
+    library.check("its outcomes", sorted(finder["OUTCOMES"]), sorted(nic82540em.OUTCOMES))
+    library.check("its fates", sorted(finder["FATES"]), sorted(nic82540em.FATES))
 
 
 # One list of requests in process and by `serve`.
@@ -125,7 +110,8 @@ class InProcess:
 
     def load(self, address, size):
         offset = self.register(address, size)
-        return self.nic.load(address, size) if offset is None else self.nic.read(offset).to_bytes(REGISTER_BYTES, "little")
+        return self.nic.load(address,
+                             size) if offset is None else self.nic.read(offset).to_bytes(REGISTER_BYTES, "little")
 
     def store(self, address, data):
         offset = self.register(address, len(data))
@@ -155,13 +141,19 @@ class InProcess:
         if verb == "interleave":
             self.nic.interleave(int(words[0]), seed)
             return ""
+        if verb == "pace":
+            self.nic.pace(int(words[0]))
+            return ""
+        if verb == "choose":
+            return f"0x{self.nic.choose(int(words[0], 0)):016x}"
         if verb == "offer":
             self.nic.offer(bytes.fromhex("".join(words)))
             return ""
         if verb == "wire":
             self.nic.fill_wire(words[0] == "full")
             return ""
-        return {"step": lambda: self.nic.step(words[0]), "arrive": lambda: self.nic.arrive(bytes.fromhex("".join(words))),
+        return {"step": lambda: self.nic.step(words[0]),
+                "arrive": lambda: self.nic.arrive(bytes.fromhex("".join(words))),
                 "log": lambda: ""}[verb]()
 
     def reply(self, request, seed):
@@ -238,19 +230,23 @@ def events_in(told, request, answer):
 
 
 def with_offers(seed):
-    """Requests of a hostile driver, with offered frames, and with a wire that is full now and then."""
+    """Requests of a hostile driver, with choices and offered frames, and with a wire that is full now and then."""
     for place, request in enumerate(requests_of(seed)):
+        if place % 13 == 5:
+            yield f"choose {place % 7 and 1 << place % 30}"
         if place % 11 == 3:
             yield "offer " + (bytes([255] * 6) + bytes([place & 255]) * (14 + place % 60)).hex()
         if place % 60 in (20, 50):
             yield f"wire {'full' if place % 60 == 20 else 'free'}"
+        if place % 40 in (10, 25):
+            yield f"pace {1 + place % 3 if place % 40 == 10 else 0}"
         yield request
 
 
 def events_as_served(library):
     """The answers, frames and events are those of `serve`, also of steps and arrivals before accesses."""
     kinds = set()
-    for seed in 9, 12, 13, 15:
+    for seed in range(1, SEEDS + 1):
         inside, differ = InProcess(library.shared, MEMORY), None
         inside.nic.events(True)
         with Served(library.program, "--memory", str(MEMORY), "--seed", str(seed)) as served:
@@ -371,7 +367,8 @@ def copies(library):
 
 
 def states_by_contents(library):
-    """The same registers and frames have one digest, wherever the frames lie in the packet buffer; others have another."""
+    """The same registers and frames have one digest, wherever the frames are in the packet buffer; others have another.
+    """
     nics = [nic82540em.Nic(library.shared, memory=MEMORY) for _ in range(3)]
     first, frame, other = ([255] * 6 + [n] * 54 for n in (1, 2, 3))
     for nic, frames in zip(nics, ([frame], [first, frame], [other])):
@@ -430,179 +427,6 @@ def drivers(library):
     large_driver.all_cases(library.check, "in process", partial(nic82540em.Adapter, library.shared), "right", "queue")
 
 
-# Examples
-
-def has_fuzzer(library):
-    """Whether clang has libFuzzer. Prints a line if it hasn't."""
-    library.put("empty.c", b"int LLVMFuzzerTestOneInput(const char *data, long size) { return data && size < 0; }\n")
-    ran = subprocess.run(["clang", "-fsanitize=fuzzer", "-o", "empty", "empty.c"], cwd=library.folder, capture_output=True)
-    if ran.returncode != 0:
-        print("not played, because clang has no libFuzzer: the harness by libFuzzer")
-    return ran.returncode == 0
-
-
-def examples_in_c(library):
-    if not library.is_there("cc", "the examples in C"):
-        return
-    alone = ["-DALONE"]
-    for name, extra in ("first", []), ("frames", []), ("state", []), ("fuzz", alone), ("fuzz_driver", alone):
-        source, wanted = os.path.join(EXAMPLES, f"{name}.c"), text_of("examples", "library", f"{name}.txt")
-        for how, words in ("", []), ("_sanitized", [SANITIZERS, "-g"]):
-            target = library.path(name + how)
-            flags = ["-std=c99", "-O1", *WARNINGS, *extra, *words]
-            if library.compiles(name + how, "cc", *flags, "-o", target, source, *library.flags):
-                library.prints(f"{name}{how}: runs", [target], wanted)
-    library.put("page.c", re.search(r"```c\n(.*?)```", text_of("docs", "LIBRARY.md"), re.S)[1].encode())
-    if library.compiles("the code of LIBRARY.md", "cc", "-std=c99", *WARNINGS, "-o", "page", "page.c", *library.flags):
-        library.prints("the code of LIBRARY.md: runs", [library.path("page")], "00000080\n")
-    if library.is_there("valgrind", "the examples in C by valgrind"):
-        for name in "first", "frames", "state":
-            library.prints(f"{name}: by valgrind", ["valgrind", "-q", "--leak-check=full", "--error-exitcode=9",
-                                                    library.path(name)], text_of("examples", "library", f"{name}.txt"))
-
-
-def fails(library, name, words, fault):
-    """Checks that a fuzzer ends by this fault of the driver."""
-    ran = subprocess.run(words, cwd=library.folder, capture_output=True, text=True, timeout=600)
-    found = re.search(r"^frame \d+ (.*)$", ran.stderr, re.M)
-    library.check(name, (ran.returncode != 0, found and found[1]), (True, fault))
-
-
-def fuzzers(library):
-    """The harnesses find nothing in the adapter and in the right driver, and both races, also by libFuzzer."""
-    source = os.path.join(EXAMPLES, "fuzz_driver.c")
-    for race, fault in RACES if library.is_there("cc", "the harness of a driver") else ():
-        target = library.path(f"alone_{race}")
-        flags = [*WARNINGS, "-DALONE", f"-D{race}=1"]
-        if library.compiles(f"fuzz_driver, {race}", "cc", *flags, "-o", target, source, *library.flags):
-            fails(library, f"fuzz_driver, {race}: runs", [target], fault)
-    if not (library.is_there("clang", "the harnesses by libFuzzer") and has_fuzzer(library)):
-        return
-    words = ["clang", "-O1", "-g", "-fsanitize=fuzzer,address"]
-    for name, race, fault in ("fuzz", "", ""), ("fuzz_driver", "", ""), *(("fuzz_driver", *race) for race in RACES):
-        target, title = library.path(f"fuzzer_{name}{race}"), f"{name} {race} by libFuzzer".replace("  ", " ")
-        source, defined = os.path.join(EXAMPLES, f"{name}.c"), [f"-D{race}=1"] if race else []
-        if not library.compiles(title, *words, *defined, "-o", target, source, *library.flags):
-            continue
-        command = [target, f"-runs={FUZZ_RUNS}", "-seed=1", f"-artifact_prefix={library.folder}/"]
-        if race:
-            fails(library, f"{title}: runs", command, fault)
-        else:
-            ran = subprocess.run(command, cwd=library.folder, capture_output=True, text=True, timeout=600)
-            library.check(f"{title}: runs", (ran.returncode, f"Done {FUZZ_RUNS} runs" in ran.stderr), (0, True))
-
-
-# The library as other build systems find it
-
-def first_output():
-    return text_of("examples", "library", "first.txt")
-
-
-def by_pkg_config(library):
-    """The line of docs/LIBRARY.md makes a program that runs without LD_LIBRARY_PATH."""
-    if not all([library.is_there(tool, "the line for pkg-config") for tool in ("cc", "pkg-config")]):
-        return
-    env = {**os.environ, "PKG_CONFIG_PATH": os.path.join(library.root, "lib", "pkgconfig")}
-    env.pop("LD_LIBRARY_PATH", None)
-    line = re.search(r"^\$ (cc -o first .*)$", text_of("docs", "LIBRARY.md"), re.M)[1]
-    how = {"cwd": TOP, "env": env, "capture_output": True, "text": True}
-    ran = subprocess.run(["sh", "-c", f"{line} && mv first '{library.folder}'"], **how)
-    library.check("the line for pkg-config", (ran.returncode, ran.stderr), (0, ""))
-    library.prints("the program by pkg-config: runs", [library.path("first")], first_output())
-    ran = subprocess.run(["pkg-config", "--variable=proved", "nic82540em"], **how)
-    if library.proved is not None:
-        library.check("whether it was proved", ran.stdout.strip(), library.proved)
-
-
-CMAKE = """cmake_minimum_required(VERSION 3.13)
-project(examples C)
-find_package(nic82540em VERSION REQUIRED)
-foreach(kind nic82540em shared)
-    add_executable(first_${kind} FIRST)
-    target_link_libraries(first_${kind} nic82540em::${kind})
-endforeach()
-"""
-
-
-def by_cmake(library):
-    """CMake's find_package finds the library and its version."""
-    if not (library.is_there("cc", "find_package") and library.is_there("cmake", "find_package")):
-        return
-    pc = text_of(library.root, "lib", "pkgconfig", "nic82540em.pc")
-    version = re.search(r"^Version: (\d+)\.(\d+)", pc, re.M)
-    for wanted, is_found in (f"{version[1]}.{version[2]}", True), (f"{version[1]}.{int(version[2]) + 1}", False):
-        folder = os.path.join(library.folder, f"cmake-{wanted}")
-        os.makedirs(folder)
-        text = CMAKE.replace("VERSION REQ", f"{wanted} REQ").replace("FIRST", os.path.join(EXAMPLES, "first.c"))
-        library.put(os.path.join(f"cmake-{wanted}", "CMakeLists.txt"), text.encode())
-        ran = subprocess.run(["cmake", "-S", folder, "-B", f"{folder}/made", f"-DCMAKE_PREFIX_PATH={library.root}"],
-                             stdout=subprocess.DEVNULL, stderr=subprocess.PIPE, text=True)
-        is_other = "compatible with requested version" in ran.stderr
-        library.check(f"CMake finds version {wanted}", (ran.returncode == 0, is_other), (is_found, not is_found))
-        if not is_found:
-            continue
-        ran = subprocess.run(["cmake", "--build", f"{folder}/made"], capture_output=True, text=True)
-        library.check("CMake builds", (ran.returncode, ran.returncode and ran.stderr[-2000:]), (0, 0))
-        for kind in "nic82540em", "shared":
-            library.prints(f"CMake, {kind}: runs", [f"{folder}/made/first_{kind}"], first_output())
-
-
-def by_pip(library):
-    """pip installs the Python package without the internet, with the library in it. The page's code runs with it."""
-    pip = [sys.executable, "-m", "pip", "--disable-pip-version-check"]
-    if subprocess.run([*pip, "--version"], capture_output=True).returncode != 0:
-        print("not played, because there is no pip: the package for Python")
-        return
-    package, target = os.path.join(TOP, "bindings", "python"), library.path("installed")
-    words = [*pip, "install", "--quiet", "--no-index", "--no-build-isolation", "--no-compile",
-             "--target", target, package]
-
-    def install(folder):
-        env = {**os.environ, "PYTHONDONTWRITEBYTECODE": "1", "NIC82540EM_LIB": folder}
-        return subprocess.run(words, env=env, cwd=library.folder, capture_output=True, text=True)
-
-    ran = install(os.path.join(library.root, "lib"))
-    library.check("pip installs the package", (ran.returncode, ran.returncode and ran.stderr[-2000:]), (0, 0))
-    code = re.search(r"```python\n(.*?)```", text_of("docs", "LIBRARY.md"), re.S)[1]
-    installed = ["env", "-u", "NIC82540EM_LIB", f"PYTHONPATH={target}", sys.executable, "-B", "-c", code]
-    library.prints("the package: runs", installed, "True 0x80\n")
-    ran = install(library.folder)
-    is_told = "libnic82540em.so isn't in" in ran.stderr
-    library.check("pip without the library", (ran.returncode != 0, is_told), (True, True))
-
-
-def refused_memory(library):
-    """Each allocation fails in turn, with a heap that counts."""
-    if library.is_there("cc", "refused memory"):
-        target = library.path("refused")
-        source = os.path.join(TOP, "tests", "library_refused.c")
-        flags = ["-std=c99", "-g", *WARNINGS, SANITIZERS]
-        if library.compiles("refused memory", "cc", *flags, "-o", target, source, *library.flags):
-            library.prints("refused memory: runs", [target], "new: refused at each of 11 allocations\n"
-                           "copy: refused at each of 11 allocations\noffer: refused at each of 2 allocations\nno block is left\n")
-
-
-def examples_in_other_languages(library):
-    if library.is_there("c++", "the first example as C++"):
-        target = library.path("first_cpp")
-        source = os.path.join(EXAMPLES, "first.c")
-        if library.compiles("first as C++", "c++", "-x", "c++", *WARNINGS, "-o", target, source, "-x", "none", *library.flags):
-            library.prints("first as C++: runs", [target], text_of("examples", "library", "first.txt"))
-    env = ["env", f"PYTHONPATH={os.path.join(TOP, 'bindings', 'python')}", f"NIC82540EM_LIB={os.path.join(library.root, 'lib')}"]
-    library.prints("events.py: runs", [*env, sys.executable, "-B", os.path.join(EXAMPLES, "events.py")],
-                   text_of("examples", "library", "events.txt"))
-    if library.is_there("rustc", "the crate and the example in Rust"):
-        rustc = ["rustc", "--edition", "2021", "-O", "-D", "warnings"]
-        path = ["-L", f"native={os.path.join(library.root, 'lib')}"]
-        if library.compiles("the crate in Rust", *rustc, "--crate-type", "rlib", "--crate-name", "nic82540em", "-o",
-                            "libnic82540em.rlib", os.path.join(TOP, "bindings", "rust", "src", "lib.rs"), *path,
-                            "-l", "static=nic82540em"):
-            target = library.path("two_steps")
-            if library.compiles("two_steps", *rustc, "-o", target, os.path.join(EXAMPLES, "two_steps.rs"),
-                                "--extern", "nic82540em=libnic82540em.rlib", *path):
-                library.prints("two_steps: runs", [target], text_of("examples", "library", "two_steps.txt"))
-
-
 def is_built(library, words):
     """Builds the library. Returns whether it is there."""
     if not all([library.is_there(tool, "everything that needs the built library") for tool in ("cc", "ar")]):
@@ -614,25 +438,29 @@ def is_built(library, words):
 
 
 PARTS = (same_answers, events_as_served, events_that_wait, image_and_missed, steps_by_schedule, state_without_accesses,
-         steps_that_are_possible, copies, states_by_contents, steps_by_ticks, frames_that_wait, drivers, refused_memory, examples_in_c, fuzzers, examples_in_other_languages,
-         by_pkg_config, by_cmake, by_pip)
+         steps_that_are_possible, copies, states_by_contents, steps_by_ticks, frames_that_wait, drivers,
+         *library_examples.PARTS)
 
 
 def main():
-    if len(sys.argv) not in (2, 3):
+    words = words_of_script()
+    if len(words) not in (1, 2):
         sys.exit(__doc__)
-    program, is_quick = os.path.abspath(sys.argv[1]), sys.argv[2:] == ["--quick"]
-    given = None if is_quick else next(iter(sys.argv[2:]), None)
+    is_quick = words[1:] == ["--quick"]
+    given = None if is_quick else next(iter(words[1:]), None)
     root = os.path.abspath(given or os.path.join(TOP, ".build", "quick-library" if is_quick else "library"))
-    with tempfile.TemporaryDirectory() as folder:
-        library = Library(root, program, folder)
+
+    def make(folder):
+        library = Library(root, os.path.abspath(words[0]), folder)
         library.proved = None if given else "no" if is_quick else "yes"
-        names(library)
-        if given or is_built(library, ["--quick"] if is_quick else []):
-            for part in PARTS:
-                part(library)
-    print(f"{library.passed} passed, {library.failed} failed")
-    sys.exit(1 if library.failed else 0)
+        return library
+
+    def built(library):
+        """The library is built, unless it was given. Without it, no other part is run."""
+        if not (given or is_built(library, ["--quick"] if is_quick else [])):
+            library.stop()
+
+    test_all(make, [names, built, *PARTS])
 
 
 main()

@@ -1,14 +1,14 @@
 """`nicbench drive` on devices that lie: each access, each error of initialization, and the frames that are received.
 
-A device answers the requests of `drive`, and may answer anything. A model (driver_model.py) predicts each access from the answers before it, and
-at the end the frames received, what standard error has, and the exit status.
+A device answers the requests of `drive`, and may answer anything. A model (driver_model.py) predicts each access from
+the answers before it. At the end, it predicts the received frames, the text on standard error and the exit status.
 """
 
 import random
 import struct
 import subprocess
 
-from bench import FILE_HEADER, packet, trace
+from pcap_files import FILE_HEADER, packet, trace
 from driver_model import DESCRIPTOR, EERD, ICR, LEAST, MDIC, MOST, MOST_READS, MPC, PIECE, Drive
 from races import frame
 from scenarios import TO_SOCKET, folder
@@ -19,18 +19,21 @@ GREATEST = 2**32 - 1
 # Causes that the driver handles: TXDW, RXDMT0, RXO and RXT0
 CAUSES = (0, 4, 6, 7)
 RXT0 = 1 << 7
-# The accesses of initialization up to the last word of the EEPROM, and from there up to the first command that reads the PHY
+# The accesses of initialization up to the last word of the EEPROM, and from there up to the first command that reads
+# the PHY
 IMAGE, NEGOTIATION = 3 + 2 * 64, 2 + 2
 FULL = 256, 1, 0
 
 
 class Device:
-    """A device that initializes well, has no cause recorded, and finishes no slot. Its memory keeps nothing: all its bytes are drawn by their
-    address. A method answers each kind of access."""
+    """A device that initializes well, has no cause recorded, and finishes no slot. Its memory keeps nothing: all its
+    bytes are drawn by their address. A method answers each kind of access.
+    """
 
     # The words of an EEPROM with the address 02:00:00:00:00:01, whose sum is 0xBABA
     words = [0x0002, 0x0000, 0x0100, *[0] * 60, 0xB9B8]
-    # The answers to commands of MDIC: to a write, and to reads of the PHY's status. The last one is the answer to all later ones.
+    # The answers to commands of MDIC: to a write, and to reads of the PHY's status. The last one is the answer to all
+    # later ones.
     negotiated, statuses = 0x18201200, [0x18210024]
     # ICR and MPC, in order. The last one is the answer to all later reads.
     causes, misses = [0], [0]
@@ -128,11 +131,15 @@ def answered(device, access, data):
 
 
 def drives(bench, device, frames, drive, words):
-    """Runs `drive` with this device. Returns the accesses that it made, those that the model predicts, and what it wrote at its end."""
+    """Runs `drive` with this device. Returns the accesses that it made, those that the model predicts, and what it
+    wrote at its end.
+    """
     bench.put("send.pcap", trace(*map(packet, frames)))
     bench.remove("receive.pcap")
-    line = [bench.program, "drive", "--registers", hex(REGISTERS), "--send", "send.pcap", "--receive", "receive.pcap", *words]
-    process = subprocess.Popen(line, cwd=bench.folder, stdin=subprocess.PIPE, stdout=subprocess.PIPE, stderr=subprocess.PIPE, text=True)
+    line = [bench.program, "drive", "--registers", hex(REGISTERS), "--send", "send.pcap", "--receive", "receive.pcap",
+            *words]
+    process = subprocess.Popen(line, cwd=bench.folder, stdin=subprocess.PIPE, stdout=subprocess.PIPE,
+                               stderr=subprocess.PIPE, text=True)
     model, made, predicted = drive.accesses(), [], []
     told, is_open = None, True
     for request in process.stdout:
@@ -164,10 +171,12 @@ def play(bench, name, device, frames=(), expect=None, idle=1, **rings):
     """Runs `drive` with this device and checks all that it does. Returns the accesses and the frames received."""
     drive = Drive(list(frames), expect, idle, rings)
     device.rx, device.tx = drive.driver.rx, drive.driver.tx
-    words = ["--idle", str(idle), *(["--expect", str(expect)] if expect is not None else []), "--memory", str(drive.driver.memory)]
+    words = ["--idle", str(idle), *(["--expect", str(expect)] if expect is not None else []), "--memory",
+             str(drive.driver.memory)]
     words += [word for ring in ("rx", "tx", "buffers") for word in (f"--{ring}", str(getattr(drive.driver, ring)))]
     made, predicted, end = drives(bench, device, list(frames), drive, words)
-    first = next((place for place, pair in enumerate(zip(made, predicted)) if pair[0] != pair[1]), min(len(made), len(predicted)))
+    first = next((place for place, pair in enumerate(zip(made, predicted)) if pair[0] != pair[1]),
+                 min(len(made), len(predicted)))
     bench.check(f"{name}: access {first} of {len(made)}", made[first:first + 1], predicted[first:first + 1])
     bench.check(f"{name}: how it ends", end, drive.line())
     received = FILE_HEADER + b"".join(packet(data, time=number) for number, data in enumerate(drive.received))
@@ -182,19 +191,25 @@ def numbers_of(made):
 
 
 def refused(bench, name, device, error, reads, writes):
-    """An initialization that is refused: its error, and how many registers it read and wrote. It doesn't access memory."""
+    """An initialization that is refused: its error, and how many registers it read and wrote. It doesn't access
+    memory.
+    """
     made, drive = play(bench, name, device)
     bench.check(f"{name}: the error", (drive.error, *numbers_of(made)), (error, reads, writes, 0))
 
 
 def no_adapters(bench):
-    """Registers that all read the same are no adapter. ICR is read, and EERD for one word in vain, or once for each of 64 words."""
+    """Registers that all read the same are no adapter. ICR is read, and EERD for one word in vain, or once for each of
+    64 words.
+    """
     refused(bench, "registers that read zeros", Constant(), "E11 EepromTimeout", 1 + MOST_READS, 2 + 1)
     refused(bench, "registers that read ones", Constant(value=GREATEST), "E12 Checksum", 1 + 64, 2 + 64)
     for number in (1, 63):
         device = Device()
-        device.read, kept = lambda register: 0 if register == EERD and device.address == number else kept(register), device.read
-        refused(bench, f"word {number} isn't read", device, "E11 EepromTimeout", 1 + number + MOST_READS, 2 + number + 1)
+        kept = device.read
+        device.read = lambda register: 0 if register == EERD and device.address == number else kept(register)
+        refused(bench, f"word {number} isn't read", device, "E11 EepromTimeout", 1 + number + MOST_READS,
+                2 + number + 1)
     for place in (0, 63):
         words = [(word + (at == place)) % 2**16 for at, word in enumerate(Device.words)]
         refused(bench, f"word {place} is wrong", Device(words=words), "E12 Checksum", 1 + 64, 2 + 64)
@@ -203,25 +218,34 @@ def no_adapters(bench):
 
 
 def phys(bench):
-    """A command of MDIC that doesn't end, or that ends in an error, is given up; and both bits of the status are asked for."""
+    """A command of MDIC that doesn't end, or that ends in an error, is given up; and both bits of the status are asked
+    for.
+    """
     image, timeout = (1 + 64, 2 + 64), "E13 PhyTimeout"
     for answer, reads in [(0, MOST_READS), (0x48210024, MOST_READS), (0x58210024, 1)]:
-        refused(bench, f"negotiation is answered by {answer:#x}", Device(negotiated=answer), timeout, image[0] + reads, image[1] + 2 + 1)
-        refused(bench, f"the status is answered by {answer:#x}", Device(statuses=[answer]), timeout, image[0] + 1 + reads, image[1] + 2 + 2)
+        refused(bench, f"negotiation is answered by {answer:#x}", Device(negotiated=answer), timeout, image[0] + reads,
+                image[1] + 2 + 1)
+        refused(bench, f"the status is answered by {answer:#x}", Device(statuses=[answer]), timeout,
+                image[0] + 1 + reads, image[1] + 2 + 2)
         refused(bench, f"the second status is answered by {answer:#x}", Device(statuses=[0x18210020, answer]), timeout,
                 image[0] + 2 + reads, image[1] + 2 + 3)
     for status in (0x18210000, 0x18210004, 0x18210020):
-        refused(bench, f"the status is always {status:#x}", Device(statuses=[status]), "E14 NoLink", image[0] + 1 + MOST_READS,
+        refused(bench, f"the status is always {status:#x}", Device(statuses=[status]), "E14 NoLink",
+                image[0] + 1 + MOST_READS,
                 image[1] + 2 + 1 + MOST_READS)
     for late, is_up in [(MOST_READS - 1, True), (MOST_READS, False)]:
-        made, drive = play(bench, f"{late} reads don't show the link", Device(statuses=[0x18210000] * late + [0x18210024]))
+        made, drive = play(bench, f"{late} reads don't show the link",
+                           Device(statuses=[0x18210000] * late + [0x18210024]))
         bench.check(f"{late} reads don't show the link: the error", drive.error, None if is_up else "E14 NoLink")
-        bench.check(f"{late} reads don't show the link: its accesses", len(made) == IMAGE + NEGOTIATION + 2 * MOST_READS, not is_up)
+        bench.check(f"{late} reads don't show the link: its accesses",
+                    len(made) == IMAGE + NEGOTIATION + 2 * MOST_READS, not is_up)
 
 
 def causes(bench):
-    """For a cause that the driver doesn't handle, ICR is read, and nothing else. For one that it handles, it also reads MPC, loads the descriptor of
-    the oldest slot, and, if that is finished, loads the frame's EtherType and the next descriptor, stores a descriptor and writes RDT."""
+    """For a cause that the driver doesn't handle, ICR is read, and nothing else. For one that it handles, it also reads
+    MPC, and loads the descriptor of the oldest slot. If this slot is finished, the call loads the frame's EtherType and
+    the next descriptor, stores a descriptor and writes RDT.
+    """
     for place in range(32):
         is_mine = place in CAUSES
         made, _ = play(bench, f"cause {place}", Device(causes=[1 << place]))
@@ -260,27 +284,36 @@ RUNS = [
 
 
 def runs(bench):
-    """A frame's pieces fill their buffers, except the last, which has 1 to 256 bytes; a frame has 60 to 1,518 bytes, and no slot of it has errors.
-    A run that is no frame is received by nobody. Slots that aren't followed by one with EOP stay in the ring."""
+    """A frame's pieces fill their buffers, except the last, which has 1 to 256 bytes. A frame has 60 to 1,518 bytes,
+    and no slot of it has errors. A run that is no frame is received by nobody. Slots that aren't followed by one with
+    EOP stay in the ring.
+    """
     for slots, lengths in RUNS:
         _, drive = play(bench, f"slots {slots}", Device(causes=[RXT0], received=list(slots)))
         bench.check(f"slots {slots}: what is received", [len(data) for data in drive.received], lengths)
 
 
 def always_finished(bench):
-    """Every descriptor is finished, always: a call takes each slot once, and the transmit ring never runs full. Or none ever is: it runs full."""
+    """Every descriptor is finished, always: a call takes each slot once, and the transmit ring never runs full. Or none
+    ever is: it runs full.
+    """
     frames = [frame(mark) for mark in range(9)]
-    for name, descriptor, count in [("ones", bytes([0xFF] * DESCRIPTOR), 0), ("no bytes", slot(0, 3, 0), 0), ("59 bytes", slot(59, 3, 0), 0),
-                                    ("no EOP", slot(60, 1, 0), 0), ("60 bytes", slot(60, 3, 0), SLOTS - 1), ("1,519 bytes", slot(1519, 3, 0), 0)]:
-        _, drive = play(bench, f"descriptors with {name}", Alike(causes=[RXT0], misses=[GREATEST], receive=descriptor), expect=1)
-        bench.check(f"descriptors with {name}: what is received", (len(drive.received), drive.driver.missed), (count, GREATEST))
+    for name, descriptor, count in [("ones", bytes([0xFF] * DESCRIPTOR), 0), ("no bytes", slot(0, 3, 0), 0),
+                                    ("59 bytes", slot(59, 3, 0), 0),
+                                    ("no EOP", slot(60, 1, 0), 0), ("60 bytes", slot(60, 3, 0), SLOTS - 1),
+                                    ("1,519 bytes", slot(1519, 3, 0), 0)]:
+        _, drive = play(bench, f"descriptors with {name}", Alike(causes=[RXT0], misses=[GREATEST], receive=descriptor),
+                        expect=1)
+        bench.check(f"descriptors with {name}: what is received", (len(drive.received), drive.driver.missed),
+                    (count, GREATEST))
     _, drive = play(bench, "no slot is written back", Alike(), frames)
     bench.check("no slot is written back: the frames sent", len(drive.handed), SLOTS - 1)
     _, drive = play(bench, "each slot is written back", Alike(transmit=bytes([0xFF] * DESCRIPTOR)), frames)
     bench.check("each slot is written back: the frames sent", (len(drive.handed), drive.driver.sending), (9, 1))
     device = Alike(sent_slot=iter_of([bytes(DESCRIPTOR)] * (SLOTS - 1), bytes([0xFF] * DESCRIPTOR)))
     _, drive = play(bench, "the ring is full, and then each slot is written back", device, frames, idle=2)
-    bench.check("the ring is full, and then each slot is written back: the frames sent", (len(drive.handed), drive.driver.sending), (9, 1))
+    bench.check("the ring is full, and then each slot is written back: the frames sent",
+                (len(drive.handed), drive.driver.sending), (9, 1))
     play(bench, "frames that can't be sent", Alike(), [bytes(13), bytes(14), bytes(1518), bytes(1519)])
 
 
@@ -315,7 +348,8 @@ class Drawn(Device):
         """Finished more often than not, mostly as a frame's slots are."""
         draw = self.drawing
         length = draw.choice([PIECE, PIECE, PIECE, 1, 59, 60, 238, 239, draw.randrange(2**16)])
-        return slot(length, draw.choice([0, 1, 1, 1, 3, 3, draw.randrange(256)]), draw.choice([0] * 15 + [draw.randrange(256)]))
+        return slot(length, draw.choice([0, 1, 1, 1, 3, 3, draw.randrange(256)]),
+                    draw.choice([0] * 15 + [draw.randrange(256)]))
 
     def sent_slot(self):
         return bytes(12) + bytes([self.drawing.choice([0, 1, 1, 0xFF])]) + bytes(3)
@@ -326,19 +360,24 @@ def drawn(bench):
     for seed, (rx, tx, buffers) in enumerate([(8, 8, 8), (8, 8, 16), (16, 24, 40)] * 4):
         draw = random.Random(seed)
         frames = [draw.randbytes(draw.choice([13, 14, 60, 61, 1518, 1519])) for _ in range(120)]
-        _, drive = play(bench, f"a random device, seed {seed}", Drawn(seed), frames, expect=60, idle=30, rx=rx, tx=tx, buffers=buffers)
-        bench.check(f"a random device, seed {seed}: frames came", len(drive.received) > 10 and len(drive.handed) > 50, True)
-        bench.check(f"a random device, seed {seed}: their lengths", all(LEAST <= len(data) <= MOST for data in drive.received), True)
+        _, drive = play(bench, f"a random device, seed {seed}", Drawn(seed), frames, expect=60, idle=30, rx=rx, tx=tx,
+                        buffers=buffers)
+        bench.check(f"a random device, seed {seed}: frames came", len(drive.received) > 10 and len(drive.handed) > 50,
+                    True)
+        bench.check(f"a random device, seed {seed}: their lengths",
+                    all(LEAST <= len(data) <= MOST for data in drive.received), True)
 
 
 def links(bench):
     """A link of the adapter's model that is up after 2,000 ticks is in time if a tick precedes each access."""
     folder(bench)
     for ticks, error in [("2000", None), ("2001", "E14 NoLink"), ("never", "E14 NoLink")]:
-        bench.put("s.scenario", f"host a 02:00:00:00:00:01 w\nhost b 02:00:00:00:00:02 w link {ticks}\nsocket b all\n".encode())
+        bench.put("s.scenario",
+                  f"host a 02:00:00:00:00:01 w\nhost b 02:00:00:00:00:02 w link {ticks}\nsocket b all\n".encode())
         ran = bench.run("run", "s.scenario", "outdir")
         line = ran.stderr.decode().splitlines()[:1]
-        bench.check(f"link {ticks}", (ran.returncode, line), (0, []) if error is None else (1, [f"nicbench: E46 Init: {error}"]))
+        bench.check(f"link {ticks}", (ran.returncode, line),
+                    (0, []) if error is None else (1, [f"nicbench: E46 Init: {error}"]))
 
 
 def full_groups(bench):

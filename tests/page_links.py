@@ -6,14 +6,10 @@ import os
 import re
 from urllib.parse import unquote
 
-TOP = os.path.dirname(os.path.dirname(os.path.abspath(__file__)))
+from harness import TOP, text_of
+
 PAGES = ["README.md", "docs/*.md", "examples/*.md", "examples/*/README.md", "bench/README.md",
          "crates/*/README.md", "tools/*/README.md"]
-
-
-def text_of(path):
-    with open(os.path.join(TOP, path), encoding="utf-8") as file:
-        return file.read()
 
 
 # Markdown pages
@@ -45,7 +41,9 @@ def dead_links(page):
 
 
 def edits_named(page):
-    """The names in the columns of a page's tables whose heading begins with "Edit", and those in parentheses of RACES."""
+    """The names in the columns of a page's tables whose heading begins with "Edit", and those in parentheses of
+    RACES.
+    """
     column = None
     if os.path.basename(page) == "RACES.md":
         for names in re.findall(r"\((`\w+_\w+`(?:,\s+`\w+_\w+`)*)\)", text_of(page).partition("## The races")[2]):

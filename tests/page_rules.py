@@ -1,12 +1,17 @@
-"""Rules that pages may state in at most three places each.
+"""Rules that pages may state in at most three places each, and words that neither pages nor comments may have.
 
 A rule is written once, in Rust or in `specs/`; a page links to it or quotes it. A place is a paragraph, an item of a
-list or a row of a table, of Markdown that is written by hand: generated parts, quotes and blocks of code don't count.
+list or a row of a table, of Markdown that is written by hand. Generated parts, quotes and blocks of code don't count.
 """
 
+import glob
+import os
 import re
 
 MOST_PLACES = 3
+COMMENTS = "crates/*/src/**/*.rt", "crates/*/specs/**/*.antt"
+COMMENT = re.compile(r"^\s*(?://[/!]?|--) ?(.*)$", re.M)
+SPAN = re.compile(r"`[^`\n]*`")
 MADE = re.compile(r"^<!-- (?:generated|words quoted|code quoted) by .*?^<!-- end of [a-z]+ -->$", re.M | re.S)
 CODE = re.compile(r"^```.*?^```$", re.M | re.S)
 
@@ -48,6 +53,36 @@ RULES = {
 }
 
 
+# Words of the list in docs/STYLE, as patterns. In these senses, they are allowed: a number stands for a kind, a host
+# leaves a group, a call gives up.
+WORDS = {
+    "behind": r"behind",
+    "tells, says": r"tells|says",
+    "stands, stands in, lies in": r"stands?(?! for\b)|lies? in",
+    "is had, can't be had": r"(?:is|are|be) had",
+    "turned away, taken away": r"(?:turned|taken) away",
+    "so many, as many as": r"so many|as many as",
+    "mend, anew": r"mends?|anew",
+    "dear": r"dear",
+    "bears a number": r"bears",
+    "goes round": r"go(?:es)? round",
+    "comes up, is brought up": r"comes? up|brought up",
+    "at rest, in work": r"in work",
+    "hands out, hands on, gives": r"hand(?:s|ed)? (?:out|on)|gives(?! up\b)",
+    "somebody looks on": r"looks? on",
+    "in part": r"in part",
+    "leaves, stays": r"(?<!joins and )(?<!joins or )(?<!joins, )leaves"
+                     r"(?! open\b| out\b| it\b| (?:a |one |of |two )?(?:multicast )?groups?\b)|stays",
+    "for want of": r"for want of",
+    "premise": r"premises?",
+    "beside, alone": r"beside|alone",
+    "outlet, retelling": r"outlets?|retellings?|stret(?:ch|ches)|borders?",
+}
+# How many of them comments may have, and how many all pages.
+LEFT_IN_COMMENTS = {}
+LEFT_IN_PAGES = 0
+
+
 def places(text):
     """The paragraphs, items and rows of a page, without what is made from sources, and without code."""
     text = CODE.sub("", MADE.sub("", text))
@@ -68,3 +103,31 @@ def check_rules(check, texts):
         found = [f"{page}: {place[:90]}" for page, text in texts.items() for place in stated(rule, text)]
         check(f"at most {MOST_PLACES} places on pages: {rule}", found if len(found) > MOST_PLACES else [], [])
         check(f"a sentence is found: {rule}", stated(rule, f"## Heading\n\n{sentence}\n"), [sentence])
+
+
+def words_in(text):
+    """The words of the list that a text has outside of backticks, each with its line."""
+    for line in SPAN.sub("", text).split("\n"):
+        for word, pattern in WORDS.items():
+            for _ in re.finditer(rf"\b(?:{pattern})\b", line, re.I):
+                yield word, line.strip()
+
+
+def check_words(check, top, texts):
+    """Counts the words of the list in pages, path to text, and in the comments of all crates."""
+    with open(os.path.join(top, "docs", "STYLE.md"), encoding="utf-8") as file:
+        style = file.read()
+    listed = [re.sub(r" \([^)]*\)$", "", row) for row in re.findall(r"^\| ([^|]*) \| [^|]* \|$", style, re.M)]
+    unlisted = [word for word in WORDS if not any(row.startswith(word) for row in listed)]
+    check("words that docs/STYLE doesn't list", unlisted, [])
+    left = [f"{page}: {line}" for page, text in texts.items() if page != "docs/STYLE.md"
+            for _, line in words_in(CODE.sub("", MADE.sub("", text)))]
+    check(f"at most {LEFT_IN_PAGES} words of the list in pages", left if len(left) > LEFT_IN_PAGES else [], [])
+    found = {word: [] for word in WORDS}
+    for path in sorted(path for pattern in COMMENTS for path in glob.glob(os.path.join(top, pattern), recursive=True)):
+        with open(path, encoding="utf-8") as file:
+            for word, line in words_in("\n".join(COMMENT.findall(file.read()))):
+                found[word].append(f"{os.path.relpath(path, top)}: {line}")
+    for word, lines in found.items():
+        most = LEFT_IN_COMMENTS.get(word, 0)
+        check(f"at most {most} in comments: {word}", lines if len(lines) > most else [], [])

@@ -5,16 +5,16 @@ import pty
 import struct
 import subprocess
 
-from bench import FILE_HEADER, packet, trace
+from pcap_files import FILE_HEADER, packet, trace
 import scenarios
 
 MIB = 1 << 20
-# A packet that was captured in part: its header, and how many bytes follow.
+# A truncated packet: its header, and how many bytes follow.
 PART = struct.pack("<IIII", 0, 0, MIB // 4, MIB // 4 + 1)
 
 
 def long_trace(path, packets):
-    """Makes a trace of packets that were captured in part; their bytes take no room on the disk."""
+    """Makes a trace of truncated packets; their bytes take no room on the disk."""
     with open(path, "wb") as file:
         file.write(FILE_HEADER)
         for _ in range(packets):
@@ -26,7 +26,8 @@ def long_trace(path, packets):
 def on_terminal(bench, words):
     """The exit status, standard output, and what a terminal shows as standard error."""
     shown, error = pty.openpty()
-    ran = subprocess.run([bench.program, *words], cwd=bench.folder, stdin=subprocess.DEVNULL, stdout=subprocess.PIPE, stderr=error, timeout=60)
+    ran = subprocess.run([bench.program, *words], cwd=bench.folder, stdin=subprocess.DEVNULL, stdout=subprocess.PIPE,
+                         stderr=error, timeout=60)
     os.write(error, b"end")
     os.close(error)
     text = b""
@@ -47,7 +48,8 @@ def all_cases(bench):
     read = [25, 51, 77, 103, 128, 154, 180, 206, 231]
     long_lines = b"".join(b"nicbench: read %d of 257 MiB\n" % done for done in read)
     playing = b"nicbench: playing the scenario, which feeds 100000 frames\n"
-    for words, lines in [(["show", "long.pcap"], long_lines), (["show", "short.pcap"], b""), (["pass", "long.pcap", "out.pcap"], long_lines),
+    for words, lines in [(["show", "long.pcap"], long_lines), (["show", "short.pcap"], b""),
+                         (["pass", "long.pcap", "out.pcap"], long_lines),
                          (["run", "many.scenario", path], playing), (["run", "few.scenario", path], b"")]:
         status, out, err = on_terminal(bench, words)
         bench.check(f"progress: {words[:2]} on a terminal", (status, err), (0, lines))

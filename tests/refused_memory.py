@@ -4,7 +4,7 @@ import os
 
 import refusing
 import scenarios
-from bench import packet, trace, written
+from pcap_files import packet, trace, written
 
 
 def all_cases(bench):
@@ -20,10 +20,12 @@ def all_cases(bench):
     line = b"read 2000 skipped 0 illegal 0 filtered 0 written 2000 cut no\n"
     memory_of(bench, ["pass", "in.pcap", "out.pcap"], line, written(frames))
     lines = b"".join(b"%d 1000 %s %s %s\n" % (number, address, address, digits * 2) for number, digits, address in
-                     ((number, b"%02x" % (number % 256), b":".join([b"%02x" % (number % 256)] * 6)) for number in range(2000)))
+                     ((number, b"%02x" % (number % 256), b":".join([b"%02x" % (number % 256)] * 6))
+                      for number in range(2000)))
     memory_of(bench, ["show", "in.pcap"], lines + b"frames 2000 skipped 0 cut no\n", None)
     memory_of(bench, ["pass", "-", "out.pcap"], line, written(frames), bench.get("in.pcap"))
-    for words_of in [["pass", "in.pcap", "out.pcap", "--vlan", "x"], ["pass", "--help"], ["--version"], ["pass", "in.pcap", "out.pcap", "--vlan"]]:
+    for words_of in [["pass", "in.pcap", "out.pcap", "--vlan", "x"], ["pass", "--help"], ["--version"],
+                     ["pass", "in.pcap", "out.pcap", "--vlan"]]:
         memory_of_words(bench, words_of)
     memory_of_run(bench, [], [])
     memory_of_run(bench, ["--wires"], ["w.pcap"])
@@ -33,14 +35,18 @@ def all_cases(bench):
 
 
 def no_memory_for_output(bench, line):
-    """A command requests no memory after its first write: its output is the same if each allocation after that fails."""
+    """A command requests no memory after its first write: its output is the same if each allocation after that
+    fails.
+    """
     made = []
-    for env in [{}, {"LD_PRELOAD": bench.path("refuse.so"), "REFUSE_AFTER_WRITE": "1", "REFUSED": bench.path("refused")}]:
+    for env in [{}, {"LD_PRELOAD": bench.path("refuse.so"), "REFUSE_AFTER_WRITE": "1",
+                     "REFUSED": bench.path("refused")}]:
         bench.remove("out.pcap")
         bench.remove("refused")
         path = scenarios.folder(bench)
         ran = bench.run(*line, env=env)
-        made.append((ran.returncode, ran.stdout, ran.stderr, bench.get("out.pcap"), scenarios.held(path), bench.get("refused")))
+        made.append((ran.returncode, ran.stdout, ran.stderr, bench.get("out.pcap"), scenarios.held(path),
+                     bench.get("refused")))
     bench.check(f"memory: {line[0]}: no allocation after the first write", made[1], made[0])
     bench.check(f"memory: {line[0]}: the run without refusals", made[0][0], 0)
 
@@ -53,20 +59,26 @@ def memory_of_words(bench, line):
         env = {"LD_PRELOAD": bench.path("refuse.so"), "REFUSE": str(number), "REFUSED": bench.path("refused")}
         ran = bench.run(*line, env=env)
         got = (ran.returncode, ran.stdout, ran.stderr)
-        bench.check(f"memory: {line}: allocation {number}", got in [(4, b"", b"nicbench: E57 Memory\n"), (whole.returncode, whole.stdout, whole.stderr)], True)
+        bench.check(f"memory: {line}: allocation {number}",
+                    got in [(4, b"", b"nicbench: E57 Memory\n"), (whole.returncode, whole.stdout, whole.stderr)], True)
         if bench.get("refused") is None:
             break
     bench.check(f"memory: {line}: a run meets no refusal", bench.get("refused"), None)
 
 
 def memory_of_run(bench, options, wire_files):
-    """The same for `run`. Some failures change nothing, because a library then requests less memory. Files don't change."""
+    """The same for `run`. Some failures change nothing, because a library then requests less memory. Files don't
+    change.
+    """
     name = " ".join(["memory: run", *options])
     bench.put("fed.pcap", trace(packet(scenarios.EXAMPLE_FRAME)))
     setup = b"group b 01:00:5e:00:00:01\nvlan b 5\nsocket b 0806\nsocket b all\n"
-    text = scenarios.EXAMPLE.replace(b"02 w\n", b"02 w rx 16 tx 24 buffers 32 rxa 8 link 2 promiscuous\n").replace(b"socket b all\n", setup)
-    calls = b"send a 0200000000020200000000010800 / go txtake:a go go txput:a\nrecv b 0 / eeprom:a phy:a\ninterrupt b / go rxdata:b rxdone:b\n"
-    calls += b"join b 01:00:5e:00:00:02 / txput:a go deliver:b\nleave b 01:00:5e:00:00:01 / txput:a\nreset b / deliver:b go rxdone:b\nreset a\n"
+    text = scenarios.EXAMPLE.replace(b"02 w\n", b"02 w rx 16 tx 24 buffers 32 rxa 8 link 2 promiscuous\n")
+    text = text.replace(b"socket b all\n", setup)
+    calls = (b"send a 0200000000020200000000010800 / go txtake:a go go txput:a\nrecv b 0 / eeprom:a phy:a\n"
+             b"interrupt b / go rxdata:b rxdone:b\n")
+    calls += (b"join b 01:00:5e:00:00:02 / txput:a go deliver:b\nleave b 01:00:5e:00:00:01 / txput:a\n"
+              b"reset b / deliver:b go rxdone:b\nreset a\n")
     bench.put("s.scenario", text + calls + b"feed a fed.pcap\nauto 20 1\ndrain b\n")
     path = scenarios.folder(bench)
     whole = bench.run("run", *options, "s.scenario", "outdir")
@@ -88,8 +100,10 @@ def memory_of_run(bench, options, wire_files):
         bench.check(f"{name}: allocation {number} is refused", got[:2], (4, b""))
     bench.check(f"{name}: a run meets no refusal", bench.get("refused"), None)
     bench.check(f"{name}: all refusals came", codes,
-                {b"nicbench: E57 Memory\n", *map(scenarios.refusal, ["E45 Memory", "E47 Memory", "E57 Memory", "E65 Memory"])})
-    bench.check(f"{name}: files of refused runs", made, {("b.0.pcap", b""), ("b.1.pcap", b"old"), *((file, b"") for file in wire_files)})
+                {b"nicbench: E57 Memory\n",
+                 *map(scenarios.refusal, ["E45 Memory", "E47 Memory", "E57 Memory", "E65 Memory"])})
+    bench.check(f"{name}: files of refused runs", made,
+                {("b.0.pcap", b""), ("b.1.pcap", b"old"), *((file, b"") for file in wire_files)})
 
 
 def memory_of(bench, line, out, file, given=b""):
@@ -102,7 +116,8 @@ def memory_of(bench, line, out, file, given=b""):
         env = {"LD_PRELOAD": bench.path("refuse.so"), "REFUSE": str(number), "REFUSED": bench.path("refused")}
         ran = bench.run(*line, env=env, given=given)
         if ran.returncode == 0:
-            bench.check(f"{name}: allocation {number}: the output", (ran.stdout, ran.stderr, bench.get("out.pcap")), (out, b"", file))
+            bench.check(f"{name}: allocation {number}: the output", (ran.stdout, ran.stderr, bench.get("out.pcap")),
+                        (out, b"", file))
             if bench.get("refused") is None:
                 break
             continue

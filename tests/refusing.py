@@ -6,7 +6,8 @@ import subprocess
 
 SOURCE = os.path.join(os.path.dirname(os.path.abspath(__file__)), "refuse.c")
 # The functions of the C library that allocate.
-ALLOCATORS = {b"malloc", b"realloc", b"calloc", b"reallocarray", b"aligned_alloc", b"posix_memalign", b"memalign", b"valloc", b"pvalloc", b"mmap"}
+ALLOCATORS = {b"malloc", b"realloc", b"calloc", b"reallocarray", b"aligned_alloc", b"posix_memalign", b"memalign",
+              b"valloc", b"pvalloc", b"mmap"}
 # The functions whose calls fail.
 REFUSED = {b"malloc", b"realloc"}
 
@@ -18,7 +19,9 @@ def allocators_of(program):
 
 
 def build(folder, source=SOURCE):
-    """Compiles refuse.c, or another library, into the folder: the path of the library to load, or None if there is no C compiler."""
+    """Compiles refuse.c, or another library, into the folder: the path of the library to load, or None if there is no C
+    compiler.
+    """
     cc = next((path for path in map(shutil.which, ["cc", "clang", "gcc"]) if path), None)
     if cc is None:
         return None

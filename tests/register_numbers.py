@@ -3,9 +3,8 @@
 `row_of` and `IsInTable` in crates/adapter/specs/Table.antt are the definitions that the contracts of `Adapter::read`
 and `Adapter::write` use. This module reads them by itself, and compares them with
 
-- the table of docs/ADAPTER.md and the table above the offsets in crates/adapter/src/offsets.rt: offsets, kept bits,
-  reset values, the sizes and steps of arrays, the words of the EEPROM, and the numbers in the rules of CTRL, STATUS,
-  ICR and PBA;
+- the tables of docs/ADAPTER.md and above the offsets in crates/adapter/src/offsets.rt, with the sizes of arrays and the
+  numbers in the rules of registers;
 - the constants of the code;
 - the offsets that clients and tests in other languages type by hand.
 
@@ -15,12 +14,13 @@ It also compares the places of bits in contracts, and the bits of MDIC that a wr
 import glob
 import os
 import re
+import sys
 
 ADAPTER = os.path.join(os.path.dirname(os.path.dirname(os.path.abspath(__file__))), "crates", "adapter")
 RING = {"BAL": "BaseLow", "BAH": "BaseHigh", "LEN": "Length", "H": "Head", "T": "Tail"}
 HEX = r"0x[0-9A-F]+"
-# The files whose authors typed offsets: clients must stand alone, and tests must not take them from the tables.
-CLIENTS = ("examples/drivers/*", "examples/emulators/*", "machines/board/*", "tests/*.py",
+# The files whose authors typed offsets: clients have no other files, and tests must not take offsets from the tables.
+CLIENTS = ("examples/drivers/*", "examples/emulators/*", "machines/board/*", "tests/*.py", "tests/*/*.py",
            "bindings/*/*", "bindings/rust/src/*")
 # NAME = 0x1234, NIC_NAME = .., "NAME": 0x1234, const NAME: u32 = ..; or names and as many numbers, in a line of Python.
 ONE = re.compile(r"""(?<![A-Z], )\b(?:NIC_)?([A-Z]+)(?:(?:: u32)? = |": \(?)(0x[0-9A-Fa-f]{1,5})\b(?!, 0x)""")
@@ -54,8 +54,9 @@ def with_numbers(text):
 
 
 def proved():
-    """The proved table: for each register's name, its offset, its kept bits or None, its reset value or None if the
-    EEPROM determines it, and the number of bytes from one register of an array to the next, or None."""
+    """The proved table. For each register's name, it has the offset, the kept bits or None, and the reset value, or
+    None if the EEPROM determines it. The last item is the number of bytes from one register of an array to the next, or
+    None."""
     table, rings = with_numbers(text_of("specs", "Table.antt")), text_of("specs", "Rings.antt")
     rows = {}
     for name, rule, offset, rest in re.findall(rf"^row_of (\w+) = (plain|ruled) ({HEX}) (.*)$", table, re.M):
@@ -98,7 +99,8 @@ def eeprom_words():
 
 def rules():
     """The numbers in rules other than kept bits: for each register's name, a pattern of the line and its result."""
-    registers, buffer = with_numbers(text_of("specs", "Registers.antt")), text_of("specs", "PacketBuffer.antt")
+    registers = with_numbers(text_of("specs", "Registers.antt"))
+    buffer = text_of(os.pardir, "registers", "specs", "PacketBuffer.antt")
     kept = text_of(os.pardir, "registers", "specs", "Kept.antt")
     reset = re.search(r"^is_reset Ctrl value = is_set value (\d+)$", registers, re.M).groups()
     link_up = re.search(rf"^status_of_link_up = ({HEX})$", kept, re.M).groups()
@@ -171,8 +173,8 @@ def typed_offsets(text):
 
 
 def lines(text):
-    """The lines of a table in a text, a tuple for each register: name, first offset, and the texts of the offsets, the
-    registers, the kept bits or rule, and the reset value."""
+    """The lines of a table in a text, a tuple for each register. It has the name, the first offset, and the texts of
+    the offsets, the registers, the kept bits or rule, and the reset value."""
     for line in re.findall(r"^(?://! )?\| (0x.*) \|$", text, re.M):
         places, registers, kept, reset = line.split(" | ")
         names = [re.match(r"[A-Z]+", name).group() for name in registers.split(", ") if re.match(r"[A-Z]", name)]

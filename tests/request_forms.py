@@ -78,6 +78,16 @@ def at_most(most):
 
 
 ADDRESS = NANOSECONDS = at_most((1 << 64) - 1)
+
+
+def limit_in(word):
+    """The limit of a number that is chosen below it."""
+    limit = number_in(word, 10 ** 9)
+    if limit == 0:
+        raise Refused("ERR value")
+    return limit
+
+
 # The words after the name of each request: how each is read. `clock_step` may lack its word.
 FORMS = {
     **{f"read{letter}": [ADDRESS] for letter in WIDTHS},
@@ -87,11 +97,11 @@ FORMS = {
     **{f"in{letter}": [at_most(LAST_PORT)] for letter in PORT_WIDTHS},
     **{f"out{letter}": [at_most(LAST_PORT), at_most((1 << 8 * size) - 1)] for letter, size in PORT_WIDTHS.items()},
     "step": [one_of(*KINDS)], "arrive": [hex_in], "offer": [hex_in], "settle": [], "line": [], "frames": [],
-    "faults": [],
+    "faults": [], "enabled": [], "choose": [limit_in], "target": [ADDRESS, size_in], "rings": [],
     "interleave": [at_most(MOST_STEPS)], "pace": [at_most(MOST_ROUNDS)], "clock_step": [NANOSECONDS],
     "clock_set": [NANOSECONDS],
-    "log": [one_of("on", "off")], "events": [one_of("on", "off")], "wire": [one_of("full", "free")], "save": [],
-    "restore": [],
+    "log": [one_of("on", "off", "targets")], "events": [one_of("on", "off")], "wire": [one_of("full", "free")],
+    "save": [], "restore": [],
     "irq_intercept_in": [str], "irq_intercept_out": [str],
 }
 # The values that stand for words that may be missing

@@ -5,7 +5,9 @@ The model has no answer to the few requests that start something in the adapter.
 
 import copy
 
-from adapter_sessions import BASE, CTRL, EERD, EN, ICR, ICS, IMC, IMS, MDIC, PBA, PLAIN, RCTL, RESET, TCTL
+from adapter_sessions import (
+    BASE, CTRL, EERD, EN, GPRC, GPTC, ICR, ICS, IMC, IMS, MDIC, MPC, MTA, PBA, PLAIN, RAH, RAL, RCTL, RDBAH, RDBAL, RDH,
+    RDLEN, RDT, RESET, RNBC, STATUS, TCTL, TDBAH, TDBAL, TDH, TDLEN, TDT, VET, VFTA)
 from configuration_model import Configuration
 from request_forms import KINDS, PORT_WIDTHS, Refused, access_in, answer_of, request_in
 from server import ZERO, number
@@ -13,6 +15,17 @@ from server import ZERO, number
 # The last offset of a register, and the bytes of all registers
 LAST, AREA = 131_068, 131_072
 CAUSES = 0x2D7
+# The names of registers (13.4 "Main Register Descriptions")
+NAMES = {
+    CTRL: "CTRL", STATUS: "STATUS", EERD: "EERD", MDIC: "MDIC", VET: "VET", ICR: "ICR", ICS: "ICS", IMS: "IMS",
+    IMC: "IMC", RCTL: "RCTL", TCTL: "TCTL", PBA: "PBA", RDBAL: "RDBAL", RDBAH: "RDBAH", RDLEN: "RDLEN", RDH: "RDH",
+    RDT: "RDT", TDBAL: "TDBAL", TDBAH: "TDBAH", TDLEN: "TDLEN", TDH: "TDH", TDT: "TDT", MPC: "MPC", GPRC: "GPRC",
+    GPTC: "GPTC", RNBC: "RNBC",
+    **{MTA + 4 * number: f"MTA[{number}]" for number in range(128)},
+    **{VFTA + 4 * number: f"VFTA[{number}]" for number in range(128)},
+    **{RAL + 8 * number: f"RAL[{number}]" for number in range(16)},
+    **{RAH + 8 * number: f"RAH[{number}]" for number in range(16)},
+}
 PBA_RESET = 0x00100030
 MOST_RXA = 48
 # The sum of the two halves of PBA, in kilobytes.
@@ -30,7 +43,7 @@ class Model:
 
     def __init__(self, size):
         self.memory = bytearray(size)
-        self.is_logged = self.has_events = False
+        self.is_logged = self.has_targets = self.has_events = False
         self.rounds = self.clock = 0
         self.offered = []
         self.saved = None
@@ -76,17 +89,35 @@ class Model:
         self.causes = {ICR: self.causes & ~value, ICS: self.causes | value & CAUSES}.get(offset, self.causes)
         self.mask = {IMS: self.mask | value & CAUSES, IMC: self.mask & ~value}.get(offset, self.mask)
 
-    def access(self, address, size, data):
-        """The bytes that an access reads, or none if it writes."""
+    def register_at(self, address, size):
+        """The offset of the register that an access goes to, or None if it goes to memory."""
         first = self.configuration.registers()
         offset = AREA if first is None else address - first
         if size == 4 and 0 <= offset <= LAST and offset % 4 == 0:
+            return offset
+        if address + size > len(self.memory):
+            raise Refused("ERR register" if size and -size < offset < AREA else "ERR address")
+        return None
+
+    def target(self, address, size):
+        """The name of what an access reads or writes."""
+        offset = self.register_at(address, size)
+        if offset is not None:
+            return NAMES.get(offset, f"register[{offset:#x}]")
+        for name, low, high, length in (("rx", RDBAL, RDBAH, RDLEN), ("tx", TDBAL, TDBAH, TDLEN)):
+            at = address - (self.plain[low] | self.plain[high] << 32)
+            if 0 <= at < self.plain[length]:
+                return f"{name}[{at // 16}]" + (f"+{at % 16}" if at % 16 else "")
+        return f"{address:#x}"
+
+    def access(self, address, size, data):
+        """The bytes that an access reads, or none if it writes."""
+        offset = self.register_at(address, size)
+        if offset is not None:
             if data is None:
                 return self.read(offset).to_bytes(4, "little")
             self.write(offset, int.from_bytes(data, "little"))
             return b""
-        if address + size > len(self.memory):
-            raise Refused("ERR register" if size and -size < offset < AREA else "ERR address")
         if data is None:
             return bytes(self.memory[address:address + size])
         self.memory[address:address + size] = data
@@ -114,9 +145,10 @@ class Model:
     # Requests: each returns the lines before the answer, and the answer.
 
     def does_access(self, name, values):
-        before = self.is_asserted()
-        got = self.access(*access_in(name, values))
-        return ["# {}", *self.line_changes(before), *self.paced()], answer_of(name, got)
+        before, (address, size, data) = self.is_asserted(), access_in(name, values)
+        target = f" -> {self.target(address, size)}" if self.has_targets else ""
+        got = self.access(address, size, data)
+        return ["# {}" + target, *self.line_changes(before), *self.paced()], answer_of(name, got)
 
     def does_port(self, name, values):
         width = PORT_WIDTHS[name[-1]]
@@ -135,7 +167,7 @@ class Model:
 
     def does_setting(self, name, values):
         if name == "log":
-            self.is_logged = values[0] == "on"
+            self.is_logged, self.has_targets = values[0] != "off", values[0] == "targets"
         elif name == "events":
             self.has_events = values[0] == "on"
         elif name == "pace":
@@ -163,15 +195,24 @@ class Model:
             return [f"# step {values[0]} -> nothing"], "OK nothing"
         return ([*self.arrivals(), *ROUND], ZERO) if name == "settle" else (["# {}", *self.paced()], "OK off")
 
+    def does_look(self, name, values):
+        """The name of a target, and the registers of both rings. Nothing changes."""
+        if name == "target":
+            return [], f"OK {self.target(*values)}"
+        words = [(RDBAL, RDBAH), (RDLEN,), (RDH,), (RDT,), (TDBAL, TDBAH), (TDLEN,), (TDH,), (TDT,)]
+        values = [sum(self.plain[offset] << 32 * at for at, offset in enumerate(word)) for word in words]
+        return [], " ".join(["OK", *(f"0x{value:016x}" for value in values)])
+
     def does_question(self, name, _):
-        """What changes nothing. No frame was put on the wire, and no engine had a fault."""
+        """What changes nothing. No frame was put on the wire, no engine had a fault, and no step would do something."""
         return [], {"endianness": "OK little", "line": number(int(self.is_asserted())), "frames": "OK",
-            "faults": "OK"}[name]
+            "faults": "OK", "enabled": "OK", "choose": ZERO}[name]
 
     def does(self, name, values):
         """The lines before the answer of a request, and the answer."""
         for names, does in [
-            (("endianness", "line", "frames", "faults"), self.does_question),
+            (("endianness", "line", "frames", "faults", "enabled", "choose"), self.does_question),
+            (("target", "rings"), self.does_look),
             (("clock_step", "clock_set"), self.does_clock),
             (("step", "settle", "arrive", "offer"), self.does_adapter), (("save", "restore"), self.does_state),
             (("log", "events", "pace", "interleave", "wire", "irq_intercept_in", "irq_intercept_out"),

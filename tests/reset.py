@@ -1,12 +1,13 @@
-"""`nicbench run` from outside: resets in a run, with what they give up, and with steps and deliveries between their accesses.
+"""`nicbench run` from outside: resets in a run, with what they give up, and with steps and deliveries between their
+accesses.
 
-Each row states what the resets of a host give up: the number of frames to be sent, of frames held, and of fates Off. A model (reset_model.py) states
-the frames of each socket and the other counts.
+Each row states what the resets of a host give up: the number of frames to be sent, of frames held, and of fates Off. A
+model (reset_model.py) states the frames of each socket and the other counts.
 """
 
 import random
 
-from bench import FILE_HEADER, written
+from pcap_files import FILE_HEADER, written
 from races import EVERYONE, FINISH, INTERRUPT, RECV, bring, frame, receive, send
 from reset_model import BEFORE_STORES, OTHER_ACCESSES, Host, Wire
 from scenarios import plays, told, warning
@@ -44,7 +45,9 @@ def line_of(wire, name):
 
 
 def play(bench, name, lines, options, sockets, given_up):
-    """Plays lines on the program and in the model. Options and sockets are by host; a socket is an EtherType, or None for all."""
+    """Plays lines on the program and in the model. Options and sockets are by host; a socket is an EtherType, or None
+    for all.
+    """
     hosts, setup = {}, []
     for host in "ab":
         mine = options.get(host, {})
@@ -56,7 +59,8 @@ def play(bench, name, lines, options, sockets, given_up):
     for line in lines:
         wire.play(line)
     if given_up is not None:
-        bench.check(f"{name}: the model", {host: wire.numbers(host)[1] for host in "ab"}, {host: given_up.get(host) for host in "ab"})
+        bench.check(f"{name}: the model", {host: wire.numbers(host)[1] for host in "ab"},
+                    {host: given_up.get(host) for host in "ab"})
     text = "".join(f"{line}\n" for line in [*setup, *lines]).encode()
     files = {file: written(frames) if frames else FILE_HEADER for file, frames in wire.given.items()}
     warned = warning(*wire.warned()) if any(wire.warned()) else b""
@@ -64,8 +68,11 @@ def play(bench, name, lines, options, sockets, given_up):
 
 
 def row(bench, name, lines, a=None, b=None, options=None, kind=None):
-    """Plays lines with one socket of b. a and b state what the resets of the hosts give up, or None if a host isn't reset."""
-    play(bench, f"resets: {name}", lines, {"b": options or {}}, {"b": (kind,)}, {"a": a and list(a), "b": b and list(b)})
+    """Plays lines with one socket of b. The words a and b state what the resets of the hosts give up, or None without a
+    reset.
+    """
+    play(bench, f"resets: {name}", lines, {"b": options or {}}, {"b": (kind,)},
+         {"a": a and list(a), "b": b and list(b)})
 
 
 def to_send(bench):
@@ -76,16 +83,21 @@ def to_send(bench):
     row(bench, "nothing is held or to be sent", ["reset a", "reset b"] + after, a=(0, 0, 0), b=(0, 0, 0))
     for access in range(1, 5):
         sent = int(access <= 3)
-        row(bench, f"a frame is put before access {access}", three + ["tick txtake:a"] + reset("a", (access, "txput:a")) + after, a=(3 - sent, 0, 0))
+        row(bench, f"a frame is put before access {access}",
+            three + ["tick txtake:a"] + reset("a", (access, "txput:a")) + after, a=(3 - sent, 0, 0))
     row(bench, "two frames are taken and put before RST",
-        three + reset("a", *((access, f"{kind}:a") for access in (1, 3) for kind in ("txtake", "txput"))) + after, a=(1, 0, 0))
-    row(bench, "frames on the wire stay", waiting(frame(1)) + ["reset a", "reset b", "tick deliver:b"] + FINISH + INTERRUPT + RECV,
+        three + reset("a", *((access, f"{kind}:a") for access in (1, 3) for kind in ("txtake", "txput"))) + after,
+        a=(1, 0, 0))
+    row(bench, "frames on the wire stay",
+        waiting(frame(1)) + ["reset a", "reset b", "tick deliver:b"] + FINISH + INTERRUPT + RECV,
         a=(0, 0, 0), b=(0, 0, 0))
     many = [line for mark in range(9) for line in send(frame(mark))]
-    row(bench, "the whole transmit ring is free again", many + ["reset a"] + many + ["tick txtake:a"] * 5 + ["tick txput:a", "reset a"],
+    row(bench, "the whole transmit ring is free again",
+        many + ["reset a"] + many + ["tick txtake:a"] * 5 + ["tick txput:a", "reset a"],
         a=(13, 0, 0))
     for access in (ACCESSES - 1, ACCESSES, ACCESSES + 1):
-        row(bench, f"a frame is looked for before access {access}", three + reset("a", (access, "txtake:a"), (access, "txput:a")) + after, a=(3, 0, 0))
+        row(bench, f"a frame is looked for before access {access}",
+            three + reset("a", (access, "txtake:a"), (access, "txput:a")) + after, a=(3, 0, 0))
 
 
 def held(bench):
@@ -93,15 +105,20 @@ def held(bench):
     one, two = frame(1), frame(2)
     after = receive(frame(3)) + INTERRUPT + RECV * 2
     row(bench, "a finished frame", receive(one) + ["reset b"] + INTERRUPT + RECV + after, b=(0, 1, 0))
-    row(bench, "a frame in progress", bring(one) + FINISH[:1] + ["reset b"] + FINISH[1:] + INTERRUPT + RECV + after, b=(0, 1, 0))
-    row(bench, "a frame is finished between the first two accesses", bring(one) + FINISH[:1] + reset("b", (2, "rxdone:b")) + INTERRUPT + RECV + after,
+    row(bench, "a frame in progress", bring(one) + FINISH[:1] + ["reset b"] + FINISH[1:] + INTERRUPT + RECV + after,
+        b=(0, 1, 0))
+    row(bench, "a frame is finished between the first two accesses",
+        bring(one) + FINISH[:1] + reset("b", (2, "rxdone:b")) + INTERRUPT + RECV + after,
         b=(0, 1, 0))
     row(bench, "frames at all places", receive(one) + bring(two, LONG) + FINISH[:1] + ["reset b"] + after, b=(0, 3, 0))
     for pieces in range(7):
         moved = (FINISH * pieces)[:-1] if pieces % 2 else FINISH * pieces
-        row(bench, f"{pieces} pieces of a long frame were moved", bring(LONG, one) + moved + ["reset b"] + after, b=(0, 2, 0))
-    row(bench, "the buffer is full of frames", bring(*(frame(mark % 250) for mark in range(40))) + ["reset b"] + after, b=(0, 40, 0))
-    row(bench, "a frame for no socket isn't counted as unclaimed", receive(one) + INTERRUPT + receive(two) + ["reset b"] + after, b=(0, 1, 0),
+        row(bench, f"{pieces} pieces of a long frame were moved", bring(LONG, one) + moved + ["reset b"] + after,
+            b=(0, 2, 0))
+    row(bench, "the buffer is full of frames", bring(*(frame(mark % 250) for mark in range(40))) + ["reset b"] + after,
+        b=(0, 40, 0))
+    row(bench, "a frame for no socket isn't counted as unclaimed",
+        receive(one) + INTERRUPT + receive(two) + ["reset b"] + after, b=(0, 1, 0),
         kind=bytes.fromhex("0806"))
 
 
@@ -109,17 +126,23 @@ def arrivals(bench):
     """Frames that arrive in a reset are dropped from the first access to the one that enables the receiver."""
     one, two, three = (frame(mark) for mark in (1, 2, 3))
     after = FINISH * 2 + INTERRUPT + RECV * 3
-    row(bench, "a delivery before and after the first access", waiting(one, two) + reset("b", (1, "deliver:b"), (2, "deliver:b")) + after, b=(0, 1, 1))
+    row(bench, "a delivery before and after the first access",
+        waiting(one, two) + reset("b", (1, "deliver:b"), (2, "deliver:b")) + after, b=(0, 1, 1))
     for access in (2, 3, 4, 100, ENABLED, ENABLED + 1, ACCESSES, ACCESSES + 1):
         off = int(access <= ENABLED)
-        row(bench, f"a delivery before access {access}", waiting(one) + reset("b", (access, "deliver:b")) + after, b=(0, 0, off))
-    both = reset("b", (ENABLED, "deliver:b"), (ENABLED, "rxdata:b"), (ENABLED + 1, "deliver:b"), (ENABLED + 1, "rxdata:b"),
+        row(bench, f"a delivery before access {access}", waiting(one) + reset("b", (access, "deliver:b")) + after,
+            b=(0, 0, off))
+    both = reset("b", (ENABLED, "deliver:b"), (ENABLED, "rxdata:b"), (ENABLED + 1, "deliver:b"),
+                 (ENABLED + 1, "rxdata:b"),
                  (ACCESSES, "rxdone:b"))
-    row(bench, "a frame is received in the reset", waiting(one, two, three) + both + INTERRUPT + RECV + ["tick deliver:b"] + after, b=(0, 0, 1))
+    row(bench, "a frame is received in the reset",
+        waiting(one, two, three) + both + INTERRUPT + RECV + ["tick deliver:b"] + after, b=(0, 0, 1))
     twice = reset("b", (1, "deliver:b"), (2, "deliver:b"), (ENABLED + 1, "deliver:b"))
     row(bench, "two resets", waiting(one, two, three) + twice + ["reset b"] + after, b=(0, 2, 1))
-    row(bench, "deliveries at the other host", waiting(frame(1, EVERYONE)) + send(frame(2), host="b") + ["tick txtake:b"]
-        + reset("a", (2, "deliver:b"), (2, "txput:b"), (5, "deliver:a"), (5, "rxdata:b"), (9, "rxdone:b")) + INTERRUPT + RECV, a=(0, 0, 1))
+    row(bench, "deliveries at the other host",
+        waiting(frame(1, EVERYONE)) + send(frame(2), host="b") + ["tick txtake:b"]
+        + reset("a", (2, "deliver:b"), (2, "txput:b"), (5, "deliver:a"), (5, "rxdata:b"), (9, "rxdone:b")) + INTERRUPT
+        + RECV, a=(0, 0, 1))
 
 
 def misses(bench):
@@ -130,9 +153,11 @@ def misses(bench):
     row(bench, "a miss before the reset, and one before its first access",
         bring(one, two) + waiting(three) + reset("b", (1, "deliver:b")) + after, b=(0, 1, 0), options=small)
     for access in (2, 3, 4):
-        row(bench, f"no miss before access {access}", bring(one, two) + waiting(three) + reset("b", (access, "deliver:b")) + after,
+        row(bench, f"no miss before access {access}",
+            bring(one, two) + waiting(three) + reset("b", (access, "deliver:b")) + after,
             b=(0, 1, 1), options=small)
-    row(bench, "the packet buffer keeps its size", ["reset b"] + bring(one, two) + ["reset b"] + after, b=(0, 1, 0), options=small)
+    row(bench, "the packet buffer keeps its size", ["reset b"] + bring(one, two) + ["reset b"] + after, b=(0, 1, 0),
+        options=small)
 
 
 def queues(bench):
@@ -140,15 +165,20 @@ def queues(bench):
     frames = [frame(mark) for mark in range(20)]
     for count in (6, 7, 8):
         lines = [line for data in frames[:count] for line in receive(data) + INTERRUPT]
-        more = ["reset b"] + [line for data in frames[8:12] for line in receive(data)] + INTERRUPT + RECV * 5 + FINISH * 4 + INTERRUPT + RECV * 10
+        more = ["reset b"] + [line for data in frames[8:12]
+                              for line in receive(data)] + INTERRUPT + RECV * 5 + FINISH * 4 + INTERRUPT + RECV * 10
         row(bench, f"{count} of 8 buffers are in a queue", lines + more, b=(0, 0, 0), options={"buffers": 8})
-        row(bench, f"{count} of 8 buffers are in a queue, then a drain", lines + ["reset b"] + bring(*frames[8:12]) + ["drain b"], b=(0, 0, 0),
+        row(bench, f"{count} of 8 buffers are in a queue, then a drain",
+            lines + ["reset b"] + bring(*frames[8:12]) + ["drain b"], b=(0, 0, 0),
             options={"buffers": 8})
-    whole = receive(LONG) + INTERRUPT + receive(frames[0]) + ["reset b"] + receive(LONG, frames[1]) + FINISH * 2 + INTERRUPT + RECV * 4
+    whole = (receive(LONG) + INTERRUPT + receive(frames[0]) + ["reset b"] + receive(LONG, frames[1]) + FINISH * 2
+             + INTERRUPT + RECV * 4)
     row(bench, "a long frame in a queue", whole, b=(0, 1, 0), options={"buffers": 9})
-    dry = receive(*frames[:7]) + bring(frames[7]) + ["reset b"] + INTERRUPT + receive(*frames[8:15]) + INTERRUPT + RECV * 8
+    dry = (receive(*frames[:7]) + bring(frames[7]) + ["reset b"] + INTERRUPT + receive(*frames[8:15]) + INTERRUPT
+           + RECV * 8)
     row(bench, "no old frame is found in the ring", dry, b=(0, 8, 0), options={"buffers": 8})
-    row(bench, "a drain after a reset", bring(frames[0]) + reset("b", (ENABLED + 1, "rxdata:b")) + waiting(*frames[1:4]) + ["tick deliver:b"] * 3
+    row(bench, "a drain after a reset", bring(frames[0]) + reset("b", (ENABLED + 1, "rxdata:b")) + waiting(*frames[1:4])
+        + ["tick deliver:b"] * 3
         + ["reset b"] + bring(*frames[4:6]) + ["drain b"], b=(0, 4, 0))
 
 
@@ -163,7 +193,8 @@ def filters(bench):
         ("a VLAN", "vlan b 5\n", [], (True, False, False, False)),
         ("promiscuous", None, [], (True, True, True, True)),
     ]:
-        text = f"host a 02:00:00:00:00:01 w\nhost b 02:00:00:00:00:02 w {'promiscuous' if setup is None else ''}\n{setup or ''}socket b all\n"
+        text = (f"host a 02:00:00:00:00:01 w\nhost b 02:00:00:00:00:02 w {'promiscuous' if setup is None else ''}\n"
+                f"{setup or ''}socket b all\n")
         frames = [frame(1), frame(2, group), frame(3, left), frame(4, kind="81000006")]
         lines, given = [*lines, "reset b"], []
         for data, passes in zip(frames, passing):
@@ -194,7 +225,8 @@ class Drawn:
         """A reset with up to seven ticks, most of them near the accesses at which something changes."""
         rx, tx = self.options[host]["rx"], self.options[host]["tx"]
         enabled, last = BEFORE_STORES + rx + 2, OTHER_ACCESSES + rx + tx
-        places = [1, 2, 3, 4, self.drawing.randrange(1, last), enabled - 1, enabled, enabled + 1, last - 1, last, last + 1]
+        places = [1, 2, 3, 4, self.drawing.randrange(1, last), enabled - 1, enabled, enabled + 1, last - 1, last,
+                  last + 1]
         chosen = sorted(self.drawing.choice(places) for _ in range(self.drawing.randrange(8)))
         return reset(host, *((access, self.drawing.choice([self.tick(), f"deliver:{host}"])) for access in chosen))[0]
 

@@ -1,13 +1,14 @@
 """A model of two hosts on a wire, for resets in a run: what hosts put, store, return and give up.
 
-It plays the lines of a scenario, and returns the frames of each socket and the counts of each host. Calls other than a reset have no ticks. Filters
-aren't modelled: all frames pass.
+It plays the lines of a scenario, and returns the frames of each socket and the counts of each host. Calls other than a
+reset have no ticks. Filters aren't modelled: all frames pass.
 """
 
 RECEIVE_BUFFER, SMALLEST, TRANSMIT_ROOM, WIRE_ROOM = 256, 60, 4, 64
 TXDW, RXDMT0, RXO, RXT0 = 1, 1 << 4, 1 << 6, 1 << 7
 HANDLED = TXDW | RXDMT0 | RXO | RXT0
-# The accesses of a reset: those after which something changes, counted from 1. The last three come after the stores of receive descriptors.
+# The accesses of a reset: those after which something changes, counted from 1. The last three come after the stores of
+# receive descriptors.
 STOPPED, COUNTED, RESET = 1, 2, 3
 OTHER_ACCESSES, BEFORE_STORES = 309, 300
 
@@ -38,9 +39,11 @@ class Host:
         """What RST does, and what the driver forgets then."""
         self.is_on = self.sends = False
         self.causes = self.mpc = 0
-        self.buffered, self.moved = [], 0  # the receive packet buffer, and the bytes of its oldest frame that were moved
+        # the receive packet buffer, and the bytes of its oldest frame that were moved
+        self.buffered, self.moved = [], 0
         self.used = 0  # the bytes of the receive packet buffer that its frames take
-        self.offered, self.piece, self.finished = 0, None, []  # receive slots; a piece is its size, and its frame if it is the last
+        # receive slots; a piece is its size, and its frame if it is the last
+        self.offered, self.piece, self.finished = 0, None, []
         self.ring, self.taken = [], []  # frames that are offered for sending, and those in the transmit packet buffer
 
     # The driver
@@ -199,7 +202,8 @@ class Wire:
 
     def __init__(self, **hosts):
         self.hosts = hosts
-        self.given = {f"{name}.{socket}.pcap": [] for name, host in hosts.items() for socket in range(len(host.sockets))}
+        self.given = {f"{name}.{socket}.pcap": [] for name, host in hosts.items()
+                      for socket in range(len(host.sockets))}
         self.number = 0  # of the next event
 
     def tick(self, text):

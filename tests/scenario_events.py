@@ -1,4 +1,6 @@
-"""The lines of events that `nicbench run --events` writes, the warning about refused calls, and the charts of tools/run_chart."""
+"""The lines of events that `nicbench run --events` writes, the warning about refused calls, and the charts of
+tools/run_chart.
+"""
 
 import os
 import re
@@ -6,10 +8,10 @@ import subprocess
 import sys
 import xml.etree.ElementTree as ElementTree
 
-from bench import packet, trace
+from harness import TOP
+from pcap_files import packet, trace
 from scenarios import EXAMPLE, EXAMPLE_FRAME, EXAMPLE_LINES, TO_SOCKET, TWO_HOSTS, folder, held, refusal, warning
 
-TOP = os.path.dirname(os.path.dirname(os.path.abspath(__file__)))
 CHART = os.path.join(TOP, "tools", "run_chart")
 
 EXAMPLE_EVENTS = b"""0 line 4 send a 14 ok accesses 7
@@ -78,23 +80,31 @@ def lines(bench):
     files = held(bench.path("outdir"))
     bench.put("s.scenario", EXAMPLE)
     ran = bench.run("run", "--events", "-", "s.scenario", "outdir")
-    bench.check("events: to standard output", (ran.returncode, ACCESSES.sub(b"", ran.stdout), ran.stderr), (0, wanted, EXAMPLE_LINES))
+    bench.check("events: to standard output", (ran.returncode, ACCESSES.sub(b"", ran.stdout), ran.stderr),
+                (0, wanted, EXAMPLE_LINES))
     bench.check("events: OUTDIR is the same", held(bench.path("outdir")), files)
     told, _ = events_of(bench, "events: ticks inside a call", EXAMPLE.replace(
-        b"tick rxdata:b\ntick rxdone:b\ninterrupt b\n", b"# three ticks in one call\n\ninterrupt b / rxdata:b rxdone:b go phy:a deliver:b\n"))
+        b"tick rxdata:b\ntick rxdone:b\ninterrupt b\n",
+        b"# three ticks in one call\n\ninterrupt b / rxdata:b rxdone:b go phy:a deliver:b\n"))
     bench.check("events: ticks inside a call", told.splitlines()[4:],
                 [b"4 line 10 interrupt b handled 1 @0 rxdata:b moved @0 rxdone:b done @1 phy:a nothing "
                  b"@1 deliver:b nothing", b"5 line 11 recv b 0 ok 60"])
-    told, _ = events_of(bench, "events: groups, drains and go", TO_SOCKET + b"tick go\njoin b 01:00:5e:00:00:01\njoin b 01:00:5e:00:00:01\n"
-                        b"leave b 01:00:5e:00:00:02\njoin b 02:00:5e:00:00:01\nsend b %s\ndrain b\n" % EXAMPLE_FRAME.hex().encode(),
+    told, _ = events_of(bench, "events: groups, drains and go",
+                        TO_SOCKET + b"tick go\njoin b 01:00:5e:00:00:01\njoin b 01:00:5e:00:00:01\n"
+                        b"leave b 01:00:5e:00:00:02\njoin b 02:00:5e:00:00:01\n"
+                        b"send b %s\ndrain b\n" % EXAMPLE_FRAME.hex().encode(),
                         warned=warning(0, groups=3))
     bench.check("events: groups, drains and go", told.splitlines(),
-                [b"0 line 4 tick @0 go nothing", b"1 line 5 join b ok", b"2 line 6 join b E26 Joined", b"3 line 7 leave b E25 NotJoined",
+                [b"0 line 4 tick @0 go nothing", b"1 line 5 join b ok", b"2 line 6 join b E26 Joined",
+                 b"3 line 7 leave b E25 NotJoined",
                  b"4 line 8 join b E23 NotGroup", b"5 line 9 send b 14 ok", b"6 line 10 drain b ok 0"])
-    told, hosts = events_of(bench, "events: a reset", EXAMPLE.replace(b"tick deliver:b\n", b"reset b / deliver:b go rxdata:b\n"))
+    told, hosts = events_of(bench, "events: a reset",
+                            EXAMPLE.replace(b"tick deliver:b\n", b"reset b / deliver:b go rxdata:b\n"))
     bench.check("events: a reset", told.splitlines()[3:5],
-                [b"3 line 7 reset b givenup 0 1 on 310 @0 deliver:b stored 60 @1 rxdata:b nothing", b"4 line 8 tick @0 rxdata:b nothing"])
-    bench.check("events: a host that was reset", [line.partition(b" givenup ")[2] for line in hosts.splitlines()], [b"", b"0 1 off 0"])
+                [b"3 line 7 reset b givenup 0 1 on 310 @0 deliver:b stored 60 @1 rxdata:b nothing",
+                 b"4 line 8 tick @0 rxdata:b nothing"])
+    bench.check("events: a host that was reset", [line.partition(b" givenup ")[2] for line in hosts.splitlines()],
+                [b"", b"0 1 off 0"])
     bench.put("two.pcap", trace(packet(EXAMPLE_FRAME), packet(EXAMPLE_FRAME)))
     told, _ = events_of(bench, "events: a feed", TO_SOCKET + b"socket a all\nfeed a two.pcap\nauto 5 1\n")
     bench.check("events: numbers and lines of a feed", [line.split()[:3] for line in told.splitlines()],
@@ -103,14 +113,18 @@ def lines(bench):
 
 def mistakes(bench):
     """Calls that do nothing are seen, and refused ones are warned of."""
-    text = (TO_SOCKET + b"send a ff\nsend a %s\nrecv b 0\nrecv b 1\nrecv a 0\ninterrupt b\ntick rxdata:b\ntick deliver:b\n" % (b"ff" * 1519))
+    text = (TO_SOCKET
+            + b"send a ff\nsend a %s\n" % (b"ff" * 1519)
+            + b"recv b 0\nrecv b 1\nrecv a 0\ninterrupt b\ntick rxdata:b\ntick deliver:b\n")
     told, _ = events_of(bench, "mistakes", text, warned=warning(2, 2))
     bench.check("mistakes: each is seen", told.splitlines(),
                 [b"0 line 4 send a 1 E20 TooShort", b"1 line 5 send a 1519 E21 TooLong", b"2 line 6 recv b 0 E30 Empty",
                  b"3 line 7 recv b 1 E31 NoSocket", b"4 line 8 recv a 0 E31 NoSocket", b"5 line 9 interrupt b notmine",
                  b"6 line 10 tick @0 rxdata:b nothing", b"7 line 11 tick @0 deliver:b nothing"])
-    for name, call, warned in [("a refused send", b"send a ff\n", warning(1, 0)), ("a socket that isn't there", b"recv a 0\n", warning(0, 1)),
-                               ("a join and a leave", b"join b 02:00:5e:00:00:01\nleave b 01:00:5e:00:00:01\n", warning(0, groups=2)),
+    for name, call, warned in [("a refused send", b"send a ff\n", warning(1, 0)),
+                               ("a socket that isn't there", b"recv a 0\n", warning(0, 1)),
+                               ("a join and a leave", b"join b 02:00:5e:00:00:01\nleave b 01:00:5e:00:00:01\n",
+                                warning(0, groups=2)),
                                ("an empty socket", b"recv b 0\n", b""),
                                ("events of auto", b"auto 10000 1\n", b""),
                                ("events of auto, and a send", b"auto 10000 1\nsend a ff\nauto 10000 1\n", warning(1))]:
@@ -121,7 +135,8 @@ def mistakes(bench):
 
 def counts(bench):
     """Over random events the lines tell what the lines of hosts count."""
-    hosts = b"".join(b"host %s 02:00:00:00:00:0%d w\nsocket %s all\n" % (name, at, name) for at, name in enumerate([b"a", b"b", b"c"], 1))
+    hosts = b"".join(b"host %s 02:00:00:00:00:0%d w\nsocket %s all\n" % (name, at, name)
+                     for at, name in enumerate([b"a", b"b", b"c"], 1))
     bench.put("s.scenario", hosts + b"auto 20000 7\ndrain a\ndrain b\ndrain c\n")
     ran = bench.run("run", "--events", "-", "s.scenario", "outdir")
     events = ran.stdout.decode().splitlines()
@@ -142,7 +157,8 @@ def counts(bench):
         bench.check(f"counts: {name}", found, {key: int(numbers[key]) for key in found})
     bench.check("counts: hosts", len(told), 3)
     status, out, errors = chart(bench, "s.scenario", "--from", "20002", given=ran.stdout)
-    bench.check("counts: each line can be drawn", (status, out.splitlines()[-1:], errors), (0, ["   Event 20002 of 20003."], ""))
+    bench.check("counts: each line can be drawn", (status, out.splitlines()[-1:], errors),
+                (0, ["   Event 20002 of 20003."], ""))
 
 
 def faults(bench):
@@ -150,7 +166,8 @@ def faults(bench):
     bench.put("s.scenario", EXAMPLE)
     folder(bench)
     ran = bench.run("run", "--events", "none/events.txt", "s.scenario", "outdir")
-    bench.check("events: no folder", (ran.returncode, ran.stdout, ran.stderr.splitlines()[0], held(bench.path("outdir"))),
+    bench.check("events: no folder", (ran.returncode, ran.stdout, ran.stderr.splitlines()[0],
+                                      held(bench.path("outdir"))),
                 (3, b"", b"nicbench: E68 Open: none/events.txt", {}))
     ran = bench.run("run", "--events", "/dev/full", "s.scenario", "outdir")
     bench.check("events: a full device", (ran.returncode, ran.stdout, ran.stderr), (3, b"", b"nicbench: E67 Write\n"))
@@ -169,28 +186,36 @@ def same_files(bench):
     for name in ("fed.pcap", "s.scenario"):
         os.link(bench.path(name), bench.path(f"second.{name}"))
         os.symlink(name, bench.path(f"link.{name}"))
-    for path in ["s.scenario", "fed.pcap", "second.s.scenario", "second.fed.pcap", "link.s.scenario", "link.fed.pcap", "outdir/../s.scenario",
+    for path in ["s.scenario", "fed.pcap", "second.s.scenario", "second.fed.pcap", "link.s.scenario", "link.fed.pcap",
+                 "outdir/../s.scenario",
                  bench.path("fed.pcap")]:
         folder(bench)
-        bench.ends(f"events: {path} is read", ["run", "--events", path, "s.scenario", "outdir"], 3, b"", refusal(f"E73 SameFile: {path}"))
-        bench.check(f"events: {path} is read: it stays", (bench.get("s.scenario"), bench.get("fed.pcap"), held(bench.path("outdir"))), (scenario, fed, {}))
-    ran = subprocess.run([bench.program, "run", "--events", "s.scenario", "-", "outdir"], cwd=bench.folder, capture_output=True, check=False,
+        bench.ends(f"events: {path} is read", ["run", "--events", path, "s.scenario", "outdir"], 3, b"",
+                   refusal(f"E73 SameFile: {path}"))
+        bench.check(f"events: {path} is read: it stays",
+                    (bench.get("s.scenario"), bench.get("fed.pcap"), held(bench.path("outdir"))), (scenario, fed, {}))
+    ran = subprocess.run([bench.program, "run", "--events", "s.scenario", "-", "outdir"], cwd=bench.folder,
+                         capture_output=True, check=False,
                          stdin=open(bench.path("s.scenario"), "rb"))
     bench.check("events: standard input is read", (ran.returncode, ran.stdout, ran.stderr, bench.get("s.scenario")),
                 (3, b"", refusal("E73 SameFile: s.scenario"), scenario))
-    for options, path in [([], "outdir/b.0.pcap"), ([], "./outdir/b.0.pcap"), (["--wires"], "outdir/b.0.pcap"), (["--wires"], "outdir/w.pcap")]:
+    for options, path in [([], "outdir/b.0.pcap"), ([], "./outdir/b.0.pcap"), (["--wires"], "outdir/b.0.pcap"),
+                          (["--wires"], "outdir/w.pcap")]:
         for old in (None, b"old"):
             folder(bench)
             if old:
                 bench.put(path, old)
-            bench.ends(f"events: {path} is written, {old}", ["run", *options, "--events", path, "s.scenario", "outdir"], 3, b"",
+            bench.ends(f"events: {path} is written, {old}", ["run", *options, "--events", path, "s.scenario", "outdir"],
+                       3, b"",
                        refusal(f"E73 SameFile: {path}"))
-            bench.check(f"events: {path} is written, {old}: it stays", held(bench.path("outdir")), {os.path.basename(path): old or b""})
+            bench.check(f"events: {path} is written, {old}: it stays", held(bench.path("outdir")),
+                        {os.path.basename(path): old or b""})
     folder(bench)
     events, _ = events_of(bench, "events: to another file", scenario)
     for path in ("outdir/w.pcap", "outdir/b.1.pcap"):
         ran = bench.run("run", "--events", path, "s.scenario", "outdir")
-        bench.check(f"events: {path} isn't written otherwise", (ran.returncode, ACCESSES.sub(b"", bench.get(path))), (0, events))
+        bench.check(f"events: {path} isn't written otherwise", (ran.returncode, ACCESSES.sub(b"", bench.get(path))),
+                    (0, events))
 
 
 def charts(bench):
@@ -201,31 +226,38 @@ def charts(bench):
     ran = subprocess.run(words, capture_output=True, check=False)
     bench.check("chart: the example", (ran.returncode, ran.stdout.decode(), ran.stderr), (0, EXAMPLE_CHART, b""))
     ran = subprocess.run([*words, "--svg"], capture_output=True, check=False)
-    rows = ElementTree.fromstring(ran.stdout).findall("{http://www.w3.org/2000/svg}g[@class='row']") if not ran.returncode else []
+    rows = (ElementTree.fromstring(ran.stdout).findall("{http://www.w3.org/2000/svg}g[@class='row']")
+            if not ran.returncode else [])
     bench.check("chart: a picture", (ran.returncode, len(rows), ran.stderr), (0, 8, b""))
     ran = subprocess.run([*words, "--from", "2", "--to", "3"], capture_output=True, check=False)
-    bench.check("chart: a part", [line.split()[0] for line in ran.stdout.decode().splitlines()], ["place", "2", "3", "Events"])
+    bench.check("chart: a part", [line.split()[0] for line in ran.stdout.decode().splitlines()],
+                ["place", "2", "3", "Events"])
 
 
 def chart(bench, *words, given=b""):
     """Runs tools/run_chart in the folder of the bench: its status, its output and its errors."""
-    ran = subprocess.run([sys.executable, "-S", "-E", CHART, *words], cwd=bench.folder, input=given, capture_output=True, check=False)
+    ran = subprocess.run([sys.executable, "-S", "-E", CHART, *words], cwd=bench.folder, input=given,
+                         capture_output=True, check=False)
     return ran.returncode, ran.stdout.decode(), ran.stderr.decode()
 
 
 def places(bench):
-    """Ticks inside of calls have their places. The last line says which events were drawn."""
+    """Ticks inside of calls have their places. The last line states which events were drawn."""
     told, _ = events_of(bench, "places", PLACES)
     told = re.sub(rb"givenup 0 1 on \d+", b"givenup 0 1 on 9", told)
     bench.check("chart: places", chart(bench, "s.scenario", given=told), (0, PLACES_CHART, ""))
-    for words, end in [("--from 1 --to 3", "Events 1 to 3 of 6."), ("--to 0", "Event 0 of 6."), ("--from 5 --to 9", "Event 5 of 6."),
+    for words, end in [("--from 1 --to 3", "Events 1 to 3 of 6."), ("--to 0", "Event 0 of 6."),
+                       ("--from 5 --to 9", "Event 5 of 6."),
                        ("--from 6", "None of 6 events."), ("--from 0 --to 5", "6 events.")]:
         status, out, errors = chart(bench, "s.scenario", "-", *words.split(), given=told)
         bench.check(f"chart: the end of {words}", (status, out.splitlines()[-1:], errors), (0, [f"   {end}"], ""))
-    bench.check("chart: the end of one event", chart(bench, "s.scenario", given=b"0 line 4 tick @0 go nothing\n")[1].splitlines()[-1], "   1 event.")
+    bench.check("chart: the end of one event",
+                chart(bench, "s.scenario", given=b"0 line 4 tick @0 go nothing\n")[1].splitlines()[-1], "   1 event.")
     many = b"".join(b"%d line %d tick @0 rxdata:b nothing\n" % (number, number + 4) for number in range(601))
-    bench.check("chart: no more than 500 rows", chart(bench, "s.scenario", "--from", "9", given=many)[1].splitlines()[-2:],
-                ["  508                          rxdata nothing", "   Events 9 to 508 of 601. A chart has at most 500 rows: see --from and --to."])
+    bench.check("chart: no more than 500 rows",
+                chart(bench, "s.scenario", "--from", "9", given=many)[1].splitlines()[-2:],
+                ["  508                          rxdata nothing",
+                 "   Events 9 to 508 of 601. A chart has at most 500 rows: see --from and --to."])
 
 
 def refused_charts(bench):
@@ -249,11 +281,14 @@ def refused_charts(bench):
     ]:
         bench.check(f"chart: refused: {words}", chart(bench, *words.split()), (2, "", f"run_chart: {error}{ENDED}"))
     with open("/dev/full", "wb") as full:
-        ran = subprocess.run([sys.executable, "-S", "-E", CHART, "s.scenario", "events.txt"], cwd=bench.folder, stdout=full,
+        ran = subprocess.run([sys.executable, "-S", "-E", CHART, "s.scenario", "events.txt"], cwd=bench.folder,
+                             stdout=full,
                              stderr=subprocess.PIPE, check=False)
-    bench.check("chart: a full device", (ran.returncode, ran.stderr), (3, b"run_chart: standard output: No space left on device\n"))
+    bench.check("chart: a full device", (ran.returncode, ran.stderr),
+                (3, b"run_chart: standard output: No space left on device\n"))
     status, told, errors = chart(bench, "--help")
-    bench.check("chart: its help", (status, "14.1 is a tick inside" in told, "Exit status: 0 if" in told, errors), (0, True, True, ""))
+    bench.check("chart: its help", (status, "14.1 is a tick inside" in told, "Exit status: 0 if" in told, errors),
+                (0, True, True, ""))
 
 
 def all_cases(bench):

@@ -9,11 +9,14 @@ MOST_RANDOM_EVENTS = 1000000
 LAST_TICK_OF_LINK = 2000
 MOST_FILE_NAME = 255
 U8, U16, U64 = 2**8 - 1, 2**16 - 1, 2**64 - 1
-WORD, COUNT, VALUE, NAME, ORDER, LONG, TEXT = "E50 Word", "E51 Count", "E52 Value", "E53 Name", "E54 Order", "E55 Long", "E56 Text"
-HEADER, MAGIC, VERSION, LINK_TYPE, RECORD, READ, OPEN = ("E60 Header", "E61 Magic", "E62 Version", "E63 LinkType", "E64 Record", "E66 Read",
+WORD, COUNT, VALUE, NAME, ORDER, LONG, TEXT = ("E50 Word", "E51 Count", "E52 Value", "E53 Name", "E54 Order",
+                                               "E55 Long", "E56 Text")
+HEADER, MAGIC, VERSION, LINK_TYPE, RECORD, READ, OPEN = ("E60 Header", "E61 Magic", "E62 Version", "E63 LinkType",
+                                                         "E64 Record", "E66 Read",
                                                          "E68 Open")
 # The words of each line, without ticks and options.
-WORDS = {"host": 4, "group": 3, "vlan": 3, "socket": 3, "send": 3, "recv": 3, "interrupt": 2, "join": 3, "leave": 3, "reset": 2, "tick": 2,
+WORDS = {"host": 4, "group": 3, "vlan": 3, "socket": 3, "send": 3, "recv": 3, "interrupt": 2, "join": 3, "leave": 3,
+         "reset": 2, "tick": 2,
          "feed": 3, "auto": 3, "drain": 2}
 SETUP = {"host", "group", "vlan", "socket"}
 CALLS = {"send", "recv", "interrupt", "join", "leave", "reset"}
@@ -94,7 +97,9 @@ def host_of_tick(word):
 
 
 class Scenario:
-    """The hosts and traces of a text up to its first faulty line, whose number and fault are in `fault`; None if there is no such line."""
+    """The hosts and traces of a text up to its first faulty line. The number of this line and its fault are in `fault`,
+    which is None without one.
+    """
 
     def __init__(self, text):
         self.hosts, self.traces, self.fault, self.has_event = {}, [], None, False
@@ -164,7 +169,9 @@ class Scenario:
             self.traces.append(words[1])
 
     def files(self, has_wires):
-        """The files of sockets, and of wires if they are asked for, that are created; and the one that can't be, or None."""
+        """The files of sockets, and of wires if they are asked for, that are created; and the one that can't be, or
+        None.
+        """
         hosts = self.hosts.values()
         names = [f"{host.name}.{place}.pcap" for host in hosts for place in range(len(host.has["socket"]))]
         names += [f"{wire}.pcap" for wire in dict.fromkeys(host.wire for host in hosts)] if has_wires else []
@@ -198,11 +205,14 @@ def is_configured(host):
     rx, tx, buffers, rxa, link = (host.options[word] for word in OPTIONS)
     rings = all(count % 8 == 0 and 8 <= count <= 4096 for count in (rx, tx))
     room = rx <= buffers <= 8192 and rxa % 2 == 0 and 2 <= rxa <= 48 and link != 0
-    return rings and room and all(first % 2 for first in host.has["group"]) and all(vlan <= 4095 for vlan in host.has["vlan"])
+    return rings and room and all(first % 2 for first in host.has["group"]) and all(vlan <= 4095
+                                                                                    for vlan in host.has["vlan"])
 
 
 class TraceRead:
-    """The fault of a trace, or None; and its frames, the number of its truncated packets, and whether it ends inside a packet."""
+    """The fault of a trace, or None; and its frames, the number of its truncated packets, and whether it ends inside a
+    packet.
+    """
 
     def __init__(self, data):
         self.frames, self.skipped, self.is_cut = [], 0, False
@@ -238,6 +248,9 @@ class TraceRead:
 
     def passed(self):
         """The line that `pass` prints without a filter, and the frames that it writes, with their numbers."""
-        legal = [(place, frame) for place, frame in enumerate(self.frames) if SHORTEST_FRAME <= len(frame) <= LONGEST_FRAME]
-        counts = (len(self.frames), self.skipped, len(self.frames) - len(legal), len(legal), "yes" if self.is_cut else "no")
-        return b"read %d skipped %d illegal %d filtered 0 written %d cut %s\n" % (*counts[:4], counts[4].encode()), legal
+        legal = [(place, frame) for place, frame in enumerate(self.frames)
+                 if SHORTEST_FRAME <= len(frame) <= LONGEST_FRAME]
+        counts = (len(self.frames), self.skipped, len(self.frames) - len(legal), len(legal),
+                  "yes" if self.is_cut else "no")
+        return b"read %d skipped %d illegal %d filtered 0 written %d cut %s\n" % (*counts[:4],
+                                                                                  counts[4].encode()), legal

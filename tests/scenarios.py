@@ -4,7 +4,8 @@ import os
 import re
 import subprocess
 
-from bench import FILE_HEADER, packet, trace, trace_in, written
+from codes import failure
+from pcap_files import FILE_HEADER, packet, trace, trace_in, written
 
 EXAMPLE = b"""host a 02:00:00:00:00:01 w
 host b 02:00:00:00:00:02 w
@@ -35,7 +36,8 @@ NOTHING = {"accepted": 0, "put": 0, "reached": 0, "stored": 0, "missed": 0, "giv
 def told(name, exact="exact", **numbers):
     """The line of a host, with these counts, and 0 for the others."""
     n = {**NOTHING, **numbers}
-    return (f"{name} accepted {n['accepted']} put {n['put']} reached {n['reached']} stored {n['stored']} missed {n['missed']} {exact} "
+    return (f"{name} accepted {n['accepted']} put {n['put']} reached {n['reached']} stored {n['stored']} missed "
+            f"{n['missed']} {exact} "
             f"given {n['given']} unclaimed {n['unclaimed']}\n").encode()
 
 
@@ -58,8 +60,9 @@ def held(path):
 
 
 def warning(sends, recvs=0, groups=0):
-    """What a run prints on standard error if calls of the scenario's lines were refused: sends, recvs of sockets that don't exist, and joins
-    and leaves."""
+    """What a run prints on standard error if calls were refused: sends, recvs of sockets that don't exist, joins, and
+    calls that leave a group.
+    """
     return b"nicbench: refused: sends %d, joins and leaves %d, recvs %d; --events lists them\n" % (sends, groups, recvs)
 
 
@@ -77,17 +80,17 @@ def plays(bench, name, text, lines, files, options=(), warned=b""):
     bench.check(f"{name}: what is written", held(path), files)
 
 
-def refusal(fault):
-    """What a run that wrote nothing prints on standard error."""
-    return f"nicbench: {fault}\n".encode() + UNCHANGED
+def refusal(fault, path=None):
+    """What a run that wrote nothing prints on standard error; `path` is that of an input that is refused."""
+    return failure(fault, path) + UNCHANGED
 
 
-def refused(bench, name, text, fault, status=1, files=(), options=()):
+def refused(bench, name, text, fault, status=1, files=(), options=(), given=None):
     """Checks that a scenario is rejected. New files in OUTDIR are created, empty; existing files don't change."""
     path = folder(bench)
     bench.put("s.scenario", text)
     for before in [b"", b"old"] if files else [b""]:
-        bench.ends(f"run: {name}", ["run", *options, "s.scenario", "outdir"], status, b"", refusal(fault))
+        bench.ends(f"run: {name}", ["run", *options, "s.scenario", "outdir"], status, b"", refusal(fault, given))
         bench.check(f"run: {name}: what is written", held(path), {file: before for file in files})
         for file in files:
             bench.put(f"outdir/{file}", b"old")
@@ -103,28 +106,37 @@ def played(bench):
                b"0 60 02:00:00:00:00:02 02:00:00:00:00:01 0800\nframes 1 skipped 0 cut no\n")
     plays(bench, "run: CR LF", EXAMPLE.replace(b"\n", b"\r\n"), EXAMPLE_LINES, files)
     plays(bench, "run: no last line feed", EXAMPLE[:-1], EXAMPLE_LINES, files)
-    plays(bench, "run: tabs, empty lines and comments", b"\n \t \n# none\n\t#\n" + EXAMPLE.replace(b" ", b"\t \t").replace(b"\n", b" \n"),
+    plays(bench, "run: tabs, empty lines and comments",
+          b"\n \t \n# none\n\t#\n" + EXAMPLE.replace(b" ", b"\t \t").replace(b"\n", b" \n"),
           EXAMPLE_LINES, files)
-    plays(bench, "run: a line of 8,192 bytes", EXAMPLE + b"#" + b"x" * 8191 + b"\n#" + b"x" * 8191 + b"\r\n", EXAMPLE_LINES, files)
+    plays(bench, "run: a line of 8,192 bytes", EXAMPLE + b"#" + b"x" * 8191 + b"\n#" + b"x" * 8191 + b"\r\n",
+          EXAMPLE_LINES, files)
     plays(bench, "run: no event", TO_SOCKET, told("a") + told("b"), {"b.0.pcap": FILE_HEADER})
-    plays(bench, "run: drains of hosts that hold nothing", TO_SOCKET + b"drain a\ndrain b\n", told("a") + told("b"), {"b.0.pcap": FILE_HEADER})
+    plays(bench, "run: drains of hosts that hold nothing", TO_SOCKET + b"drain a\ndrain b\n", told("a") + told("b"),
+          {"b.0.pcap": FILE_HEADER})
     plays(bench, "run: no socket", TWO_HOSTS, told("a") + told("b"), {})
     many = b"".join(b"socket a %04x\nsocket b %04x\n" % (n, n) for n in range(8))
-    plays(bench, "run: eight sockets", TWO_HOSTS + many, told("a") + told("b"), {f"{host}.{n}.pcap": FILE_HEADER for host in "ab" for n in range(8)})
+    plays(bench, "run: eight sockets", TWO_HOSTS + many, told("a") + told("b"),
+          {f"{host}.{n}.pcap": FILE_HEADER for host in "ab" for n in range(8)})
     lengths = b"".join(b"send a %s\n" % (b"ff" * length) for length in [13, 1519, 14, 1518])
-    plays(bench, "run: sends too short and too long", TO_SOCKET + lengths, told("a", accepted=2) + told("b"), {"b.0.pcap": FILE_HEADER},
+    plays(bench, "run: sends too short and too long", TO_SOCKET + lengths, told("a", accepted=2) + told("b"),
+          {"b.0.pcap": FILE_HEADER},
           warned=warning(2))
     full = b"send a %s\n" % EXAMPLE_FRAME.hex().encode()
-    plays(bench, "run: a full ring", TO_SOCKET + full * 8 + b"tick txtake:a\n" + full, told("a", accepted=7) + told("b"), {"b.0.pcap": FILE_HEADER},
+    plays(bench, "run: a full ring", TO_SOCKET + full * 8 + b"tick txtake:a\n" + full,
+          told("a", accepted=7) + told("b"), {"b.0.pcap": FILE_HEADER},
           warned=warning(2))
-    plays(bench, "run: a full ring has room behind a put", TO_SOCKET + full * 8 + b"tick txtake:a\ntick txput:a\n" + full,
+    plays(bench, "run: a full ring has room behind a put",
+          TO_SOCKET + full * 8 + b"tick txtake:a\ntick txput:a\n" + full,
           told("a", accepted=8, put=1) + told("b"), {"b.0.pcap": FILE_HEADER}, warned=warning(1))
     plays(bench, "run: the highest link", TWO_HOSTS.replace(b"02 w\n", b"02 w link 2000\n"), told("a") + told("b"), {})
     late = b"interrupt b / go" + b" rxdata:b rxdone:b" * 6 + b"\n"
-    missed = (TO_SOCKET.replace(b"02 w\n", b"02 w rxa 2\n") + b"send a %s\n" % LONG_FRAME.hex().encode() * 3 + b"tick txtake:a\ntick txput:a\n" * 3
+    missed = (TO_SOCKET.replace(b"02 w\n", b"02 w rxa 2\n") + b"send a %s\n" % LONG_FRAME.hex().encode() * 3
+              + b"tick txtake:a\ntick txput:a\n" * 3
               + b"tick deliver:b\n" * 3)
     plays(bench, "run: misses", missed + late + b"interrupt b\nrecv b 0\n",
-          told("a", accepted=3, put=3) + told("b", reached=3, stored=1, missed=2, given=1), {"b.0.pcap": written([(14, LONG_FRAME)])})
+          told("a", accepted=3, put=3) + told("b", reached=3, stored=1, missed=2, given=1),
+          {"b.0.pcap": written([(14, LONG_FRAME)])})
     plays(bench, "run: a frame without a socket", EXAMPLE.replace(b"socket b all", b"socket b 0806"),
           told("a", accepted=1, put=1) + told("b", reached=1, stored=1, unclaimed=1), {"b.0.pcap": FILE_HEADER})
 
@@ -136,7 +148,8 @@ def feeds(bench):
     lines = told("a", accepted=20, put=20) + told("b", reached=20, stored=20, given=20)
     wanted = {"b.0.pcap": written([(8 * n + 7, frame) for n, frame in enumerate(frames)])}
     plays(bench, "feed: twenty frames", TO_SOCKET + b"feed a twenty.pcap\n", lines, wanted)
-    plays(bench, "feed: by another path", TO_SOCKET + b"feed a " + bench.path("twenty.pcap").encode() + b"\n", lines, wanted)
+    plays(bench, "feed: by another path", TO_SOCKET + b"feed a " + bench.path("twenty.pcap").encode() + b"\n", lines,
+          wanted)
     bench.put("big.pcap", trace_in(">", 0xA1B23C4D, *((1, 5, len(frame), len(frame), frame) for frame in frames)))
     plays(bench, "feed: big-endian, nanoseconds", TO_SOCKET + b"feed a big.pcap\n", lines, wanted)
     bench.put("cut.pcap", trace(*map(packet, frames)) + packet(EXAMPLE_FRAME)[:-1])
@@ -148,15 +161,18 @@ def feeds(bench):
           {"b.0.pcap": written([(8 * n + 7, frame) for n, frame in enumerate(frames * 2)])})
     bench.put("none.pcap", FILE_HEADER)
     plays(bench, "feed: no frame", TO_SOCKET + b"feed a none.pcap\n", told("a") + told("b"), {"b.0.pcap": FILE_HEADER})
-    bench.put("lengths.pcap", trace(packet(EXAMPLE_FRAME[:13]), packet(EXAMPLE_FRAME), packet(bytes(1519)), packet(LONG_FRAME)))
+    bench.put("lengths.pcap", trace(packet(EXAMPLE_FRAME[:13]), packet(EXAMPLE_FRAME), packet(bytes(1519)),
+                                    packet(LONG_FRAME)))
     plays(bench, "feed: frames that send refuses", TO_SOCKET + b"feed a lengths.pcap\n",
           told("a", accepted=2, put=2) + told("b", reached=2, stored=2, given=2),
           {"b.0.pcap": written([(15, EXAMPLE_FRAME), (41, LONG_FRAME)])}, warned=warning(2))
-    three = (b"host a 02:00:00:00:00:01 w\nhost c 02:00:00:00:00:03 other\nhost b 02:00:00:00:00:02 w\nhost d 02:00:00:00:00:04 other\n"
-             b"host e 02:00:00:00:00:05 w promiscuous\nsocket b 0806\nsocket b all\nsocket e 0800\nfeed a twenty.pcap\n")
+    three = (b"host a 02:00:00:00:00:01 w\nhost c 02:00:00:00:00:03 other\nhost b 02:00:00:00:00:02 w\n"
+             b"host d 02:00:00:00:00:04 other\nhost e 02:00:00:00:00:05 w promiscuous\n"
+             b"socket b 0806\nsocket b all\nsocket e 0800\nfeed a twenty.pcap\n")
     # Each frame is 14 events: three of the sender, six for b's two sockets and five for e's one.
     plays(bench, "feed: three hosts and another wire", three,
-          told("a", accepted=20, put=20) + told("c") + told("b", reached=20, stored=20, given=20) + told("d") + told("e", reached=20, stored=20, given=20),
+          told("a", accepted=20, put=20) + told("c") + told("b", reached=20, stored=20, given=20) + told("d")
+          + told("e", reached=20, stored=20, given=20),
           {"b.0.pcap": FILE_HEADER, "b.1.pcap": written([(14 * n + 8, frame) for n, frame in enumerate(frames)]),
            "e.0.pcap": written([(14 * n + 13, frame) for n, frame in enumerate(frames)])})
     path = folder(bench)
@@ -178,12 +194,14 @@ def faults(bench):
         ("a packet that is too long", trace_in("<", 0xA1B2C3D4, (0, 0, 262145, 262145, b"")), "E64 Record"),
     ]:
         bench.put("bad.pcap", data)
-        refused(bench, f"feed: {name}", feed % b"bad.pcap", fault)
+        refused(bench, f"feed: {name}", feed % b"bad.pcap", fault, given="bad.pcap")
     missing = "E68 Open: missing.pcap"
     refused(bench, "feed: a missing trace", feed % b"missing.pcap", missing, 3)
-    refused(bench, "feed: a folder", feed % b"outdir", "E66 Read", 3)
-    refused(bench, "feed: the first fault of two", feed % b"bad.pcap" + b"feed a missing.pcap\n", "E64 Record")
-    refused(bench, "feed: the first fault of two, the other way", feed % b"missing.pcap" + b"feed a bad.pcap\n", missing, 3)
+    refused(bench, "feed: a folder", feed % b"outdir", "E66 Read", 3, given="outdir")
+    refused(bench, "feed: the first fault of two", feed % b"bad.pcap" + b"feed a missing.pcap\n", "E64 Record",
+            given="bad.pcap")
+    refused(bench, "feed: the first fault of two, the other way", feed % b"missing.pcap" + b"feed a bad.pcap\n",
+            missing, 3)
     refused(bench, "feed: a trace before a plan", b"host a 01:00:00:00:00:01 w\nfeed a missing.pcap\n", missing, 3)
     refused(bench, "feed: a line before a trace", feed % b"missing.pcap" + b"fly\n", "line 5: E50 Word")
 
@@ -222,7 +240,8 @@ def lines(bench):
         ("a ninth socket", TWO_HOSTS + b"socket a all\n" * 9, "line 11: E53 Name"),
         ("a 33rd group", TWO_HOSTS + b"group a 01:00:5e:00:00:01\n" * 33, "line 35: E53 Name"),
         ("a 33rd VLAN", TWO_HOSTS + b"vlan a 5\n" * 33, "line 35: E53 Name"),
-        ("a host behind an event", TWO_HOSTS + b"tick go\n# one more\nhost c 02:00:00:00:00:03 w\n", "line 5: E54 Order"),
+        ("a host behind an event", TWO_HOSTS + b"tick go\n# one more\nhost c 02:00:00:00:00:03 w\n",
+         "line 5: E54 Order"),
         ("a socket behind an event", TWO_HOSTS + b"auto 0 1\nsocket a all\n", "line 4: E54 Order"),
         ("a value before an order", TWO_HOSTS + b"tick go\nsocket a 800\n", "line 4: E52 Value"),
         ("a long line", EXAMPLE + b"\n" + long + b"\n", "line 13: E55 Long"),
@@ -253,13 +272,17 @@ def plans(bench):
         ("a wire with nine ends", b"".join(hosts[:9]).replace(b"w1", b"w0"), "E41 Ends", []),
         ("seventeen hosts", b"".join(hosts).replace(b"w0", b"w2", 1), "E42 Hosts", []),
         ("one address twice", TWO_HOSTS.replace(b":02 ", b":01 ") + socket, "E43 Address", made),
-        ("a group's address", TWO_HOSTS.replace(b"02:00:00:00:00:02", b"03:00:00:00:00:02") + socket, "E43 Address", made),
+        ("a group's address", TWO_HOSTS.replace(b"02:00:00:00:00:02", b"03:00:00:00:00:02") + socket, "E43 Address",
+         made),
         ("a group that is none", TWO_HOSTS + b"group a 02:00:00:00:00:03\n" + socket, "E44 Config", made),
         ("a VLAN", TWO_HOSTS + b"vlan a 4096\n" + socket, "E44 Config", made),
         *((f"option {option}", TWO_HOSTS.replace(b"02 w", b"02 w " + option.encode()) + socket, "E44 Config", made)
-          for option in ["rx 12", "rx 0", "rx 4104", "tx 4104", "buffers 7", "buffers 8193", "rxa 3", "rxa 50", "rxa 0", "link 0"]),
-        ("a link that never comes", TWO_HOSTS.replace(b"02 w", b"02 w link never") + socket, "E46 Init: E14 NoLink", made),
-        ("a link that comes too late", TWO_HOSTS.replace(b"02 w", b"02 w link 2001") + socket, "E46 Init: E14 NoLink", made),
+          for option in ["rx 12", "rx 0", "rx 4104", "tx 4104", "buffers 7", "buffers 8193", "rxa 3", "rxa 50", "rxa 0",
+                         "link 0"]),
+        ("a link that never comes", TWO_HOSTS.replace(b"02 w", b"02 w link never") + socket, "E46 Init: E14 NoLink",
+         made),
+        ("a link that comes too late", TWO_HOSTS.replace(b"02 w", b"02 w link 2001") + socket, "E46 Init: E14 NoLink",
+         made),
     ]:
         refused(bench, name, text, fault, 1, files)
 
@@ -284,11 +307,12 @@ def places(bench):
         ("a trace before OUTDIR", ["feed.scenario", "s.scenario"], "E68 Open: missing.pcap", 3),
         ("OUTDIR before a plan", ["plan.scenario", "missing"], "E68 Open: missing", 3),
     ]:
-        bench.ends(f"run: {name}", ["run", *words], status, b"", refusal(fault))
+        bench.ends(f"run: {name}", ["run", *words], status, b"", refusal(fault, words[0]))
     bench.check("run: OUTDIR stays empty", os.listdir(bench.path("outdir")), [])
     bench.check("run: OUTDIR isn't made", os.path.exists(bench.path("missing")), False)
     for name in ["x/y", "../b", "/b"]:
-        refused(bench, f"a file outside of OUTDIR: {name}", TO_SOCKET.replace(b" b ", b" %s " % name.encode()), f"E68 Open: outdir/{name}.0.pcap", 3)
+        refused(bench, f"a file outside of OUTDIR: {name}", TO_SOCKET.replace(b" b ", b" %s " % name.encode()),
+                f"E68 Open: outdir/{name}.0.pcap", 3)
     bench.check("run: no file is made outside of OUTDIR", os.path.exists(bench.path("b.0.pcap")), False)
     replaced(bench)
     full(bench)
@@ -303,7 +327,8 @@ def replaced(bench):
         bench.put("outdir/b.0.pcap", b"old" * 1000)
         bench.put("outdir/other", b"old")
         bench.ends(f"run: OUTDIR {outdir}", ["run", "s.scenario", outdir], 0, EXAMPLE_LINES)
-        bench.check(f"run: OUTDIR {outdir}: what is written", held(path), {"b.0.pcap": written([(7, EXAMPLE_FRAME)]), "other": b"old"})
+        bench.check(f"run: OUTDIR {outdir}: what is written", held(path),
+                    {"b.0.pcap": written([(7, EXAMPLE_FRAME)]), "other": b"old"})
 
 
 def full(bench):
@@ -320,102 +345,34 @@ def full(bench):
     os.symlink("/dev/full", os.path.join(path, "b.0.pcap"))
     bench.put("outdir/b.1.pcap", b"old")
     bench.ends("run: a full device in OUTDIR", ["run", "three.scenario", "outdir"], 3, b"", b"nicbench: E67 Write\n")
-    bench.check("run: a full device in OUTDIR: the files before and after it", (bench.get("outdir/a.0.pcap"), bench.get("outdir/b.1.pcap")),
+    bench.check("run: a full device in OUTDIR: the files before and after it",
+                (bench.get("outdir/a.0.pcap"), bench.get("outdir/b.1.pcap")),
                 (FILE_HEADER, b"old"))
     os.remove(os.path.join(path, "b.0.pcap"))
     os.symlink("/dev/null", os.path.join(path, "b.0.pcap"))
     bench.ends("run: a device in OUTDIR that has no bytes to drop", ["run", "s.scenario", "outdir"], 0, EXAMPLE_LINES)
     os.remove(os.path.join(path, "b.0.pcap"))
-    for name, line, status, err in [("standard output is full", "run s.scenario outdir >/dev/full", 3, b"nicbench: E67 Write\n"),
+    for name, line, status, err in [("standard output is full", "run s.scenario outdir >/dev/full", 3,
+                                     b"nicbench: E67 Write\n"),
                                     ("standard error is full", "run bad.scenario outdir 2>/dev/full", 1, b"")]:
         ran = subprocess.run(f"{bench.program} {line}", shell=True, cwd=bench.folder, capture_output=True, timeout=60)
         bench.check(f"run: {name}", (ran.returncode, ran.stdout, ran.stderr), (status, b"", err))
 
 
-class Drawing:
-    """The words of `auto`: PCG XSH RR 64/32 (O'Neill, 2014), seeded from a number as in the crate rand_core."""
-
-    MASK = 2**64 - 1
-    MULTIPLIER = 6364136223846793005
-
-    def __init__(self, start):
-        words = []
-        for _ in range(4):
-            start = (start * self.MULTIPLIER + 11634580027462260723) & self.MASK
-            words.append(self.output(start))
-        self.step = (words[3] << 32 | words[2]) | 1
-        self.state = (words[1] << 32 | words[0]) + self.step & self.MASK
-        self.next()
-
-    @staticmethod
-    def output(state):
-        word = ((state >> 18) ^ state) >> 27 & 0xFFFFFFFF
-        turn = state >> 59
-        return (word >> turn | word << (32 - turn)) & 0xFFFFFFFF
-
-    def next(self):
-        old = self.state
-        self.state = (old * self.MULTIPLIER + self.step) & self.MASK
-        return self.output(old)
-
-
-def words_from(start, count):
-    """The first words for a seed."""
-    drawing = Drawing(start)
-    return [drawing.next() for _ in range(count)]
-
-
-def event_of(word, hosts):
-    """The line of the event for a word."""
-    name, address = hosts[word // 8 % len(hosts)]
-    kinds = [b"tick txtake:%s", b"tick txput:%s", b"tick rxdata:%s", b"tick rxdone:%s", b"tick deliver:%s",
-             b"interrupt %s / go rxdata:%s rxdone:%s", b"recv %s 0", b"send %s ffffffffffff" + address.replace(b":", b"") + b"88b5"]
-    kind = kinds[word % 8]
-    return kind.replace(b"%s", name) + b"\n"
-
-
-def all_fit(bench, hosts, summary):
-    """All random frames are broadcasts of a legal length, and pass the filter: each frame that reached a host was stored or missed."""
-    line = r"(\w+) accepted \d+ put \d+ reached (\d+) stored (\d+) missed (\d+) (exact|atleast) given \d+ unclaimed \d+"
-    told_of = [found.groups() for found in map(re.compile(line).fullmatch, summary.splitlines()) if found]
-    bench.check("auto: the lines of the hosts", [name.encode() for name, *_ in told_of], [name for name, _ in hosts])
-    for name, reached, stored, missed, exact in told_of:
-        bench.check(f"auto: {name}: each frame is stored or missed", (int(stored) + int(missed), exact), (int(reached), "exact"))
-    bench.check("auto: some frames are missed", any(int(missed) > 0 for _, _, _, missed, _ in told_of), True)
-
-
-def drawn(bench):
-    """Random events: the same in two runs, and the same as their lines."""
-    bench.check("auto: the first words from 0", words_from(0, 4), [298703107, 4236525527, 336081875, 1056616254])
-    hosts = [(b"a", b"02:00:00:00:00:01"), (b"b", b"02:00:00:00:00:02"), (b"c", b"02:00:00:00:00:03")]
-    setup = b"".join(b"host %s %s w rxa 2\n" % host for host in hosts) + b"socket a all\nsocket b 88b5\nsocket c 0800\n"
-    lines_drawn = b"".join(event_of(word, hosts) for word in words_from(1, 10000))
-    runs = []
-    for name, text, warned in [("auto 10000 1", b"auto 10000 1\n", b""), ("auto 10000 1 once more", b"auto 10000 1\n", b""),
-                               ("the lines of auto 10000 1", lines_drawn, warning(578))]:
-        path = folder(bench)
-        bench.put("s.scenario", setup + text)
-        ran = bench.run("run", "s.scenario", "outdir")
-        runs.append((ran.returncode, ran.stdout, held(path)))
-        bench.check(f"auto: {name}", (ran.returncode, ran.stderr), (0, warned))
-        bench.check(f"auto: {name}: as the first", runs[-1] == runs[0], True)
-    bench.check("auto: frames are given", len(runs[0][2]["a.0.pcap"]) > 10000, True)
-    all_fit(bench, hosts, runs[0][1].decode())
-    plays(bench, "auto 0 1", TO_SOCKET + b"auto 0 1\n", told("a") + told("b"), {"b.0.pcap": FILE_HEADER})
-    plays(bench, "auto 0 1: the events behind it have the numbers from 0 on", EXAMPLE.replace(TO_SOCKET, TO_SOCKET + b"auto 0 1\n"), EXAMPLE_LINES,
-          {"b.0.pcap": written([(7, EXAMPLE_FRAME)])})
-
-
 # Two wires, w and v. b's receive packet buffer has room for one long frame.
-TWO_WIRES = (b"host a 02:00:00:00:00:01 w\nhost c 02:00:00:00:00:03 v\nhost b 02:00:00:00:00:02 w rxa 2\nhost d 02:00:00:00:00:04 v\n"
+TWO_WIRES = (b"host a 02:00:00:00:00:01 w\nhost c 02:00:00:00:00:03 v\nhost b 02:00:00:00:00:02 w rxa 2\n"
+             b"host d 02:00:00:00:00:04 v\n"
              b"socket b all\nsocket d all\n")
 # Frames of a, of which b misses the second, and a frame of d, which c never gets.
 OF_A = [LONG_FRAME, LONG_FRAME[:12] + b"\x86\xdd" + LONG_FRAME[14:]]
 OF_D = bytes.fromhex("02000000000302000000000488b5")
-TRAFFIC = (b"".join(b"send %s %s\n" % (host, frame.hex().encode()) for host, frame in [(b"a", OF_A[0]), (b"a", OF_A[1]), (b"d", OF_D)])
-           + b"".join(b"tick txtake:%s\ntick txput:%s\n" % (host, host) for host in [b"a", b"d", b"a"]) + b"tick deliver:b\n"
+TRAFFIC = (b"".join(b"send %s %s\n" % (host, frame.hex().encode())
+                    for host, frame in [(b"a", OF_A[0]), (b"a", OF_A[1]), (b"d", OF_D)])
+           + b"".join(b"tick txtake:%s\ntick txput:%s\n" % (host, host) for host in [b"a", b"d", b"a"])
+           + b"tick deliver:b\n"
            + ARRIVAL.replace(b"tick rxdata:b\ntick rxdone:b\n", b"tick rxdata:b\ntick rxdone:b\n" * 6))
-TRAFFIC_LINES = (told("a", accepted=2, put=2) + told("c") + told("b", reached=2, stored=1, missed=1, given=1) + told("d", accepted=1, put=1))
+TRAFFIC_LINES = (told("a", accepted=2, put=2) + told("c") + told("b", reached=2, stored=1, missed=1, given=1)
+                 + told("d", accepted=1, put=1))
 TRAFFIC_FILES = {"b.0.pcap": written([(24, OF_A[0])]), "d.0.pcap": FILE_HEADER}
 WIRE_FILES = {"w.pcap": written([(4, OF_A[0]), (8, OF_A[1])]), "v.pcap": written([(6, OF_D)])}
 
@@ -424,32 +381,42 @@ def wires(bench):
     """The traces of wires: the frames that were put, in order, with the numbers of their events."""
     plays(bench, "wires: the example", EXAMPLE, EXAMPLE_LINES,
           {"b.0.pcap": written([(7, EXAMPLE_FRAME)]), "w.pcap": written([(2, EXAMPLE_FRAME)])}, ["--wires"])
-    plays(bench, "wires: two wires, and frames that no host receives", TWO_WIRES + TRAFFIC, TRAFFIC_LINES, {**TRAFFIC_FILES, **WIRE_FILES}, ["--wires"])
+    plays(bench, "wires: two wires, and frames that no host receives", TWO_WIRES + TRAFFIC, TRAFFIC_LINES,
+          {**TRAFFIC_FILES, **WIRE_FILES}, ["--wires"])
     plays(bench, "wires: without the option", TWO_WIRES + TRAFFIC, TRAFFIC_LINES, TRAFFIC_FILES)
     plays(bench, "wires: no event", TWO_WIRES, told("a") + told("c") + told("b") + told("d"),
           {name: FILE_HEADER for name in ["b.0.pcap", "d.0.pcap", "w.pcap", "v.pcap"]}, ["--wires"])
     sends = b"".join(b"send a %s\n" % frame.hex().encode() for frame in OF_A)
-    plays(bench, "wires: two frames in one call", TO_SOCKET + sends + b"interrupt b / txtake:a txput:a go txtake:a txput:a\n",
-          told("a", accepted=2, put=2) + told("b"), {"b.0.pcap": FILE_HEADER, "w.pcap": written([(2, frame) for frame in OF_A])}, ["--wires"])
-    plays(bench, "wires: a put without a frame", TO_SOCKET + b"tick txput:a\nrecv b 0 / txput:a txput:b\n", told("a") + told("b"),
+    plays(bench, "wires: two frames in one call",
+          TO_SOCKET + sends + b"interrupt b / txtake:a txput:a go txtake:a txput:a\n",
+          told("a", accepted=2, put=2) + told("b"),
+          {"b.0.pcap": FILE_HEADER, "w.pcap": written([(2, frame) for frame in OF_A])}, ["--wires"])
+    plays(bench, "wires: a put without a frame", TO_SOCKET + b"tick txput:a\nrecv b 0 / txput:a txput:b\n",
+          told("a") + told("b"),
           {"b.0.pcap": FILE_HEADER, "w.pcap": FILE_HEADER}, ["--wires"])
-    plays(bench, "wires: a drain has a number, and puts no frame", EXAMPLE.replace(TO_SOCKET, TO_SOCKET + b"drain b\n") + b"drain a\n", EXAMPLE_LINES,
+    plays(bench, "wires: a drain has a number, and puts no frame",
+          EXAMPLE.replace(TO_SOCKET, TO_SOCKET + b"drain b\n") + b"drain a\n", EXAMPLE_LINES,
           {"b.0.pcap": written([(8, EXAMPLE_FRAME)]), "w.pcap": written([(3, EXAMPLE_FRAME)])}, ["--wires"])
     frames = [EXAMPLE_FRAME + bytes([n]) * n for n in range(20)] + [LONG_FRAME]
     bench.put("fed.pcap", trace(*map(packet, frames)))
     numbers = [8 * n for n in range(21)]
-    plays(bench, "wires: a feed", TO_SOCKET + b"feed a fed.pcap\n", told("a", accepted=21, put=21) + told("b", reached=21, stored=21, given=21),
+    plays(bench, "wires: a feed", TO_SOCKET + b"feed a fed.pcap\n",
+          told("a", accepted=21, put=21) + told("b", reached=21, stored=21, given=21),
           {"b.0.pcap": written([(n + 7 if n < 160 else 177, frame) for n, frame in zip(numbers, frames)]),
            "w.pcap": written([(n + 2, frame) for n, frame in zip(numbers, frames)])}, ["--wires"])
-    plays(bench, "wires: a host of a wire's name", EXAMPLE.replace(b" b", b" w").replace(b":b", b":w"), EXAMPLE_LINES.replace(b"b ", b"w "),
+    plays(bench, "wires: a host of a wire's name", EXAMPLE.replace(b" b", b" w").replace(b":b", b":w"),
+          EXAMPLE_LINES.replace(b"b ", b"w "),
           {"w.0.pcap": written([(7, EXAMPLE_FRAME)]), "w.pcap": written([(2, EXAMPLE_FRAME)])}, ["--wires"])
     drawn_wires(bench)
     wire_places(bench)
 
 
 def drawn_wires(bench):
-    """With random events: the other outputs are the same as without the option, and each frame that was put is in its wire's trace."""
-    hosts = [b"host %c 02:00:00:00:00:%02x %s rxa 4\n" % (b"abcde"[n], n + 1, wire) for n, wire in enumerate([b"x", b"y", b"x", b"y", b"x"])]
+    """With random events: the other outputs are the same as without the option, and each frame that was put is in its
+    wire's trace.
+    """
+    hosts = [b"host %c 02:00:00:00:00:%02x %s rxa 4\n" % (b"abcde"[n], n + 1, wire)
+             for n, wire in enumerate([b"x", b"y", b"x", b"y", b"x"])]
     bench.put("s.scenario", b"".join(hosts) + b"socket a all\nsocket b 88b5\nauto 20000 3\n")
     path, runs = folder(bench), []
     for options in [[], ["--wires"]]:
@@ -469,11 +436,15 @@ def drawn_wires(bench):
 
 
 def wire_places(bench):
-    """Files of wires that can't be created or written. They follow those of sockets, in the order in which hosts name the wires."""
+    """Files of wires that can't be created or written. They follow those of sockets, in the order in which hosts name
+    the wires.
+    """
     made = ["b.0.pcap", "d.0.pcap"]
     option = ["--wires"]
-    refused(bench, "wires: a wire's name", TWO_WIRES.replace(b" w", b" a.0"), "E40 Name", 1, [*made, "a.0.pcap", "v.pcap"], option)
-    refused(bench, "wires: a plan", TWO_WIRES.replace(b" v", b" u", 1), "E41 Ends", 1, [*made, "w.pcap", "u.pcap", "v.pcap"], option)
+    refused(bench, "wires: a wire's name", TWO_WIRES.replace(b" w", b" a.0"), "E40 Name", 1,
+            [*made, "a.0.pcap", "v.pcap"], option)
+    refused(bench, "wires: a plan", TWO_WIRES.replace(b" v", b" u", 1), "E41 Ends", 1,
+            [*made, "w.pcap", "u.pcap", "v.pcap"], option)
     for name in ["x/y", "../w", "/w"]:
         refused(bench, f"wires: a file outside of OUTDIR: {name}", TO_SOCKET.replace(b" w\n", b" %s\n" % name.encode()),
                 f"E68 Open: outdir/{name}.pcap", 3, made[:1], option)
@@ -488,17 +459,21 @@ def wire_places(bench):
             bench.put(f"outdir/{name}", b"old")
         os.remove(bench.path(f"outdir/{file}"))
         os.symlink("/dev/full", bench.path(f"outdir/{file}"))
-        bench.ends(f"wires: {file} is a full device", ["run", "--wires", "s.scenario", "outdir"], 3, b"", b"nicbench: E67 Write\n")
-        bench.check(f"wires: {file} is a full device: the others", [bench.get(f"outdir/{name}") for name in order if name != file],
+        bench.ends(f"wires: {file} is a full device", ["run", "--wires", "s.scenario", "outdir"], 3, b"",
+                   b"nicbench: E67 Write\n")
+        bench.check(f"wires: {file} is a full device: the others",
+                    [bench.get(f"outdir/{name}") for name in order if name != file],
                     [texts[name] if order.index(name) < place else b"old" for name in order if name != file])
         os.remove(bench.path(f"outdir/{file}"))
         folder(bench)
         os.mkdir(os.path.join(path, file))
-        bench.ends(f"wires: {file} is a folder", ["run", "--wires", "s.scenario", "outdir"], 3, b"", refusal(f"E68 Open: outdir/{file}"))
+        bench.ends(f"wires: {file} is a folder", ["run", "--wires", "s.scenario", "outdir"], 3, b"",
+                   refusal(f"E68 Open: outdir/{file}"))
         os.rmdir(os.path.join(path, file))
-        bench.check(f"wires: {file} is a folder: the files before it", held(path), {name: b"" for name in order[:place]})
+        bench.check(f"wires: {file} is a folder: the files before it", held(path),
+                    {name: b"" for name in order[:place]})
 
 
 def all_cases(bench):
-    for part in [played, feeds, lines, plans, places, drawn, wires]:
+    for part in [played, feeds, lines, plans, places, wires]:
         part(bench)

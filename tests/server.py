@@ -3,7 +3,8 @@
 import os
 import subprocess
 
-from bench import Bench
+from harness import Program
+
 
 ZERO = "OK 0x0000000000000000"
 ONE = "OK 0x0000000000000001"
@@ -23,12 +24,13 @@ def lines(texts):
     return "".join(f"{text}\n" for text in texts).encode()
 
 
-class Server(Bench):
+class Server(Program):
     """Runs of `serve`."""
 
     def serve(self, data, *words, env=None):
         """Runs with these bytes of input: the status, the output and the errors."""
-        ran = subprocess.run([self.program, "serve", *words], input=data, cwd=self.folder, capture_output=True, timeout=LIMIT,
+        ran = subprocess.run([self.program, "serve", *words], input=data, cwd=self.folder, capture_output=True,
+                             timeout=LIMIT,
                              env=None if env is None else {**os.environ, **env})
         return ran.returncode, ran.stdout, ran.stderr
 

@@ -1,19 +1,15 @@
 """Frames and faults that the server reports as they happen or keeps, rounds after accesses, and the clock."""
 
 import base64
-import os
-import sys
 
 from adapter_sessions import (
-    BASE, BROADCAST, CTRL, EERD, ICR, ICS, IMS, LONG, MDIC, OFFERED, PBA, RCTL, RDBAH, RDBAL, RDH, RDLEN, RDT, RECEIVE, RESET,
-    RING, SLOTS, STATUS,
+    BASE, BROADCAST, CTRL, EERD, ICR, ICS, IMS, LONG, MDIC, OFFERED, PBA, RCTL, RDBAH, RDBAL, RDH, RDLEN, RDT, RECEIVE,
+    RESET, RING, SLOTS, STATUS,
     TDBAH, TDBAL, TDH, TDLEN, TDT, arrives, loads, reads, slot, steps, stores, writes)
 from request_forms import KINDS
 from server import ONE, ZERO, lines, number
-from server_pages import TOP
 
-sys.path.append(os.path.join(TOP, "examples", "drivers"))
-from random_requests import RandomRequests, Words  # noqa: E402
+from random_requests import RandomRequests, Words
 
 EVENTS, QUIET = ("events on", "OK"), ("events off", "OK")
 LOG = ("log on", "OK")
@@ -127,7 +123,7 @@ def faults(server):
 
 
 def paced(server):
-    """After an access or an arrival, rounds are played until one does nothing, at most as many as `pace` says."""
+    """After an access or an arrival, rounds are played until one does nothing, at most the number of `pace`."""
     server.talks("pace: a frame is sent at once", [
         *RING, EVENTS, ("pace 1", "OK"), slot(60, 0x0B), writes(TDT, 1, PUT), loads(0x8C, "01000000")])
     server.talks("pace: a frame is received at once", [
@@ -148,7 +144,8 @@ def paced(server):
     server.talks("pace: a fault of an engine", [
         *RING, EVENTS, ("pace 1", "OK"), writes(TDT, 8, "fault tx 0 ring\n"), ("readb 0", ZERO)])
     server.talks("pace: a frame that is missed", [
-        writes(PBA, 2), writes(RCTL, RECEIVE), ("pace 7", "OK"), arrives("stored", LONG), arrives("missed", LONG), ("settle", ZERO),
+        writes(PBA, 2), writes(RCTL, RECEIVE), ("pace 7", "OK"), arrives("stored", LONG), arrives("missed", LONG),
+        ("settle", ZERO),
         ("pace 65535", "OK"),
         ("pace 65536", "ERR value"), ("pace", "ERR count"), ("pace x", "ERR value")])
 

@@ -2,13 +2,15 @@
 
 import re
 
+from codes import failure
 from server import ZERO, lines, number
 
 # A frame of 1,518 bytes. A receive packet buffer of 2 KB has room for one.
 FRAME = "ffffffffffff02000000000908000000".ljust(3036, "0")
 FOR_MORE = b"\nFor more information, try '--help'.\n"
 USAGE = b"\nUsage: nicbench serve [OPTIONS]\n" + FOR_MORE
-DEFAULTS = ["--memory", "1048576", "--registers", "0xFEB00000", "--address", "02:00:00:00:00:01", "--link", "1", "--rxa", "48", "--seed", "0", "--missed", "0"]
+DEFAULTS = ["--memory", "1048576", "--registers", "0xFEB00000", "--address", "02:00:00:00:00:01", "--link", "1",
+            "--rxa", "48", "--seed", "0", "--missed", "0"]
 
 
 def options(server):
@@ -19,16 +21,22 @@ def options(server):
     server.answers("options: the defaults", asked, wanted, *DEFAULTS)
     pairs = [f"{name}={value}" for name, value in zip(DEFAULTS[::2], DEFAULTS[1::2])]
     server.answers("options: in another order, joined to their values", asked, wanted, *reversed(pairs))
-    server.answers("options: an address", asked[:34], lines([number(0x33221122), number(0x80005544)]), "--address", "22:11:22:33:44:55")
-    server.answers("options: a group's address", asked[:34], lines([number(0x00000001), number(0x8000FF00)]), "--address", "01:00:00:00:00:FF")
-    server.answers("options: zeros before numbers", asked[34:51] + b"step phy\n", lines([number(0x003A0006), "OK nothing"]),
+    server.answers("options: an address", asked[:34], lines([number(0x33221122), number(0x80005544)]), "--address",
+                   "22:11:22:33:44:55")
+    server.answers("options: a group's address", asked[:34], lines([number(0x00000001), number(0x8000FF00)]),
+                   "--address", "01:00:00:00:00:FF")
+    server.answers("options: zeros before numbers", asked[34:51] + b"step phy\n",
+                   lines([number(0x003A0006), "OK nothing"]),
                    "--seed=007", "--rxa=06", "--link=001", "--memory=0001048576")
-    server.answers("options: registers at the last place", b"readl 0xFFFFFFFFFFFFFFFF\n", lines([ZERO]), "--registers", "0xFfFfFfFfFfFfFfFf")
+    server.answers("options: registers at the last place", b"readl 0xFFFFFFFFFFFFFFFF\n", lines([ZERO]), "--registers",
+                   "0xFfFfFfFfFfFfFfFf")
     for kilobytes in [2, 24, 48]:
-        server.answers(f"options: {kilobytes} KB", b"readl 0xFEB01000\n", lines([number(64 - kilobytes << 16 | kilobytes)]), "--rxa", str(kilobytes))
+        server.answers(f"options: {kilobytes} KB", b"readl 0xFEB01000\n",
+                       lines([number(64 - kilobytes << 16 | kilobytes)]), "--rxa", str(kilobytes))
     server.answers("options: no memory", b"readb 0\nread 0 0\n", lines(["ERR address", "OK 0x"]), "--memory", "0")
     server.answers("options: a byte", b"readb 0\nreadb 1\n", lines([ZERO, "ERR address"]), "--memory", "0x1")
-    server.answers("options: registers at the end", b"readl 0xFFFFFFFFFFFE1000\n", lines([number(0x00100030)]), "--registers", "0xFFFFFFFFFFFE0000")
+    server.answers("options: registers at the end", b"readl 0xFFFFFFFFFFFE1000\n", lines([number(0x00100030)]),
+                   "--registers", "0xFFFFFFFFFFFE0000")
     start = lines(["writel 0xFEB00020 0x04201200", "writel 0xFEB00000 0x40"])
     # A tick ends the command of MDIC, and then ticks are counted.
     for link, ticks, status in [("1", 2, 0x83), ("3", 4, 0x83), ("65535", 65536, 0x83), ("never", 1, 0)]:
@@ -41,7 +49,8 @@ def options(server):
             ("writel 0xFEB00100 0x8002", "OK"), (f"arrive {FRAME}", "OK stored"), (f"arrive {FRAME}", "OK missed"),
             ("readl 0xFEB04010", number(later)), ("readl 0xFEB04010", ZERO)], "--missed", missed, "--rxa", "2")
     for size in ["0x100000000000", "18446744073709551615"]:
-        server.check(f"options: {size} bytes of memory", server.serve(b"readl 0\n", "--memory", size), (4, b"", b"nicbench: E57 Memory\n"))
+        server.check(f"options: {size} bytes of memory", server.serve(b"readl 0\n", "--memory", size),
+                     (4, b"", b"nicbench: E57 Memory\n"))
 
 
 def images(server):
@@ -49,16 +58,19 @@ def images(server):
     data = bytes(range(128))
     server.put("words", data)
     asked = [(f"writel 0xFEB00014 {1 | place << 8}", "step eeprom", "readl 0xFEB00014") for place in range(64)]
-    wanted = [("OK", "OK ticked", number(int.from_bytes(data[2 * place:2 * place + 2], "little") << 16 | place << 8 | 0x10)) for place in range(64)]
+    wanted = [("OK", "OK ticked", number(int.from_bytes(data[2 * place:2 * place + 2], "little") << 16 | place << 8
+                                         | 0x10)) for place in range(64)]
     asked += [("readl 0xFEB05400", "readl 0xFEB05404")]
     wanted += [(number(0x03020100), number(0x80000504))]
     server.answers("images: all words", lines(sum(asked, ())), lines(sum(wanted, ())), "--image", "words")
     for name, size in [("none", 0), ("short", 127), ("long", 129), ("longer", 1_000_000)]:
         server.put(name, bytes(size))
-        server.check(f"images: {size} bytes", server.serve(b"readl 0\n", "--image", name), (1, b"", b"nicbench: E58 Image\n"))
-    for name, code in [("missing", b"E68 Open: missing"), (".", b"E66 Read"), ("/dev/zero", b"E68 Open: /dev/zero")]:
-        server.check(f"images: {name}", server.serve(b"readl 0\n", "--image", name), (3, b"", b"nicbench: " + code + b"\n"))
-    both = b"error: invalid value 'words' for '--image <FILE>': the file contains the address, so --address can't be used with it\n"
+        server.check(f"images: {size} bytes", server.serve(b"readl 0\n", "--image", name),
+                     (1, b"", b"nicbench: E58 Image\n"))
+    for name, fault in [("missing", "E68 Open: missing"), (".", "E66 Read"), ("/dev/zero", "E68 Open: /dev/zero")]:
+        server.check(f"images: {name}", server.serve(b"readl 0\n", "--image", name), (3, b"", failure(fault, name)))
+    both = (b"error: invalid value 'words' for '--image <FILE>': the file contains the address, so --address can't be "
+            b"used with it\n")
     for order in [("--image=words", "--address=02:00:00:00:00:01"), ("--address=02:00:00:00:00:01", "--image=words")]:
         server.check(f"images: {order}", server.serve(b"readl 0\n", *order), (2, b"", both + FOR_MORE))
     server.check("images: twice", server.serve(b"", "--image=a", "--image=a"),
@@ -69,16 +81,20 @@ def images(server):
 
 VALUES = {
     "--memory <BYTES>": (b"bytes are a decimal number below 2^64, or a hexadecimal one after 0x, such as 0x100000",
-                         ["", "x", "1k", "+1", "0x", "0X1", "0x+1", "0x1g", "1x1", "18446744073709551616", "0x10000000000000000"]),
-    "--registers <ADDRESS>": (b"an address is a decimal number below 2^64, or a hexadecimal one after 0x, such as 0xFEB00000",
+                         ["", "x", "1k", "+1", "0x", "0X1", "0x+1", "0x1g", "1x1", "18446744073709551616",
+                          "0x10000000000000000"]),
+    "--registers <ADDRESS>": (b"an address is a decimal number below 2^64, or a hexadecimal one after 0x, such as "
+                              b"0xFEB00000",
                               ["", "FEB00000", "0xFEB0000g", "18446744073709551616"]),
     "--address <A>": (b"an address is six pairs of hexadecimal digits joined by colons, such as 02:00:00:00:00:01",
                       ["", "02:00:00:00:00", "02-00-00-00-00-01"]),
-    "--link <N|never>": (b"ticks are a decimal number from 1 to 65535, such as 1, or 'never'", ["", "0", "65536", "Never", "0x1", "+1"]),
+    "--link <N|never>": (b"ticks are a decimal number from 1 to 65535, such as 1, or 'never'",
+                         ["", "0", "65536", "Never", "0x1", "+1"]),
     "--rxa <N>": (b"kilobytes are an even decimal number from 2 to 48, such as 48",
                   ["", "0", "1", "3", "47", "49", "50", "258", "18446744073709551618", "0x10"]),
     "--seed <N>": (b"a seed is a decimal number below 2^64, such as 7", ["", "x", "0x7", "+7", "18446744073709551616"]),
-    "--missed <N>": (b"a count is a decimal number below 2^32, such as 4294967294", ["", "x", "0x7", "+7", "-1", "4294967296"]),
+    "--missed <N>": (b"a count is a decimal number below 2^32, such as 4294967294",
+                     ["", "x", "0x7", "+7", "-1", "4294967296"]),
 }
 
 
@@ -94,8 +110,10 @@ def words(server):
         server.check(f"words: {option} without a value", server.serve(b"", option),
                      (2, b"", f"error: a value is required for '{name}' but none was supplied\n".encode() + FOR_MORE))
     server.check("words: a file", server.serve(b"", "a"), (2, b"", b"error: unexpected argument 'a' found\n" + USAGE))
-    status, out, errors = server.serve(b"", "--seed=x", "--rxa=3", "--link=0", "--address=y", "--registers=z", "--memory=w")
-    server.check("words: of several bad values the first in the order of the help", (status, out, errors.split(b":")[1]),
+    status, out, errors = server.serve(b"", "--seed=x", "--rxa=3", "--link=0", "--address=y", "--registers=z",
+                                       "--memory=w")
+    server.check("words: of several bad values the first in the order of the help",
+                 (status, out, errors.split(b":")[1]),
                  (2, b"", b" invalid value 'w' for '--memory <BYTES>'"))
 
 

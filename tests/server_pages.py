@@ -5,13 +5,15 @@ import re
 import shutil
 import subprocess
 
+from harness import TOP
 from server import LIMIT, lines
 
-TOP = os.path.dirname(os.path.dirname(os.path.abspath(__file__)))
 
 
 def follow(text, shown):
-    """Whether a text is the shown text, in which `...` at the end of a line means any text up to the line that is shown next."""
+    """Whether a text is the shown text. There, `...` at the end of a line means any text up to the line that is shown
+    next.
+    """
     first, *pieces = shown.split("...\n")
     at = len(first) if text.startswith(first) else len(text) + 1
     for piece in pieces[:-1]:
@@ -42,7 +44,8 @@ def commands(server):
 
 # The sessions with an answer next to each request: the page, the first word of each, and the column of the answers
 SESSIONS = [
-    (("crates", "adapter_server", "README.md"), ["readl"], 30), (("docs", "REQUESTS.md"), ["memset", "events", "outl"], 48)]
+    (("crates", "adapter_server", "README.md"), ["readl"], 30),
+    (("docs", "REQUESTS.md"), ["memset", "writel", "line", "outl"], 48)]
 
 
 def columns(server):
@@ -52,10 +55,11 @@ def columns(server):
         server.check(f"columns: {names[-1]}: its sessions", [block.split()[0] for block in blocks], firsts)
         for block in blocks:
             rows = [(row[:width].strip(), row[width:]) for row in block.splitlines()]
-            server.check(f"columns: {names[-1]} has some for {rows[0]}", len(rows) > 6, True)
+            server.check(f"columns: {names[-1]} has some for {rows[0]}", len(rows) > 5, True)
             status, out, errors = server.serve(lines(request for request, _ in rows if request))
             shown = "".join(f"{told}\n" for _, told in rows)
-            server.check(f"columns: {names[-1]}: {rows[0]}", (status, follow(out.decode(), shown), errors), (0, True, b""))
+            server.check(f"columns: {names[-1]}: {rows[0]}", (status, follow(out.decode(), shown), errors),
+                         (0, True, b""))
 
 
 def prints(server, name, words, printed):
@@ -63,11 +67,13 @@ def prints(server, name, words, printed):
     built = subprocess.run(words, cwd=server.folder, capture_output=True)
     server.check(f"page: the driver in {name} is compiled", (built.returncode, built.stderr), (0, b""))
     ran = subprocess.run([server.path("page"), server.program], cwd=server.folder, capture_output=True, timeout=LIMIT)
-    server.check(f"page: what the driver in {name} prints", (ran.returncode, ran.stdout, ran.stderr), (0, printed.encode(), b""))
+    server.check(f"page: what the driver in {name} prints", (ran.returncode, ran.stdout, ran.stderr),
+                 (0, printed.encode(), b""))
 
 
 def page(server):
-    """The drivers pipe.c and pipe.rs print the output in docs/SERVE.md. Without a compiler for Rust, a line says so."""
+    """The drivers pipe.c and pipe.rs print the output in docs/SERVE.md. Without a compiler for Rust, a line reports
+    this."""
     printed = re.search(r"^\$ \./first \.build/nicbench\n(.*?)^```$", read_page("docs", "SERVE.md"), re.M | re.S)[1]
     code = {name: os.path.join(TOP, "examples", "drivers", f"pipe.{name}") for name in ("c", "rs")}
     cc = next((path for path in map(shutil.which, ["cc", "clang", "gcc"]) if path), None)

@@ -1,20 +1,16 @@
-"""The order of the steps of a `settle` doesn't matter: any other order leaves the same state, frames on the wire and faults.
+"""The order of the steps of a `settle` doesn't matter: any other order leads to the same state, frames on the wire and
+faults.
 
-So the finder of races needs no deviations inside a `settle`. This holds if the adapter reads no memory that it writes in the same
-`settle`, as with the drivers of examples/drivers. A driver for which it doesn't hold has a race that a deviation before the `settle` shows.
+So the finder of races needs no deviations inside a `settle`. This holds if the adapter reads no memory that it writes
+in the same `settle`, as with the drivers of examples/drivers. A driver for which it doesn't hold has a race that a
+deviation before the `settle` shows.
 """
 
-import os
 import random
-import sys
 
-from server_pages import TOP
-
-DRIVERS = os.path.join(TOP, "examples", "drivers")
-sys.path.append(DRIVERS)
-from adapter import Adapter  # noqa: E402
-from driver import RIGHT, driver_of  # noqa: E402
-from sweep import TESTS  # noqa: E402
+from adapter import Adapter
+from driver import RIGHT, driver_of
+from sweep import TESTS
 
 KINDS = "txtake", "txput", "rxdata", "rxdone", "eeprom", "phy"
 SEEDS, ORDERS = 2, 3  # runs of each driver and test; other orders of each settle
@@ -76,4 +72,5 @@ def settle_in_any_order(server):
                     differences += adapter.differences
                     settles, longest = settles + adapter.settles, max(longest, adapter.longest)
             server.check(f"settle: {name}, {test}: each order has the same result", differences[:1], [])
-            server.check(f"settle: {name}, {test}: there are settles of several steps", settles > 5 and longest > 2, True)
+            server.check(f"settle: {name}, {test}: there are settles of several steps", settles > 5 and longest > 2,
+                         True)

@@ -2,9 +2,11 @@
 
 usage: python3 tools/jobs.py, which prints the number
 
-By itself, `rt` gives a crate several processors if no other crate waits for one. In `./test` the must-fail edits use them.
-The environment's RT_JOBS goes first.
+By itself, `rt` uses several processors for a crate if no other crate waits for one. In `./test` the must-fail edits use
+them. The environment's RT_JOBS goes first.
 """
+
+from __future__ import annotations
 
 import os
 import re
@@ -12,16 +14,17 @@ import re
 CRATE_BYTES = 3 * 10**9
 
 
-def free_bytes():
+def free_bytes() -> int:
     """The free memory, or none if the system doesn't say."""
     try:
         with open("/proc/meminfo") as file:
-            return 1024 * int(re.search(r"^MemAvailable:\s+(\d+)", file.read(), re.M)[1])
-    except (OSError, TypeError):
+            found = re.search(r"^MemAvailable:\s+(\d+)", file.read(), re.M)
+    except OSError:
         return 0
+    return 1024 * int(found[1]) if found else 0
 
 
-def count():
+def count() -> int:
     given = os.environ.get("RT_JOBS", "")
     if given.isdigit() and int(given) > 0:
         return int(given)

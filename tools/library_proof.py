@@ -2,13 +2,15 @@
 
 An archive that an earlier call has built is taken. Otherwise the crates below the library are looked for:
 - crates/NAME/out, where `rt check` and `rt lib` keep their work: `rt lib` knows by its stamps what has changed;
-- crates/NAME/out, where `rt ci` leaves them without stamps: `./test` notes their sources, and when it ran;
-- .build/proved-crates.tar, where `./nicbench --prove` leaves those that the program shares with the library.
-For the last two, the toolchain's `rattle` proves what is missing. If nothing is found or fits, `rt ci` proves all
-crates in a copy.
+- crates/NAME/out, from `rt ci`, without stamps: `./test` notes their sources, and when it ran;
+- .build/proved-crates.tar, in which `./nicbench --prove` stores those that the program shares with the library. For the
+  last two, the toolchain's `rattle` proves what is missing. If nothing is found or fits, `rt ci` proves all crates in a
+  copy.
 
 usage: python3 tools/library_proof.py begin | passed; `./test` notes that its `rt ci` begins, and that it has passed
 """
+
+from __future__ import annotations
 
 import json
 import os
@@ -18,6 +20,7 @@ import sys
 import tarfile
 import tempfile
 import time
+from typing import Callable, Optional
 
 import prove
 import sources
@@ -32,10 +35,10 @@ GATE = os.path.join(sources.BUILD, "ci-proved")
 
 
 class LibraryFailed(Exception):
-    """There is no library; the text says why."""
+    """There is no library; the text has the reason."""
 
 
-def run(*words, cwd=None):
+def run(*words: str, cwd: Optional[str] = None) -> str:
     """Runs a command. If it fails, the exception has the end of its output."""
     try:
         ran = subprocess.run(words, cwd=cwd, stdin=subprocess.DEVNULL, stdout=subprocess.PIPE, stderr=subprocess.STDOUT,
@@ -47,17 +50,17 @@ def run(*words, cwd=None):
     return ran.stdout
 
 
-def below(line):
+def below(line: str) -> list[str]:
     """What a line of crates.txt names as used: crates and libraries of the toolchain."""
     return line.split(":")[1].split()
 
 
-def out(name, *path):
-    """A file that `rt` leaves for a crate in this repository."""
+def out(name: str, *path: str) -> str:
+    """A file that `rt` has made for a crate in this repository."""
     return os.path.join(sources.CRATES, name, "out", *path)
 
 
-def build_by_rt(rt, name, crates, archive, target):
+def build_by_rt(rt: str, name: str, crates: dict[str, str], archive: str, target: str) -> None:
     """Lets `rt lib` prove a static library and the crates below it, and builds the archive for the target."""
     folder = os.path.join(sources.CRATES, name)
     run(rt, "lib", cwd=folder)
@@ -68,7 +71,7 @@ def build_by_rt(rt, name, crates, archive, target):
         compile_crate(rt, name, crates, rlibs, archive, folder, target)
 
 
-def by_rt(rt, crates, archive, target, tell):
+def by_rt(rt: str, crates: dict[str, str], archive: str, target: str, tell: Callable[[str], None]) -> bool:
     """Lets `rt lib` build the archive, if it has kept all crates below the library. Returns whether it did."""
     if not all(os.path.exists(out(name, "rlib", "stamp")) for name in crates if name != sources.LIBRARY):
         return False
@@ -81,18 +84,18 @@ def by_rt(rt, crates, archive, target, tell):
     return True
 
 
-def note_begin(rt):
+def note_begin(rt: str) -> None:
     """Notes that `rt ci` begins in this repository."""
     stamp = prove.stamp(rt, sources.crates(sources.LIBRARY))
     prove.write(f"{GATE}.begun", json.dumps({"stamp": stamp, "begun": time.time()}))
 
 
-def note_passed():
+def note_passed() -> None:
     """Notes that it has passed."""
     prove.write(GATE, json.dumps({**json.loads(prove.text_of(f"{GATE}.begun")), "ended": time.time()}))
 
 
-def proved_here(rt, crates):
+def proved_here(rt: str, crates: dict[str, str]) -> dict[str, str]:
     """The crates' libraries that the noted `rt ci` has left here, if it has proved the present sources."""
     noted, found = json.loads(prove.text_of(GATE) or "{}"), {}
     if noted.get("stamp") != prove.stamp(rt, crates):
@@ -107,7 +110,7 @@ def proved_here(rt, crates):
     return found
 
 
-def proved_with_program(rt, folder):
+def proved_with_program(rt: str, folder: str) -> dict[str, str]:
     """The crates' libraries that `./nicbench --prove` has left of the present sources, unpacked into a folder."""
     names = sources.shared()
     if not prove.is_kept(rt, names):
@@ -117,9 +120,10 @@ def proved_with_program(rt, folder):
     return {name: os.path.join(folder, name, f"{name}.rlib") for name in names}
 
 
-def compile_crate(rt, name, crates, rlibs, path, folder, target=sources.HOST):
+def compile_crate(rt: str, name: str, crates: dict[str, str], rlibs: dict[str, str], path: str, folder: str,
+                  target: str = sources.HOST) -> None:
     """Proves and builds a crate over the libraries of the crates below it. A static library becomes an archive."""
-    kit, is_static = kit_of(shutil.which(rt)), "staticlib" in crates[name].split(":")[0]
+    kit, is_static = kit_of(shutil.which(rt) or rt), "staticlib" in crates[name].split(":")[0]
     words = [os.path.join(kit, "bin", "rattle"), "build", "--crate-name", name, "src/lib.rt"]
     if is_static:
         words += ["--crate-type", "staticlib", "--toolchain", os.path.join(kit, "toolchain")]
@@ -136,7 +140,8 @@ def compile_crate(rt, name, crates, rlibs, path, folder, target=sources.HOST):
     run(*words, cwd=folder)
 
 
-def over(rt, crates, found, archive, work, target, tell):
+def over(rt: str, crates: dict[str, str], found: dict[str, str], archive: str, work: str, target: str,
+         tell: Callable[[str], None]) -> None:
     """Builds the archive over the libraries that were found, and proves the crates that are missing in a folder."""
     missing = [name for name in crates if name not in found and name != sources.LIBRARY]
     tell(f"{len(found)} of {len(crates)} crates are proved; proving {' '.join([*missing, sources.LIBRARY])}")
@@ -150,7 +155,7 @@ def over(rt, crates, found, archive, work, target, tell):
             rlibs[name] = path
 
 
-def from_nothing(rt, crates, archive, target, tell):
+def from_nothing(rt: str, crates: dict[str, str], archive: str, target: str, tell: Callable[[str], None]) -> None:
     """Proves all crates in a copy, and builds the archive there."""
     tell(f"proving {len(crates)} crates")
     try:
@@ -164,7 +169,7 @@ def from_nothing(rt, crates, archive, target, tell):
         shutil.rmtree(prove.WORK, ignore_errors=True)
 
 
-def from_proved(rt, crates, archive, target, tell):
+def from_proved(rt: str, crates: dict[str, str], archive: str, target: str, tell: Callable[[str], None]) -> bool:
     """Builds the archive over crates that were proved before, if there are some. Returns whether it did."""
     if by_rt(rt, crates, archive, target, tell):
         return True
@@ -181,22 +186,22 @@ def from_proved(rt, crates, archive, target, tell):
     return False
 
 
-def kept(name, target):
+def kept(name: str, target: str) -> str:
     """Where the archive of a static library is kept for a target."""
     return os.path.join(KEPT, *([] if target == sources.HOST else [target]), f"lib{name}.a")
 
 
-def is_kept(rt, crates, archive):
+def is_kept(rt: str, crates: dict[str, str], archive: str) -> bool:
     return os.path.exists(archive) and prove.text_of(f"{archive}.sources") == prove.stamp(rt, crates)
 
 
-def note_sources(rt, crates, archive):
+def note_sources(rt: str, crates: dict[str, str], archive: str) -> None:
     """Notes from which sources an archive that is kept was proved."""
     prove.write(f"{archive}.sources", prove.stamp(rt, crates))
 
 
-def search(rt, target, tell):
-    """The proved archive of the explorer's search: two small crates, which stand on the standard library alone."""
+def search(rt: str, target: str, tell: Callable[[str], None]) -> str:
+    """The proved archive of the explorer's search: a small crate, which uses only the standard library."""
     crates, archive = sources.crates(sources.SEARCH), kept(sources.SEARCH, target)
     if not is_kept(rt, crates, archive):
         tell("proving the explorer's search")
@@ -206,7 +211,7 @@ def search(rt, target, tell):
     return archive
 
 
-def build(rt, archive, target, tell):
+def build(rt: str, archive: str, target: str, tell: Callable[[str], None]) -> None:
     """Makes the proved archive, as the file `archive`."""
     crates, known = sources.crates(sources.LIBRARY), kept(sources.LIBRARY, target)
     if is_kept(rt, crates, known):

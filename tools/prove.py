@@ -1,8 +1,11 @@
-"""Proves and builds the program, by `rt ci` over a copy of the crates that it depends on, without tests and must-fail edits.
+"""Proves and builds the program, by `rt ci` over a copy of the crates that it depends on, without tests and must-fail
+edits.
 
 What one run proves is kept by `rt` for the next one, also if it is interrupted. The copy is removed at the end: `rt ci`
 refuses a repository that has another one in it. The proved crates that the C library uses are kept for `tools/library`.
 """
+
+from __future__ import annotations
 
 import os
 import re
@@ -10,6 +13,7 @@ import shutil
 import subprocess
 import tarfile
 import time
+from typing import Callable, Iterable
 
 import sources
 
@@ -23,10 +27,10 @@ QUIET_SECONDS = 30
 
 
 class ProofFailed(Exception):
-    """There is no proved program; the text says why."""
+    """There is no proved program; the text has the reason."""
 
 
-def text_of(path):
+def text_of(path: str) -> str:
     """The text of a file without the end of its last line, or nothing if there is no such file."""
     try:
         with open(path) as file:
@@ -35,23 +39,23 @@ def text_of(path):
         return ""
 
 
-def write(path, text):
+def write(path: str, text: str) -> None:
     with open(path, "w") as file:
         file.write(f"{text}\n")
 
 
-def stamp(rt, crates):
+def stamp(rt: str, crates: Iterable[str]) -> str:
     """What a proof depends on: the sources of crates, and the toolchain."""
     version = subprocess.run([rt, "version"], stdout=subprocess.PIPE, text=True, check=True).stdout.strip()
     return f"{sources.checksum(crates)} {version}"
 
 
-def rlib(crate):
+def rlib(crate: str) -> str:
     """The library of a proved crate, in the copy."""
     return os.path.join(WORK, "crates", crate, "out", "rlib", f"{crate}.rlib")
 
 
-def keep_crates(rt, crates):
+def keep_crates(rt: str, crates: Iterable[str]) -> None:
     """Keeps the libraries of proved crates."""
     write(f"{KEPT}.sources", "")
     with tarfile.open(KEPT, "w") as archive:
@@ -60,12 +64,12 @@ def keep_crates(rt, crates):
     write(f"{KEPT}.sources", stamp(rt, crates))
 
 
-def is_kept(rt, crates):
+def is_kept(rt: str, crates: Iterable[str]) -> bool:
     """Whether these crates were kept, as proved from the present sources."""
     return os.path.exists(KEPT) and text_of(f"{KEPT}.sources") == stamp(rt, crates)
 
 
-def copy_sources(crates):
+def copy_sources(crates: dict[str, str]) -> None:
     """Makes a repository with only the crates of the program."""
     shutil.rmtree(WORK, ignore_errors=True)
     for crate in crates:
@@ -81,30 +85,30 @@ def copy_sources(crates):
 class Progress:
     """Prints which crates are proved, and every half minute the time since the start."""
 
-    def __init__(self, crates, tell):
+    def __init__(self, crates: dict[str, str], tell: Callable[[str], None]) -> None:
         self.count, self.tell, self.done = len(crates), tell, 0
         self.begun = self.told = time.monotonic()
 
-    def minutes(self):
+    def minutes(self) -> str:
         seconds = int(time.monotonic() - self.begun)
         return f"{seconds // 60} min {seconds % 60} s"
 
-    def say(self, news):
+    def say(self, news: str) -> None:
         self.told = time.monotonic()
         self.tell(f"{news}{self.done} of {self.count} crates proved after {self.minutes()}")
 
-    def line(self, text):
+    def line(self, text: str) -> None:
         found = re.match(r"rt: (\w+) (proved$|is kept: )", text)
         if found:
             self.done += 1
             self.say(f"{found[1]}; ")
 
-    def tick(self):
+    def tick(self) -> None:
         if time.monotonic() - self.told > QUIET_SECONDS:
             self.say("")
 
 
-def follow(process, progress, path):
+def follow(process: subprocess.Popen[bytes], progress: Progress, path: str) -> int:
     """Shows the progress of a running proof until it ends."""
     read = 0
     while True:
@@ -121,12 +125,12 @@ def follow(process, progress, path):
         time.sleep(0.2)
 
 
-def last_lines(path=LOG):
+def last_lines(path: str = LOG) -> str:
     with open(path, errors="replace") as log:
         return "".join(log.readlines()[-20:])
 
 
-def prove(rt, progress, path=LOG):
+def prove(rt: str, progress: Progress, path: str = LOG) -> int:
     """Runs `rt ci` over the copy, and returns its exit status. The file `path` gets what it prints."""
     with open(path, "wb") as log:
         process = subprocess.Popen([rt, "ci"], cwd=WORK, stdin=subprocess.DEVNULL, stdout=log, stderr=subprocess.STDOUT)
@@ -138,7 +142,7 @@ def prove(rt, progress, path=LOG):
         raise
 
 
-def build(rt, crates, tell, keep):
+def build(rt: str, crates: dict[str, str], tell: Callable[[str], None], keep: Callable[[str], None]) -> None:
     """Proves and builds the program. `keep` is called with its path, and must copy it."""
     progress = Progress(crates, tell)
     try:

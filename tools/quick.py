@@ -2,19 +2,22 @@
 
 This depends on how `rt try` works inside: it compiles a program for a test run and keeps nothing. So it is run from a
 folder of links to the toolchain in which `clang` is a script of ours. That script keeps the bitcode of the program and
-fails; then the toolchain's own clang and linker make the program from it. If any step fails, QuickBuildFailed says why,
-and the caller makes the proved build. tools/quick_library.py builds the C library in the same way.
+fails; then the toolchain's own clang and linker make the program from it. If any step fails, QuickBuildFailed has the
+reason, and the caller makes the proved build. tools/quick_library.py builds the C library in the same way.
 """
+
+from __future__ import annotations
 
 import os
 import shutil
 import subprocess
 import tempfile
 import time
+from typing import Callable, Iterable, Mapping, Optional
 
 import sources
 
-# The bitcode of a crate alone or of the runtime is smaller, that of the program is larger.
+# The bitcode of a single crate or of the runtime is smaller, that of the program is larger.
 LEAST_PROGRAM_BYTES = 4_000_000
 # Seconds between two lines of progress.
 QUIET_SECONDS = 10
@@ -33,24 +36,26 @@ exec "{kit}/toolchain/bin/clang" "$@"
 
 
 class QuickBuildFailed(Exception):
-    """There is no unproved program; the text says why."""
+    """There is no unproved program; the text has the reason."""
 
 
 class Steps:
-    """Runs the commands of a build, and prints every ten seconds which of its parts runs, and the time since the start."""
+    """Runs the commands of a build, and prints every ten seconds which of its parts runs, and the time since the
+    start.
+    """
 
-    def __init__(self, tell, crates, parts):
+    def __init__(self, tell: Callable[[str], None], crates: int, parts: int) -> None:
         self.tell, self.crates, self.begun = tell, crates, time.monotonic()
         self.parts, self.part = parts, 0  # how many parts the build has, and the number of the one that runs
 
-    def show(self, what):
+    def show(self, what: str) -> None:
         self.tell(f"part {self.part} of {self.parts}: {what}, {time.monotonic() - self.begun:.0f} s")
 
-    def begin(self, what):
+    def begin(self, what: str) -> None:
         self.part += 1
         self.show(what)
 
-    def run(self, what, words, log, cwd, env=None):
+    def run(self, what: str, words: list[str], log: str, cwd: str, env: Optional[Mapping[str, str]] = None) -> bool:
         """Runs a command, and returns whether it succeeded."""
         self.begin(what)
         with open(log, "ab") as file:
@@ -67,7 +72,7 @@ class Steps:
             raise
 
 
-def link_all(source, target, but):
+def link_all(source: str, target: str, but: Iterable[str]) -> None:
     """Links all entries of a folder, except the named ones, into a new folder."""
     os.makedirs(target)
     for name in os.listdir(source):
@@ -75,8 +80,10 @@ def link_all(source, target, but):
             os.symlink(os.path.join(source, name), os.path.join(target, name))
 
 
-def links_to(kit, work, least):
-    """A folder of links to the toolchain, with copies of `rt` and its library, which look for the toolchain next to them."""
+def links_to(kit: str, work: str, least: int) -> str:
+    """A folder of links to the toolchain, with copies of `rt` and its library, which look for the toolchain next to
+    them.
+    """
     top = os.path.join(work, "kit")
     link_all(kit, top, ("bin", "toolchain"))
     link_all(os.path.join(kit, "bin"), os.path.join(top, "bin"), ("rt", "rtlib.py"))
@@ -92,12 +99,12 @@ def links_to(kit, work, least):
     return os.path.join(top, "bin", "rt")
 
 
-def last_line(log):
+def last_line(log: str) -> str:
     with open(log, errors="replace") as file:
         return ([line.strip() for line in file if line.strip()] or ["nothing was printed"])[-1]
 
 
-def flags_of(work, kit):
+def flags_of(work: str, kit: str) -> list[str]:
     """The flags of the toolchain's own call of clang, with optimization and without the sanitizer."""
     with open(os.path.join(work, "flags")) as file:
         flags = file.read().splitlines()
@@ -105,12 +112,12 @@ def flags_of(work, kit):
     return ["-O1" if flag == "-O0" else flag for flag in changed if not flag.startswith("-fsanitize=")]
 
 
-def kit_of(rt):
+def kit_of(rt: str) -> str:
     """The folder of the toolchain that this `rt` belongs to."""
     return os.path.dirname(os.path.dirname(os.path.realpath(rt)))
 
 
-def make_bitcode(rt, crate, least, work, steps):
+def make_bitcode(rt: str, crate: str, least: int, work: str, steps: Steps) -> None:
     """Compiles the program of this crate's folder. Its bitcode is `module.bc` in the folder `work`, next to `flags`."""
     log = os.path.join(work, "log")
     try:
@@ -124,7 +131,7 @@ def make_bitcode(rt, crate, least, work, steps):
         raise QuickBuildFailed(f"`rt try` compiled no program: {last_line(log)}")
 
 
-def run_all(work, steps, commands):
+def run_all(work: str, steps: Steps, commands: Iterable[tuple[str, list[str]]]) -> None:
     """Runs commands in the folder `work`, each with what it does."""
     log = os.path.join(work, "log")
     for what, command in commands:
@@ -132,7 +139,7 @@ def run_all(work, steps, commands):
             raise QuickBuildFailed(f"{os.path.basename(command[0])} failed: {last_line(log)}")
 
 
-def build(rt, target, steps):
+def build(rt: str, target: str, steps: Steps) -> None:
     """Builds the program without proof as the file `target`."""
     kit = kit_of(rt)
     os.makedirs(os.path.dirname(target), exist_ok=True)

@@ -2,20 +2,23 @@
 
 `rt try` compiles programs only. So this copies the crates of the library, and makes a program of the one that has the
 exports: its `main` calls each export. In the program's code, in LLVM's text form, each export then gets its name for C,
-and `main` is hidden. If any step fails, QuickBuildFailed says why.
+and `main` is hidden. If any step fails, QuickBuildFailed has the reason.
 """
+
+from __future__ import annotations
 
 import glob
 import os
 import re
 import shutil
 import tempfile
+from typing import Iterable
 
 import sources
-from quick import QuickBuildFailed, flags_of, kit_of, make_bitcode, run_all
+from quick import QuickBuildFailed, Steps, flags_of, kit_of, make_bitcode, run_all
 
 NAME = sources.LIBRARY
-# The bitcode of a crate alone or of the runtime is smaller, that of the library is larger.
+# The bitcode of a single crate or of the runtime is smaller, that of the library is larger.
 LEAST_LIBRARY_BYTES = 300_000
 EXPORT = re.compile(r'^pub extern "C" fn (\w+)\(\s*(.*?),?\s*\)', re.M | re.S)
 HANDLE = "&mut Nic"
@@ -50,17 +53,17 @@ pub(crate) fn end(owner: Owner) {
 """
 
 
-def read(path):
+def read(path: str) -> str:
     with open(path) as file:
         return file.read()
 
 
-def write(path, text):
+def write(path: str, text: str) -> None:
     with open(path, "w") as file:
         file.write(text)
 
 
-def exports(text):
+def exports(text: str) -> dict[str, list[str]]:
     """The names of the exports, each with the types of its parameters."""
     found = {name: [part.split(": ")[1] for part in re.split(r",\s+", parameters)]
              for name, parameters in EXPORT.findall(text)}
@@ -70,12 +73,13 @@ def exports(text):
     return found
 
 
-def values_of(types):
+def values_of(types: list[str]) -> list[str]:
     """A value for each of these types of parameters. A second handle is another one."""
-    return ["&mut other" if kind == HANDLE and HANDLE in types[:place] else VALUES[kind] for place, kind in enumerate(types)]
+    return ["&mut other" if kind == HANDLE and HANDLE in types[:place] else VALUES[kind]
+            for place, kind in enumerate(types)]
 
 
-def copy(crates, top):
+def copy(crates: dict[str, str], top: str) -> tuple[str, list[str]]:
     """Copies the crates, that of the exports as a program. Returns its folder, and the names of the exports."""
     for crate in crates:
         shutil.copytree(os.path.join(sources.CRATES, crate), os.path.join(top, "crates", crate),
@@ -96,7 +100,7 @@ def copy(crates, top):
     return folder, list(found)
 
 
-def exported(text, names):
+def exported(text: str, names: Iterable[str]) -> str:
     """The code with the names of the exports for C, and without a `main` for others."""
     for name in names:
         inner = rf'@"{NAME}::(?:\w+::)?{name}"\('
@@ -107,7 +111,7 @@ def exported(text, names):
     return re.sub(r"^define (.*@main\()", r"define internal \1", text, flags=re.M)
 
 
-def build(rt, crates, target, steps):
+def build(rt: str, crates: dict[str, str], target: str, steps: Steps) -> None:
     """Builds the object of the library without proof as the file `target`."""
     kit = kit_of(rt)
     clang = os.path.join(kit, "toolchain", "bin", "clang")

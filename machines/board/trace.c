@@ -14,7 +14,22 @@ enum { WORDS = 4, FLUSH = 1 << 16, TEXT = 120, MARK = 16, UDP_PORT = 36, DATA = 
 
 /* What was recorded. The meaning of the words is in `print_event`. */
 struct event {
-    enum event_kind { READ, WRITE, LOAD, STORE, POKE, STEP, ARRIVAL, SENT, LINE, LOST, VERDICT, ROUND, RING } kind;
+    enum event_kind {
+        READ,
+        WRITE,
+        LOAD,
+        STORE,
+        POKE,
+        STEP,
+        ARRIVAL,
+        SENT,
+        LINE,
+        LOST,
+        VERDICT,
+        ROUND,
+        RX_RING,
+        TX_RING
+    } kind;
     uint32_t drawn;
     uint64_t words[WORDS];
 };
@@ -25,6 +40,8 @@ static FILE *all;
 static bool in_round;
 static uint32_t drawn;
 static char settings[TEXT];
+/* The rings as they were recorded last */
+static struct ring receive_before, transmit_before;
 
 static void record(enum event_kind kind, uint64_t first, uint64_t second, uint64_t third, uint64_t fourth)
 {
@@ -85,8 +102,10 @@ static void print_event(FILE *file, const struct event *event)
     case ROUND:
         fprintf(file, "round %" PRIu64 " %s\n", word[0], settings);
         break;
-    case RING:
-        fprintf(file, "ring %" PRIx64 " %" PRIu64 " %" PRIu64 " %" PRIu64 "\n", word[0], word[1], word[2], word[3]);
+    case RX_RING:
+    case TX_RING:
+        fprintf(file, "ring %s %" PRIx64, event->kind == RX_RING ? "rx" : "tx", word[0]);
+        fprintf(file, " %" PRIu64 " %" PRIu64 " %" PRIu64 "\n", word[1], word[2], word[3]);
         break;
     default:
         print_access(file, event);
@@ -111,9 +130,25 @@ void trace_to(FILE *file)
     all = file;
 }
 
-static void record_ring(const struct ring *ring)
+static void record_ring(enum event_kind kind, const struct ring *ring, struct ring *before)
 {
-    record(RING, ring->base, ring->bytes, ring->head, ring->tail);
+    *before = *ring;
+    record(kind, ring->base, ring->bytes, ring->head, ring->tail);
+}
+
+static bool differs(const struct ring *one, const struct ring *other)
+{
+    return one->base != other->base || one->bytes != other->bytes || one->head != other->head ||
+           one->tail != other->tail;
+}
+
+/* Records the rings that have changed, after the step or the access that changed them. */
+static void record_changes(void)
+{
+    if (differs(&receive_ring, &receive_before))
+        record_ring(RX_RING, &receive_ring, &receive_before);
+    if (differs(&transmit_ring, &transmit_before))
+        record_ring(TX_RING, &transmit_ring, &transmit_before);
 }
 
 void trace_begin(uint32_t round, const char *text)
@@ -122,8 +157,8 @@ void trace_begin(uint32_t round, const char *text)
     snprintf(settings, sizeof settings, "%s", text);
     in_round = true;
     record(ROUND, round, 0, 0, 0);
-    record_ring(&receive_ring);
-    record_ring(&transmit_ring);
+    record_ring(RX_RING, &receive_ring, &receive_before);
+    record_ring(TX_RING, &transmit_ring, &transmit_before);
 }
 
 void trace_write(const char *path)
@@ -145,6 +180,7 @@ void trace_drawn(uint32_t number)
 void trace_register(bool is_write, uint32_t offset, uint32_t value)
 {
     record(is_write ? WRITE : READ, offset, value, 0, 0);
+    record_changes();
 }
 
 void trace_memory(const struct access_record *access)
@@ -160,6 +196,7 @@ void trace_poke(void)
 void trace_step(enum kind kind, enum outcome outcome, uint32_t slot)
 {
     record(STEP, kind, outcome, slot, 0);
+    record_changes();
 }
 
 void trace_arrival(enum fate fate, uint32_t number, const uint8_t *frame, uint32_t size)

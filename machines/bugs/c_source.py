@@ -1,6 +1,9 @@
 """Changes a C source at places that are found by names."""
 
+from __future__ import annotations
+
 import re
+from typing import Callable
 
 IGNORED = re.compile(r"/\*.*?\*/|//[^\n]*|\"(?:\\.|[^\"\\])*\"|'(?:\\.|[^'\\])*'", re.S)
 PAIRS = {"(": ")", "{": "}"}
@@ -10,12 +13,12 @@ class NotFound(Exception):
     """The source has no such place, or more than one."""
 
 
-def without_comments(text):
+def without_comments(text: str) -> str:
     """The text with spaces in the place of comments, strings and characters."""
     return IGNORED.sub(lambda found: re.sub(r"[^\n]", " ", found[0]), text)
 
 
-def end_of_group(text, begin):
+def end_of_group(text: str, begin: int) -> int:
     """The place after the bracket that closes the one at `begin`."""
     depth, opening = 0, text[begin]
     for at in range(begin, len(text)):
@@ -28,10 +31,10 @@ def end_of_group(text, begin):
 class Source:
     """A C source."""
 
-    def __init__(self, text):
+    def __init__(self, text: str) -> None:
         self.text = text
 
-    def function(self, name):
+    def function(self, name: str) -> tuple[int, int]:
         """The begin and the end of a function's body."""
         code = without_comments(self.text)
         for found in re.finditer(rf"\b{name}\s*\(", code):
@@ -42,7 +45,7 @@ class Source:
                 return begin, end_of_group(code, begin)
         raise NotFound(f"there is no function {name}")
 
-    def place(self, function, pattern):
+    def place(self, function: str, pattern: str) -> tuple[int, int]:
         """The begin and the end of the only place in a function that matches a pattern."""
         begin, end = self.function(function)
         found = list(re.finditer(pattern, without_comments(self.text)[begin:end]))
@@ -50,26 +53,26 @@ class Source:
             raise NotFound(f"{function} has {len(found)} places for {pattern}")
         return begin + found[0].start(), begin + found[0].end()
 
-    def replace(self, begin, end, text):
+    def replace(self, begin: int, end: int, text: str) -> None:
         self.text = self.text[:begin] + text + self.text[end:]
 
-    def remove(self, function, pattern):
+    def remove(self, function: str, pattern: str) -> None:
         self.replace(*self.place(function, pattern), "")
 
-    def insert_before(self, function, pattern, text):
+    def insert_before(self, function: str, pattern: str, text: str) -> None:
         begin, _ = self.place(function, pattern)
         self.replace(begin, begin, f"{text}\n")
 
-    def insert_after(self, function, pattern, text):
+    def insert_after(self, function: str, pattern: str, text: str) -> None:
         _, end = self.place(function, pattern)
         self.replace(end, end, f"\n{text}")
 
-    def begin(self, function, text):
+    def begin(self, function: str, text: str) -> None:
         """Inserts declarations at the begin of a function."""
         begin, _ = self.function(function)
         self.replace(begin + 1, begin + 1, f"\n{text}")
 
-    def change_condition(self, function, name, change):
+    def change_condition(self, function: str, name: str, change: Callable[[str], str]) -> None:
         """Changes the condition of the only loop `while` in a function whose condition has a name."""
         begin, end = self.function(function)
         code = without_comments(self.text)

@@ -1,5 +1,6 @@
-/* Memory that the board shares with the plugin, which reports the accesses of the driver to the rings there. A step
- * of the adapter commutes with the driver's accesses of other memory, so that it needs no place between two of those.
+/* Memory that the board shares with the plugin, which reports the accesses of the driver to the rings there. A step of
+ * the adapter uses no other memory but the buffers of offered slots. No steps are played between two accesses to other
+ * memory.
  */
 #ifndef ACCESSES_H
 #define ACCESSES_H

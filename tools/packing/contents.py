@@ -31,7 +31,7 @@ exec /usr/bin/python3 /usr/share/nicbench/tools/races "$@"
 
 
 def add_site(tree):
-    """Adds the site. It is made without the toolchain's sources, so it depends on the repository alone."""
+    """Adds the site. It is made without the toolchain's sources, so it depends only on the repository."""
     with tempfile.TemporaryDirectory() as folder:
         make_site(folder, "")
         os.remove(os.path.join(folder, MARK))

@@ -27,7 +27,8 @@ LIBRARY = [
     (f"NIC82540EM_LIB=lib PYTHONPATH=bindings/python {PYTHON}", CAUSES),
     (f"{HERE}; cc -O0 -o stages {STAGES.format('examples/explore')} {EXPLORER}", ""),
     ("./stages right --explore 2", EXPLORED),
-    ("./nicbench run --events events examples/reset.scenario . && tools/run_chart examples/reset.scenario events", None),
+    ("./nicbench run --events events examples/reset.scenario . && tools/run_chart examples/reset.scenario events",
+     None),
 ]
 PACKAGE = [
     ("nicbench show /usr/share/nicbench/examples/empty.pcap", "frames 0 skipped 0 cut no\n"),
@@ -79,7 +80,9 @@ def play(root, played, tell):
 
 
 def play_archive(path, tell):
-    """Unpacks an archive, and plays its README and its library: how many commands were played, and whether in a root."""
+    """Unpacks an archive, and plays its README and its library: how many commands were played, and whether in a
+    root.
+    """
     with tempfile.TemporaryDirectory() as folder:
         with tarfile.open(path) as archive:
             archive.extractall(folder)

@@ -44,7 +44,7 @@ def dedent(tokens: list) -> list:
 
 
 def row(left: str, right: str, css: str = "", identity: str = "", below: str = "") -> str:
-    """A comment beside its text; `below` spans both columns."""
+    """A comment next to its text; `below` spans both columns."""
     place = f' id="{html.escape(identity, True)}"' if identity else ""
     below = f'<div class="below">{below}</div>' if below else ""
     return f'<div class="row{css}"{place}><div class="say">{left}</div><div class="show">{right}</div>{below}</div>'
@@ -122,7 +122,7 @@ class Blocks:
     # Functions
 
     def function_rows(self, page, function, comment: str, after=nothing_below) -> str:
-        """The rows of a function: a comment beside its signature, its clauses with their headings and edits, and the
+        """The rows of a function: a comment next to its signature, its clauses with their headings and edits, and the
         edits of the whole contract."""
         signature, clauses = self.site.linked(function)
         page.skip = set(re.findall(r"(\w+)\s*:", function.text)) | {"self", "result", "true", "false"}
@@ -150,7 +150,8 @@ class Blocks:
         """The functions that make a call twice, and so prove that its contract determines its outcome."""
         links = [f'<a href="{page.relative(one.url)}"><code>{one.crate}::{html.escape(one.name)}</code></a>'
                  for one in self.site.twice_of.get(function, [])]
-        shown = edits_link(page, "A contract that determines the outcome", "What two calls from equal states have in common")
+        shown = edits_link(page, "A contract that determines the outcome",
+                           "What two calls from equal states have in common")
         return f'<p class="outcome">{shown}: {", ".join(links)}.</p>' if links else ""
 
     def function_section(self, page, function) -> str:
@@ -205,7 +206,8 @@ class Blocks:
             if member.kind in ("ghost", "fn") and member.module is item.module:
                 linked = self.site.linked(member)
                 said = self.prose.block(page, member.comment, member.scope or item.module.scope, item)
-                out += row(said, self.site.code(page, dedent(linked if member.kind == "ghost" else linked[0])), " field")
+                out += row(said, self.site.code(page, dedent(linked if member.kind == "ghost" else linked[0])),
+                           " field")
         return out
 
     def item_section(self, page, item) -> str:

@@ -81,8 +81,9 @@ class DocPages:
         return found
 
     def file(self, text: str):
-        """The file of a crate that a text names, such as `driver/src/init.rt`, `driver/specs/Looks` or `driver/Looks`, or
-        None."""
+        """The file of a crate that a text names, such as `driver/src/init.rt`, `driver/specs/Looks` or `driver/Looks`,
+        or None.
+        """
         crate, _, rest = text.partition("/")
         found = [self.modules.get(f"crates/{crate}/{path}") for path in (rest, f"{rest}.antt", f"specs/{rest}.antt")]
         return next((module for module in found if module is not None), None) if rest else None

@@ -1,7 +1,7 @@
 """Edits that the prover must refuse: crates/CRATE/must-fail/EDIT.edit.
 
-Besides what `rt` reads, an edit has two lines: `rule: TEXT` is the rule that it shows, and `of: CALL, ..` names the
-public calls or types whose contracts state the rule. `CALL/CLAUSE` also names the clause.
+Besides what `rt` reads, an edit has two lines. `rule: TEXT` is the rule that it shows. `of: CALL, ..` names the public
+calls or types whose contracts state the rule. `CALL/CLAUSE` also names the clause.
 """
 
 import os

@@ -17,7 +17,7 @@ Token = tuple
 
 
 class Context:
-    """What is known where a text stands."""
+    """What is known at the place of a text."""
 
     def __init__(self, scope, user=None, types=None, generics=None, own=None):
         # The types of local names; the bounds of type parameters; the fields of the record that the text is part of.

@@ -28,8 +28,9 @@ def cells(line: str) -> list[str]:
 
 
 class Markdown:
-    """Makes HTML of a page. `code(text, line)` makes HTML of a text in backticks in a row of a table or another line, and
-    `link(target, html)` of a link."""
+    """Makes HTML of a page. `code(text, line)` makes HTML of a text in backticks in a row of a table or another line,
+    and `link(target, html)` of a link.
+    """
 
     def __init__(self, code, link):
         self.code, self.link, self.row = code, link, ""
@@ -84,13 +85,15 @@ class Markdown:
         elif line.startswith(">"):
             while end < len(lines) and lines[end].startswith(">"):
                 end += 1
-            out.append(f"<blockquote>{self.page(chr(10).join(part[1:].strip() for part in lines[at:end]))}</blockquote>")
+            quoted = "\n".join(part[1:].strip() for part in lines[at:end])
+            out.append(f"<blockquote>{self.page(quoted)}</blockquote>")
         elif ITEM.match(line):
             while end < len(lines) and (lines[end].startswith(" ") or ITEM.match(lines[end])):
                 end += 1
             out.append(self.items(lines[at:end]))
         else:
-            while end < len(lines) and lines[end].strip() and not re.match(r"#{1,6} |```|\||>|[-*] |\d+\. ", lines[end]):
+            while end < len(lines) and lines[end].strip() and not re.match(r"#{1,6} |```|\||>|[-*] |\d+\. ",
+                                                                           lines[end]):
                 end += 1
             out.append(f"<p>{self.inline(' '.join(part.strip() for part in lines[at:end]))}</p>")
         return end

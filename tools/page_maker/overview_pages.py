@@ -107,8 +107,9 @@ class OverviewPages:
     # The first page
 
     def first_page(self, statements: list, docs):
-        """The statements, what isn't proved, the pages, and the crates by layer. `statements`: the address, the call, the
-        title and the number of definitions of each."""
+        """The statements, what isn't proved, the pages, and the crates by layer. `statements`: the address, the call,
+        the title and the number of definitions of each.
+        """
         page = Page("index.html")
         body = ['<h1>nicbench</h1><p class="sentence">A driver, a model of the Intel 82540EM, and networks of them. '
                 "Every function is proved. Each word of a contract here is a link to its definition.</p>",
@@ -119,7 +120,8 @@ class OverviewPages:
             said = re.sub(r"`([^`]*)`", r"<code>\1</code>", html.escape(plain))
             body.append(f'<a class="card" href="{url}"><b>{html.escape(title)}</b><p>{said}</p>'
                         f"<small>{html.escape(function.full())} · {count} definitions</small></a>")
-        body.append(f'</div><h2>What isn\'t proved</h2><div class="intro page">{docs.limits(page)}</div><h2>Crates</h2>')
+        limits = f'<div class="intro page">{docs.limits(page)}</div>'
+        body.append(f"</div><h2>What isn't proved</h2>{limits}<h2>Crates</h2>")
         for layer, crates in self.repository.layers:
             body.append(f"<h3>{html.escape(layer)}</h3>" if layer else "")
             body.append('<dl class="crates">')

@@ -1,9 +1,9 @@
 """Definitions that Markdown pages quote from specs.
 
-A quote is between the lines `<!-- words quoted by tools/pages --tables: NAMES -->` and `<!-- end of quote -->`, and is
-a table of the words with their comments; with `code` in place of `words`, it is the text of the definitions. NAMES are
-words such as `wire/Equations: Delivers HostStands`, for definitions of wire/specs/Equations.antt. A field is
-`Delivers.sent_is_accepted`. A name that isn't there, or for a table one without a comment, is an error.
+A quote is between the lines `<!-- words quoted by tools/pages --tables: NAMES -->` and `<!-- end of quote -->`. It is a
+table of the words with their comments; with `code` in place of `words`, it is the text of the definitions. NAMES are
+words such as `wire/Equations: MeetsEquations HostStands`, for definitions of wire/specs/Equations.antt. A field is
+`MeetsEquations.sent_is_accepted`. A name that isn't there, or for a table one without a comment, is an error.
 """
 
 import re

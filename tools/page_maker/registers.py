@@ -188,20 +188,6 @@ def report_order(register: Register) -> tuple:
     return (register.step, of_ring, register.offset) if register.step < 8 else (8, False, register.offset)
 
 
-def finder_names(repository) -> str:
-    """The names of registers by offset, and of causes by place, for the finder of races."""
-    items = []
-    for register in sorted(registers(repository), key=report_order):
-        place = f"0x{register.offset:04X}"
-        if register.count == 1:
-            items.append(f'{place}: "{register.name}"')
-        else:
-            loop = f"for n in range({register.count})"
-            items.append(f'**{{{place} + {register.step} * n: f"{register.name}[{{n}}]" {loop}}}')
-    bits = ", ".join(f'{place}: "{name}"' for name, place in causes(repository))
-    return f"REGISTERS = {{\n{wrapped(items, '    ')}}}\nCAUSES = {{{bits}}}\n"
-
-
 def emulator_names(repository) -> str:
     """The offsets of single registers by name, and of arrays with steps and counts, for the comparison of models."""
     rows = registers(repository)

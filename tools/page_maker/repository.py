@@ -102,7 +102,7 @@ class Repository:
                 self.rust_names.setdefault((module.crate, definition.name), []).append(definition)
 
     def adopt(self, module: Module):
-        """Gives the members of an `impl` in another file than its type to the type."""
+        """Adds the members of an `impl` in another file than its type to the type."""
         for definition in module.all:
             outer = definition.owner
             if outer is None or outer.kind != "outer":

@@ -69,7 +69,7 @@ class Site:
         return self.tokens[definition]
 
     def link_all(self):
-        """Links all definitions of the repository, and gives addresses to all that the site shows."""
+        """Links all definitions of the repository, and sets the addresses of all that the site shows."""
         for module in self.repository.own():
             for definition in module.all:
                 if not module.rust or definition.kind in ("fn", "ghost"):
@@ -94,7 +94,7 @@ class Site:
         return f"{module.crate}/code/{self.address(module).split('/', 1)[1]}"
 
     def assign(self, module):
-        """Gives each definition of a module its address."""
+        """Sets the address of each definition of a module."""
         taken = set()
         module.url = self.address(module)
         for definition in module.all:

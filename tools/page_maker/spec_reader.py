@@ -64,7 +64,7 @@ class SpecReader:
         self.flush()
 
     def flush(self):
-        """Ends a comment that stands by itself."""
+        """Ends a comment that is a paragraph of its own."""
         if self.pending:
             text = comment_text(self.pending)
             self.module.chunks.append(("prose", text))

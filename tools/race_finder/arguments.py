@@ -1,7 +1,10 @@
 """The arguments of the finder: its options and their values, which of them go together, and COMMAND."""
 
+from __future__ import annotations
+
 import os
 import re
+from typing import Any, Dict, Iterable, Optional, Tuple, TypedDict, cast
 
 from race_finder.explore import Window
 from race_finder.jobs import MOST_JOBS, processors
@@ -10,21 +13,30 @@ from race_finder.store import check
 
 TOP = os.path.dirname(os.path.dirname(os.path.dirname(os.path.abspath(__file__))))
 DEEPEST = 100  # of --pct
-NUMBERS = {"runs": 1000, "seed": 1, "first": 800, "explore": None, "smaller": 1000, "seconds": 10, "jobs": processors(),
-           "pct": None}
-TEXTS = {"server": os.path.join(TOP, ".build", "nicbench"), "options": None, "out": None, "replay": None, "shrink": None,
-         "shard": "1/1", "from": None, "to": None, "rows": "near"}
+NUMBERS: Dict[str, Optional[int]] = {
+    "runs": 1000, "seed": 1, "first": 800, "explore": None, "smaller": 1000, "seconds": 10, "jobs": processors(),
+    "pct": None}
+TEXTS: Dict[str, Optional[str]] = {
+    "server": os.path.join(TOP, ".build", "nicbench"), "options": None, "out": None, "replay": None, "shrink": None,
+    "shard": "1/1", "from": None, "to": None, "rows": "near"}
 FLAGS = ("holds", "any-access", "by-name", "reached", "json", "apart", "no-digest", "all")
 OF_SEARCH = ("explore", "pct", "all")  # those that a given schedule doesn't go with
+# The values of all options
+Options = TypedDict("Options", {
+    "runs": int, "seed": int, "first": int, "explore": Optional[int], "smaller": int, "seconds": int, "jobs": int,
+    "pct": Optional[int], "server": str, "options": Optional[str], "out": Optional[str], "replay": Optional[str],
+    "shrink": Optional[str], "shard": Tuple[int, int], "from": Optional[str], "to": Optional[str], "rows": str,
+    "window": Window, "holds": bool, "any-access": bool, "by-name": bool, "reached": bool, "json": bool, "apart": bool,
+    "no-digest": bool, "all": bool})
 
 
 class UsageError(Exception):
     """The arguments are invalid."""
 
 
-def arguments_of(words):
+def arguments_of(words: Iterable[str]) -> tuple[Options, list[str]]:
     """The values of all options, and the command."""
-    given = {**NUMBERS, **TEXTS, **dict.fromkeys(FLAGS, False)}
+    given: dict[str, Any] = {**NUMBERS, **TEXTS, **dict.fromkeys(FLAGS, False)}
     words = list(words)
     while words and words[0] != "--":
         option, separator, value = words.pop(0).partition("=")
@@ -48,10 +60,10 @@ def arguments_of(words):
     if len(words) < 2:
         raise UsageError("no COMMAND after '--'")
     check_values(given)
-    return given, words[1:]
+    return cast(Options, given), words[1:]
 
 
-def check_values(given):
+def check_values(given: dict[str, Any]) -> None:
     """Checks values, and which options go together. Replaces the texts of the shard and the window."""
     if not 1 <= given["jobs"] <= MOST_JOBS:
         raise UsageError(f"--jobs: use a number from 1 to {MOST_JOBS}")
@@ -73,20 +85,21 @@ def check_values(given):
         raise UsageError("--from and --to: use them with --explore")
 
 
-def window_of(*texts):
+def window_of(*texts: Optional[str]) -> Window:
     """The places from the one with the first text to that with the second one."""
     places = []
     for name, text in zip(("from", "to"), texts):
         try:
-            places.append(text and place_of(text))
+            places.append(place_of(text) if text else None)
         except ScheduleError as error:
             raise UsageError(f"--{name}: {error}") from None
-    if all(places) and places[1] < places[0]:
-        raise UsageError(f"--from: {places[0]} is after {places[1]}")
-    return Window(*places)
+    first, last = places
+    if first and last and last < first:
+        raise UsageError(f"--from: {first} is after {last}")
+    return Window(first, last)
 
 
-def shard_of(text):
+def shard_of(text: str) -> tuple[int, int]:
     """The pair (K, N) of a text K/N."""
     found = re.fullmatch("([0-9]{1,9})/([0-9]{1,9})", text)
     shard = (int(found[1]), int(found[2])) if found else (0, 0)
@@ -95,7 +108,7 @@ def shard_of(text):
     return shard
 
 
-def check_out(path):
+def check_out(path: Optional[str]) -> None:
     """Before a search: checks that its result can be stored."""
     try:
         if path:

@@ -3,11 +3,18 @@
 `chart_of` returns the rows of a chart, from which `chart` here makes a text, and svg.py a picture.
 """
 
-from typing import NamedTuple
+from __future__ import annotations
 
-from race_finder.names import SLOT, access_of, fields_of, number_in, value_in
+from typing import TYPE_CHECKING, Dict, NamedTuple, Optional, Sequence, Tuple
+
+from race_finder.names import SLOT, Access, access_of, fields_of, is_register, number_in, value_in
+from race_finder.rings import Ring
 from race_finder.talk import DEVIATION
-from race_finder.shadow import Shadow
+
+if TYPE_CHECKING:
+    from race_finder.requests import LogRow, Row
+    from race_finder.rings import Both
+    from race_finder.run import Run
 
 # Rows that are shown: before and after a deviation, at the end, later ones of a slot, and of a run without a deviation.
 BEFORE, AFTER, LAST, LATER, ALONE = 4, 6, 6, 3, 20
@@ -20,29 +27,37 @@ NARROW = 2
 
 class ChartRow(NamedTuple):
     """A row of a chart: its texts by column, and the columns where its arrow begins and ends (None if it has none)."""
-    cells: dict
-    arrow: tuple = None
+    cells: Dict[str, str]
+    arrow: Optional[Tuple[str, str]] = None
 
 
-def bytes_in(value, size):
+def bytes_in(value: int, size: int) -> str:
     """Some bytes, in the order of memory. A little of them is shown if there are many."""
     text = value.to_bytes(size, "little").hex()
     return text if len(text) <= SHORT else text[:SHORT - 8] + ".."
 
 
-def memory_text(name, size, value):
+def memory_text(name: str, size: int, value: int | None) -> str:
     """An access of memory: its place, and the fields of a descriptor, or bytes."""
     fields = fields_of(name, size, value) if value is not None else None
     shown = f" {bytes_in(value, size)}" if value is not None and size else ""
     return f"{name} {fields}" if fields else f"{name}, {size} bytes{':' if shown else ''}{shown}"
 
 
-def of_access(row):
+def access_in(row: LogRow) -> tuple[Access, str, str]:
+    """The access of a row that has one, its kind, and the name of what it goes to."""
+    access = access_of(row.line[2:])
+    assert access and row.name, row.line
+    kind, _, name = row.name.partition(" ")
+    return access, kind, name
+
+
+def of_access(row: LogRow) -> ChartRow:
     """The row of an access: what the driver does, and a register, or memory."""
-    access, name = access_of(row.line[2:]), row.name.partition(" ")[2]
+    access, _, name = access_in(row)
     is_write = access.kind == "write"
     value = access.value if is_write else number_in(access, row.answer)
-    if name[0].isupper() or name.startswith("register"):
+    if is_register(name):
         column, text = "registers", name if value is None else f"{name} {value_in(name, value)}"
     else:
         column, text = "memory", memory_text(name, access.size, value)
@@ -50,7 +65,7 @@ def of_access(row):
     return ChartRow(cells, ("driver", column) if is_write else (column, "driver"))
 
 
-def of_step(row, head):
+def of_step(row: LogRow, head: str | None) -> ChartRow:
     """The row of a step: its outcome, what it does to memory, and the head of a ring if the head has moved."""
     _, _, kind, _, outcome = row.line.split(" ")
     cells = {"adapter": f"{kind} {outcome}", **({"registers": head} if head else {})}
@@ -65,15 +80,17 @@ def of_step(row, head):
     return ChartRow({**cells, "memory": text}, ("adapter", "memory"))
 
 
-def frame_text(digits):
+def frame_text(digits: str) -> str:
     """A frame: its size, and its last bytes, by which frames can be told apart."""
     return f"{len(digits) // 2} bytes, ..{digits[-4:]}"
 
 
-def chart_row_of(row, head):
+def chart_row_of(row: Row, head: str | None) -> ChartRow | None:
     """The row of a chart for a row of the log, or None if there is nothing to show."""
     if row.place:
         return of_access(row)
+    if row.line.startswith("# choose "):
+        return ChartRow({"place": str(row.begins), "driver": f"{row.line[2:]}: {int(row.answer or '0', 0)}"})
     shown = of_event(row, head)
     if row.begins:
         request = {"place": str(row.begins), "driver": row.line.split(" ")[1]}
@@ -81,7 +98,7 @@ def chart_row_of(row, head):
     return shown
 
 
-def of_event(row, head):
+def of_event(row: Row, head: str | None) -> ChartRow | None:
     """The row of what isn't an access, or None if there is nothing to show."""
     words = row.line.split(" ")
     if words[0] == "IRQ":
@@ -99,27 +116,19 @@ def of_event(row, head):
     return None if row.begins else ChartRow({"adapter": row.line[2:]})
 
 
-def head_after(shadow, row):
-    """Follows the registers of the rings. Returns the head that this row moves, such as `RDH 0x2`, or None."""
-    words = row.line.split(" ")
-    if row.place:
-        access, (kind, name) = access_of(row.line[2:]), row.name.split(" ", 1)
-        if kind == "write":
-            shadow.write(name, access.value)
+def moved_head(row: LogRow, before: Both) -> str | None:
+    """The head that a step moves, such as `RDH 0x2`, or None. The rings before it are given."""
+    if not row.line.startswith("# step "):
         return None
-    if words[:2] != ["#", "step"]:
-        return None
-    heads = {name: shadow.registers[name] for name in ("RDH", "TDH")}
-    shadow.step(words[2], words[4])
-    moved = (name for name, head in heads.items() if shadow.registers[name] != head)
-    return next((f"{name} {shadow.registers[name]:#x}" for name in moved), None)
+    both = zip(("RDH", "TDH"), row.rings, before)
+    return next((f"{name} {now.head:#x}" for name, now, was in both if now.head != was.head), None)
 
 
-def rows_of(run):
+def rows_of(run: Run) -> list[ChartRow]:
     """All rows of a chart, with stars and with the bar of the interrupt line."""
-    rows, is_up, shadow = [], False, Shadow()
+    rows, is_up, before = [], False, (Ring(), Ring())
     for row in run.rows:
-        shown = chart_row_of(row, head_after(shadow, row))
+        shown, before = chart_row_of(row, moved_head(row, before)), row.rings
         if shown is None:
             continue
         if row.line.startswith("IRQ"):
@@ -130,30 +139,30 @@ def rows_of(run):
     return rows
 
 
-def slot_of(row):
+def slot_of(row: ChartRow) -> str | None:
     """The slot of a ring in a row, or None."""
     found = SLOT.search(row.cells.get("memory", ""))
     return found[0].partition("+")[0] if found else None
 
 
-def later_rows(rows, star):
+def later_rows(rows: list[ChartRow], star: int) -> list[int]:
     """The first rows in which the slot that is accessed after a deviation is used otherwise than near the deviation."""
     access = next((row for row in rows[star:] if "place" in row.cells), None)
     slot = access and slot_of(access)
-    uses = {}  # the first row of each use
+    uses: dict[str, int] = {}  # the first row of each use
     for at, row in enumerate(rows[star:], star):
         if slot and slot_of(row) == slot:
             uses.setdefault(row.cells["memory"], at)
     return [at for at in uses.values() if at >= star + AFTER][:LATER]
 
 
-def last_rows(rows):
+def last_rows(rows: list[ChartRow]) -> list[int]:
     """The last rows; of rows that differ only in their places, only the last one."""
     texts = [{**row.cells, "place": ""} for row in rows]
-    return [at for at in range(max(0, len(rows) - LAST), len(rows)) if texts[at] != (texts[at + 1:] or [None])[0]]
+    return [at for at in range(max(0, len(rows) - LAST), len(rows)) if texts[at:at + 1] != texts[at + 1:at + 2]]
 
 
-def cut(rows):
+def cut(rows: list[ChartRow]) -> list[ChartRow]:
     """From some rows before the first deviation to the end; of long parts without a deviation, only a few rows."""
     stars = [at for at, row in enumerate(rows) if row.cells[""]]
     first = stars[0] - BEFORE if stars else len(rows) - ALONE
@@ -169,22 +178,22 @@ def cut(rows):
     return shown
 
 
-def chart_of(run, is_whole=False):
+def chart_of(run: Run, is_whole: bool = False) -> list[ChartRow]:
     """The rows that a run's chart shows, without the heading: all of them, or those near deviations and at the end."""
     rows = rows_of(run)
     return rows if is_whole else cut(rows)
 
 
-def end_of(run):
+def end_of(run: Run) -> str:
     """The line after the rows of a chart."""
     return run.fault or "The test passes."
 
 
-def gap_after(column):
+def gap_after(column: str) -> int:
     return NARROW if column in ("", "place", "wire", "line") else ROOM
 
 
-def layout(rows, columns=COLUMNS):
+def layout(rows: list[ChartRow], columns: Sequence[str] = COLUMNS) -> tuple[dict[str, int], int]:
     """Where each column of some rows begins, and where the last one ends, in characters."""
     starts, at = {}, 0
     for column in columns:
@@ -193,14 +202,15 @@ def layout(rows, columns=COLUMNS):
     return starts, at
 
 
-def arrow_ends(row, starts):
+def arrow_ends(row: ChartRow, starts: dict[str, int]) -> tuple[int, int, bool]:
     """The characters from which to which the arrow of a row goes, and whether it points to the right."""
-    left, right = sorted(row.arrow, key=starts.get)
+    assert row.arrow
+    left, right = sorted(row.arrow, key=lambda column: starts[column])
     text = row.cells.get(left, "")
     return starts[left] + (len(text) + 1 if text else 0), starts[right] - 1, row.arrow[1] == right
 
 
-def line_of(row, starts):
+def line_of(row: ChartRow, starts: dict[str, int]) -> str:
     """The line of a row."""
     line = ""
     for column in starts:
@@ -212,13 +222,13 @@ def line_of(row, starts):
     return line.rstrip()
 
 
-def text_chart(rows, end, columns=COLUMNS):
+def text_chart(rows: list[ChartRow], end: str, columns: Sequence[str] = COLUMNS) -> str:
     """The text of a chart of these rows, with this last line."""
     heading = ChartRow(dict(zip(columns, columns)))
     starts, _ = layout([heading, *rows], columns)
     return "".join(f"{line_of(row, starts)}\n" for row in [heading, *rows]) + f"   {end}\n"
 
 
-def chart(run, is_whole=False):
+def chart(run: Run, is_whole: bool = False) -> str:
     """The text of a run's chart."""
     return text_chart(chart_of(run, is_whole), end_of(run))

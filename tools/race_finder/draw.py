@@ -1,15 +1,20 @@
 """Draws schedules.
 
-`actions(name, enabled, has_frames)` returns the steps that are played before the access or the request with this name, and
-arrivals of frames that the test has offered, one by one. `enabled` returns those that would do something at this time, after those
-that were returned before. With `has_frames`, an offered frame waits.
+`actions(name, enabled, has_frames)` returns what is played before the access or the request with this name: steps, and
+arrivals of offered frames, one by one. `enabled` returns those that would do something at this time, after those that
+were returned before. With `has_frames`, an offered frame waits.
 """
+
+from __future__ import annotations
 
 from _random import Random  # the generator of the module `random`, which draws a new seed after each fork
 from functools import cached_property
+from typing import Any, Callable, Iterable, Iterator, Optional, Tuple, Union
 
 from race_finder.schedule import ARRIVE, ENGINES, PAIRS, ROUNDS
 
+# Returns the actions that would do something now
+Enabled = Callable[[], Tuple[str, ...]]
 # One of the steps of a pair makes the other one possible; so does an arrival.
 PARTNERS = {step: other for one, two in PAIRS.values() for step, other in ((one, two), (two, one))}
 PARTNERS[ARRIVE] = "rxdata"
@@ -19,14 +24,14 @@ ACTORS = {DRIVER: (), "receive": PAIRS["rx"], "fetch": ("txtake",), "put": ("txp
 WIRE = {"wire": (ARRIVE,)}  # one more actor if the test offers frames
 OFFERED = *ENGINES, ARRIVE
 PATIENCE = 4  # reads of one register in a row
-# Before a request that begins a round, a step has this part of its probability before an access: with more steps there,
+# Before a request that begins a round, a step has this part of its probability before an access. With more steps there,
 # less work is left for the accesses after the request.
 ROUND = 1 / 8
 OTHER = 1 << 64  # from a seed to that of the generator for these requests
 MOST_IN_BURST = 64  # steps and arrivals before one access
 
 
-def actors_of(offers_frames):
+def actors_of(offers_frames: object) -> dict[str, tuple[str, ...]]:
     """The actors of PCT, and their steps."""
     return {**ACTORS, **WIRE} if offers_frames else ACTORS
 
@@ -38,24 +43,26 @@ class Uniform:
     While an offered frame waits, its arrival is drawn like a step.
     """
 
-    def __init__(self, seed, chance=0.5, draws_holds=False):
+    is_rare = False  # whether it calls `enabled` only before few accesses
+
+    def __init__(self, seed: int, chance: float = 0.5, draws_holds: bool = False) -> None:
         self.seed, self.chance, self.draws_holds = seed, chance, draws_holds
 
     @cached_property
-    def random(self):
+    def random(self) -> Callable[[], float]:
         """Of this generator, only the numbers of `random` are the same in all versions of Python."""
         return Random(self.seed).random
 
     @cached_property
-    def random_of_rounds(self):
+    def random_of_rounds(self) -> Callable[[], float]:
         """A generator of its own, so that each access gets the same numbers as without these requests."""
         return Random(self.seed + OTHER).random
 
-    def words(self):
+    def words(self) -> tuple[str, int, float, bool]:
         """This drawing as a built-in value, for `with_words`."""
         return "uniform", self.seed, self.chance, self.draws_holds
 
-    def actions(self, name, enabled, has_frames):
+    def actions(self, name: str, enabled: Enabled, has_frames: object) -> Iterable[str]:
         draw, chance = (self.random_of_rounds, self.chance * ROUND) if name in ROUNDS else (self.random, self.chance)
         actions, possible = OFFERED if has_frames else ENGINES, enabled()
         order = [(draw(), action) for action in actions]
@@ -67,7 +74,7 @@ class Uniform:
         return self.those_possible([action for _, action in order if draw() < chance], possible)
 
     @staticmethod
-    def those_possible(drawn, possible):
+    def those_possible(drawn: list[str], possible: tuple[str, ...]) -> list[str]:
         """Those of the drawn actions that would do something, each after those before it."""
         found = []
         for action in drawn:
@@ -76,9 +83,13 @@ class Uniform:
                 found.append(action)
         return found
 
-    def holds(self):
+    def holds(self) -> bool:
         """Whether a default step of the EEPROM or the PHY is left out."""
         return self.draws_holds and self.random() < 0.5
+
+    def choose(self, limit: int) -> int:
+        """A number below the limit, which answers `choose`."""
+        return int(self.random() * limit)
 
 
 class Bursts:
@@ -88,18 +99,20 @@ class Bursts:
     begins a round, the probability is lower.
     """
 
-    def __init__(self, seed, chance=1 / 16, draws_holds=False):
+    is_rare = True
+
+    def __init__(self, seed: int, chance: float = 1 / 16, draws_holds: bool = False) -> None:
         self.seed, self.chance, self.draws_holds = seed, chance, draws_holds
 
     @cached_property
-    def random(self):
+    def random(self) -> Callable[[], float]:
         return Random(self.seed).random
 
-    def words(self):
+    def words(self) -> tuple[str, int, float, bool]:
         """This drawing as a built-in value, for `with_words`."""
         return "bursts", self.seed, self.chance, self.draws_holds
 
-    def actions(self, name, enabled, has_frames):
+    def actions(self, name: str, enabled: Enabled, has_frames: object) -> Iterator[str]:
         if self.random() >= (self.chance * ROUND if name in ROUNDS else self.chance):
             return
         working = [step for steps in actors_of(has_frames).values() if steps and self.random() < 0.5 for step in steps]
@@ -109,14 +122,19 @@ class Bursts:
                 return
             yield possible[int(self.random() * len(possible))]
 
-    def holds(self):
+    def holds(self) -> bool:
         """Whether a default step of the EEPROM or the PHY is left out."""
         return self.draws_holds and self.random() < 0.5
 
+    def choose(self, limit: int) -> int:
+        return int(self.random() * limit)
 
-def drawing_of(seed, draws_holds=False):
+
+def drawing_of(seed: int, draws_holds: bool = False) -> Bursts | Uniform:
     """What draws the schedule of this seed by default: bursts for odd seeds."""
-    return (Bursts if seed % 2 else Uniform)(seed, draws_holds=draws_holds)
+    if seed % 2:
+        return Bursts(seed, draws_holds=draws_holds)
+    return Uniform(seed, draws_holds=draws_holds)
 
 
 class Pct:
@@ -127,40 +145,46 @@ class Pct:
     another actor takes a step.
     """
 
-    draws_holds = False
+    draws_holds = is_rare = False
 
-    def __init__(self, seed, depth, events, offers_frames=False):
+    @cached_property
+    def random(self) -> Callable[[], float]:
+        """The generator of the answers to `choose`."""
+        return Random(self.given[0] + OTHER).random
+
+    def __init__(self, seed: int, depth: int, events: int, offers_frames: bool = False) -> None:
         draw = Random(seed).random
         self.given = seed, depth, events, offers_frames
         self.actors = actors_of(offers_frames)
         self.priorities = {actor: depth + at for at, actor in enumerate(sorted(self.actors, key=lambda _: draw()))}
         self.changes = {1 + int(draw() * events): priority for priority in range(depth - 1, 0, -1)}
-        self.events, self.last, self.reads = 0, None, 0
+        self.events, self.reads = 0, 0
+        self.last: Optional[str] = None
 
-    def words(self):
+    def words(self) -> tuple[object, ...]:
         """This drawing at its start as a built-in value, for `with_words`."""
         return "pct", *self.given
 
-    def count(self, actor):
+    def count(self, actor: str) -> None:
         """An event of an actor. At a change point, its priority becomes lower."""
         self.events += 1
         self.priorities[actor] = self.changes.get(self.events, self.priorities[actor])
 
-    def waiting(self, enabled):
+    def waiting(self, enabled: Enabled) -> dict[str, str]:
         """The actors that could take a step, each with its step."""
         possible = enabled()
         return {actor: step for actor, steps in self.actors.items() for step in steps if step in possible}
 
-    def polls(self, name):
+    def polls(self, name: str) -> bool:
         """Whether a driver that polls must wait before this access."""
         is_again = name == self.last and name.startswith("read ")
         self.last, self.reads = name, self.reads + 1 if is_again else 1
         return self.reads % PATIENCE == 0
 
-    def actions(self, name, enabled, _):
+    def actions(self, name: str, enabled: Enabled, _: object) -> Iterator[str]:
         must_wait = self.polls(name)
         while waiting := self.waiting(enabled):
-            first = max(waiting, key=self.priorities.get)
+            first = max(waiting, key=lambda actor: self.priorities[actor])
             if not must_wait and self.priorities[first] < self.priorities[DRIVER]:
                 break
             must_wait = False
@@ -168,15 +192,22 @@ class Pct:
             yield waiting[first]
         self.count(DRIVER)
 
-    def holds(self):
+    def holds(self) -> bool:
         return False
 
+    def choose(self, limit: int) -> int:
+        return int(self.random() * limit)
 
-def with_words(kind, *words):
+
+Drawing = Union[Uniform, Bursts, Pct]
+
+
+def with_words(kind: str, *words: Any) -> Drawing:
     """The drawing whose `words` are these."""
-    return {"uniform": Uniform, "bursts": Bursts, "pct": Pct}[kind](*words)
+    kinds: dict[str, Callable[..., Drawing]] = {"uniform": Uniform, "bursts": Bursts, "pct": Pct}
+    return kinds[kind](*words)
 
 
-def bound_of(depth, events, offers_frames=False):
+def bound_of(depth: int, events: int, offers_frames: bool = False) -> int:
     """One divided by this is the least probability that a run finds a race of this depth, by the events of a run."""
     return len(actors_of(offers_frames)) * max(1, events) ** (depth - 1)

@@ -1,11 +1,16 @@
 """How the finder ends: by a signal, or because its output can't be written."""
 
+from __future__ import annotations
+
+import io
 import os
 import select
 import signal
 import sys
 import time
 from contextlib import contextmanager, suppress
+from types import FrameType
+from typing import IO, Callable, Iterator, NoReturn, Optional
 
 SIGNALS = (signal.SIGINT, signal.SIGTERM, signal.SIGHUP)
 BY_SIGNAL = 128  # and the number of the signal: an exit status
@@ -15,7 +20,7 @@ PATIENCE = 1  # seconds: a signal that comes later than this after the first one
 class Ended(BaseException):
     """A signal ends the search."""
 
-    def __init__(self, number):
+    def __init__(self, number: int) -> None:
         super().__init__(number)
         self.status = BY_SIGNAL + number
 
@@ -23,39 +28,39 @@ class Ended(BaseException):
 class Unprinted(Exception):
     """Standard output can't be written."""
 
-    def __init__(self, error):
+    def __init__(self, error: OSError) -> None:
         super().__init__(f"standard output: {error.strerror}")
         self.is_unread = isinstance(error, BrokenPipeError)
 
 
 # Signals
 
-def handle(handler):
+def handle(handler: Callable[[int, Optional[FrameType]], object]) -> None:
     """Lets these signals call this, except for those that are ignored, such as SIGHUP below `nohup`."""
     for number in SIGNALS:
         if signal.getsignal(number) != signal.SIG_IGN:
             signal.signal(number, handler)
 
 
-def nothing(*_):
+def nothing(*_: object) -> None:
     """Handles a signal that does nothing. Unlike one that is ignored, it isn't ignored by programs that are started."""
 
 
-def end(number, _):
+def end(number: int, _: object) -> NoReturn:
     hold()
     raise Ended(number)
 
 
-def listen():
+def listen() -> None:
     """From now on, the first of these signals raises Ended in the main thread."""
     handle(end)
 
 
-def hold():
+def hold() -> None:
     """From now on, these signals don't interrupt, as processes are being ended. After some time they end the finder."""
     begun = time.monotonic()
 
-    def again(number, _):
+    def again(number: int, _: object) -> None:
         if time.monotonic() - begun > PATIENCE:
             os._exit(BY_SIGNAL + number)
 
@@ -63,7 +68,7 @@ def hold():
 
 
 @contextmanager
-def holding():
+def holding() -> Iterator[None]:
     """At its end, `hold`."""
     try:
         yield
@@ -73,25 +78,26 @@ def holding():
 
 # Output
 
-def prepare_output():
+def prepare_output() -> None:
     """Prints what a stream can't show by its code. Without a standard error, messages are dropped."""
     sys.stderr = sys.stderr or open(os.devnull, "w")
     for stream in filter(None, (sys.stdout, sys.stderr)):
-        stream.reconfigure(errors="backslashreplace")
+        if isinstance(stream, io.TextIOWrapper):
+            stream.reconfigure(errors="backslashreplace")
     if sys.stdout is None:
         raise Unprinted(OSError(0, "it is closed"))
 
 
-def say(*words, **options):
+def say(*words: object, sep: str = " ", end: str = "\n") -> None:
     """Prints on standard output, at once. Raises Unprinted."""
     try:
-        print(*words, **options, flush=True)
+        print(*words, sep=sep, end=end, flush=True)
     except OSError as error:
         discard(sys.stdout)
         raise Unprinted(error) from None
 
 
-def check_output():
+def check_output() -> None:
     """Raises Unprinted if standard output is a pipe that nobody reads any more: then a search needn't go on."""
     poll = select.poll()
     poll.register(sys.stdout, 0)
@@ -99,7 +105,7 @@ def check_output():
         raise Unprinted(BrokenPipeError())
 
 
-def tell(text, end="\n"):
+def tell(text: str, end: str = "\n") -> None:
     """Prints a message on standard error, if this is possible."""
     try:
         print(text, end=end, file=sys.stderr, flush=True)
@@ -107,7 +113,7 @@ def tell(text, end="\n"):
         discard(sys.stderr)
 
 
-def discard(stream):
+def discard(stream: IO[str]) -> None:
     """Drops what a stream still has, and what is printed later."""
     with suppress(OSError):
         os.dup2(os.open(os.devnull, os.O_WRONLY), stream.fileno())

@@ -1,14 +1,17 @@
 """The chart of a scenario's run: a column for each host and each wire.
 
-It is drawn from the log that `nicbench run --events` writes. The hosts of a wire stand beside it.
-An arrow from a host to its wire is a frame that was put on the wire, one from the wire to a host is
-a frame that was delivered.
+It is drawn from the log that `nicbench run --events` writes. The hosts of a wire are next to it. An
+arrow from a host to its wire is a frame that was put on the wire. An arrow to a host is a frame
+that was delivered.
 """
+
+from __future__ import annotations
 
 import argparse
 import re
 import signal
 import sys
+from typing import NoReturn, Optional, Sequence
 
 from race_finder.arguments import UsageError
 from race_finder.chart import ChartRow, text_chart
@@ -29,11 +32,11 @@ couldn't be written, 141 if nobody reads it any more.
 class Parser(argparse.ArgumentParser):
     """Raises UsageError in place of printing its usage."""
 
-    def error(self, message):
+    def error(self, message: str) -> NoReturn:
         raise UsageError(message)
 
 
-def text_of(path):
+def text_of(path: str) -> str:
     """The text of a file, or of standard input."""
     try:
         with open(0 if path == "-" else path, encoding="utf-8", errors="replace") as file:
@@ -42,7 +45,7 @@ def text_of(path):
         raise UsageError(f"{path}: {error.strerror}") from None
 
 
-def wires_in(path):
+def wires_in(path: str) -> dict[str, str]:
     """The wire of each host, by the `host` lines of a scenario."""
     words = (line.split() for line in text_of(path).splitlines())
     wires = {line[1]: line[3] for line in words if line and line[0] == "host" and len(line) > 3}
@@ -51,7 +54,7 @@ def wires_in(path):
     return wires
 
 
-def events_in(path, scenario, wires):
+def events_in(path: str, scenario: str, wires: dict[str, str]) -> list[str]:
     """The lines of a log of these hosts."""
     host = "(?:{})".format("|".join(map(re.escape, wires)))
     call = f"(?:send|recv|interrupt|reset|join|leave|drain) {host}"
@@ -64,7 +67,7 @@ def events_in(path, scenario, wires):
     return lines
 
 
-def columns_of(wires):
+def columns_of(wires: dict[str, str]) -> list[str]:
     """The columns: for each wire its first host, the wire, and its other hosts."""
     columns = ["", "place"]
     for wire in dict.fromkeys(wires.values()):
@@ -73,7 +76,7 @@ def columns_of(wires):
     return columns
 
 
-def tick_row(place, text, wires):
+def tick_row(place: str, text: str, wires: dict[str, str]) -> ChartRow:
     """The row of a tick with its outcome, such as `txput:a put 60`."""
     tick, outcome, *size = text.split()
     kind, _, host = tick.partition(":")
@@ -88,7 +91,7 @@ def tick_row(place, text, wires):
     return ChartRow({**cells, at: outcome}, (wire, at))
 
 
-def rows_of(line, wires):
+def rows_of(line: str, wires: dict[str, str]) -> list[ChartRow]:
     """The rows of a line of the log: one for the call, if it is one, and one for each tick."""
     head, *ticks = line.split(" @")
     number, _, _, call, *words = head.split()
@@ -100,8 +103,8 @@ def rows_of(line, wires):
     return rows
 
 
-def end_of(drawn, count):
-    """The last line of a chart of the events with these numbers, of so many events."""
+def end_of(drawn: list[int], count: int) -> str:
+    """The last line of a chart of the events with these numbers. The number of all events is given."""
     events = f"{count} event" + ("" if count == 1 else "s")
     if len(drawn) == count:
         return f"{events}."
@@ -110,9 +113,10 @@ def end_of(drawn, count):
     return (f"Event {drawn[0]}" if len(drawn) == 1 else f"Events {drawn[0]} to {drawn[-1]}") + f" of {count}."
 
 
-def chart_rows(log, wires, first, last):
+def chart_rows(log: list[str], wires: dict[str, str], first: int, last: int) -> tuple[list[ChartRow], str]:
     """The rows of the events with these numbers, and the last line of the chart."""
-    rows, drawn = [], []
+    rows: list[ChartRow] = []
+    drawn: list[int] = []
     for line in log:
         number = int(line.partition(" ")[0])
         if not first <= number <= last:
@@ -125,14 +129,14 @@ def chart_rows(log, wires, first, last):
     return rows, end_of(drawn, len(log))
 
 
-def number_of(text):
+def number_of(text: str) -> int:
     """The number of an event."""
     if not (text.isascii() and text.isdigit() and len(text) < 20):
         raise argparse.ArgumentTypeError(f"{text!r} isn't the number of an event")
     return int(text)
 
 
-def arguments_of(words):
+def arguments_of(words: Optional[Sequence[str]]) -> argparse.Namespace:
     parser = Parser(prog="tools/run_chart", description=__doc__, epilog=NOTE,
                     formatter_class=argparse.RawDescriptionHelpFormatter)
     parser.add_argument("--svg", action="store_true", help="write an SVG picture in place of a text")
@@ -147,14 +151,14 @@ def arguments_of(words):
     return args
 
 
-def draw(args):
+def draw(args: argparse.Namespace) -> str:
     """The chart that the arguments ask for."""
     wires = wires_in(args.scenario)
     rows, end = chart_rows(events_in(args.log, args.scenario, wires), wires, args.first, args.last)
     return (picture if args.svg else text_chart)(rows, end, columns_of(wires))
 
 
-def main(words=None):
+def main(words: Optional[Sequence[str]] = None) -> int:
     try:
         listen()
         prepare_output()

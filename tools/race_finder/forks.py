@@ -1,5 +1,7 @@
 """Runs of a test in Python that is loaded once, and forked for each run."""
 
+from __future__ import annotations
+
 import marshal
 import os
 import queue
@@ -11,13 +13,21 @@ import subprocess
 import threading
 import time
 from contextlib import suppress
+from itertools import takewhile
 from pickle import UnpicklingError
+from typing import TYPE_CHECKING, Any, Iterable, Optional, Sequence
 
 from race_finder.host import ASK, DOUBT, HOST, LATE, MARK, MISMATCH, RAN, READY, RUN, WARM
 from race_finder.messages import SIZE, receive, send
 from race_finder.play import Mismatch
 from race_finder.run import late, unpacked
 from race_finder.schedule import Place
+
+if TYPE_CHECKING:
+    from race_finder.draw import Drawing
+    from race_finder.run import Run
+    from race_finder.schedule import Deviation
+    from race_finder.server import Settings
 
 TOOLS = os.path.dirname(os.path.dirname(os.path.abspath(__file__)))
 PYTHON = re.compile(r"python(3(\.[0-9]+)?)?")
@@ -48,7 +58,7 @@ class Lost(Exception):
     """A host or a child gave no result."""
 
 
-def script_of(command):
+def script_of(command: list[str]) -> tuple[list[str], list[str]] | None:
     """The interpreter with its flags, and a script in Python with its arguments; or None if the command isn't this."""
     at = next((at for at, word in enumerate(command[1:], 1) if not FLAGS.fullmatch(word)), len(command))
     is_script = PYTHON.fullmatch(os.path.basename(command[0])) and at < len(command) and command[at].endswith(".py")
@@ -62,7 +72,7 @@ class Late(Lost):
 class Child:
     """A child that plays a run, and the socket from which its result is read."""
 
-    def __init__(self, file, seconds, wake):
+    def __init__(self, file: int, seconds: float, wake: int) -> None:
         self.file, self.seconds, self.wake, self.data = file, seconds, wake, b""
         self.end = time.monotonic() + seconds
         try:
@@ -75,13 +85,13 @@ class Child:
             raise Lost
         self.number = int.from_bytes(mark[len(MARK):], "little")
 
-    def message(self):
+    def message(self) -> bytes:
         """The bytes of the result."""
         while len(self.data) < SIZE or len(self.data) < SIZE + int.from_bytes(self.data[:SIZE], "little"):
             self.read()
         return self.data[SIZE:]
 
-    def read(self):
+    def read(self) -> None:
         ready = select.select([self.file, self.wake], [], [], max(0, self.end - time.monotonic()))[0]
         if self.wake in ready:
             raise Stopped
@@ -92,13 +102,13 @@ class Child:
             raise Lost
         self.data += more
 
-    def late_message(self):
+    def late_message(self) -> bytes:
         """The bytes of the result of a child that is late: what its run showed so far."""
         os.kill(self.number, ASK)
         self.end = time.monotonic() + self.seconds + GRACE
         return self.message()
 
-    def result(self, trusts_late):
+    def result(self, trusts_late: bool | None) -> tuple[str, Any]:
         """The kind and the value of the result. A child that has none in time is ended, or asked for it first."""
         is_ended = False
         try:
@@ -118,7 +128,7 @@ class Child:
         return kind, value
 
 
-def kill(number):
+def kill(number: int) -> None:
     """Ends a process that has a group of its own, and the processes that it has started."""
     try:
         os.killpg(number, signal.SIGKILL)
@@ -129,21 +139,26 @@ def kill(number):
 class Forks:
     """The hosts of a test: processes that wait before places of the run without deviations, and are forked there."""
 
-    def __init__(self, command, settings, seconds, jobs, wake):
+    def __init__(self, command: tuple[list[str], list[str]], settings: Settings, seconds: float, jobs: int,
+                 wake: int) -> None:
         self.command, self.settings, self.seconds = command, settings, seconds
         self.wake = wake  # can be read while runs must end
-        self.jobs, self.slots = jobs, queue.LifoQueue()  # numbers of servers that no run uses
+        self.jobs = jobs
+        self.slots: queue.LifoQueue[int] = queue.LifoQueue()  # numbers of servers that no run uses
         for slot in range(jobs):
             self.slots.put(slot)
-        self.lost = set()  # servers whose runs were ended, each as a pair of a host and a slot
-        self.lock, self.process, self.life = threading.Lock(), None, None
-        self.hosts = []  # pairs of a place and a socket, the last place first
+        # Servers whose runs were ended, each as a pair of a host and a slot
+        self.lost: set[tuple[socket.socket, int]] = set()
+        self.lock = threading.Lock()
+        self.process: Optional[subprocess.Popen[bytes]] = None
+        self.life: Optional[socket.socket] = None
+        self.hosts: list[tuple[Place, socket.socket]] = []  # pairs of a place and a socket, the last place first
         self.is_usable, self.is_warm, self.has_begun = True, False, False
-        # Whether children that are late are asked what their runs showed: after a process of its own has confirmed
-        # that the test may take too long (None before), as long as they answer.
-        self.trusts_late = None
+        # Whether children that are late are asked what their runs showed. It is None until a process of its own
+        # confirms that the test may take too long. Then it is true while children answer.
+        self.trusts_late: Optional[bool] = None
 
-    def start(self):
+    def start(self) -> None:
         """Starts the host before the first answer, and the one before round 1."""
         ours, theirs = socket.socketpair()
         self.life, life = socket.socketpair()
@@ -163,9 +178,10 @@ class Forks:
         if self.is_usable:
             self.add([ROUND_1])
 
-    def add(self, places):
+    def add(self, places: Iterable[Place]) -> None:
         """Starts a host for each of these places that the run without deviations reaches."""
-        hosts, (_, parent) = [], self.hosts[0]
+        hosts: list[tuple[Place, socket.socket]] = []
+        parent = self.hosts[0][1]
         try:
             for place in places:
                 hosts.append((place, begin(parent, HOST, tuple(place))))
@@ -174,7 +190,7 @@ class Forks:
         self.hosts += [host for host in hosts if is_ready(host[1], self.seconds, self.wake)]
         self.hosts.sort(key=lambda host: host[0], reverse=True)
 
-    def prepare(self, run):
+    def prepare(self, run: Run) -> None:
         """Before many schedules are played: starts hosts all along the run without deviations."""
         places = [met.place for met in run.places if met.place.round]
         count = self.most_hosts()
@@ -183,18 +199,19 @@ class Forks:
             if self.is_usable and self.process and len(self.hosts) == 2:
                 self.add(places[spacing::spacing][:count])
 
-    def most_hosts(self):
+    def most_hosts(self) -> int:
         """How many hosts there may be after round 1. Both hosts before, and the players, have servers, too."""
         memory = 2 * self.settings[-1] + OTHER_MEMORY
         return max(0, min(MOST_HOSTS, MOST_SERVERS // self.jobs, MOST_MEMORY // memory // self.jobs - 3))
 
-    def host_of(self, schedule, draw):
+    def host_of(self, schedule: Sequence[Deviation], draw: Drawing | None) -> socket.socket:
         """The last host before the first deviation."""
         first = min(one.place or FIRST for one in schedule) if schedule else \
             FIRST if draw and draw.draws_holds else ROUND_1
         return next(control for place, control in self.hosts if place <= first)
 
-    def play(self, schedule, draw, is_strict, has_places, has_rows, has_script):
+    def play(self, schedule: Sequence[Deviation], draw: Drawing | None, is_strict: bool, has_places: bool,
+             has_rows: bool, has_script: bool) -> Run | None:
         """A run, or None if only a process of its own can show it. Raises Mismatch or Stopped."""
         with self.lock:
             if self.is_usable and self.process is None:
@@ -223,7 +240,7 @@ class Forks:
             return None
         return value
 
-    def result(self, slot, schedule, draw, *words):
+    def result(self, slot: int, schedule: Sequence[Deviation], draw: Drawing | None, *words: bool) -> tuple[str, Any]:
         """The kind and the value of the result of a run that uses the server in this slot."""
         host, is_ended = self.host_of(schedule, draw), False
         message = [deviation.words() for deviation in schedule], draw and draw.words(), *words
@@ -244,16 +261,18 @@ class Forks:
             if not is_ended:
                 self.lost.add((host, slot))
 
-    def warm(self, run):
+    def warm(self, run: Run) -> None:
         """Sends the requests of the first run to the last host: most of them are those of later runs, too."""
         with self.lock:
             if not self.is_warm and run.rows:
                 self.is_warm = True
-                requests = [row.line[2:] for row in run.rows if row.place and row.place.round]
+                rows = [row for row in run.rows if row.place and row.place.round]
+                same = takewhile(lambda row: row.has_same_rings(rows[0]), rows)
+                requests = [(row.line[2:], (row.name or "").partition(" ")[2]) for row in same]
                 with suppress(OSError):  # the host has ended, which the next run shows
                     begin(self.hosts[0][1], WARM, requests).close()
 
-    def end(self):
+    def end(self) -> None:
         for _, control in self.hosts:
             control.close()
         if self.process:
@@ -265,7 +284,7 @@ class Forks:
             self.life.close()
 
 
-def begin(host, kind, message, slot=0, is_lost=False):
+def begin(host: socket.socket, kind: int, message: object, slot: int = 0, is_lost: bool = False) -> socket.socket:
     """Sends a message to a host. Returns the socket to the process that answers."""
     ours, theirs = socket.socketpair()
     try:
@@ -278,7 +297,7 @@ def begin(host, kind, message, slot=0, is_lost=False):
     return ours
 
 
-def is_ready(control, seconds, wake):
+def is_ready(control: socket.socket, seconds: float, wake: int) -> bool:
     """Waits until a host has reached its place. Ends it if it doesn't."""
     number, end = None, time.monotonic() + seconds
     try:

@@ -2,14 +2,16 @@
 
 `forks.py` starts `main` in the interpreter of the test. The test runs until it reads its first answer. Then this
 process is forked for each run. In the child, the test goes on: its standard streams lead to `Play` in the same process,
-which asks a server. Other hosts are children that go on until a later place of the run without deviations, and are forked
-there. A host has some servers in the state at its place, which are restored for each run (`Servers`). A child ends when
-the finder closes the socket for its result (`end_with`), also if the finder is killed.
+which asks a server. Other hosts are children that go on until a later place of the run without deviations, and are
+forked there. A host has some servers in the state at its place, which are restored for each run (`Servers`). A child
+ends when the finder closes the socket for its result (`end_with`), also if the finder is killed.
 
-A test isn't forked if its runs could differ from those of a process of its own: if it starts processes, opens files for
-writing, or uses its standard streams from other threads, or by other means than `sys.stdin` and `sys.stdout`. Then the
-result is DOUBT, or none.
+A test isn't forked if its runs could differ from those of a process of its own. This is so if it starts processes,
+opens files for writing, or uses its standard streams from other threads. It is also so if the test uses these streams
+by other means than `sys.stdin` and `sys.stdout`. Then the result is DOUBT, or none.
 """
+
+from __future__ import annotations
 
 import atexit
 import builtins
@@ -24,6 +26,7 @@ import termios
 import types
 from _thread import get_ident  # the module `threading` does more after each fork, so only a test imports it
 from importlib.machinery import SourceFileLoader
+from typing import TYPE_CHECKING, Any, Iterable, NoReturn, Optional, Sequence
 
 from race_finder import draw
 from race_finder.messages import SIZE, receive, send
@@ -31,6 +34,11 @@ from race_finder.play import Mismatch, Play
 from race_finder.run import fault_of, run_of
 from race_finder.schedule import Place, with_words
 from race_finder.server import Servers
+
+if TYPE_CHECKING:
+    from _typeshed import ReadableBuffer, WriteableBuffer
+    from race_finder.schedule import Deviation
+    from race_finder.server import Server, Settings
 
 # A child writes this and its number first. Anything else in its place was written by the test itself.
 MARK = b"\0race"
@@ -53,25 +61,25 @@ WRITES = os.O_WRONLY | os.O_RDWR
 class Stream(io.RawIOBase):
     """A standard stream of the test."""
 
-    def __init__(self, host, number, name):
+    def __init__(self, host: Host, number: int, name: str) -> None:
         super().__init__()
         self.host, self.number, self.name = host, number, name
 
-    def fileno(self):
+    def fileno(self) -> int:
         return self.number
 
-    def isatty(self):
+    def isatty(self) -> bool:
         return False
 
 
 class Requests(Stream):
     mode = "wb"
 
-    def writable(self):
+    def writable(self) -> bool:
         return True
 
-    def write(self, data):
-        host = self.host
+    def write(self, given: ReadableBuffer) -> int:
+        host, data = self.host, bytes(given)
         host.requests += data
         is_much = len(host.requests) + len(host.unread) > MOST_UNREAD
         if is_much or get_ident() != host.thread:
@@ -82,30 +90,34 @@ class Requests(Stream):
 class Answers(Stream):
     mode = "rb"
 
-    def readable(self):
+    def readable(self) -> bool:
         return True
 
-    def readinto(self, buffer):
-        data = self.host.answers(len(buffer))
-        buffer[:len(data)] = data
+    def readinto(self, buffer: WriteableBuffer) -> int:
+        with memoryview(buffer) as room:
+            data = self.host.answers(len(room))
+            room[:len(data)] = data
         return len(data)
 
 
 class Host:
-    def __init__(self, control, settings):
+    def __init__(self, control: socket.socket, settings: Settings) -> None:
         self.control, self.settings = control, settings
-        self.result = self.play = None  # in a child: where its result goes, and its run
-        self.asked = ()  # whether places, rows and the script of the run are wanted
+        # In a child: where its result goes, and its run
+        self.result: Optional[int] = None
+        self.play: Optional[Play] = None
+        self.asked: tuple[bool, ...] = ()  # whether places, rows and the script of the run are wanted
         self.shared = 0  # how much of the script is that of the run without deviations
         self.requests = self.unread = b""
         self.is_doubtful = self.is_late = False
         self.is_watched = False  # whether the code of the test runs
-        self.number, self.thread = None, get_ident()
+        self.number, self.thread = 0, get_ident()
+        self.files = 0  # that were open before the test ran
         self.servers = Servers(settings)
 
     # Streams
 
-    def open_streams(self):
+    def open_streams(self) -> None:
         """Standard streams like those of a process of its own, but without anybody at their other ends."""
         pipe, self.unwritten = os.pipe(), os.pipe()
         os.write(pipe[1], b"\n")  # is still there if the test reads only by `Answers`
@@ -115,16 +127,16 @@ class Host:
         for file in (*pipe, self.unwritten[1], errors):
             os.close(file)
         out = Requests(self, 1, "<stdout>")
-        writer = out if sys.stdout.write_through else io.BufferedWriter(out)
         reader = io.BufferedReader(Answers(self, 0, "<stdin>"))
-        for name, buffer in ("stdin", reader), ("stdout", writer):
+        for name in ("stdin", "stdout"):
             old = getattr(sys, name)
+            buffer: Any = reader if name == "stdin" else out if old.write_through else io.BufferedWriter(out)
             new = io.TextIOWrapper(buffer, old.encoding, old.errors, "\n", old.line_buffering, old.write_through)
-            new.mode = old.mode
+            setattr(new, "mode", old.mode)
             setattr(sys, name, new)
             setattr(sys, f"__{name}__", new)
 
-    def answers(self, most):
+    def answers(self, most: int) -> bytes:
         self.is_watched = False
         if self.play is None:
             self.check_host()
@@ -140,11 +152,11 @@ class Host:
         self.unread = data[most:]
         return data[:most]
 
-    def feed(self, is_last=False):
+    def feed(self, is_last: bool = False) -> None:
         """Plays the requests that the test has written."""
         data, self.requests = self.requests, b""
         try:
-            told = self.play.feed(data, is_last)
+            told = self.playing().feed(data, is_last)
             self.unread = self.unread + told if self.unread else told
         except Mismatch as error:
             self.end(MISMATCH, str(error))
@@ -153,11 +165,16 @@ class Host:
 
     # Runs
 
-    def serve(self, begun=()):
-        """Forks a child for each run and each host, and returns in the child alone. `begun` has all requests so far."""
+    def playing(self) -> Play:
+        """The run of this process, which has begun."""
+        assert self.play
+        return self.play
+
+    def serve(self, begun: Sequence[bytes] = ()) -> None:
+        """Forks a child for each run and each host, and returns only in the child. `begun` has all requests so far."""
         gc.collect()
         gc.freeze()
-        children = set()
+        children: set[int] = set()
         while True:
             head, file = self.next_message()
             reap(children, os.WNOHANG if head else 0)
@@ -165,6 +182,7 @@ class Host:
                 self.servers.end()
                 os._exit(0)
             kind, slot, is_lost = head
+            assert file is not None
             if kind == RUN and (is_lost or slot not in self.servers.saved):
                 self.prepare(slot, is_lost, begun)
             if kind == WARM:
@@ -176,12 +194,12 @@ class Host:
             os.close(file)
         self.become(kind, slot, file, begun)
 
-    def next_message(self):
+    def next_message(self) -> tuple[bytes, int | None]:
         """The head of the next message, and its socket. The head is empty at the end."""
         head, files, _, _ = self.control.recvmsg(HEAD, WITH_SOCKET)
         return head, int.from_bytes(files[0][2], sys.byteorder) if files else None
 
-    def become(self, kind, slot, file, begun):
+    def become(self, kind: int, slot: int, file: int, begun: Sequence[bytes]) -> None:
         """In a child: begins a run, or goes on as another host."""
         self.control.close()
         os.setsid()
@@ -194,50 +212,54 @@ class Host:
         except Exception:
             self.doubt()
 
-    def prepare(self, slot, is_lost, begun):
+    def prepare(self, slot: int, is_lost: int, begun: Sequence[bytes]) -> None:
         """Before a run: it will have a server."""
         try:
             self.servers.prepare(slot, is_lost, begun)
         except Exception:
             os._exit(1)  # the test must not see this
 
-    def become_run(self, result, begun, slot, schedule, drawing, is_strict, *asked):
+    def become_run(self, result: int, begun: Sequence[bytes], slot: int, words: Sequence[Sequence[Any]],
+                   drawing: Sequence[Any] | None, is_strict: bool, *asked: bool) -> None:
         self.result, self.asked = result, asked
         end_with(result)
         os.write(result, MARK + self.number.to_bytes(SIZE, "little"))
         os.dup2(result, 1)
         self.renew()
-        schedule = [with_words(*words) for words in schedule]
-        drawing = drawing and draw.with_words(*drawing)
+        schedule = [with_words(*deviation) for deviation in words]
+        drawn = draw.with_words(*drawing) if drawing else None
         self.shared = len(self.play.script) if schedule and self.play else 0
-        self.begin(self.servers.of(slot, begun), schedule, drawing, is_strict, *asked)
+        self.begin(self.servers.of(slot, begun), schedule, drawn, is_strict, *asked)
 
-    def become_host(self, control, begun, place):
+    def become_host(self, control: int, begun: Sequence[bytes], place: Place) -> None:
         """Goes on until this place, and is forked there."""
         self.control = socket.socket(fileno=control)
         self.servers.leave()
         self.renew()
         end_with(control)
         send(control, self.number)
-        self.begin(self.servers.new(begun), (), None, False)
-        self.play.stop, self.play.at_stop, self.play.begun = place, self.at_stop, [*begun]
-        self.play.look_ahead()
+        play = self.begin(self.servers.new(begun), (), None, False)
+        play.stop, play.at_stop, play.begun = place, self.at_stop, [*begun]
+        play.look_ahead()
 
-    def begin(self, server, schedule, draw, is_strict, *asked):
+    def begin(self, server: Server, schedule: Sequence[Deviation], draw: draw.Drawing | None, is_strict: bool,
+              *asked: bool) -> Play:
         """Starts a run, or lets it go on, with a server in the state after the requests so far."""
-        self.play = self.play or Play(*self.settings[2:])
+        self.play = self.play or Play(self.settings[-1])
         self.play.begin(server, schedule, draw, is_strict, *asked)
+        return self.play
 
-    def at_stop(self):
+    def at_stop(self) -> None:
         self.check_host()
-        self.servers.keep(self.play.server)
-        self.play.digest()  # or each run would do this
+        play = self.playing()
+        self.servers.keep(play.server)
+        play.digest()  # or each run would do this
         end_with(self.control.fileno(), False)  # from now on, `serve` notices the end
         send(self.control.fileno(), READY)
-        self.serve(self.play.begun)
+        self.serve(play.begun)
 
-    def renew(self):
-        """Gives a child a file of its own for standard error, with what was written so far."""
+    def renew(self) -> None:
+        """Opens a child's own file for standard error, with what was written so far."""
         errors = os.memfd_create("errors")
         os.write(errors, written(2))
         os.dup2(errors, 2)
@@ -245,25 +267,25 @@ class Host:
 
     # Ends
 
-    def check_host(self):
+    def check_host(self) -> None:
         """Ends a host whose test can't be forked."""
         tasks, files = (set(os.listdir(f"/proc/self/{folder}")) for folder in ("task", "fd"))
         is_used = self.was_read() or has_bytes(self.unwritten[0])
         if self.is_doubtful or len(tasks) > 1 or is_used or not self.has_few(files):
             self.leave()
 
-    def has_few(self, files):
+    def has_few(self, files: set[str]) -> bool:
         """Whether no more files are open than before the test ran, and in a child those of its server."""
         return len(files) <= self.files + (2 if self.play else 0)
 
-    def was_read(self):
+    def was_read(self) -> bool:
         """Whether the test has read standard input by other means."""
         return not has_bytes(0)
 
-    def doubt(self):
+    def doubt(self) -> NoReturn:
         self.end(DOUBT, None)
 
-    def end(self, kind, value):
+    def end(self, kind: str, value: object) -> NoReturn:
         """Ends this process with a result."""
         if self.result is None or os.getpid() != self.number:
             os._exit(1)
@@ -272,16 +294,16 @@ class Host:
             send(self.result, (kind, value))
         except OSError:
             pass  # nobody reads it
-        self.servers.leave_alone(self.play and self.play.server)
+        self.servers.leave_alone(self.play.server if self.play else None)
         self.leave()
 
-    def leave(self):
+    def leave(self) -> NoReturn:
         """Ends this process, and those that the test may have started."""
         if self.is_doubtful:
             os.killpg(0, signal.SIGKILL)
         os._exit(1)
 
-    def end_late(self, *_):
+    def end_late(self, *_: object) -> None:
         """Ends a run that is late with what it showed so far, as soon as the code of the test runs."""
         self.is_late = True
         if not self.is_watched:
@@ -289,9 +311,9 @@ class Host:
         self.is_watched = False
         if self.is_doubtful or self.was_read():
             self.doubt()
-        self.end(LATE, run_of(LATE, self.play, self.shared).reduced(*self.asked).packed())
+        self.end(LATE, run_of(LATE, self.playing(), self.shared).reduced(*self.asked).packed())
 
-    def finish(self, status):
+    def finish(self, status: int) -> NoReturn:
         """Ends a run after the test has ended with this exit status."""
         self.is_watched = False
         if self.result is None:
@@ -308,23 +330,24 @@ class Host:
         self.feed(is_last=True)
         if self.is_doubtful or self.was_read():
             self.doubt()
-        run = run_of(fault_of(status, written(2)) if status else None, self.play, self.shared)
+        run = run_of(fault_of(status, written(2)) if status else None, self.playing(), self.shared)
         self.end(RAN, run.reduced(*self.asked).packed())
 
-    def warm(self, requests):
-        """Lets children find the accesses of these requests."""
-        for request in requests:
-            self.play.learn(request.encode(errors="surrogateescape") + b"\n")
+    def warm(self, requests: Iterable[tuple[str, str]]) -> None:
+        """Lets children find the accesses of these requests, each given with the name of its target."""
+        for request, target in requests:
+            self.playing().learn(request.encode(errors="surrogateescape") + b"\n", target)
         gc.freeze()
 
-    def audit(self, event, arguments):
+    def audit(self, event: str, arguments: tuple[Any, ...]) -> None:
         """Notes what a test that is forked doesn't do. Importing a module may write a file, which is no harm."""
-        writes = event == "open" and self.result is not None and arguments[2] & WRITES and ".pyc." not in str(arguments[0])
+        writes = (event == "open" and self.result is not None and arguments[2] & WRITES
+                  and ".pyc." not in str(arguments[0]))
         if self.is_watched and (event in DOUBTFUL or writes):
             self.is_doubtful = True
 
 
-def end_with(file, ends=True):
+def end_with(file: int, ends: bool = True) -> None:
     """Lets the kernel end the group of this process when the other end of a socket, which writes nothing, is closed."""
     try:
         if ends:
@@ -335,36 +358,36 @@ def end_with(file, ends=True):
         pass  # this system can't do it
 
 
-def reap(children, options):
+def reap(children: set[int], options: int) -> None:
     """Removes the children that have ended."""
     for child in [*children]:
         if os.waitpid(child, options)[0]:
             children.remove(child)
 
 
-def join_threads(threading):
+def join_threads(threading: Any) -> None:
     """Waits for the threads of the test, as the interpreter does at its end."""
     for thread in threading.enumerate():
         if thread is not threading.current_thread() and not thread.daemon:
             thread.join()
 
 
-def written(file):
-    """All bytes of a file, whose place is left alone."""
+def written(file: int) -> bytes:
+    """All bytes of a file, whose place doesn't change."""
     return os.pread(file, os.fstat(file).st_size, 0)
 
 
-def has_bytes(file):
+def has_bytes(file: int) -> bool:
     """Whether a pipe has bytes."""
     return any(fcntl.ioctl(file, termios.FIONREAD, b"\0" * 4))
 
 
-def run_script(path):
+def run_script(path: str) -> int:
     """Runs a script as the interpreter does, and returns the exit status."""
     path = os.path.abspath(path)
     main = types.ModuleType("__main__")
-    main.__file__, main.__builtins__, main.__loader__ = path, builtins, SourceFileLoader("__main__", path)
-    main.__annotations__, main.__cached__ = {}, None
+    vars(main).update(__file__=path, __builtins__=builtins, __loader__=SourceFileLoader("__main__", path),
+                      __annotations__={}, __cached__=None)
     sys.modules["__main__"] = main
     try:
         with open(path, "rb") as file:
@@ -380,7 +403,7 @@ def run_script(path):
     return 0
 
 
-def status_of(code):
+def status_of(code: object) -> int:
     """The exit status for the value of SystemExit."""
     if code is None:
         return 0
@@ -390,8 +413,8 @@ def status_of(code):
     return 1
 
 
-def main(control, life, script, *arguments):
-    control = socket.socket(fileno=int(control))
+def main(file: str, life: str, script: str, *arguments: str) -> NoReturn:
+    control = socket.socket(fileno=int(file))
     control.set_inheritable(False)
     os.set_inheritable(int(life), False)
     end_with(int(life))  # or the finder's end wouldn't be noticed while the test runs

@@ -1,19 +1,22 @@
 """Frames on the wire and faults that a test isn't told about. It can request them later, by `frames` and `faults`."""
 
+from __future__ import annotations
+
 import hashlib
+from typing import Iterable, Sequence
 
 FRAMES, FAULTS = ["frames"], ["faults"]
 REQUESTS = FRAMES, FAULTS
 
 
 class Kept:
-    def __init__(self, frames=(), faults=()):
+    def __init__(self, frames: Iterable[bytes] = (), faults: Iterable[bytes] = ()) -> None:
         self.frames, self.faults = [*frames], [*faults]  # as they are in the answers
 
-    def copy(self):
+    def copy(self) -> Kept:
         return Kept(self.frames, self.faults)
 
-    def hear(self, line):
+    def hear(self, line: bytes) -> None:
         """Keeps the frame or the fault of a line, if it has one."""
         word, _, rest = line.partition(b" ")
         if word == b"frame":
@@ -21,14 +24,14 @@ class Kept:
         elif word == b"fault":
             self.faults.append(b" " + rest)
 
-    def fetch(self, request):
+    def fetch(self, request: Sequence[str]) -> bytes:
         """The answer to a request, whose words these are. What it returns isn't kept any longer."""
         some = self.frames if request == FRAMES else self.faults
         answer = b"OK" + b"".join(some)
         some.clear()
         return answer
 
-    def digest(self):
+    def digest(self) -> bytes:
         """Stands for all that is kept."""
         both = [*self.frames, b"/", *self.faults]
         return hashlib.sha1(b"".join(both)).digest() if len(both) > 1 else b""

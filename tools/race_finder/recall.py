@@ -8,6 +8,8 @@ Players are processes of the finder. Each has a server, whose state it saves sho
 schedule: later schedules often begin there, too.
 """
 
+from __future__ import annotations
+
 import hashlib
 import os
 import queue
@@ -15,6 +17,7 @@ import select
 import socket
 import subprocess
 import sys
+from typing import TYPE_CHECKING, Any, List, Optional, Sequence, Tuple
 
 from race_finder import seen
 from race_finder.forks import END, kill
@@ -24,6 +27,12 @@ from race_finder.run import run_of, unpacked
 from race_finder.schedule import with_words
 from race_finder.seen import Checks, States
 from race_finder.server import Server, ServerEnded
+
+if TYPE_CHECKING:
+    from race_finder.run import Run, Script
+    from race_finder.schedule import Deviation, Place
+    from race_finder.seen import Rest, State
+    from race_finder.server import Settings
 
 TOOLS = os.path.dirname(os.path.dirname(os.path.abspath(__file__)))
 BEGIN = """
@@ -35,9 +44,11 @@ main(int(sys.argv[2]))
 """
 FAR = 16  # requests up to the next schedule that are worth that the state is saved again
 MOST = 400_000  # answers for which the requests are kept, by all players: each takes about 1 kB
+# A run that was played, and its rests by its states
+Ended = Tuple["Run", List[Tuple["State", "Rest"]]]
 
 
-def hash_of(state, told):
+def hash_of(state: int, told: bytes) -> int:
     """The state after this one."""
     return int.from_bytes(hashlib.sha1(b"%d " % state + told).digest()[:8], "little")
 
@@ -45,14 +56,14 @@ def hash_of(state, told):
 class Requests:
     """The requests that a test makes after which answers, by the scripts of its runs (`Play.script`)."""
 
-    def __init__(self, most=MOST):
+    def __init__(self, most: int = MOST) -> None:
         self.most = most
         # By a state, and what the test is told there: the next state, the next requests, and whether the test ends
         # then. A state is a hash of all that the test was told.
-        self.known = {}
+        self.known: dict[tuple[int, bytes], tuple[int, bytes, bool]] = {}
         self.is_certain = True  # whether the same answers always lead to the same requests
 
-    def learn(self, script):
+    def learn(self, script: Script) -> None:
         state, told = 0, b""
         for at, (requests, answers, _) in enumerate(script, 1):
             found = self.known.get((state, told))
@@ -67,29 +78,31 @@ class Requests:
 class Player:
     """Plays schedules whose deviations have places, from round 1 on, with a server of its own."""
 
-    def __init__(self, count, has_digest, program, options, *addresses):
-        self.program, self.options, self.addresses = program, options, addresses
+    def __init__(self, count: int, has_digest: bool, program: str, options: Sequence[str], memory: int) -> None:
+        self.program, self.options, self.memory = program, options, memory
         self.requests = Requests(MOST // count)
         self.states, self.has_digest = States(min(seen.MOST // count, seen.MOST_EACH)), has_digest
-        self.base = None  # the script of the run without deviations
-        self.server = self.run = None  # the server, and the run without deviations up to where its state is saved
+        self.base: Optional[Script] = None  # the script of the run without deviations
+        # The server, and the run without deviations up to where its state is saved
+        self.server: Optional[Server] = None
+        self.run: Optional[Play] = None
 
-    def learn(self, shared, script):
+    def learn(self, shared: int, script: Script) -> None:
         """A run whose script begins with this part of that of the run without deviations. The first one is that run."""
         self.base = self.base or script
         self.requests.learn([*self.base[:shared], *script])
 
-    def play(self, schedule, has_places):
+    def play(self, schedule: Sequence[Deviation], has_places: bool) -> Ended | None:
         """The run of a schedule, and its rests by its states; or None if the requests of the test aren't known."""
         if not self.requests.is_certain:
             return None
-        self.move(min(deviation.place for deviation in schedule))
+        server, run = self.move(min(deviation.place for deviation in schedule if deviation.place))
         if not self.is_saved:
             raise ServerEnded("the server can't save its state")
-        self.server.restore()
-        play, state, told = self.run.copy(), self.state, self.told
-        play.begin(self.server, schedule, None, False, has_places, False)
-        checks = Checks(self.states, play, self.server, not has_places) if self.can_digest else None
+        server.restore()
+        play, state, told = run.copy(), self.state, self.told
+        play.begin(server, schedule, None, False, has_places, False)
+        checks = Checks(self.states, play, server, not has_places) if self.can_digest else None
         try:
             while found := self.requests.known.get((state, told)):
                 state, requests, is_last = found
@@ -102,7 +115,7 @@ class Player:
             return self.ended(play, checks, has_places, known.rest)
         return None
 
-    def ended(self, play, checks, has_places, rest=None):
+    def ended(self, play: Play, checks: Checks | None, has_places: bool, rest: Rest | None = None) -> Ended:
         """The run that was played, and the rests of the run by its states."""
         if not checks:
             return run_of(None, play).reduced(has_places, False), []
@@ -112,53 +125,63 @@ class Player:
             ended.take(run_of(None, play))
         return ended, rests
 
-    def end(self):
+    def end(self) -> None:
         if self.server:
             self.server.end()
 
     # The run without deviations
 
-    def move(self, place):
-        """Saves a state shortly before this place, if that which is saved is another one."""
-        if not self.run or (self.run.round, self.run.access_number) >= place:
-            self.start()
-        before = at = len(self.run.script)
-        while self.base[at][2] < place and at < len(self.base) - 1:
+    def move(self, place: Place) -> tuple[Server, Play]:
+        """Saves a state shortly before this place, if that which is saved is another one. Returns the server, and the
+        run up to there.
+        """
+        server, run, base = self.server, self.run, self.base
+        if not server or not run or (run.round, run.access_number) >= place:
+            server, run = self.start()
+        before = at = len(run.script)
+        assert base
+        while base[at][2] < place and at < len(base) - 1:
             at += 1
         if at - before >= FAR or not self.is_saved:
-            self.advance(self.base[before:at])
+            self.advance(server, run, base[before:at])
+        return server, run
 
-    def start(self):
+    def start(self) -> tuple[Server, Play]:
         """A new server, and the run from its start."""
         self.end()
-        self.server = Server(self.program, self.options)
-        self.can_digest = self.has_digest and seen.is_fast(self.server)
-        self.run, self.state, self.told, self.is_saved = Play(*self.addresses), 0, b"", False
+        server, run = Server(self.program, self.options), Play(self.memory)
+        self.server = server
+        self.can_digest = self.has_digest and seen.is_fast(server)
+        self.run, self.state, self.told, self.is_saved = run, 0, b"", False
+        return server, run
 
-    def advance(self, script):
+    def advance(self, server: Server, run: Play, script: Script) -> None:
         """Plays this part of the script of the run, and saves its state."""
         if self.is_saved:
-            self.server.restore()
-        self.run.begin(self.server, (), None, False, True, False)
+            server.restore()
+        run.begin(server, (), None, False, True, False)
         for requests, _, _ in script:
             self.state = self.requests.known[self.state, self.told][0]
-            self.told = self.run.feed(requests)
-        self.server.ask(b"log off\n")
-        self.is_saved = self.server.save()
+            self.told = run.feed(requests)
+        server.ask(b"log off\n")
+        self.is_saved = server.save()
 
 
 class Recall:
     """The players of the finder."""
 
-    def __init__(self, settings, count, seconds, has_digest):
-        self.free, self.seconds = queue.LifoQueue(), seconds
-        self.processes = []
-        self.scripts, self.rests = {}, {}  # by players, what they don't know yet
+    def __init__(self, settings: Settings, count: int, seconds: float, has_digest: bool) -> None:
+        self.free: queue.LifoQueue[Optional[socket.socket]] = queue.LifoQueue()
+        self.seconds = seconds
+        self.processes: list[subprocess.Popen[bytes]] = []
+        # By players, what they don't know yet
+        self.scripts: dict[socket.socket, list[tuple[int, Script]]] = {}
+        self.rests: dict[socket.socket, list[tuple[State, Rest]]] = {}
         self.is_usable = True
         for _ in range(count):
             self.start((count, has_digest, *settings))
 
-    def start(self, settings):
+    def start(self, settings: tuple[object, ...]) -> None:
         """Starts a player."""
         ours, theirs = socket.socketpair()
         with theirs:
@@ -169,22 +192,23 @@ class Recall:
         self.scripts[ours], self.rests[ours] = [], []
         self.free.put(ours)
 
-    def learn(self, script):
+    def learn(self, script: tuple[int, Script]) -> None:
         """Lets all players know a run."""
         for scripts in self.scripts.values():
             scripts.append(script)
 
-    def play(self, schedule, has_places):
+    def play(self, schedule: Sequence[Deviation], has_places: bool) -> Run | None:
         """The run of a schedule, or None if a process of the test is needed."""
-        control, found = self.free.get(), None
+        control = self.free.get()
+        found: Any = None
         try:
             if control is None:
                 return None  # no player is free, as one didn't answer
             scripts, self.scripts[control] = self.scripts[control], []
             rests, self.rests[control] = self.rests[control], []
             send(control.fileno(), (scripts, rests, [deviation.words() for deviation in schedule], has_places))
-            is_ready = select.select([control], [], [], self.seconds)[0]
-            found = is_ready and receive(control.fileno())
+            if select.select([control], [], [], self.seconds)[0]:
+                found = receive(control.fileno())
         except OSError:
             pass
         finally:
@@ -197,9 +221,9 @@ class Recall:
         for other in self.rests if rests else ():
             if other is not control:
                 self.rests[other] += rests
-        return run and unpacked(run)
+        return unpacked(run) if run else None
 
-    def end(self):
+    def end(self) -> None:
         for control in self.scripts:
             control.close()
         for process in self.processes:
@@ -210,7 +234,7 @@ class Recall:
                 process.wait()
 
 
-def main(control):
+def main(control: int) -> None:
     """Plays what is asked for until the finder ends. The answer has the run, or None, and its rests by its states."""
     player = Player(*receive(control))
     try:

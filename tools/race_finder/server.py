@@ -1,11 +1,16 @@
 """`nicbench serve` as the finder uses it."""
 
+from __future__ import annotations
+
 import os
 import select
 import signal
+from typing import NoReturn, Optional, Sequence, Tuple
 
 # The answer to `endianness`, which no other request has.
 LAST = b"OK little\n"
+# The program and its options, and the size of memory
+Settings = Tuple[str, Tuple[str, ...], int]
 
 
 class ServerEnded(Exception):
@@ -15,8 +20,8 @@ class ServerEnded(Exception):
 class Server:
     """`nicbench serve`, which is asked many requests at once."""
 
-    def __init__(self, program, options):
-        self.status = None  # after it has ended: its exit status, or minus a signal
+    def __init__(self, program: str, options: Sequence[str]) -> None:
+        self.status: Optional[int] = None  # after it has ended: its exit status, or minus a signal
         requests, answers = os.pipe(), os.pipe()
         self.sink, self.source = requests[1], answers[0]
         actions = [(os.POSIX_SPAWN_DUP2, requests[0], 0), (os.POSIX_SPAWN_DUP2, answers[1], 1)]
@@ -29,12 +34,12 @@ class Server:
         finally:
             os.close(requests[0])
             os.close(answers[1])
-        self.lines = []  # that were read and aren't taken yet, the next one last
+        self.lines: list[bytes] = []  # that were read and aren't taken yet, the next one last
         self.rest = b""
         # Until it is asked for events, the server prints none. One that doesn't know the request always prints them.
         self.tells_events = self.ask(b"events on\n") != b"OK"
 
-    def send(self, data):
+    def send(self, data: bytes) -> None:
         """Sends requests, of which each ends with a newline."""
         try:
             while size := os.write(self.sink, data) - len(data):
@@ -42,7 +47,7 @@ class Server:
         except BrokenPipeError:
             self.fail()
 
-    def line(self):
+    def line(self) -> bytes:
         while not self.lines:
             more = os.read(self.source, 8192)
             if not more:
@@ -54,7 +59,7 @@ class Server:
             self.lines.reverse()
         return self.lines.pop()
 
-    def repeat(self, requests):
+    def repeat(self, requests: Sequence[bytes]) -> None:
         """Brings a new server to the state after these requests, which were answered before; drops their answers."""
         data, end = b"".join([*requests, b"endianness\n"]), b""
         os.set_blocking(self.sink, False)
@@ -69,37 +74,42 @@ class Server:
                 end = (end + more)[-len(LAST):]
         os.set_blocking(self.sink, True)
 
-    def ask(self, request):
+    def ask(self, request: bytes) -> bytes:
         """The answer to a request; lines before it are dropped."""
         self.send(request)
         while not (line := self.line()).startswith((b"OK", b"ERR", b"FAIL")):
             pass
         return line
 
-    def save(self):
+    def target(self, address: int, size: int) -> str | None:
+        """The name of the target of an access, or None if the access would be refused."""
+        word, _, name = self.ask(b"target %d %d\n" % (address, size)).decode().partition(" ")
+        return name if word == "OK" else None
+
+    def save(self) -> bool:
         """Keeps the state. Returns whether the server can do this."""
         return self.ask(b"save\n") == b"OK"
 
-    def restore(self):
+    def restore(self) -> None:
         """Brings the server to the state that was saved. The interrupt line of a test doesn't change."""
         if self.ask(b"restore\n") != b"OK":
             raise ServerEnded("the server can't restore its state")
 
-    def leave(self):
+    def leave(self) -> None:
         """Closes the pipes of a server, which another process may use."""
         os.close(self.sink)
         os.close(self.source)
 
-    def wait(self):
+    def wait(self) -> int:
         """Waits until the server has ended, and returns its status."""
         if self.status is None:
             self.status = os.waitstatus_to_exitcode(os.waitpid(self.number, 0)[1])
         return self.status
 
-    def fail(self):
+    def fail(self) -> NoReturn:
         raise ServerEnded(f"the server has ended with exit status {self.wait()}")
 
-    def end(self):
+    def end(self) -> None:
         """Ends the server. Nothing that it stores is needed later, so it needn't notice the end of its input."""
         self.leave()
         if self.status is None:
@@ -113,25 +123,28 @@ class Servers:
     A server that can't save its state is a new one for each run, which repeats the requests so far.
     """
 
-    def __init__(self, settings):
+    def __init__(self, settings: Settings) -> None:
         self.program, self.options = settings[:2]
-        self.saved, self.can_save = {}, True  # by slots
-        self.spare = None  # a server in this state that has no slot yet
-        self.others = []  # of another host
+        self.saved: dict[int, Server] = {}  # by slots
+        self.can_save = True
+        self.spare: Optional[Server] = None  # a server in this state that has no slot yet
+        self.others: list[Server] = []  # of another host
 
-    def new(self, begun):
+    def new(self, begun: Sequence[bytes]) -> Server:
         """A new server in the state after these requests. Its log is off."""
         server = Server(self.program, self.options)
         if begun:
             server.repeat(begun)
         return server
 
-    def keep(self, server):
+    def keep(self, server: Server) -> None:
         """Takes over the server that has brought the host to its place."""
         self.spare = server
 
-    def prepare(self, slot, is_lost, begun):
-        """Before a run: the slot has a server, if servers can save their state. That of a run that was ended is lost."""
+    def prepare(self, slot: int, is_lost: int, begun: Sequence[bytes]) -> None:
+        """Before a run: the slot has a server, if servers can save their state. That of a run that was ended is
+        lost.
+        """
         if is_lost and slot in self.saved:
             self.saved.pop(slot).end()
         if slot in self.saved or not self.can_save:
@@ -144,7 +157,7 @@ class Servers:
         else:
             server.end()
 
-    def of(self, slot, begun):
+    def of(self, slot: int, begun: Sequence[bytes]) -> Server:
         """In a run: its server."""
         server = self.saved.get(slot)
         if not server:
@@ -153,36 +166,38 @@ class Servers:
         server.restore()
         return server
 
-    def all(self):
+    def all(self) -> list[Server]:
         return [*self.saved.values(), *([self.spare] if self.spare else [])]
 
-    def end(self):
+    def end(self) -> None:
         """At the end of a host."""
         for server in self.all():
             server.end()
 
-    def leave(self):
+    def leave(self) -> None:
         """In a child that is another host: has none of these servers."""
         others = self.all()
         for server in others:
             server.leave()
         self.saved, self.spare, self.others = {}, None, self.others + others
 
-    def leave_alone(self, server):
+    def leave_alone(self, server: Optional[Server]) -> None:
         """At the end of a run: ends its server if no other run uses it."""
         if server and server not in self.saved.values():
             server.end()
 
 
-def stay_together(server):
+def stay_together(server: Server) -> None:
     """Keeps this process and its server on one processor, as only one of the two works at a time."""
     processors = {processor_of_this()}
     os.sched_setaffinity(0, processors)
     os.sched_setaffinity(server.number, processors)
 
 
-def processor_of_this():
-    """The number of the processor on which this process runs: field 39 of its status, in which a name in () is field 2."""
+def processor_of_this() -> int:
+    """The number of the processor on which this process runs: field 39 of its status, in which a name in () is field
+    2.
+    """
     file = os.open("/proc/self/stat", os.O_RDONLY)
     try:
         return int(os.read(file, 4096).rpartition(b")")[2].split()[39 - 3])

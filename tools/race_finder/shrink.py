@@ -1,7 +1,15 @@
 """Makes a schedule that fails smaller."""
 
+from __future__ import annotations
+
+from typing import TYPE_CHECKING, Optional, Sequence
+
 from race_finder.jobs import first_to_fail
-from race_finder.schedule import PAIRS, Deviation, keys_of
+from race_finder.schedule import PAIRS, Deviation, Keys, choice, chosen, keys_of
+
+if TYPE_CHECKING:
+    from race_finder.run import Run
+    from race_finder.target import Target
 
 LONGEST_MOVE = 16  # in accesses
 
@@ -9,15 +17,16 @@ LONGEST_MOVE = 16  # in accesses
 class Shrinker:
     """A schedule is given to each method with its run, which failed; smaller ones are returned in the same way."""
 
-    def __init__(self, target):
-        self.target, self.seen = target, {}
-        self.best = None  # the run that fails with the fewest deviations so far
+    def __init__(self, target: Target) -> None:
+        self.target = target
+        self.seen: dict[Keys, Optional[Run]] = {}  # by the keys of schedules
+        self.best: Optional[Run] = None  # the run that fails with the fewest deviations so far
 
-    def fails(self, schedule):
+    def fails(self, schedule: Sequence[Deviation]) -> Run | None:
         """The run of a schedule if it fails, or None."""
         return self.first([schedule])
 
-    def first(self, schedules):
+    def first(self, schedules: Sequence[Sequence[Deviation]]) -> Run | None:
         """The run of the first of these schedules that fails, or None."""
         keys = [keys_of(schedule) for schedule in schedules]
         known = next((at for at, key in enumerate(keys) if self.seen.get(key)), len(keys))
@@ -28,7 +37,7 @@ class Shrinker:
                 self.best = run
         return next((self.seen[key] for key in keys if self.seen.get(key)), None)
 
-    def again(self, schedule):
+    def again(self, schedule: Sequence[Deviation]) -> Run | None:
         """The run of the empty schedule if it fails; or else that of the given one, or None if it passes.
 
         Both are played, also if they were played before: a test may not be the same twice.
@@ -37,12 +46,12 @@ class Shrinker:
             self.seen.pop(keys_of(known), None)
         return self.fails(()) or self.fails(schedule)
 
-    def shrink(self, run):
+    def shrink(self, run: Run) -> Run:
         """The run of a schedule from which no deviation can be left out."""
         run = self.halve(run)
         while True:
             before = run.met
-            run = self.later(self.one_by_one(run))
+            run = self.later(self.lower(self.one_by_one(run)))
             if run.met == before:
                 run = self.join(run)
             if run.met == before:
@@ -50,12 +59,12 @@ class Shrinker:
 
     # In each run, `met` is the schedule without the deviations that did nothing. It leads to the same run.
 
-    def halve(self, run):
+    def halve(self, run: Run) -> Run:
         """Leaves out parts: halves, then quarters, and so on (ddmin)."""
         parts = 2
         while len(run.met) >= 2:
             met, size = run.met, max(1, len(run.met) // parts)
-            smaller = self.first([met[:at] + met[at + size:] for at in range(0, len(met), size)])
+            smaller = self.first([[*met[:at], *met[at + size:]] for at in range(0, len(met), size)])
             if smaller:
                 run, parts = smaller, max(2, parts - 1)
             elif size == 1:
@@ -64,12 +73,26 @@ class Shrinker:
                 parts *= 2
         return run
 
-    def one_by_one(self, run):
-        while smaller := self.first([run.met[:at] + run.met[at + 1:] for at in range(len(run.met))]):
+    def one_by_one(self, run: Run) -> Run:
+        while smaller := self.first([[*run.met[:at], *run.met[at + 1:]] for at in range(len(run.met))]):
             run = smaller
         return run
 
-    def later(self, run):
+    def lower(self, run: Run) -> Run:
+        """Makes the number of each `choose` as small as possible: of a half, a quarter and so on less, and of 1
+        less.
+        """
+        for at in range(len(run.met)):
+            number = chosen(run.met[at].action)
+            while number and number > 1:
+                smaller = self.first([[*run.met[:at], run.met[at]._replace(action=choice(other)), *run.met[at + 1:]]
+                                      for other in sorted({1, number // 2, number - 1})])
+                if not smaller or len(smaller.met) <= at or (chosen(smaller.met[at].action) or number) >= number:
+                    break
+                run, number = smaller, chosen(smaller.met[at].action)
+        return run
+
+    def later(self, run: Run) -> Run:
         """Plays each deviation, from the last one on, as late as possible before the next one."""
         for at in reversed(range(len(run.met))):
             distance = LONGEST_MOVE
@@ -81,26 +104,28 @@ class Shrinker:
                     distance //= 2
         return run
 
-    def moved(self, run, at, distance):
+    def moved(self, run: Run, at: int, distance: int) -> Run | None:
         """The run with one deviation played some accesses later, or None if this isn't possible, or doesn't fail."""
-        places = [met.place for met in run.places]
-        if run.met[at].place not in places:
+        places, place = [met.place for met in run.places], run.met[at].place
+        if place is None or place not in places:
             return None
-        to = places.index(run.met[at].place) + distance
-        if to >= len(places) or at + 1 < len(run.met) and places[to] > run.met[at + 1].place:
+        to, last = places.index(place) + distance, run.met[at + 1].place if at + 1 < len(run.met) else None
+        if to >= len(places) or last and places[to] > last:
             return None
         moved = self.fails([*run.met[:at], run.met[at]._replace(place=places[to]), *run.met[at + 1:]])
         return moved if moved and len(moved.met) == len(run.met) else None
 
-    def join(self, run):
-        """Joins two steps to a pair, before the access of the first one or else of the second one, if this fails, too."""
+    def join(self, run: Run) -> Run:
+        """Joins two steps to a pair, before the access of the first one or else of the second one, if this fails,
+        too.
+        """
         at = 0
         while at < len(run.met):
             run = self.joined(run, at) or run
             at += 1
         return run
 
-    def joined(self, run, at):
+    def joined(self, run: Run, at: int) -> Run | None:
         """The run in which a step and the next one that completes a pair are joined, or None."""
         first = run.met[at]
         for pair, steps in PAIRS.items():

@@ -1,9 +1,15 @@
 """The chart of a run as an SVG picture, from the same rows as the text."""
 
+from __future__ import annotations
+
 import re
 from xml.sax.saxutils import escape
+from typing import TYPE_CHECKING, Iterator, Sequence
 
 from race_finder.chart import BAR, COLUMNS, ChartRow, arrow_ends, chart_of, end_of, layout
+
+if TYPE_CHECKING:
+    from race_finder.run import Run
 
 # Sizes in pixels: a character of a monospace font of this size is at most CHAR wide.
 FONT, CHAR, HEIGHT, MARGIN, TIP, BAR_WIDTH = 13, 8, 20, 12, 5, 4
@@ -20,21 +26,21 @@ text { fill: #f0f0f0 } path { stroke: #f0f0f0 }
 """
 
 
-def xml_text(text):
+def xml_text(text: str) -> str:
     """A text that is valid inside of an element."""
     return escape(NOT_XML.sub("\ufffd", text))
 
 
-def x_of(characters):
+def x_of(characters: int) -> int:
     return MARGIN + CHAR * characters
 
 
-def y_of(row):
+def y_of(row: int) -> int:
     """The base of the text in a row, by its number; the heading is row 0."""
     return MARGIN + HEIGHT * row + FONT
 
 
-def texts_of(row, number, starts):
+def texts_of(row: ChartRow, number: int, starts: dict[str, int]) -> Iterator[str]:
     """The texts of a row; the bar isn't a text."""
     for column in starts:
         text = row.cells.get(column, "")
@@ -43,7 +49,7 @@ def texts_of(row, number, starts):
             yield f'<text class="{name}" x="{x_of(starts[column])}" y="{y_of(number)}">{xml_text(text)}</text>'
 
 
-def arrow_of(row, number, starts):
+def arrow_of(row: ChartRow, number: int, starts: dict[str, int]) -> str:
     """The arrow of a row, as a path."""
     begin, end, is_right = arrow_ends(row, starts)
     y, ends = y_of(number) - UP, (x_of(begin), x_of(end))
@@ -52,7 +58,7 @@ def arrow_of(row, number, starts):
     return f'<path class="arrow" d="M{tail} {y} H{tip} M{back} {y - TIP + 1} L{tip} {y} L{back} {y + TIP - 1}"/>'
 
 
-def row_of(row, number, starts, width):
+def row_of(row: ChartRow, number: int, starts: dict[str, int], width: int) -> str:
     """The elements of a row of the chart."""
     parts = list(texts_of(row, number, starts))
     if row.arrow:
@@ -63,7 +69,7 @@ def row_of(row, number, starts, width):
     return f'<g class="row deviation">{mark}{"".join(parts)}</g>'
 
 
-def bars_of(rows, starts):
+def bars_of(rows: list[ChartRow], starts: dict[str, int]) -> Iterator[str]:
     """The bar of the interrupt line: a rectangle for each group of rows in which the line is asserted."""
     is_up = [bool(row.cells.get("line")) for row in rows] + [False]
     for at, up in enumerate(is_up):
@@ -74,7 +80,7 @@ def bars_of(rows, starts):
                f'width="{BAR_WIDTH}" height="{HEIGHT * size}"/>')
 
 
-def picture(rows, end, columns=COLUMNS):
+def picture(rows: list[ChartRow], end: str, columns: Sequence[str] = COLUMNS) -> str:
     """A chart of these rows with this last line, as an SVG document. The colors of a dark background are used if the
     reader prefers them."""
     heading = ChartRow({column: column for column in columns})
@@ -93,6 +99,6 @@ def picture(rows, end, columns=COLUMNS):
     return "".join(f"{part}\n" for part in parts)
 
 
-def svg(run, is_whole=False):
+def svg(run: Run, is_whole: bool = False) -> str:
     """The chart of a run as an SVG document: all rows, or those near deviations and at the end."""
     return picture(chart_of(run, is_whole), end_of(run)[:LONGEST])

@@ -1,18 +1,29 @@
 """Runs the command that is tested, with a server, and plays a schedule in each run."""
 
+from __future__ import annotations
+
 import os
 import select
 import subprocess
 import tempfile
 import time
+from typing import IO, TYPE_CHECKING, Optional, Sequence
 
 from race_finder.forks import Forks, Stopped, kill, script_of
-from race_finder.names import DEFAULT_MEMORY, DEFAULT_REGISTERS, number_of
+from race_finder.names import number_of
 from race_finder.play import Play
 from race_finder.recall import Recall
 from race_finder.run import fault_of, late, run_of
 from race_finder.server import Server
 from race_finder.workers import Workers
+
+if TYPE_CHECKING:
+    from race_finder.draw import Drawing
+    from race_finder.run import Run
+    from race_finder.schedule import Deviation
+
+
+DEFAULT_MEMORY = 1 << 20  # bytes of the server's memory
 
 
 class CannotRun(Exception):
@@ -23,43 +34,44 @@ class TooLong(Exception):
     """A run didn't end in time."""
 
 
-def option_of(options, name, default):
-    """The number of an option of the server."""
+def memory_of(options: tuple[str, ...]) -> int:
+    """The size of the server's memory, by its options."""
     words = " ".join(options).replace("=", " ").split()
-    number = number_of(words[words.index(name) + 1]) if name in words[:-1] else None
-    return default if number is None else number
-
-
-def addresses_of(options):
-    """The address of the first register, and the size of memory, by the options of the server."""
-    return (option_of(options, "--registers", DEFAULT_REGISTERS), option_of(options, "--memory", DEFAULT_MEMORY))
+    number = number_of(words[words.index("--memory") + 1]) if "--memory" in words[:-1] else None
+    return DEFAULT_MEMORY if number is None else number
 
 
 class Target:
     """The command that is tested. Its runs are forked if it is a script in Python and `is_forked`."""
 
-    def __init__(self, server, command, options=(), seconds=10.0, jobs=1, is_forked=True, has_digest=True):
+    def __init__(self, server: str, command: list[str], options: Sequence[str] = (), seconds: float = 10.0,
+                 jobs: int = 1, is_forked: bool = True, has_digest: bool = True) -> None:
         self.server, self.command, self.options = server, command, tuple(options)
         self.seconds, self.jobs, self.has_digest = seconds, jobs, has_digest
         self.runs, self.reached = 0, 0  # of the runs that are counted
         self.wake = os.pipe()  # holds a byte while runs must end
         script = script_of(command) if is_forked else None
-        settings = server, self.options, *addresses_of(self.options)
+        settings = server, self.options, memory_of(self.options)
         self.forks = Forks(script, settings, seconds, jobs, self.wake[0]) if script else None
-        self.workers = self.recall = None
+        self.workers: Optional[Workers] = None
+        self.recall: Optional[Recall] = None
 
-    def start(self):
+    def start(self) -> None:
         """Before several runs at once, and before there are threads: starts workers if runs aren't forked."""
         if not self.workers and not (self.forks and self.forks.is_usable):
             self.workers = Workers(self.play_reduced, self.jobs, self.wake[1])
 
-    def close(self):
+    def close(self) -> None:
         """Ends what was started for the runs, and those that are still in progress after a signal."""
         self.stop()
-        for runs in filter(None, (self.workers, self.recall, self.forks)):  # workers have files of the others, too
-            runs.end()
+        if self.workers:  # they have files of the others, too
+            self.workers.end()
+        if self.recall:
+            self.recall.end()
+        if self.forks:
+            self.forks.end()
 
-    def prepare(self, run):
+    def prepare(self, run: Run) -> None:
         """Before many schedules are played, by the run without deviations."""
         if self.forks:
             self.forks.prepare(run)
@@ -67,75 +79,78 @@ class Target:
                 self.recall = Recall(self.forks.settings, self.jobs, self.seconds, self.has_digest)
                 self.recall.learn(run.script)
 
-    def run(self, schedule=(), draw=None, is_strict=False):
+    def run(self, schedule: Sequence[Deviation] = (), draw: Drawing | None = None, is_strict: bool = False) -> Run:
         """Runs the command once, and counts the run. Raises CannotRun, ServerEnded or Mismatch."""
         return self.count(self.play(schedule, draw, is_strict))
 
-    def count(self, run):
+    def count(self, run: Run) -> Run:
         self.runs += 1
         self.reached |= run.reached
         return run
 
-    def stop(self):
+    def stop(self) -> None:
         """Ends all runs in progress, which raise Stopped."""
         os.write(self.wake[1], b"x")
 
-    def resume(self):
+    def resume(self) -> None:
         """After `stop`, and after these runs have ended: runs are possible again."""
         os.read(self.wake[0], 1)
 
-    def play(self, schedule=(), draw=None, is_strict=False, has_places=True, has_rows=False):
+    def play(self, schedule: Sequence[Deviation] = (), draw: Drawing | None = None, is_strict: bool = False,
+             has_places: bool = True, has_rows: bool = False) -> Run:
         """Runs the command once, perhaps at the same time as others.
 
         A run that passes may have no rows without `has_rows`, and without `has_places` nothing of its schedule.
         """
         run = None
-        if self.recalls(schedule, draw, is_strict, has_rows):
+        if self.recall and self.recalls(schedule, draw, is_strict, has_rows):
             run = self.recall.play(schedule, has_places)
         if not run and self.forks:
-            run = self.play_forked(schedule, draw, is_strict, has_places, has_rows)
+            run = self.play_forked(self.forks, schedule, draw, is_strict, has_places, has_rows)
         if not run:
             if self.workers:
                 run = self.workers.play(schedule, draw, is_strict, has_places)
             else:
                 run = self.play_apart(schedule, draw, is_strict)
             if self.forks:
-                self.confirm(run)
+                self.confirm(self.forks, run)
         return run
 
-    def confirm(self, run):
+    def confirm(self, forks: Forks, run: Run) -> None:
         """After a forked run had no result: a process of its own had none in time either, or forks can't be used."""
         if run.fault == late(self.seconds):
-            self.forks.trusts_late = self.forks.trusts_late is not False
+            forks.trusts_late = forks.trusts_late is not False
         else:
-            self.forks.is_usable = False
+            forks.is_usable = False
 
-    def recalls(self, schedule, draw, is_strict, has_rows):
+    def recalls(self, schedule: Sequence[Deviation], draw: Drawing | None, is_strict: bool, has_rows: bool) -> bool:
         """Whether a run may be played without the test, by what earlier runs have shown."""
-        if not (schedule and self.recall and self.recall.is_usable and self.forks.is_usable):
+        if not (schedule and self.recall and self.recall.is_usable and self.forks and self.forks.is_usable):
             return False
         return not (draw or is_strict or has_rows) and all(one.place and one.place.round for one in schedule)
 
-    def play_forked(self, schedule, draw, is_strict, has_places, has_rows):
+    def play_forked(self, forks: Forks, schedule: Sequence[Deviation], draw: Drawing | None, is_strict: bool,
+                    has_places: bool, has_rows: bool) -> Run | None:
         """A forked run, or None. If it fails, the same is played again and recorded."""
         has_script = not draw and (not schedule or self.recalls(schedule, draw, is_strict, has_rows))
-        run = self.forks.play(schedule, draw, is_strict, has_places, has_rows, has_script)
+        run = forks.play(schedule, draw, is_strict, has_places, has_rows, has_script)
         if run and run.fault and not run.rows:
             same = schedule if draw is None else run.met
-            again = self.forks.play(same, None, False, True, True, False)
+            again = forks.play(same, None, False, True, True, False)
             return again if again and again.fault == run.fault else run
         if run and run.script and not run.fault and self.recall:
             self.recall.learn(run.script)
         return run
 
-    def play_reduced(self, schedule, draw, is_strict, has_places):
+    def play_reduced(self, schedule: Sequence[Deviation], draw: Drawing | None, is_strict: bool,
+                     has_places: bool) -> Run:
         return self.play_apart(schedule, draw, is_strict).reduced(has_places, has_rows=False)
 
-    def play_apart(self, schedule, draw, is_strict):
+    def play_apart(self, schedule: Sequence[Deviation], draw: Drawing | None, is_strict: bool) -> Run:
         """Runs the command in a process of its own."""
         server = Server(self.server, self.options)
         try:
-            play = Play(*addresses_of(self.options))
+            play = Play(memory_of(self.options))
             play.begin(server, schedule, draw, is_strict)
             with tempfile.TemporaryFile() as errors:
                 fault = self.run_command(play, errors)
@@ -143,7 +158,7 @@ class Target:
             server.end()
         return run_of(fault, play)
 
-    def run_command(self, play, errors):
+    def run_command(self, play: Play, errors: IO[bytes]) -> str | None:
         try:
             test = subprocess.Popen(self.command, stdin=subprocess.PIPE, stdout=subprocess.PIPE, stderr=errors,
                                     bufsize=0, start_new_session=True, env={**os.environ, "NIC_MARKS": "on"})
@@ -152,7 +167,7 @@ class Target:
         end = time.monotonic() + self.seconds
         try:
             serve(test, play, end, self.wake[0])
-            test.stdin.close()
+            streams_of(test)[0].close()
             status = test.wait(max(0, end - time.monotonic()))
         except (TooLong, subprocess.TimeoutExpired):
             return late(self.seconds)
@@ -162,7 +177,13 @@ class Target:
         return fault_of(status, errors.read())
 
 
-def wait(reads, writes, end, wake):
+def streams_of(test: subprocess.Popen[bytes]) -> tuple[IO[bytes], IO[bytes]]:
+    """The standard input of a test, and its standard output."""
+    assert test.stdin and test.stdout
+    return test.stdin, test.stdout
+
+
+def wait(reads: list[int], writes: list[int], end: float, wake: int) -> None:
     """Waits until one of these files is ready."""
     found = select.select([*reads, wake], writes, [], max(0, end - time.monotonic()))
     if wake in found[0]:
@@ -171,9 +192,10 @@ def wait(reads, writes, end, wake):
         raise TooLong
 
 
-def serve(test, play, end, wake):
+def serve(test: subprocess.Popen[bytes], play: Play, end: float, wake: int) -> None:
     """Answers the requests of a test until its standard output ends."""
-    source, sink = test.stdout.fileno(), test.stdin.fileno()
+    given, told = streams_of(test)
+    source, sink = told.fileno(), given.fileno()
     os.set_blocking(sink, False)
     while True:
         if time.monotonic() > end:
@@ -184,7 +206,7 @@ def serve(test, play, end, wake):
             return
 
 
-def write(sink, data, end, wake):
+def write(sink: int, data: bytes, end: float, wake: int) -> bool:
     """Writes to the test. Returns False if the test no longer reads."""
     try:
         while data:
@@ -197,9 +219,9 @@ def write(sink, data, end, wake):
     return True
 
 
-def stop(test):
+def stop(test: subprocess.Popen[bytes]) -> None:
     """Ends a test and the processes that it has started."""
     kill(test.pid)
     test.wait()
-    for stream in (test.stdin, test.stdout):
+    for stream in streams_of(test):
         stream.close()

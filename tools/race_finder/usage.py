@@ -1,5 +1,7 @@
 """The help text of tools/races."""
 
+from __future__ import annotations
+
 HELP = """\
 Finds races between a driver and the modelled adapter.
 

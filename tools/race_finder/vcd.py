@@ -5,13 +5,20 @@ a hold or an arrival takes one unit. A change of the interrupt line, and a frame
 or the access that causes them.
 """
 
-import re
+from __future__ import annotations
 
-from race_finder.names import REGISTERS, access_of, number_in
+import re
+from typing import TYPE_CHECKING, Optional, Sequence
+
+from race_finder.chart import access_in
+from race_finder.names import REGISTERS, is_register, number_in
 from race_finder.talk import DEVIATION
 from race_finder.reached import ALL
 from race_finder.schedule import HOLDS
-from race_finder.shadow import Shadow
+
+if TYPE_CHECKING:
+    from race_finder.requests import Row
+    from race_finder.run import Run
 
 UNITS = 16
 HEADS = ("RDH", "RDT", "TDH", "TDT")
@@ -23,7 +30,7 @@ KINDS = {"event": ("event", 1), "line": ("wire", 1), "head": ("reg", 16), "regis
          "number": ("integer", 32)}
 
 
-def code_of(number):
+def code_of(number: int) -> str:
     """The identifier code of a variable: one character, or more if there are many variables."""
     code = ""
     while True:
@@ -33,27 +40,23 @@ def code_of(number):
             return code
 
 
-def identifier(name):
+def identifier(name: str) -> str:
     """A name of letters, digits and `_`: `MTA[3]` becomes `MTA_3`."""
     return re.sub(r"\W+", "_", name, flags=re.ASCII).strip("_")
 
 
-def registers_of(rows):
+def registers_of(rows: Sequence[Row]) -> list[str]:
     """The registers that a run accesses, except for heads and tails, in the order of their offsets."""
-    found = {name for row in rows if row.place and is_register(name := row.name.split(" ", 1)[1])}
+    found = {name for row in rows if row.place and is_register(name := access_in(row)[2])}
     return sorted(found - {*HEADS}, key=lambda name: (ORDER.get(name, len(ORDER)), name))
 
 
-def is_register(name):
-    return name[0].isupper() or name.startswith("register[")
-
-
-def scope_of(name):
+def scope_of(name: str) -> str:
     """The scope of a register; each table of registers has its own one."""
     return name.partition("[")[0] if name in ORDER and "[" in name else "registers"
 
 
-def event_of(row):
+def event_of(row: Row) -> str | None:
     """The event of a step that did something, of a hold or of an arrival; None for other rows of the log."""
     words = row.line.split(" ")
     if words[:2] == ["#", "step"]:
@@ -63,7 +66,7 @@ def event_of(row):
     return identifier(row.line) if row.line[2:] in HOLDS else None
 
 
-def variables_of(rows):
+def variables_of(rows: Sequence[Row]) -> dict[str, dict[str, str]]:
     """The variables of a dump by scope, each with its name and its kind."""
     events = [*ALL["steps"], *HOLDS, *(f"arrive {fate}" for fate in ALL["fates"]), "frame", "deviation"]
     seen = filter(None, map(event_of, rows))
@@ -80,8 +83,11 @@ def variables_of(rows):
 class Dump:
     """The lines of a dump."""
 
-    def __init__(self, scopes, comment):
-        self.codes, self.kinds, self.values, self.lines = {}, {}, {}, []
+    def __init__(self, scopes: dict[str, dict[str, str]], comment: str) -> None:
+        self.codes: dict[str, str] = {}
+        self.kinds: dict[str, str] = {}
+        self.values: dict[str, Optional[int]] = {}
+        self.lines: list[str] = []
         self.now = self.told = 0  # the time, and the last time that is in the lines
         self.lines += ["$version races of nicbench $end", f"$comment {comment} $end", "$timescale 1 ns $end",
                        "$scope module race $end"]
@@ -91,7 +97,7 @@ class Dump:
         self.begin()
         self.lines.append("$end")
 
-    def declare(self, scope, variables):
+    def declare(self, scope: str, variables: dict[str, str]) -> None:
         """The variables of a scope."""
         self.lines.append(f"$scope module {scope} $end")
         for name, kind in variables.items():
@@ -100,50 +106,49 @@ class Dump:
             self.lines.append(f"$var {word} {size} {self.codes[name]} {name} $end")
         self.lines.append("$upscope $end")
 
-    def begin(self):
+    def begin(self) -> None:
         """The first values. An event has none, and a register isn't known before its first access."""
         for name, kind in self.kinds.items():
             if kind != "event":
                 self.change(name, None if kind == "register" else 0)
 
-    def change(self, name, value):
+    def change(self, name: str, value: int | None) -> None:
         """A variable has this value from now on (None if it isn't known), if it hasn't already."""
         if self.values.get(name, ()) != value:
             self.values[name] = value
             text = "x" if value is None else f"{value:b}"
             self.tell(text + self.codes[name] if self.kinds[name] == "line" else f"b{text} {self.codes[name]}")
 
-    def happen(self, name):
+    def happen(self, name: str) -> None:
         self.tell(f"1{self.codes[name]}")
 
-    def tell(self, line):
+    def tell(self, line: str) -> None:
         if self.told != self.now:
             self.lines.append(f"#{self.now}")
             self.told = self.now
         self.lines.append(line)
 
 
-def dump_access(dump, shadow, row):
+def dump_access(dump: Dump, row: Row) -> None:
     """An access, and the value of its register."""
     dump.now = (dump.now // UNITS + 1) * UNITS
-    access, (kind, name) = access_of(row.line[2:]), row.name.split(" ", 1)
+    access, kind, name = access_in(row)
     dump.happen(f"{kind}_{'register' if is_register(name) else 'memory'}")
-    dump.change("round", row.place.round)
-    dump.change("access", row.place.access)
+    if row.place:
+        dump.change("round", row.place.round)
+        dump.change("access", row.place.access)
     if not is_register(name):
         return
-    if kind == "write":
-        shadow.write(name, access.value)
     value = access.value if kind == "write" else number_in(access, row.answer)
     if name not in HEADS and value is not None:
         dump.change(identifier(name), value)
 
 
-def dump_row(dump, shadow, row):
+def dump_row(dump: Dump, row: Row) -> None:
     """A row of the log. A step that did nothing takes no time."""
     words, event = row.line.split(" "), event_of(row)
     if row.place:
-        dump_access(dump, shadow, row)
+        dump_access(dump, row)
     elif words[0] == "IRQ":
         dump.change("irq", int(words[1] == "raise"))
     elif words[0] == "frame":
@@ -153,23 +158,22 @@ def dump_row(dump, shadow, row):
         dump.happen(event)
         if row.owner == DEVIATION:
             dump.happen("deviation")
-    if words[:2] == ["#", "step"]:
-        shadow.step(words[2], words[4])
-    for name in HEADS:
-        dump.change(name, shadow.registers[name])
+    receive, transmit = row.rings
+    for name, value in zip(HEADS, (receive.head, receive.tail, transmit.head, transmit.tail)):
+        dump.change(name, value)
 
 
-def comment_of(run):
-    """What the dump says of the run: printable ASCII, without the character that begins a keyword."""
+def comment_of(run: Run) -> str:
+    """The dump's comment on the run: printable ASCII, without the character that begins a keyword."""
     text = run.fault or "the test passes"
     return "".join(letter if " " <= letter <= "~" and letter != "$" else "?" for letter in text)
 
 
-def vcd(run):
+def vcd(run: Run) -> str:
     """The dump of a run."""
-    dump, shadow = Dump(variables_of(run.rows), comment_of(run)), Shadow()
+    dump = Dump(variables_of(run.rows), comment_of(run))
     for row in run.rows:
-        dump_row(dump, shadow, row)
+        dump_row(dump, row)
     dump.now += 1
     dump.lines.append(f"#{dump.now}")
     return "".join(f"{line}\n" for line in dump.lines)

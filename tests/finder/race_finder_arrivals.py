@@ -1,25 +1,25 @@
-"""The finder of races with frames that a test offers: when they arrive, and what is drawn, explored, shrunk and shown of them."""
+"""The finder of races with frames that a test offers: when they arrive, and what is drawn, explored, shrunk and shown
+of them.
+"""
 
 import json
-import os
 import re
 import shlex
 import shutil
-import sys
 
 from race_finder import ASK, FOUND, FRAME, PASSES, find, replay, without_rate, without_reached
 from race_finder_charts import check_dump, check_picture
 from race_finder_output import NEVER, REACHED, reached_by, script, shown
 from race_finder_runs import BEGIN, STAGED
 from server import lines
-from server_pages import TOP, follow, read_page
+from server_pages import follow, read_page
 
-sys.path.append(os.path.join(TOP, "examples", "drivers"))
-from arrivals import MISSED  # noqa: E402
-from driver import QUEUE, RIGHT  # noqa: E402
+from arrivals import MISSED
+from driver import QUEUE, RIGHT
 
 OTHER = f"{FRAME[:-2]}ff"
-# Enables reception, and offers two frames. Reads the status of the first slot, ICR, and the status again. Then the adapter settles.
+# Enables reception, and offers two frames. Reads the status of the first slot, ICR, and the status again. Then the
+# adapter settles.
 OFFERED = ASK + f"""
 ask "writel 0xFEB02808 128"
 ask "writeq 0 0x800"
@@ -71,38 +71,51 @@ print(target.forks.is_usable)
 
 def told(server, schedule):
     """What a test is told that offers frames, by a schedule. Lines for steps are left out."""
-    requests = ["events on", "log on", f"offer {OTHER}", "offer", "offer 0", "readb 0", f"offer {FRAME.upper()}", "readb 0", "readb 1", "settle 1", "settle", "settle"]
+    requests = ["events on", "log on", f"offer {OTHER}", "offer", "offer 0", "readb 0", f"offer {FRAME.upper()}",
+                "readb 0", "readb 1", "settle 1", "settle", "settle"]
     server.put("requests", lines(requests))
-    status, _, errors = replay(server, schedule, command=["sh", "-c", "exec 3<&0; cat requests & exec cat <&3 >answers"])
+    status, _, errors = replay(server, schedule,
+                               command=["sh", "-c", "exec 3<&0; cat requests & exec cat <&3 >answers"])
     server.check(f"arrivals: {schedule!r}", (status, errors), (PASSES, ""))
     got = (server.get("answers") or b"").decode().replace(FRAME, "FRAME").replace(OTHER, "OTHER").splitlines()
     return [line for line in got if not line.startswith("# step")]
 
 
 def talks(server):
-    """Offered frames arrive at the next `settle`, in order, or before accesses by the schedule. The test is told their fates."""
+    """Offered frames arrive at the next `settle`, in order, or before accesses by the schedule. The test is told their
+    fates.
+    """
     invalid = server.serve(b"offer\noffer 0\n")[1].decode().splitlines()
     one, two = ["# arrive OTHER", "arrived off OTHER"], ["# arrive FRAME", "arrived off FRAME"]
-    for schedule, places in [("", (4, 4)), ("1.1 arrive before read 0x0", (0, 4)), ("2.1 arrive before read 0x0\n2.2 arrive before read 0x1", (1, 2)),
-                             ("2.2 arrive before read 0x1\n2.2 arrive before read 0x1", (2, 2)), ("2.0 arrive before offer\n3.0 arrive before settle", (3, 4)), ("arrive before read 0x0#2", (1, 4))]:
-        arrivals = [[line for frame, at in zip((one, two), places) if at == place for line in frame] for place in range(5)]
-        wanted = ["OK", "OK", "OK", *invalid, *arrivals[0], "# readb 0", ZERO, *arrivals[3], "OK", *arrivals[1], "# readb 0", ZERO, *arrivals[2], "# readb 1", ZERO,
+    for schedule, places in [("", (4, 4)), ("1.1 arrive before read 0x0", (0, 4)),
+                             ("2.1 arrive before read 0x0\n2.2 arrive before read 0x1", (1, 2)),
+                             ("2.2 arrive before read 0x1\n2.2 arrive before read 0x1", (2, 2)),
+                             ("2.0 arrive before offer\n3.0 arrive before settle", (3, 4)),
+                             ("arrive before read 0x0#2", (1, 4))]:
+        arrivals = [[line for frame, at in zip((one, two), places) if at == place for line in frame]
+                    for place in range(5)]
+        wanted = ["OK", "OK", "OK", *invalid, *arrivals[0], "# readb 0", ZERO, *arrivals[3], "OK", *arrivals[1],
+                  "# readb 0", ZERO, *arrivals[2], "# readb 1", ZERO,
                   "ERR count", *arrivals[4], ZERO, ZERO]
         server.check(f"arrivals: what the test is told by {schedule!r}", told(server, schedule), wanted)
-    status, out, _ = replay(server, "1.1 arrive before read 0x0\n1.1 arrive before read 0x0", command=["sh", "-c", "cat requests"])
-    server.check("arrivals: none is left", (status, out.splitlines()[0]), (PASSES, "1.1 arrive before read 0x0: it did nothing"))
+    status, out, _ = replay(server, "1.1 arrive before read 0x0\n1.1 arrive before read 0x0",
+                            command=["sh", "-c", "cat requests"])
+    server.check("arrivals: none is left", (status, out.splitlines()[0]),
+                 (PASSES, "1.1 arrive before read 0x0: it did nothing"))
 
 
 def searches(server):
     """A race that needs an arrival is explored, drawn and made small. The chart and the dump show the arrival."""
     server.put("offered", OFFERED.encode())
     status, out, errors = find(server, "--explore", "2", command=["sh", "offered"])
-    # Before the second offer, each of the accesses in round 2, and the settling, a frame arrives; after that, there or before each of those that are
-    # left, `arrive` (if the second frame is offered), `rxdata` or `rx`. Of these, one before the second offer is the same as after it.
+    # Before the second offer, each access in round 2, and the settling, a frame arrives. After that, `rxdata`, `rx` or
+    # a second `arrive` comes there, or before one of the accesses that are left. Of these, one before the second offer
+    # is the same as after it.
     counts = re.findall(r"^depth \d: (\d+) schedules, none fails", out, re.M)
     same = re.findall(r"; (.*) the same as these$", out, re.M)
     server.check("arrivals: explored", (status, counts, same, errors), (PASSES, ["1", "5", "43"], ["1 more is"], ""))
-    for name, words in [("explored", ["--explore", "2"]), ("drawn", ["--runs", "100"]), ("drawn by PCT", ["--pct", "3", "--runs", "200"])]:
+    for name, words in [("explored", ["--explore", "2"]), ("drawn", ["--runs", "100"]),
+                        ("drawn by PCT", ["--pct", "3", "--runs", "200"])]:
         status, out, errors = find(server, *words, "--out", "charts/", command=FAILS)
         found = (server.get("charts/schedule.txt") or b"").decode().splitlines()[2:]
         server.check(f"arrivals: {name}", (status, found, errors), (FOUND, SMALLEST, ""))
@@ -123,10 +136,12 @@ def actors(server):
     for command, count, events in [(["sh", "offered"], 5, 10), (["true"], 4, 0)]:
         out = find(server, "--pct", "2", "--runs", "3", command=command)[1]
         bound = count * max(1, events)
-        line = f"PCT of depth 2: {count} actors and {events} events, so each run finds a race of this depth with a probability of at least 1/{bound}"
+        line = (f"PCT of depth 2: {count} actors and {events} events, so each run finds a race of this depth with a "
+                f"probability of at least 1/{bound}")
         server.check(f"arrivals: the bound of {command}", out.splitlines()[0], line)
         result = json.loads(find(server, "--pct", "2", "--runs", "3", "--json", command=command)[1])
-        server.check(f"arrivals: the bound of {command} as JSON", result.get("pct"), {"depth": 2, "actors": count, "events": events, "bound": 1 / bound})
+        server.check(f"arrivals: the bound of {command} as JSON", result.get("pct"),
+                     {"depth": 2, "actors": count, "events": events, "bound": 1 / bound})
     result = json.loads(find(server, "--runs", "3", "--json", command=["true"])[1])
     server.check("arrivals: no bound without --pct", "pct" in result, False)
 
@@ -142,28 +157,36 @@ def drivers(server):
     server.check("arrivals: forked runs", script(server, f"COMMAND = {[*STAGED, 'offers', 'late']!r}\n{SAME}"), (
         0, "True 15 False\nTrue 15 True\nTrue 15 True\nTrue 15 True\nTrue\n", ""))
     status, out, errors = find(server, "--explore", "1", command=[*STAGED, "arrives", "rxo"])
-    server.check("arrivals: by request, no schedule of depth 1 shows it", (status, "without holds: none of " in without_reached(out), errors), (PASSES, True, ""))
+    server.check("arrivals: by request, no schedule of depth 1 shows it",
+                 (status, "without holds: none of " in without_reached(out), errors), (PASSES, True, ""))
     status, out, errors = find(server, "--runs", "30", command=[*STAGED, "arrives", "rxo"])
-    server.check("arrivals: by request, no drawn schedule shows it", (status, "\nno run fails\n" in out, errors), (PASSES, True, ""))
+    server.check("arrivals: by request, no drawn schedule shows it", (status, "\nno run fails\n" in out, errors),
+                 (PASSES, True, ""))
     for name in RIGHT:
         for test, words in [("offers", ["--runs", "30"]), ("arrives", ["--runs", "10"]), ("groups", ["--runs", "20"]),
-                            ("misses", ["--runs", "10", "--options", f"--missed {MISSED}"]), ("resets", ["--runs", "10"])]:
+                            ("misses", ["--runs", "10", "--options", f"--missed {MISSED}"]),
+                            ("resets", ["--runs", "10"])]:
             passes(server, test, name, *words)
     for name in QUEUE:
         passes(server, "resets", name, "--runs", "30")
     status, out, errors = find(server, "--pct", "3", "--runs", "30", command=[*STAGED, "offers", "right"])
-    server.check("arrivals: right passes offers by PCT", (status, "\nno run fails\n" in out, errors), (PASSES, True, ""))
+    server.check("arrivals: right passes offers by PCT", (status, "\nno run fails\n" in out, errors),
+                 (PASSES, True, ""))
 
 
 def page(server):
     """The sessions on the page of examples/drivers show bugs that are no races."""
-    block = re.search(r"^```\n(\$ tools/races -- python3 \S+ groups group\n.*?)^```$", read_page("examples", "drivers", "README.md"), re.M | re.S)[1]
-    for words, test, wanted in re.findall(r"^\$ tools/races (.*)-- python3 examples/drivers/staged_test.py (.*)\n((?:(?!\$ ).*\n)*)", block, re.M):
+    block = re.search(r"^```\n(\$ tools/races -- python3 \S+ groups group\n.*?)^```$",
+                      read_page("examples", "drivers", "README.md"), re.M | re.S)[1]
+    for words, test, wanted in re.findall(r"^\$ tools/races (.*)-- python3 examples/drivers/staged_test.py (.*)\n"
+                                          r"((?:(?!\$ ).*\n)*)", block, re.M):
         status, out, errors = find(server, *shlex.split(words), command=[*STAGED, *test.split()])
-        server.check(f"arrivals: {test}", (status, follow(without_rate(out), without_rate(wanted)), errors), (FOUND, True, ""))
+        server.check(f"arrivals: {test}", (status, follow(without_rate(out), without_rate(wanted)), errors),
+                     (FOUND, True, ""))
     server.check("arrivals: both are shown", block.count("\nno race: "), 2)
     status, out, _ = find(server, command=[*STAGED, "misses"])
-    server.check("arrivals: misses without its option", (status, f"start the server with --missed {MISSED}\n" in out), (FOUND, True))
+    server.check("arrivals: misses without its option", (status, f"start the server with --missed {MISSED}\n" in out),
+                 (FOUND, True))
 
 
 def all_cases(server):

@@ -5,11 +5,11 @@ import shutil
 import subprocess
 import sys
 
-TOP = os.path.dirname(os.path.dirname(os.path.abspath(__file__)))
+from harness import TOP
+
 PCI = os.path.join(TOP, "examples", "emulators", "pci")
 FUNCTIONS = "/sys/bus/pci/devices"
-sys.path.append(os.path.join(TOP, "machines"))
-import needs  # noqa: E402
+import needs
 
 FRAMES = 100
 SAME = "none lost, changed or out of order"

@@ -1,6 +1,7 @@
 """The finder of races and `nicbench serve` play the same schedule alike: `serve --schedule`, and `serve --record`.
 
-A test runs with nothing between it and the server, and under the finder. It stores all answers that it reads, and its exit status.
+A test runs with nothing between it and the server, and under the finder. It stores all answers that it reads, and its
+exit status.
 """
 
 import os
@@ -8,16 +9,15 @@ import re
 import subprocess
 import sys
 
+from harness import DRIVERS
 from race_finder import replay
 from race_finder_output import script
 from server import LIMIT
-from server_pages import TOP
 
-DRIVERS = os.path.join(TOP, "examples", "drivers")
-# Turns on random steps, and runs a script with arguments. Stores in the file argv[1] each line that is read, the exit status and the fault.
+# Turns on random steps, and runs a script with arguments. Stores in the file argv[1] each line that is read, the exit
+# status and the fault.
 STORED = """
 import os, runpy, sys
-sys.dont_write_bytecode = True
 stored = open(sys.argv[1], "wb")
 
 class Reader:
@@ -52,8 +52,8 @@ stored.write(f"exit status {status}\\n".encode())
 stored.close()
 sys.exit(status)
 """
-# Draws schedules with argv[3], and stores each in the folder argv[4], by places and by names. In every second one, a step of the EEPROM or the PHY is
-# played after each hold. Prints how many deviations are before requests.
+# Draws schedules with argv[3], and stores each in the folder argv[4], by places and by names. In every second one, a
+# step of the EEPROM or the PHY is played after each hold. Prints how many deviations are before requests.
 DRAWN = """
 import os, sys
 sys.dont_write_bytecode = True
@@ -78,14 +78,16 @@ for seed in range(1, int(sys.argv[3]) + 1):
 print(count)
 """
 SEEDS = 4
-TESTS = [["exchange_test.py", "right"], ["exchange_test.py", "late"], ["exchange_test.py", "freed"], ["staged_test.py", "stages", "right"],
-         ["staged_test.py", "stages", "masks-late"], ["staged_test.py", "stages", "eerd"], ["staged_test.py", "offers", "rxo"],
+TESTS = [["exchange_test.py", "right"], ["exchange_test.py", "late"], ["exchange_test.py", "freed"],
+         ["staged_test.py", "stages", "right"], ["staged_test.py", "stages", "masks-late"],
+         ["staged_test.py", "stages", "eerd"], ["staged_test.py", "offers", "rxo"],
          ["staged_test.py", "cuts", "cuts"]]
 
 
 def command_of(server, test):
     """The command that runs a test and stores what it reads in the file `stored`."""
-    return [sys.executable, "-S", "-E", server.path("stored.py"), server.path("stored"), os.path.join(DRIVERS, test[0]), *test[1:]]
+    return [sys.executable, "-S", "-E", server.path("stored.py"), server.path("stored"), os.path.join(DRIVERS, test[0]),
+            *test[1:]]
 
 
 def taken(server):
@@ -96,10 +98,14 @@ def taken(server):
 
 
 def direct(server, command, *words):
-    """Runs a test at a server with nothing between: what it stored, and the exit status and the errors of the server."""
+    """Runs a test at a server with nothing between: what it stored, and the exit status and the errors of the
+    server.
+    """
     requests, answers = os.pipe(), os.pipe()
-    with subprocess.Popen([server.program, "serve", *words], cwd=server.folder, stdin=requests[0], stdout=answers[1], stderr=subprocess.PIPE) as adapter:
-        with subprocess.Popen(command, cwd=server.folder, stdin=answers[0], stdout=requests[1], stderr=subprocess.DEVNULL) as test:
+    with subprocess.Popen([server.program, "serve", *words], cwd=server.folder, stdin=requests[0], stdout=answers[1],
+                          stderr=subprocess.PIPE) as adapter:
+        with subprocess.Popen(command, cwd=server.folder, stdin=answers[0], stdout=requests[1],
+                              stderr=subprocess.DEVNULL) as test:
             for file in (*requests, *answers):
                 os.close(file)
             test.wait(LIMIT)
@@ -108,7 +114,9 @@ def direct(server, command, *words):
 
 
 def by_finder(server, path, command):
-    """Replays a schedule by the finder: what the test stored, and whether the finder reports that all deviations were played."""
+    """Replays a schedule by the finder: what the test stored, and whether the finder reports that all deviations were
+    played.
+    """
     text = server.get(path).decode()
     _, out, errors = replay(server, text, command=command)
     return taken(server), re.findall("it did nothing|doesn't reach|makes another|makes this", out), errors
@@ -140,7 +148,8 @@ def drawn(server):
         status, out, errors = script(server, DRAWN, str(SEEDS), server.path("drawn"), *command)
         server.check(f"alike: {name}: some are before requests", (status, int(out or 0) > 0, errors), (0, True, ""))
         for seed in range(1, SEEDS + 1):
-            told = [plays_alike(server, f"{name}, seed {seed}, by {form}", f"drawn/{form}{seed}", command) for form in ("places", "names")]
+            told = [plays_alike(server, f"{name}, seed {seed}, by {form}", f"drawn/{form}{seed}", command)
+                    for form in ("places", "names")]
             server.check(f"alike: {name}, seed {seed}: both forms", told[0], told[1])
             faults.add((told[0] or b"").splitlines()[-1:][0])
     server.check("alike: some runs fail", (b"exit status 0" in faults, len(faults) > 2), (True, True))
@@ -148,7 +157,8 @@ def drawn(server):
 
 def recorded(server):
     """What a server records with random steps is played alike by the finder and by a server."""
-    for test in (["exchange_test.py", "right"], ["exchange_test.py", "late"], ["staged_test.py", "stages", "late"], ["staged_test.py", "offers", "right"]):
+    for test in (["exchange_test.py", "right"], ["exchange_test.py", "late"], ["staged_test.py", "stages", "late"],
+                 ["staged_test.py", "offers", "right"]):
         command, name, lengths = command_of(server, test), " ".join(test), set()
         for seed in ("1", "24", "77"):
             told, status, errors = direct(server, command, "--record", "recorded", "--seed", seed)

@@ -9,7 +9,8 @@ import struct
 import subprocess
 import tempfile
 
-TOP = os.path.dirname(os.path.dirname(os.path.abspath(__file__)))
+from harness import TOP
+
 EXAMPLES = os.path.join(TOP, "examples", "emulators")
 NICBENCH, TCG = os.path.join(EXAMPLES, "qemu-system-nicbench"), os.path.join(EXAMPLES, "qemu-system-tcg")
 # What a connection or an answer may take, in seconds.
@@ -68,13 +69,14 @@ def test_on_both(bench, has_qemu):
 
 
 def ended_by_qemu(bench):
-    """QEMU ends at a device that it doesn't know. The wrapper says why."""
+    """QEMU ends at a device that it doesn't know. The wrapper reports why."""
     with socket.socket(socket.AF_UNIX, socket.SOCK_STREAM) as end:
         end.bind(bench.path("tcg"))
         end.listen()
         words = ["-qtest", f"unix:{bench.path('tcg')}", "-display", "none", "-audio", "none", "-device", "nothing"]
         ran = subprocess.run([TCG, *words], capture_output=True, text=True, timeout=LIMIT)
-    told = re.fullmatch("qemu-system-tcg: QEMU has ended: .*'nothing' is not a valid device model name\n", ran.stderr, re.S)
+    told = re.fullmatch("qemu-system-tcg: QEMU has ended: .*'nothing' is not a valid device model name\n", ran.stderr,
+                        re.S)
     bench.check(f"libqtest: QEMU with a wrong option: {ran.stderr}", (ran.returncode, ran.stdout, told is not None), (
         1, "", True))
 
@@ -234,7 +236,8 @@ def frames(bench):
     bench.check("frames: one is sent", session.ask(*sent), ["IRQ raise 11", "OK"])
     bench.check("frames: one is on the wire", session.taken(64),
         struct.pack(">I", 60) + b"\7" * 60)
-    # The ring's eight descriptors are sent again and again, while nobody reads the wire: it takes some, and the rest waits.
+    # The ring's eight descriptors are sent again and again, while nobody reads the wire: it takes some, and the rest
+    # waits.
     ring = [f"write 0x4000 128 0x{'00800000000000003c00000900000000' * 8}",
             *(f"writel {BASE + TDT:#x} {tail}" for tail in (0, 7, 6))]
     session.ask(f"writel {BASE + IMC:#x} 0xffff", *ring * 1000)

@@ -1,4 +1,5 @@
-"""The finder of races: its charts in docs/RACES.md and race_charts.txt, the picture, the value change dump, and the files of `--out`.
+"""The finder of races: its charts in docs/RACES.md and race_charts.txt, the picture, the value change dump, and the
+files of `--out`.
 
 The dump is read by a small parser here, and by `vcd2fst` of GTKWave if it is installed (Debian: package gtkwave).
 """
@@ -10,11 +11,12 @@ import subprocess
 import sys
 import xml.etree.ElementTree as ElementTree
 
+from harness import TOP
 from race_finder import FINDER, FOUND, FRAME, PASSES, SMALL, SMALLEST, USAGE, find, replay
 from race_finder_output import REGISTERS, read, script, whole, write
 from race_finder_stages import ARRIVAL_BUGS, BUGS, MORE_BUGS, RESET_BUGS, STAGED, rows
 from server import LIMIT, lines
-from server_pages import TOP, read_page
+from server_pages import read_page
 
 FILES = ["chart.svg", "chart.txt", "log.txt", "run.vcd", "schedule.txt"]
 MOST_LINES, LONGEST = 25, 155
@@ -32,7 +34,8 @@ SECTIONS = {
 }
 # The bugs that are no races have no chart.
 NO_RACES = ["group", "wraps", "offers-queued"]
-CHART = re.compile(r"^```\n\$ ([^\n]*examples/drivers/staged_test\.py (?:stages|cuts|offers|groups|resets) (\S+))\n(.*?)^```$", re.M | re.S)
+CHART = (re.compile(r"^```\n\$ ([^\n]*examples/drivers/staged_test\.py (?:stages|cuts|offers|groups|resets) (\S+))\n"
+                    r"(.*?)^```$", re.M | re.S))
 
 
 def charts_of(page):
@@ -49,9 +52,11 @@ def command_of(test, bug, deviations):
 
 
 def pages(server):
-    """Each bug has a chart in the section of its race, which the finder prints character by character, and a word in this section."""
+    """Each bug has a chart in the section of its race, which the finder prints character by character, and a word in
+    this section.
+    """
     races = read_page("docs", "RACES.md")
-    text = f"{races}\n{read_page('tests', 'race_charts.txt')}"
+    text = f"{races}\n{read_page('tests', 'finder', 'race_charts.txt')}"
     found = {bug: rest for bug, *rest in charts_of(text)}
     wanted = {*BUGS, *MORE_BUGS, *ARRIVAL_BUGS, *RESET_BUGS} - {*NO_RACES}
     server.check("pages: all races have a chart", sorted(found), sorted(wanted))
@@ -452,7 +457,7 @@ def cuts(server):
 
 
 def files(server):
-    """`--out` stores a schedule, or a folder with the charts, after a search and after a replay; or says why not."""
+    """`--out` stores a schedule, or a folder with the charts, after a search and after a replay; or reports why not."""
     server.put("small", SMALL.encode())
     schedule = f"# sh small fails\n# exit status 1: finished too late\n{SMALLEST}".encode()
     small = ["sh", "small", "fails"]
@@ -474,7 +479,8 @@ def files(server):
     server.check("files: a schedule alone", server.get("found"), schedule)
     for path in ("small/", "none/x", "found/"):
         status, _, errors = replay(server, "", "--out", path, command=["true"])
-        is_told = re.fullmatch(r"races: --out: \S+: [A-Z][a-z ]+\nFor more information, try '--help'.\n", errors) is not None
+        is_told = re.fullmatch(r"races: --out: \S+: [A-Z][a-z ]+\nFor more information, try '--help'.\n",
+                               errors) is not None
         server.check(f"files: {path} can't be written", (status, is_told), (USAGE, True))
     shutil.rmtree(server.path("charts"))
     server.check("files: fields and bits", script(server, FIELDS), (0, FIELDS_TOLD, ""))

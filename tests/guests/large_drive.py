@@ -1,13 +1,10 @@
-"""`nicbench drive` with rings of 4,096 descriptors on `nicbench serve`: both rings are filled, and wrap. Sizes that aren't valid are rejected."""
+"""`nicbench drive` with rings of 4,096 descriptors on `nicbench serve`: both rings are filled, and wrap. Sizes that
+aren't valid are rejected.
+"""
 
-import os
-import sys
-
-TOP = os.path.dirname(os.path.dirname(os.path.abspath(__file__)))
-sys.path.append(os.path.join(TOP, "examples", "emulators"))
-from emulators import RDH, RDT, Serve  # noqa: E402
-from qemu import Wire, drawn, drive  # noqa: E402
-from traces import read_trace, write_trace  # noqa: E402
+from emulators import RDH, RDT, Serve
+from qemu import Wire, drawn, drive
+from traces import read_trace, write_trace
 
 SLOTS, BUFFERS = 4096, 8192
 IMS, RDBAL, RDLEN, TDBAL, TDLEN, TDT = 0xD0, 0x2800, 0x2808, 0x3800, 0x3808, 0x3818
@@ -23,7 +20,9 @@ def rings_of(rx, tx, buffers):
 
 
 class Bursts(Serve):
-    """An adapter that takes steps only while it is initialized, and when frames arrive: as many as the ring has slots, at once."""
+    """An adapter that takes steps only while it is initialized, and when frames arrive: one for each slot of the ring,
+    at once.
+    """
 
     MOST = SLOTS
 
@@ -32,7 +31,9 @@ class Bursts(Serve):
         super().__init__(program, 1, STEPS, memory=memory)
 
     def ask(self, request):
-        """Notes what the initialization writes, and how many frames are offered for sending before the first frame arrives."""
+        """Notes what the initialization writes, and how many frames are offered for sending before the first frame
+        arrives.
+        """
         word, *rest = request.split()
         offset = int(rest[0], 0) - self.registers if word in ("readl", "writel") else None
         if word == "writel" and not self.is_up:
@@ -65,7 +66,8 @@ def exchange(bench, slots, words, memory):
     to_send, arriving = frames_of(2, slots), frames_of(3, slots)
     write_trace(bench.path("send.pcap"), to_send)
     wire, adapter = Wire(arriving), Bursts(bench.program, memory)
-    words = ["--send", bench.path("send.pcap"), "--receive", bench.path("receive.pcap"), "--expect", str(len(arriving)), *words]
+    words = ["--send", bench.path("send.pcap"), "--receive", bench.path("receive.pcap"), "--expect", str(len(arriving)),
+             *words]
     try:
         status, errors, _ = drive(bench.program, words, adapter, wire)
     finally:
@@ -81,11 +83,13 @@ def exchange(bench, slots, words, memory):
 
 def rejected(bench):
     """Sizes of rings that aren't valid, or for which memory is too small: no request is written."""
-    for rx, tx, buffers, memory in [(SLOTS, SLOTS, BUFFERS, GREATEST - 1), (SLOTS + 8, SLOTS, BUFFERS, 1 << 24), (SLOTS, SLOTS + 8, BUFFERS, 1 << 24),
-                                    (SLOTS, SLOTS, SLOTS - 1, 1 << 24), (SLOTS, SLOTS, BUFFERS + 1, 1 << 24), (12, 8, 16, 1 << 20), (8, 0, 16, 1 << 20),
+    for rx, tx, buffers, memory in [(SLOTS, SLOTS, BUFFERS, GREATEST - 1), (SLOTS + 8, SLOTS, BUFFERS, 1 << 24),
+                                    (SLOTS, SLOTS + 8, BUFFERS, 1 << 24), (SLOTS, SLOTS, SLOTS - 1, 1 << 24),
+                                    (SLOTS, SLOTS, BUFFERS + 1, 1 << 24), (12, 8, 16, 1 << 20), (8, 0, 16, 1 << 20),
                                     (8, 8, 16, LEAST - 1)]:
         words = [*rings_of(rx, tx, buffers), "--memory", str(memory)]
-        bench.check(f"drive {words}: its requests", bench.drives(f"drive {words}", [], 1, "E46 Init: E15 Config", *words), [])
+        bench.check(f"drive {words}: its requests",
+                    bench.drives(f"drive {words}", [], 1, "E46 Init: E15 Config", *words), [])
     for slots, buffers, memory in [(SLOTS, BUFFERS, GREATEST), (8, 16, LEAST)]:
         words = [*rings_of(slots, slots, buffers), "--memory", str(memory)]
         bench.check(f"drive {words}: its requests", len(bench.drives(f"drive {words}", [], 3, "E66 Read", *words)), 1)

@@ -1,4 +1,6 @@
-"""What the finder of races prints: the same for each number of runs at once, what the runs reached, JSON, and shards."""
+"""What the finder of races prints: the same for each number of runs at once, what the runs reached, JSON, and
+shards.
+"""
 
 import json
 import os
@@ -7,11 +9,14 @@ import shutil
 import subprocess
 import sys
 
-from race_finder import EXCHANGE, FINDER, FOUND, FRAME, LONG_FRAME, NOT_RUN, PASSES, SMALL, SMALLEST, UNSEARCHED, UNSEARCHED_TOLD, USAGE, find, replay, without_rate, without_reached
+from harness import TOP
+from race_finder import EXCHANGE, FINDER, FOUND, FRAME, LONG_FRAME, NOT_RUN, PASSES, SMALL, SMALLEST, UNSEARCHED
+from race_finder import UNSEARCHED_TOLD, USAGE, find, replay, without_rate, without_reached
 from server import LIMIT, lines
-from server_pages import TOP, follow, read_page
+from server_pages import follow, read_page
 
-# Run 5 waits until run 7 has ended, and runs from 9 on until runs are stopped. Then two real runs, of a test that never ends, are stopped.
+# Run 5 waits until run 7 has ended, and runs from 9 on until runs are stopped. Then two real runs, of a test that never
+# ends, are stopped.
 ORDER = """
 import sys, threading
 from concurrent.futures import ThreadPoolExecutor
@@ -71,15 +76,17 @@ reached:
 NEVER = REACHED.replace("reached:", "never:")
 # The registers by offset; which a read or a write can't do anything to; the causes, and so on.
 REGISTERS = {
-    "CTRL": 0x0, "STATUS": 0x8, "EERD": 0x14, "MDIC": 0x20, "VET": 0x38, "ICR": 0xC0, "ICS": 0xC8, "IMS": 0xD0, "IMC": 0xD8, "RCTL": 0x100, "TCTL": 0x400,
-    "PBA": 0x1000, "MPC": 0x4010, "GPRC": 0x4074, "GPTC": 0x4080, "RNBC": 0x40A0, "RDBAL": 0x2800, "RDBAH": 0x2804, "RDLEN": 0x2808, "RDH": 0x2810,
-    "RDT": 0x2818, "TDBAL": 0x3800, "TDBAH": 0x3804, "TDLEN": 0x3808, "TDH": 0x3810, "TDT": 0x3818, "MTA": 0x5204, "VFTA": 0x57FC, "RAL": 0x5408,
+    "CTRL": 0x0, "STATUS": 0x8, "EERD": 0x14, "MDIC": 0x20, "VET": 0x38, "ICR": 0xC0, "ICS": 0xC8, "IMS": 0xD0,
+    "IMC": 0xD8, "RCTL": 0x100, "TCTL": 0x400, "PBA": 0x1000, "MPC": 0x4010, "GPRC": 0x4074, "GPTC": 0x4080,
+    "RNBC": 0x40A0, "RDBAL": 0x2800, "RDBAH": 0x2804, "RDLEN": 0x2808, "RDH": 0x2810, "RDT": 0x2818, "TDBAL": 0x3800,
+    "TDBAH": 0x3804, "TDLEN": 0x3808, "TDH": 0x3810, "TDT": 0x3818, "MTA": 0x5204, "VFTA": 0x57FC, "RAL": 0x5408,
     "RAH": 0x547C,
 }
 READ = [name for name in REGISTERS if name not in ("ICS", "IMC")]
 WRITTEN = [name for name in REGISTERS if name not in ("STATUS", "MPC", "GPRC", "GPTC", "RNBC")]
 CAUSES = ["TXDW", "TXQE", "LSC", "RXDMT0", "RXO", "RXT0", "MDAC"]
-STEPS = ["txtake took", "txtake fault", "txput put", "txput wirefull", "rxdata part", "rxdata moved", "rxdata fault", "rxdone done", "eeprom ticked", "phy ticked"]
+STEPS = ["txtake took", "txtake fault", "txput put", "txput wirefull", "rxdata part", "rxdata moved", "rxdata fault",
+         "rxdone done", "eeprom ticked", "phy ticked"]
 FATES = ["stored", "missed", "filtered", "illegal", "off"]
 RINGS = ["receive", "transmit"]
 ALL = [READ, WRITTEN, CAUSES, STEPS, FATES, RINGS]
@@ -104,14 +111,20 @@ def whole():
     other = f"{FRAME[:10]}00{FRAME[12:]}".replace("ff", "02", 1)  # to another address
     yield f"arrive {FRAME}"  # off
     yield from (write(name, 0) for name in WRITTEN if name not in ("EERD", "MDIC"))
-    # An EEPROM read; the PHY resets its link, with an interrupt; causes of both rings; a piece and a whole frame, and then a full packet buffer.
-    yield from [write("CTRL", 0x40), write("EERD", 1), read("EERD"), write("MDIC", 0x24201200), read("MDIC"), read("MDIC")]
-    yield from [write("RDLEN", 128), write("RDT", 7), "writeq 0 0x800", "writeq 16 0x800", "writeq 32 0x800", "writeq 48 0x800", write("RCTL", 0x38002)]
-    yield from ["arrive 00", f"arrive {other}", f"arrive {FRAME.ljust(1200, '0')}", "settle", write("PBA", 2), *[f"arrive {LONG_FRAME}"] * 2]
+    # An EEPROM read. The PHY resets its link, with an interrupt. Causes of both rings. A piece and a whole frame, and
+    # then a full packet buffer.
+    yield from [write("CTRL", 0x40), write("EERD", 1), read("EERD"), write("MDIC", 0x24201200), read("MDIC"),
+                read("MDIC")]
+    yield from [write("RDLEN", 128), write("RDT", 7), "writeq 0 0x800", "writeq 16 0x800", "writeq 32 0x800",
+                "writeq 48 0x800", write("RCTL", 0x38002)]
+    yield from ["arrive 00", f"arrive {other}", f"arrive {FRAME.ljust(1200, '0')}", "settle", write("PBA", 2),
+                *[f"arrive {LONG_FRAME}"] * 2]
     yield from [write("RCTL", 0x8002), write("RDT", 3), "settle"]
-    yield from [write("TDBAL", 0x400), write("TDLEN", 128), "write 0x400 16 0x00100000000000004000000900000000", write("TDT", 1), write("TCTL", 0xA)]
+    yield from [write("TDBAL", 0x400), write("TDLEN", 128), "write 0x400 16 0x00100000000000004000000900000000",
+                write("TDT", 1), write("TCTL", 0xA)]
     yield from ["wire full", "settle", "wire free", "settle"]
-    yield from [write("RDH", 0), write("RDT", 1), f"arrive {FRAME}", "settle", write("TDT", 0), write("TDH", 8), "step txtake", "readb 0x400", write("RDH", 8), f"arrive {FRAME}", "step rxdata"]
+    yield from [write("RDH", 0), write("RDT", 1), f"arrive {FRAME}", "settle", write("TDT", 0), write("TDH", 8),
+                "step txtake", "readb 0x400", write("RDH", 8), f"arrive {FRAME}", "step rxdata"]
     yield from map(read, READ)
 
 
@@ -125,8 +138,10 @@ def script(server, text, *arguments):
 def jobs(server):
     """The number of runs at once doesn't change what is found and printed, only the rate."""
     server.put("small", SMALL.encode())
-    for name, words, command, status in [("a bug", ["--first", "0", "--seed", "10", "--smaller", "0"], [*EXCHANGE, "late"], FOUND),
-                                         ("a small test", ["--first", "0", "--seed", "20", "--runs", "20"], ["sh", "small", "fails"], FOUND),
+    for name, words, command, status in [("a bug", ["--first", "0", "--seed", "10", "--smaller", "0"],
+                                          [*EXCHANGE, "late"], FOUND),
+                                         ("a small test", ["--first", "0", "--seed", "20", "--runs", "20"],
+                                          ["sh", "small", "fails"], FOUND),
                                          ("the first schedules", [], [*EXCHANGE, "late"], FOUND),
                                          ("no bug", ["--runs", "30"], ["sh", "small"], PASSES)]:
         got = [find(server, *words, "--jobs", count, command=command) for count in ("1", "4")]
@@ -138,36 +153,45 @@ def jobs(server):
     for count in ("0", "65"):
         server.check(f"jobs: {count} of them", find(server, "--jobs", count, command=["true"]), wanted)
     status, out, errors = find(server, "--first", "0", "--runs", "0", command=["false"])
-    server.check("jobs: no run", (status, without_reached(out), errors), (UNSEARCHED, f"no run fails\n{UNSEARCHED_TOLD}\n", ""))
+    server.check("jobs: no run", (status, without_reached(out), errors),
+                 (UNSEARCHED, f"no run fails\n{UNSEARCHED_TOLD}\n", ""))
 
 
 def reached_by(server, requests, *words):
     """What a test that sends these requests reaches."""
     server.put("requests", lines(requests))
-    status, out, errors = replay(server, "", "--reached", *words, command=["sh", "-c", "exec 3<&0; cat requests & exec cat <&3 >answers"])
+    status, out, errors = replay(server, "", "--reached", *words,
+                                 command=["sh", "-c", "exec 3<&0; cat requests & exec cat <&3 >answers"])
     return status, PLAYED.sub("", out[out.find("reached:\n"):]), errors
 
 
 def reached(server):
     """What the runs reached, and what they never did."""
     requests = list(whole())
-    server.check("reached: all", reached_by(server, requests), (PASSES, shown(REACHED, ALL) + shown(NEVER, [[]] * 6), ""))
-    for at, name, request in [(0, "MPC", read("MPC")), (0, "RAH", read("RAH")), (1, "VFTA", write("VFTA", 0)), (3, "txtake fault", "step txtake"),
+    server.check("reached: all", reached_by(server, requests),
+                 (PASSES, shown(REACHED, ALL) + shown(NEVER, [[]] * 6), ""))
+    for at, name, request in [(0, "MPC", read("MPC")), (0, "RAH", read("RAH")), (1, "VFTA", write("VFTA", 0)),
+                              (3, "txtake fault", "step txtake"),
                               (3, "txput wirefull", "wire full"),
                               (3, "rxdata fault", "step rxdata"), (4, "illegal", "arrive 00"), (4, "off", requests[0])]:
         never = [[name] if at == key else [] for key in range(6)]
         requests.remove(request)
         did = [[one for one in names if [one] != without] for names, without in zip(ALL, never)]
-        server.check(f"reached: without {name}", reached_by(server, requests), (PASSES, shown(REACHED, did) + shown(NEVER, never), ""))
+        server.check(f"reached: without {name}", reached_by(server, requests),
+                     (PASSES, shown(REACHED, did) + shown(NEVER, never), ""))
         requests = list(whole())
 
 
 def json_of(got):
-    """The exit status, the object on standard output except for what was searched and reached, what was reached as lists, and the errors."""
+    """The exit status, the object on standard output except for what was searched and reached, what was reached as
+    lists, and the errors.
+    """
     status, out, errors = got
     result = json.loads(out)
-    tables = [result[key] and [names for one, names in result[key].items() if one != "played"] for key in ("reached", "never")]
-    return status, {key: value for key, value in result.items() if key not in ("search", "reached", "never")}, tables, errors
+    tables = [result[key] and [names for one, names in result[key].items() if one != "played"]
+              for key in ("reached", "never")]
+    return status, {key: value for key, value in result.items()
+                    if key not in ("search", "reached", "never")}, tables, errors
 
 
 FAULT, FAILS = "exit status 1: finished too late", ["sh", "small", "fails"]
@@ -189,7 +213,8 @@ def json_found(server):
     status, result, got, errors = json_of(find(server, "--json", *words, "--jobs", "4", command=FAILS))
     runs = result.pop("runs")
     server.check("json: what is drawn", (status, result, got, errors), (
-        FOUND, {"result": "fails", "seed": seed, "fault": FAULT, "schedule": SMALLEST.splitlines()}, small_tables(), ""))
+        FOUND, {"result": "fails", "seed": seed, "fault": FAULT, "schedule": SMALLEST.splitlines()}, small_tables(),
+        ""))
     server.check("json: its runs", runs > seed > 0, True)
     server.remove("failed-once")
     once = ["sh", "-c", "test -e failed-once && exit 0; touch failed-once; exit 1"]
@@ -201,7 +226,8 @@ def json_found(server):
     ]:
         status, kind, seed, fault, count = wanted
         result = {"result": kind, "seed": seed, "fault": fault, "schedule": [], "runs": count}
-        server.check(f"json: {name}", json_of(find(server, "--json", *words, command=command)), (status, result, NOTHING, ""))
+        server.check(f"json: {name}", json_of(find(server, "--json", *words, command=command)),
+                     (status, result, NOTHING, ""))
     server.check("json: a command that isn't there", find(server, "--json", command=["./nothing"]), (
         NOT_RUN, "", "races: ./nothing: No such file or directory\n"))
 
@@ -212,8 +238,10 @@ def json_replayed(server):
     other, late = "1.3 rx before read RDH", "1.5 rx before read ICR"
     for name, text, words, command, wanted in [
         ("passes", "", [], ["true"], (PASSES, None, [], 1, NOTHING)),
-        ("fails", f"options --rxa 2\n{SMALLEST}", [], FAILS, (FOUND, FAULT, ["options --rxa 2", *SMALLEST.splitlines()], 1, small_tables())),
-        ("mismatch", other, [], FAILS, (FOUND, f"{other}: at this place, the test makes another access: read rx[0]+12", [other], 0, [None, None])),
+        ("fails", f"options --rxa 2\n{SMALLEST}", [], FAILS,
+         (FOUND, FAULT, ["options --rxa 2", *SMALLEST.splitlines()], 1, small_tables())),
+        ("mismatch", other, [], FAILS, (FOUND, f"{other}: at this place, the test makes another access: read rx[0]+12",
+                                        [other], 0, [None, None])),
         ("mismatch", late, [], ["true"], (FOUND, f"{late}: the run doesn't reach this place", [late], 1, NOTHING)),
         ("passes", late, ["--any-access"], ["true"], (PASSES, None, [late], 1, NOTHING)),
     ]:
@@ -258,17 +286,19 @@ def shards(server):
     for shard, count in [("1/4", 2), ("2/4", 2), ("3/4", 1), ("4/4", 1), ("7/9", 0)]:
         status, out, errors = find(server, "--explore", "2", "--shard", shard, command=["sh", "small"])
         out = re.sub(r"(depth 2.*), \d+ different lists of answers", r"\1", without_reached(out))
-        wanted = f"{lower}depth 2: {count} of 6 schedules, none fails\npart {shard} of all schedules of up to 2 deviations, without holds: " \
-                 f"none of {9 + count} fails\n"
+        wanted = (f"{lower}depth 2: {count} of 6 schedules, none fails\n"
+                  f"part {shard} of all schedules of up to 2 deviations, without holds: none of {9 + count} fails\n")
         server.check(f"shards: {shard} of an exploration", (status, out, errors), (PASSES, wanted, ""))
     for shard, count in [("1/3", 4), ("2/3", 3), ("3/3", 3), ("11/11", 0)]:
         out = find(server, "--first", "0", "--runs", "10", "--json", "--shard", shard, command=["true"])[1]
         server.check(f"shards: {shard} of the runs", json.loads(out)["runs"], count)
     words, begin, end = ["--json", "--first", "0", "--smaller", "0"], 108, 117
-    failing = [seed for seed in range(begin, end) if find(server, *words, "--runs", "1", "--seed", str(seed), command=FAILS)[0] == FOUND]
+    failing = [seed for seed in range(begin, end)
+               if find(server, *words, "--runs", "1", "--seed", str(seed), command=FAILS)[0] == FOUND]
     server.check("shards: seeds that fail alone", failing, [108, 116])
     for first, wanted in [(1, 108), (2, None), (3, 116)]:
-        out = find(server, *words, "--seed", str(begin), "--runs", str(end - begin), f"--shard={first}/3", command=FAILS)[1]
+        out = find(server, *words, "--seed", str(begin), "--runs", str(end - begin), f"--shard={first}/3",
+                   command=FAILS)[1]
         server.check(f"shards: the seed that {first}/3 finds", json.loads(out)["seed"], wanted)
     out = find(server, *words, "--seed", str(begin), "--runs", str(end - begin), "--shard=9/9", command=FAILS)[1]
     server.check("shards: the seed that 9/9 finds", json.loads(out)["seed"], 116)
@@ -278,30 +308,40 @@ def shards(server):
 
 
 def parallel(server):
-    """The command on the page searches in two parts, here on one machine: a race is found, and without one, all schedules are tried."""
+    """The command on the page searches in two parts, here on one machine: a race is found, and without one, all
+    schedules are tried.
+    """
     command = re.search(r"^\$ (parallel .*)$", read_page("tools", "race_finder", "README.md"), re.M)[1]
     if not shutil.which("parallel"):
         print("parallel: GNU parallel (Debian: package parallel) isn't installed, so the command on the page isn't run")
         return
     server.put("small", SMALL.encode())
     here = command.replace(" --sshlogin one,two --workdir $PWD", "").replace("-j 1", "-j 2 --will-cite")
-    here = here.replace("--out .build/", "--out ").replace("tools/races", " ".join([*FINDER, "--server", server.program]))
-    server.check("parallel: the command has these options", (here.count("--sshlogin"), here.count("--shard {}/2"), here.count("COMMAND")), (0, 1, 1))
+    here = here.replace("--out .build/", "--out ").replace("tools/races",
+                                                           " ".join([*FINDER, "--server", server.program]))
+    server.check("parallel: the command has these options",
+                 (here.count("--sshlogin"), here.count("--shard {}/2"), here.count("COMMAND")), (0, 1, 1))
     for words, status in (("sh small", PASSES), ("sh small fails", FOUND)):
-        ran = subprocess.run(here.replace("COMMAND", words), shell=True, cwd=server.folder, capture_output=True, timeout=LIMIT)
+        ran = subprocess.run(here.replace("COMMAND", words), shell=True, cwd=server.folder, capture_output=True,
+                             timeout=LIMIT)
         out = ran.stdout.decode()
         wanted = 2 if status == PASSES else 0
-        server.check(f"parallel: {words}", (ran.returncode, out.count(" of all schedules of up to 2 deviations, without holds: none of 12 fails\n")),
+        server.check(f"parallel: {words}",
+                     (ran.returncode,
+                      out.count(" of all schedules of up to 2 deviations, without holds: none of 12 fails\n")),
                      (status, wanted))
-        found = [server.get(f"found{part}/schedule.txt") for part in (1, 2) if os.path.exists(server.path(f"found{part}/schedule.txt"))]
-        server.check(f"parallel: {words}, what is stored", any(text.decode().endswith(SMALLEST) for text in found), status == FOUND)
+        found = [server.get(f"found{part}/schedule.txt") for part in (1, 2)
+                 if os.path.exists(server.path(f"found{part}/schedule.txt"))]
+        server.check(f"parallel: {words}, what is stored", any(text.decode().endswith(SMALLEST) for text in found),
+                     status == FOUND)
 
 
 def page(server):
     """What the right driver of the examples never reaches is on the page of the finder."""
     wanted = re.search(r"^```\n(never:\n.*?)^```$", read_page("tools", "race_finder", "README.md"), re.M | re.S)[1]
     status, out, errors = find(server, "--first", "0", "--runs", "10", command=EXCHANGE)
-    server.check("page: what is never reached", (status, follow(out[out.find("never:\n"):], wanted), errors), (PASSES, True, ""))
+    server.check("page: what is never reached", (status, follow(out[out.find("never:\n"):], wanted), errors),
+                 (PASSES, True, ""))
 
 
 def all_cases(server):

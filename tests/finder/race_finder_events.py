@@ -1,4 +1,6 @@
-"""Events of the server behind the finder of races: a test gets the lines that it would get from the server, and the chart has all of them."""
+"""Events of the server under the finder of races. A test gets the lines that it would get from the server, and the
+chart has all of them.
+"""
 
 import os
 import re
@@ -7,8 +9,9 @@ import sys
 from race_finder import PASSES, replay
 from server import lines
 
-# A server between the finder and the program, which has no events of its own: its first argument is whether it knows the requests for events. One
-# that doesn't know them always prints events. An event `fault` comes before each answer to a step that is one.
+# A server between the finder and the program, which has no events of its own. Its first argument is whether it knows
+# the requests for events. One that doesn't know them always prints events. An event `fault` comes before each answer to
+# a step that is one.
 BETWEEN = """#!{python}
 import subprocess, sys
 
@@ -40,11 +43,14 @@ for request in sys.stdin.buffer:
 """
 FRAME = "07" * 60
 # Of the two descriptors, only the first one has a valid command.
-SENDS = ["memset 0x800 60 7", "write 0 16 0x00080000000000003c00000900000000", "write 16 16 0x00080000000000003c0000ff00000000", "writel 0xFEB03808 128",
-         "writel 0xFEB00400 2", "writel 0xFEB03818 2", "step txtake", "step txput", "step txtake", f"offer {FRAME}", "settle"]
+SENDS = ["memset 0x800 60 7", "write 0 16 0x00080000000000003c00000900000000",
+         "write 16 16 0x00080000000000003c0000ff00000000", "writel 0xFEB03808 128",
+         "writel 0xFEB00400 2", "writel 0xFEB03818 2", "step txtake", "step txput", "step txtake", f"offer {FRAME}",
+         "settle"]
 FRAME_LINE, FAULT_LINE, ARRIVED_LINE = f"frame {FRAME}", "fault tx 1 command", f"arrived off {FRAME}"
 EVENTS = [FRAME_LINE, FAULT_LINE, ARRIVED_LINE]
-# The requests before SENDS, and the events that the test gets from a server that knows these requests, and from another one
+# The requests before SENDS, and the events that the test gets from a server that knows these requests, and from another
+# one
 CASES = {
     "a test that doesn't ask for events": ([], [], EVENTS),
     "a test that asks for events": (["events on"], EVENTS, EVENTS),
@@ -66,11 +72,13 @@ def told(server):
     for knows, (name, (before, *wanted)) in ((knows, case) for knows in (True, False) for case in CASES.items()):
         server.put("requests", lines([*before, *SENDS]))
         command = ["sh", "-c", "exec 3<&0; cat requests & exec cat <&3 >answers"]
-        status, out, errors = replay(server, "", "--server", between(server, knows), "--out", "events/", command=command)
+        status, out, errors = replay(server, "", "--server", between(server, knows), "--out", "events/",
+                                     command=command)
         got = (server.get("answers") or b"").decode().splitlines()
         title = f"events: {name}, with a server that {'knows' if knows else 'rejects'} the requests for events"
         server.check(f"{title}: the test passes", (status, errors), (PASSES, ""))
-        server.check(f"{title}: the events", [line for line in got if line.split(" ")[0] not in ("OK", "IRQ")], wanted[not knows])
+        server.check(f"{title}: the events", [line for line in got if line.split(" ")[0] not in ("OK", "IRQ")],
+                     wanted[not knows])
         server.check(f"{title}: the answers", sum(line.startswith("OK") for line in got), len(before) + len(SENDS))
         log = (server.get("events/log.txt") or b"").decode().splitlines()
         server.check(f"{title}: the log", [line for line in EVENTS[:2] if line not in log], [])

@@ -4,10 +4,10 @@ import os
 import re
 import sys
 
+from harness import TOP
 from race_finder import ASK, EXCHANGE, FOUND, FRAME, PASSES, SMALL, USAGE, find, without_rate, without_reached
 from race_finder_output import script
 from server import LIMIT
-from server_pages import TOP
 
 PYTHON = [sys.executable, "-S", "-E"]
 STAGED = [*PYTHON, os.path.join(TOP, "examples", "drivers", "staged_test.py")]
@@ -21,8 +21,8 @@ from race_finder.schedule import Deviation, Place, parse
 from race_finder.target import Target
 """
 # Compares forked runs with processes of their own: drawn ones, one without deviations, one with deviations also before
-# round 1, and some with later deviations. Prints what differs, what a schedule shows that meets another access, whether
-# all were forked, whether there are hosts all along the run, and whether some runs failed.
+# round 1, and some with later deviations. Prints what differs, what a schedule shows that meets another access, and
+# whether some runs failed. Also prints whether all were forked, and whether there are hosts all along the run.
 SAME = BEGIN + """
 def shown(run):
     rows = [(row.line, row.owner, row.place, row.name, row.answer) for row in run.rows]
@@ -58,14 +58,16 @@ for command in COMMANDS:
     print(target.forks.is_usable, len(target.forks.hosts) > 10, len(faults) > 1)
     target.close()
 """
-# Plays schedules twice: at the second time, the requests of the test are known, so only a run that fails is forked. Then
-# sends all runs of the second time to processes of their own. Prints what differs, how many runs were forked at the second
-# time, and how many failed. Then shows that a test isn't recalled whose requests differ after the same answers.
+# Plays schedules twice: at the second time, the requests of the test are known, so only a run that fails is forked.
+# Then sends all runs of the second time to processes of their own. Prints what differs, how many runs were forked at
+# the second time, and how many failed. Then shows that a test isn't recalled whose requests differ after the same
+# answers.
 RECALLED = BEGIN + """
 from race_finder.recall import Requests
 
 def shown(run):
-    return [run.fault, run.met, run.idle, run.unreached, run.answers, run.events, run.reached, [tuple(met) for met in run.places]]
+    places = [tuple(met) for met in run.places]
+    return [run.fault, run.met, run.idle, run.unreached, run.answers, run.events, run.reached, places]
 
 for command in COMMANDS:
     target, forked = Target(sys.argv[1], command, seconds=60), []
@@ -87,7 +89,8 @@ for scripts in [[(b"a", b"1", (1, 0)), (b"b", b"2", (1, 1))], [(b"a", b"1", (1, 
         requests.learn(one)
     print(requests.is_certain)
 """
-# Plays schedules without the test, with and without digests. Prints whether the runs are the same, and how many end at a state that is known.
+# Plays schedules without the test, with and without digests. Prints whether the runs are the same, and how many end at
+# a state that is known.
 DIGESTS = BEGIN + """
 from race_finder import seen
 from race_finder.recall import Player
@@ -143,11 +146,13 @@ ENDS = {
     "exits with a text": ("sys.exit('wrong\\n')", True, "exit status 1: wrong"),
     "raises": ("1 / 0", True, "exit status 1: ZeroDivisionError: division by zero"),
     "has a function for its end": (
-        "import atexit; atexit.register(print, 'the end', file=sys.stderr); sys.exit(3)", True, "exit status 3: the end"),
+        "import atexit; atexit.register(print, 'the end', file=sys.stderr); sys.exit(3)", True,
+        "exit status 3: the end"),
     "leaves a request": ("sys.stdout.write('readl 0xFEB00008'); sys.exit(2)", True, "exit status 2: early"),
     "closes its output": ("sys.stdout.close(); sys.exit(sys.stdin.read())", False, "no end within 1 seconds"),
     "reads by a number": (
-        "print('line'); sys.stdout.flush(); sys.exit(os.read(0, 99).decode())", False, "exit status 1: OK 0x0000000000000000"),
+        "print('line'); sys.stdout.flush(); sys.exit(os.read(0, 99).decode())", False,
+        "exit status 1: OK 0x0000000000000000"),
     "writes by a number": (
         "os.write(1, b'line\\n'); sys.exit(sys.stdin.readline())", False, "exit status 1: OK 0x0000000000000000"),
     "has a thread that asks": (
@@ -164,8 +169,8 @@ ENDS = {
     "is killed": ("os.kill(os.getpid(), 9)", False, "ended by SIGKILL: early"),
     "waits for ever": ("sys.stdin.readline()", False, "no end within 1 seconds"),
 }
-# Prints for each script whether its runs are forked, and the faults of a run, of a second one, and of a process of its own.
-# Each script is given with the seconds of a run.
+# Prints for each script whether its runs are forked. Also prints the faults of a run, a second run, and a process of
+# its own. Each script is given with the seconds of a run.
 PLAYED = BEGIN + """
 for word in sys.argv[3:]:
     name, seconds = word.split(":")
@@ -187,16 +192,20 @@ def same(server):
 def recalled(server):
     """A schedule that is played without the test shows what a process of the test shows."""
     got = script(server, f"COMMANDS = {[[*STAGED, 'stages', 'right'], [*STAGED, 'stages', 'freed']]!r}\n{RECALLED}")
-    server.check("recalled: runs without the test", got, (0, "True True True True False\nTrue True True True True\nFalse\nTrue\n", ""))
+    server.check("recalled: runs without the test", got,
+                 (0, "True True True True False\nTrue True True True True\nFalse\nTrue\n", ""))
 
 
 def digests(server):
     """A run that ends at a state that is known is the same as one that is played to its end."""
-    got = script(server, f"COMMANDS = {[[*STAGED, 'stages', 'right'], [*STAGED, 'offers', 'right'], [*EXCHANGE, 'freed']]!r}\n{DIGESTS}")
+    got = (script(server, f"COMMANDS = "
+                          f"{[[*STAGED, 'stages', 'right'], [*STAGED, 'offers', 'right'], [*EXCHANGE, 'freed']]!r}\n"
+                          f"{DIGESTS}"))
     server.check("digests: runs without the test", got, (0, "True True True False\n" * 3, ""))
     server.put("small", SMALL.encode())
     options = ["--options", "--memory 0x40000"]
-    for name, words, command in [("explored", ["--explore", "1"], [*STAGED, "offers", "right"]), ("a race", ["--explore", "1"], [*STAGED, "stages", "late"]),
+    for name, words, command in [("explored", ["--explore", "1"], [*STAGED, "offers", "right"]),
+                                 ("a race", ["--explore", "1"], [*STAGED, "stages", "late"]),
                                  ("a small test", ["--explore", "3"], ["sh", "small"])]:
         got = [find(server, *words, *options, *more, "--jobs", "3", command=command) for more in ([], ["--no-digest"])]
         server.check(f"digests: {name}", (got[0][0] in (PASSES, FOUND), got[0]), (True, got[1]))
@@ -212,8 +221,10 @@ def ends(server):
     for (name, (_, is_forked, fault)), line in zip(ENDS.items(), out[1].splitlines()):
         server.check(f"ends: a test that {name}", line, repr([is_forked, fault, fault, fault]))
     server.check("ends: all of them", (out[0], len(out[1].splitlines()), out[2]), (0, len(ENDS), ""))
-    server.put("early.py", b"import threading\none = threading.Thread(target=print)\none.start()\none.join()\n" + ASKS.encode())
-    for name, command in [("a thread before the first answer", [*PYTHON, "early.py"]), ("no file", [*PYTHON, "nothing.py"]),
+    server.put("early.py", b"import threading\none = threading.Thread(target=print)\none.start()\none.join()\n"
+               + ASKS.encode())
+    for name, command in [("a thread before the first answer", [*PYTHON, "early.py"]),
+                          ("no file", [*PYTHON, "nothing.py"]),
                           ("no script", [*PYTHON, "-c", "1"]), ("another program", ["sh", "-c", "exit 0"])]:
         got = [find(server, "--runs", "2", *words, command=command) for words in ([], ["--apart"])]
         server.check(f"ends: {name}", without_rate(got[0][1]), without_rate(got[1][1]))
@@ -229,8 +240,10 @@ def ends(server):
 def jobs(server):
     """The number of runs at once doesn't change what exploring and shrinking find, or how many runs they count."""
     server.put("small", SMALL.encode())
-    cases = [("explored", ["--explore", "1"], [*STAGED, "stages", "late"]), ("explored and small", ["--explore", "2"], ["sh", "small", "fails"]),
-             ("drawn and made small", ["--seed", "4", "--runs", "1"], [*EXCHANGE, "length"]), ("nothing found", ["--explore", "3"], ["sh", "small"]),
+    cases = [("explored", ["--explore", "1"], [*STAGED, "stages", "late"]),
+             ("explored and small", ["--explore", "2"], ["sh", "small", "fails"]),
+             ("drawn and made small", ["--seed", "4", "--runs", "1"], [*EXCHANGE, "length"]),
+             ("nothing found", ["--explore", "3"], ["sh", "small"]),
              ("no smaller one is tried", ["--seed", "4", "--runs", "1", "--smaller", "0"], [*EXCHANGE, "length"])]
     for name, words, command in cases:
         got = [find(server, "--json", *words, "--jobs", count, command=command) for count in ("1", "3")]
@@ -250,12 +263,16 @@ def saved(server):
     """A server that can't save its state is started for each run, and leads to the same results."""
     server.put("no_save", NO_SAVE.format(server.program).encode())
     os.chmod(server.path("no_save"), 0o755)
-    for name, words, command in [("explored", ["--explore", "1"], [*STAGED, "stages", "late"]), ("drawn", ["--first", "0", "--seed", "4", "--runs", "1"], [*EXCHANGE, "length"]),
-                                 ("nothing found", ["--first", "0", "--runs", "6", "--jobs", "3"], [*STAGED, "offers"]), ("held", ["--holds", "--runs", "2"], [*STAGED, "stages", "eerd"])]:
-        got = [find(server, "--json", *words, *more, command=command) for more in ([], ["--server", server.path("no_save")], ["--apart"])]
+    for name, words, command in [("explored", ["--explore", "1"], [*STAGED, "stages", "late"]),
+                                 ("drawn", ["--first", "0", "--seed", "4", "--runs", "1"], [*EXCHANGE, "length"]),
+                                 ("nothing found", ["--first", "0", "--runs", "6", "--jobs", "3"], [*STAGED, "offers"]),
+                                 ("held", ["--holds", "--runs", "2"], [*STAGED, "stages", "eerd"])]:
+        got = [find(server, "--json", *words, *more, command=command)
+               for more in ([], ["--server", server.path("no_save")], ["--apart"])]
         server.check(f"saved: {name}", (got[0][0] in (PASSES, FOUND), got[0], got[0]), (True, *got[1:]))
     server.put("saves.py", SAVES.encode())
-    got = [find(server, "--first", "0", "--runs", "1", "--smaller", "0", *words, command=[*PYTHON, "saves.py"])[1].splitlines()[1:2] for words in ([], ["--apart"])]
+    got = [find(server, "--first", "0", "--runs", "1", "--smaller", "0", *words,
+                command=[*PYTHON, "saves.py"])[1].splitlines()[1:2] for words in ([], ["--apart"])]
     server.check("saved: a test can't save and restore", got, [["seed 1: exit status 4: early"]] * 2)
 
 
@@ -272,8 +289,9 @@ for n in 1 2 3 4 5 6 7 8 9; do
 done
 """
 # Plays drawings in a world where each engine has some steps. Prints for each depth how many choices weren't that of the
-# actor with the highest priority, how many priorities became lower, and whether these began as a permutation, draws differ,
-# and a seed decides. Then prints who went while the driver with the highest priority polled, and some bounds.
+# actor with the highest priority, and how many priorities became lower. Also prints whether the priorities began as a
+# permutation, whether draws differ, and whether a seed decides. Then prints who went while the driver with the highest
+# priority polled, and some bounds.
 CHOICES = BEGIN + """
 STEPS = {"rxdata": 3, "rxdone": 0, "txtake": 4, "txput": 0}
 NEXT = {"rxdata": "rxdone", "txtake": "txput"}
@@ -327,15 +345,21 @@ def pct(server):
         server.check(f"pct: a driver that polls, seed {seed}", (out[0], out[2]), (FOUND, ""))
     for depth, bound in (("1", "4"), ("2", "20"), ("3", "100")):  # of four actors, an arrival and four accesses
         got = [find(server, "--pct", depth, "--runs", "20", command=["sh", "small"]) for _ in range(2)]
-        line = f"PCT of depth {depth}: 4 actors and 5 events, so each run finds a race of this depth with a probability of at least 1/{bound}\n"
-        server.check(f"pct: the bound of depth {depth}", (got[0][0], without_reached(got[0][1]).startswith(line)), (PASSES, True))
+        line = (f"PCT of depth {depth}: 4 actors and 5 events, so each run finds a race of this depth with a "
+                f"probability of at least 1/{bound}\n")
+        server.check(f"pct: the bound of depth {depth}", (got[0][0], without_reached(got[0][1]).startswith(line)),
+                     (PASSES, True))
         server.check(f"pct: a seed decides at depth {depth}", without_rate(got[0][1]), without_rate(got[1][1]))
     status, out, errors = find(server, "--pct", "3", "--runs", "200", command=["sh", "small", "fails"])
     seed = re.search(r"^seed (\d+): exit status 1: finished too late$", out, re.M)
     server.check("pct: a race is found", (status, seed is not None, errors), (FOUND, True, ""))
-    again = find(server, "--pct", "3", "--runs", "1", "--seed", seed[1] if seed else "1", command=["sh", "small", "fails"])[1]
-    server.check("pct: its seed finds it again", again.partition("\nThe schedule:")[2], out.partition("\nThe schedule:")[2])
-    wanted = (USAGE, "", "races: --pct: use a depth from 1 to 100, without --explore and --holds\nFor more information, try '--help'.\n")
+    again = find(server, "--pct", "3", "--runs", "1", "--seed", seed[1] if seed else "1",
+                 command=["sh", "small", "fails"])[1]
+    server.check("pct: its seed finds it again", again.partition("\nThe schedule:")[2],
+                 out.partition("\nThe schedule:")[2])
+    wanted = (USAGE, "",
+              "races: --pct: use a depth from 1 to 100, without --explore and --holds\n"
+              "For more information, try '--help'.\n")
     for words in (["--pct", "0"], ["--pct", "101"], ["--pct", "2", "--holds"], ["--pct", "2", "--explore", "1"]):
         server.check(f"pct: {words}", find(server, *words, command=["true"]), wanted)
 

@@ -1,4 +1,5 @@
-"""The tests in Python, C and Rust that docs/RACES.md shows: the commands of the page, and the faults that the tests must find.
+"""The tests in Python, C and Rust that docs/RACES.md shows: the commands of the page, and the faults that the tests
+must find.
 
 If there is no compiler for a language, the module prints this, and doesn't count the checks of this language.
 """
@@ -8,9 +9,10 @@ import re
 import shutil
 import subprocess
 
+from harness import TOP
 from race_finder import FOUND, PASSES, without_rate
 from server import LIMIT
-from server_pages import TOP, follow, read_page
+from server_pages import follow, read_page
 
 HEADING = "| Language | File | Build | COMMAND |"
 # The language whose COMMAND the sessions on the page have
@@ -21,7 +23,8 @@ SIZES = [60, 160, 260, 360] * 3
 
 def section():
     """The section of docs/RACES.md that shows the tests: it is the first one."""
-    return re.search(r"^# .*\n\n(## Test your own driver in five minutes\n.*?)^## ", read_page("docs", "RACES.md"), re.M | re.S)[1]
+    return re.search(r"^# .*\n\n(## Test your own driver in five minutes\n.*?)^## ", read_page("docs", "RACES.md"),
+                     re.M | re.S)[1]
 
 
 def languages():
@@ -72,9 +75,12 @@ def shown(server, folder, name, command, wanted):
 
 
 def page(server, folder, language, command):
-    """The sessions on the page, with the test in this language: the right driver passes, and the race of the wrong one is found."""
+    """The sessions on the page, with the test in this language: the right driver passes, and the race of the wrong one
+    is found.
+    """
     there = next(command for name, _, command in languages() if name == SHOWN)
-    server.check(f"languages: {language}: the sessions", [(there in line, line.split()[-1]) for line, _ in sessions(section())],
+    server.check(f"languages: {language}: the sessions",
+                 [(there in line, line.split()[-1]) for line, _ in sessions(section())],
                  [(True, "right"), (True, "wrong"), (True, "wrong"), (True, "right")])
     for line, wanted in sessions(section()):
         shown(server, folder, language, line.replace(there, command), wanted.replace(there, command))
@@ -131,7 +137,8 @@ def faults(server, folder, language, command):
     server.check(f"languages: {language}: its frames differ", len(set(frames)), len(SIZES))
     last = len(SIZES) - 1
     for name, instead, wanted in [
-        ("lost", {3: []}, "frame 3 was never received"), ("lost at the end", {last: []}, f"frame {last} was never received"),
+        ("lost", {3: []}, "frame 3 was never received"),
+        ("lost at the end", {last: []}, f"frame {last} was never received"),
         ("doubled", {3: [frames[3]] * 2}, "other bytes were received instead of frame 4"),
         ("doubled at the end", {last: [frames[last]] * 2}, f"other bytes were received instead of frame {last + 1}"),
         ("reordered", {2: [frames[3]], 3: [frames[2]]}, "other bytes were received instead of frame 2"),
@@ -140,17 +147,22 @@ def faults(server, folder, language, command):
         ("longer", {3: [frames[3] + "03"]}, "other bytes were received instead of frame 3"),
         ("illegal", {3: ["00"]}, "frame 3 wasn't stored"),
     ]:
-        server.check(f"languages: {language}, a frame is {name}", played(server, folder, f"{command} right", instead)[:2], (1, f"{wanted}\n"))
+        server.check(f"languages: {language}, a frame is {name}",
+                     played(server, folder, f"{command} right", instead)[:2], (1, f"{wanted}\n"))
 
 
 def ends(server, folder, language, command):
     """Other ends of a test: a request is rejected, the server ends, and words that name no driver."""
     name = "receive_test.py" if language == "Python" else "receive_test"
     usage = f"usage: {name} right|wrong\n"
-    for given, words, wanted in [("ERR value\n", "right", "the server answers ERR value\n"), ("FAIL unknown\n", "right", "the server answers FAIL unknown\n"),
-                                 ("", "right", "the server has ended\n"), ("", "", usage), ("", "left", usage), ("", "right wrong", usage)]:
-        ran = subprocess.run([*command.split(), *words.split()], cwd=folder, input=given.encode(), capture_output=True, timeout=LIMIT)
-        server.check(f"languages: {language}, {words!r} with {given!r}", (ran.returncode, ran.stderr.decode()), (1, wanted))
+    for given, words, wanted in [("ERR value\n", "right", "the server answers ERR value\n"),
+                                 ("FAIL unknown\n", "right", "the server answers FAIL unknown\n"),
+                                 ("", "right", "the server has ended\n"), ("", "", usage), ("", "left", usage),
+                                 ("", "right wrong", usage)]:
+        ran = subprocess.run([*command.split(), *words.split()], cwd=folder, input=given.encode(), capture_output=True,
+                             timeout=LIMIT)
+        server.check(f"languages: {language}, {words!r} with {given!r}", (ran.returncode, ran.stderr.decode()),
+                     (1, wanted))
 
 
 def all_cases(server):

@@ -1,4 +1,6 @@
-"""The finder of races: what it keeps for a test and for its own search, which steps commute with accesses, and before what deviations were played."""
+"""The finder of races: what it keeps for a test and for its search, which steps commute with accesses, and what
+deviations were before.
+"""
 
 import re
 import subprocess
@@ -8,7 +10,8 @@ from race_finder_output import script
 from race_finder_runs import BEGIN, STAGED
 from server import LIMIT, lines
 
-# Acknowledges RXT0, and then reads ICR and RDH by two requests that are sent at once. Fails if a frame is finished between the two.
+# Acknowledges RXT0, and then reads ICR and RDH by two requests that are sent at once. Fails if a frame is finished
+# between the two.
 AT_ONCE = f"""
 import sys
 
@@ -31,11 +34,15 @@ for _ in range(60):
     ask("readl 0x4000")
 ask("settle")
 """
-# Sends a frame without asking for events, and fetches it, and the fault of the next descriptor. After that, nothing is left to fetch.
-FETCHES = ["memset 0x800 60 7", "write 0 16 0x00080000000000003c00000900000000", "writel 0xFEB03808 128", "writel 0xFEB00400 2",
-           "writel 0xFEB03818 1", "settle", "frames", "frames", "writel 0xFEB03818 2", "settle", "faults", "faults", "events on", "frames", "faults"]
-# Plays each step that commutes with an access or a request, before it and before the next one: the test must get the same answers. Does this for the
-# run without deviations, and for some runs with one deviation. Prints whether there were such steps, and whether all runs were the same.
+# Sends a frame without asking for events, and fetches it, and the fault of the next descriptor. After that, nothing is
+# left to fetch.
+FETCHES = ["memset 0x800 60 7", "write 0 16 0x00080000000000003c00000900000000", "writel 0xFEB03808 128",
+           "writel 0xFEB00400 2",
+           "writel 0xFEB03818 1", "settle", "frames", "frames", "writel 0xFEB03818 2", "settle", "faults", "faults",
+           "events on", "frames", "faults"]
+# Plays each step that commutes with an access or a request, before it and before the next one: the test must get the
+# same answers. Does this for the run without deviations, and for some runs with one deviation. Prints whether there
+# were such steps, and whether all runs were the same.
 COMMUTE = BEGIN + """
 import random
 from race_finder.explore import children
@@ -62,7 +69,9 @@ for command in COMMANDS:
 
 
 def at_once(server):
-    """With digests, too, a run of a test that sends several requests at once ends at a known state only if it was told the same."""
+    """A test may send several requests at once. With digests, too, its run ends at a known state only if the answers
+    were the same.
+    """
     server.put("at-once.py", AT_ONCE.encode())
     words = ["--explore", "1", "--options", "--memory 0x40000"]
     got = [find(server, *words, *more, command=["python3", "-S", "-E", "at-once.py"]) for more in ([], ["--no-digest"])]
@@ -80,7 +89,9 @@ def kept(server):
 
 
 def played(server):
-    """Before which accesses and requests deviations were played, and before which others never. A test with `pace` is told that it hides races."""
+    """Before which accesses and requests deviations were played, and before which others never. A test with `pace` is
+    told that it hides races.
+    """
     server.put("test", (ASK + f"""
 ask "writel 0xFEB02808 128"
 ask "writeq 0 0x800"
@@ -94,16 +105,20 @@ ask "readb 0x4000"
 ask "settle"
 """).encode())
     schedule = "1.1 rxdata before read RDH\n1.3 rxdone before read 0x4000\n"
-    for pace, warning in (("0", []), ("9", ["The test sends `pace`: then the adapter works after each access, and most races can't happen."])):
+    for pace, warning in (("0", []),
+                          ("9", ["The test sends `pace`: then the adapter works after each access, and most races "
+                                 "can't happen."])):
         _, out, errors = replay(server, schedule, "--reached", command=["sh", "test", pace])
         got = [line.strip() for line in out.splitlines() if "deviations came before" in line or "pace" in line]
-        wanted = ["deviations came before: read RDH, read memory", "deviations came before: read rx, arrive, settle", *warning]
+        wanted = ["deviations came before: read RDH, read memory", "deviations came before: read rx, arrive, settle",
+                  *warning]
         server.check(f"played: pace {pace}", (got, errors), (wanted, ""))
 
 
 def commute(server):
-    """A step that commutes with an access gives the same run before it and after it."""
-    commands = [EXCHANGE, *([*STAGED, *words] for words in (["stages", "right"], ["offers", "right"], ["cuts", "right"]))]
+    """A step that commutes with an access leads to the same run before it and after it."""
+    commands = [EXCHANGE, *([*STAGED, *words]
+                            for words in (["stages", "right"], ["offers", "right"], ["cuts", "right"]))]
     got = script(server, f"COMMANDS = {commands!r}\n{COMMUTE}")
     server.check("commute: the same runs", got, (0, "True True\n" * 4, ""))
 

@@ -1,4 +1,6 @@
-"""How the finder of races ends: by signals, with output that can't be written, and with tests that never end or leave processes."""
+"""How the finder of races ends: by signals, with output that can't be written, and with tests that never end or leave
+processes.
+"""
 
 import os
 import signal
@@ -7,7 +9,7 @@ import sys
 import time
 from contextlib import suppress
 
-from race_finder import FINDER, FOUND, FRAME, NOT_RUN, PASSES, SMALL, UNSEARCHED, USAGE, replay
+from race_finder import FINDER, FOUND, FRAME, NOT_RUN, SMALL, UNSEARCHED, USAGE, replay
 from race_finder_output import script
 from race_finder_runs import ASKS, BEGIN, PYTHON
 from server import LIMIT
@@ -70,7 +72,8 @@ def begun(server, mark, kind, ignored):
     server.remove("begun")
     words = ["--server", server.program, "--seconds", "1000", *(["--replay", "/dev/null"] if kind == "replay" else [])]
     with open(server.path("out"), "wb") as out:
-        finder = subprocess.Popen([*FINDER, *words, "--", *RUNS[kind]], cwd=server.folder, env=mark.env, stdout=out, stderr=subprocess.STDOUT,
+        finder = subprocess.Popen([*FINDER, *words, "--", *RUNS[kind]], cwd=server.folder, env=mark.env, stdout=out,
+                                  stderr=subprocess.STDOUT,
                                   start_new_session=True, preexec_fn=receives)
     end = time.monotonic() + LIMIT
     while not os.path.exists(server.path("begun")) and time.monotonic() < end:
@@ -81,8 +84,9 @@ def begun(server, mark, kind, ignored):
 def signals(server):
     """A signal ends the search, and all processes. If the finder is killed, they end by themselves."""
     server.put("endless.py", ENDLESS.encode())
-    for kind, number, sent in [("forked", signal.SIGTERM, None), ("host", signal.SIGHUP, None), ("apart", signal.SIGINT, None),
-                               ("apart", signal.SIGTERM, None), ("replay", signal.SIGTERM, None), ("forked", signal.SIGTERM, signal.SIGHUP),
+    for kind, number, sent in [("forked", signal.SIGTERM, None), ("host", signal.SIGHUP, None),
+                               ("apart", signal.SIGINT, None), ("apart", signal.SIGTERM, None),
+                               ("replay", signal.SIGTERM, None), ("forked", signal.SIGTERM, signal.SIGHUP),
                                *((kind, signal.SIGKILL, None) for kind in ("forked", "host", "apart"))]:
         name = f"signals: {kind} runs, {number.name}" + (f" after {sent.name}, which is ignored" if sent else "")
         mark = Marked(name)
@@ -121,20 +125,22 @@ target.close()
 
 
 def processes(server):
-    """No process is left of a run that is stopped, or that leaves processes when it ends."""
+    """No process is left of a run that is stopped, or that has processes when it ends."""
     server.put("endless.py", ENDLESS.encode())
     server.remove("begun")
     mark = Marked("stopped")
     words = [*PYTHON, "-c", STOPPED, server.program, os.path.dirname(FINDER[-1]), *RUNS["forked"]]
     done = subprocess.run(words, cwd=server.folder, env=mark.env, capture_output=True, timeout=LIMIT)
-    server.check("processes: a run is stopped", (done.returncode, done.stdout, done.stderr), (0, b"Stopped\nno end within 1 seconds\n", b""))
+    server.check("processes: a run is stopped", (done.returncode, done.stdout, done.stderr),
+                 (0, b"Stopped\nno end within 1 seconds\n", b""))
     server.check("processes: a run is stopped: what is left", mark.left(), [])
     leaves = "import subprocess\nsubprocess.Popen(['sleep', '1000'], stdout=subprocess.DEVNULL)\n"
     server.put("early.py", f"{leaves}{ASKS}".encode())
     server.put("late.py", f"{ASKS}{leaves}sys.exit(1)\n".encode())
     for name, command, status in [("passes", ["sh", "-c", "sleep 1000 >/dev/null 2>&1 & exit 0"], UNSEARCHED),
                                   ("fails", ["sh", "-c", "sleep 1000 >/dev/null 2>&1 & exit 1"], FOUND),
-                                  ("passes, in Python", [*PYTHON, "early.py"], UNSEARCHED), ("fails, in Python", [*PYTHON, "late.py"], FOUND)]:
+                                  ("passes, in Python", [*PYTHON, "early.py"], UNSEARCHED),
+                                  ("fails, in Python", [*PYTHON, "late.py"], FOUND)]:
         mark = Marked(name)
         got = ran(server, ["--runs", "2"], command, env=mark.env)
         server.check(f"processes: a test that starts one and {name}", (got[0], got[2]), (status, b""))
@@ -158,13 +164,15 @@ print(recall.play((), False))
 recall.seconds = 0
 print(recall.play((), False))
 """
-# A test that never ends after a race, and prints the number of its runs in processes of their own. Then prints for how many hosts there is memory.
+# A test that never ends after a race, and prints the number of its runs in processes of their own. Then prints for how
+# many hosts there is memory.
 LATE = BEGIN + """
 from race_finder.forks import Forks
 
 def shown(run):
     rows = [(row.line, row.owner, row.place, row.name, row.answer) for row in run.rows]
-    return [run.fault, run.met, run.idle, run.unreached, run.answers, run.events, run.reached, [tuple(met) for met in run.places], rows]
+    places = [tuple(met) for met in run.places]
+    return [run.fault, run.met, run.idle, run.unreached, run.answers, run.events, run.reached, places, rows]
 
 target, apart = Target(sys.argv[1], sys.argv[3:], seconds=2), []
 play_apart = target.play_apart
@@ -201,7 +209,8 @@ def runs(server):
 def ran(server, words, command=("true",), out=subprocess.PIPE, errors=subprocess.PIPE, python=FINDER[:-1], env=None):
     """Runs the finder with these streams: its exit status, its output and its errors."""
     call = [*python, FINDER[-1], *words, *(["--server", server.program, "--", *command] if words != ["--help"] else [])]
-    done = subprocess.run(call, cwd=server.folder, stdout=out, stderr=errors, timeout=LIMIT, env={**os.environ, **(env or {})})
+    done = subprocess.run(call, cwd=server.folder, stdout=out, stderr=errors, timeout=LIMIT,
+                          env={**os.environ, **(env or {})})
     return done.returncode, done.stdout, done.stderr
 
 
@@ -220,24 +229,28 @@ def outputs(server):
     """Output that can't be written, or that isn't text in the encoding of the output. Only a race has exit status 1."""
     server.put("small", f"echo >>played\n{SMALL}".encode())
     unread, full = 128 + signal.SIGPIPE, (NOT_RUN, None, b"races: standard output: No space left on device\n")
-    for words, command in [(["--help"], ()), (["--runs", "2"], ["true"]), (["--runs", "2"], ["false"]), (["--json"], ["false"]),
+    for words, command in [(["--help"], ()), (["--runs", "2"], ["true"]), (["--runs", "2"], ["false"]),
+                           (["--json"], ["false"]),
                            (["--explore", "2"], ["sh", "small"]), (["--runs", "500", "--jobs", "1"], ["sh", "small"])]:
         server.remove("played")
         source, sink = os.pipe()
         os.close(source)
         with open(sink, "wb") as pipe, open("/dev/full", "wb") as device:
-            server.check(f"outputs: {words} {command}, a closed pipe", ran(server, words, command, pipe), (unread, None, b""))
+            server.check(f"outputs: {words} {command}, a closed pipe", ran(server, words, command, pipe),
+                         (unread, None, b""))
             server.check(f"outputs: {words} {command}: no search goes on", len(server.get("played") or b"") < 10, True)
             if "500" not in words:
                 server.check(f"outputs: {words} {command}, a full device", ran(server, words, command, device), full)
     with open("/dev/full", "wb") as device:
         server.check("outputs: errors can't be written", ran(server, ["--fly"], errors=device), (USAGE, b"", None))
-        server.check("outputs: nothing can be written", ran(server, ["--runs", "2"], ["false"], device, device), (NOT_RUN, None, None))
+        server.check("outputs: nothing can be written", ran(server, ["--runs", "2"], ["false"], device, device),
+                     (NOT_RUN, None, None))
     for closed, status in ((">&-", NOT_RUN), ("2>&-", FOUND)):
         shell = ["sh", "-c", f'exec "$@" {closed}', "sh", *FINDER[:-1]]
         server.check(f"outputs: {closed}", ran(server, ["--runs", "2"], ["false"], python=shell)[0], status)
     for name, python, command, wanted in [
-        ("ASCII", [sys.executable, "-S"], ["sh", "-c", "echo caf\u00e9 >&2; exit 1"], b"depth 0: schedule 1 fails: exit status 1: caf\\xe9\n"),
+        ("ASCII", [sys.executable, "-S"], ["sh", "-c", "echo caf\u00e9 >&2; exit 1"],
+         b"depth 0: schedule 1 fails: exit status 1: caf\\xe9\n"),
         ("a byte that isn't UTF-8", FINDER[:-1], ["sh", "-c", "exit 1", b"\xff"], b"\n# sh -c exit 1 \\udcff\n"),
     ]:
         status, out, told = ran(server, ["--runs", "2"], command, python=python, env={"PYTHONIOENCODING": "ascii"})
@@ -247,12 +260,15 @@ def outputs(server):
 def so_far(server):
     """After Ctrl-C, what the runs so far showed: that none fails, or the smallest schedule that fails."""
     for name, words, last, wanted in [("none fails", [], 4, [", and none fails\nreached:\n", "ended; so far 3 runs, "]),
-                                      ("one fails", ["fails"], 8, ["\nseed 108: ", "ended; the smallest schedule so far has 2 deviations:\n"])]:
+                                      ("one fails", ["fails"], 8,
+                                       ["\nseed 108: ", "ended; the smallest schedule so far has 2 deviations:\n"])]:
         for left in ("begun", "count"):
             server.remove(left)
         server.put("slow", SLOW.format(last).encode() + SMALL.encode())
-        command = [*FINDER, "--server", server.program, "--first", "0", "--seed", "108" if words else "1", "--jobs", "1", "--", "sh", "slow", *words]
-        finder = subprocess.Popen(command, cwd=server.folder, stdout=subprocess.PIPE, stderr=subprocess.PIPE, start_new_session=True)
+        command = [*FINDER, "--server", server.program, "--first", "0", "--seed", "108" if words else "1", "--jobs",
+                   "1", "--", "sh", "slow", *words]
+        finder = subprocess.Popen(command, cwd=server.folder, stdout=subprocess.PIPE, stderr=subprocess.PIPE,
+                                  start_new_session=True)
         end = time.monotonic() + LIMIT
         while not os.path.exists(server.path("begun")) and time.monotonic() < end:
             time.sleep(0.01)
@@ -266,7 +282,8 @@ def errors(server):
     """The command that builds the server is named, and an error of the finder has exit status 3."""
     status, out, told = script(server, MAIN)
     hint = "races: ./none: No such file or directory; run ./nicbench --build to build it\n"
-    is_told = told.startswith(f"{hint}Traceback "), told.endswith("\nZeroDivisionError: integer division or modulo by zero\n")
+    is_told = (told.startswith(f"{hint}Traceback "),
+               told.endswith("\nZeroDivisionError: integer division or modulo by zero\n"))
     server.check("errors: main", (status, out, is_told), (0, f"{NOT_RUN}\n" * 2, (True, True)))
     server.check("errors: Ctrl-C in the help", b"130 after Ctrl-C" in ran(server, ["--help"])[1], True)
 

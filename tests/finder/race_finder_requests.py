@@ -1,4 +1,6 @@
-"""The finder of races before the requests of a test that begin rounds, and steps of the EEPROM and the PHY in schedules."""
+"""The finder of races before the requests of a test that begin rounds, and steps of the EEPROM and the PHY in
+schedules.
+"""
 
 import json
 import re
@@ -9,7 +11,8 @@ from race_finder_output import script
 from race_finder_runs import BEGIN, STAGED
 from server import lines
 
-# The packet buffer has room for one long frame, and two arrive without an access between them. The second has room if the first leaves before.
+# The packet buffer has room for one long frame, and two arrive without an access between them. The second has room if
+# the first is moved before.
 ROOM = ASK + f"""
 ask "writel 0xFEB01000 2"
 ask "writel 0xFEB02808 128"
@@ -46,7 +49,8 @@ ask "offer {FRAME}"
 ask "step rxdata"
 ask "settle"
 """
-# Restarts autonegotiation, which takes four steps of the PHY with `--link 3`. Fails if the link is up at the second access after that.
+# Restarts autonegotiation, which takes four steps of the PHY with `--link 3`. Fails if the link is up at the second
+# access after that.
 LINK = ASK + """
 ask "writel 0xFEB00000 0x40"
 ask "writel 0xFEB00020 0x04201200"
@@ -57,7 +61,8 @@ case $answer in *3) echo "the link is up" >&2; exit 1 ;; esac
 # Schedules before requests: what runs show in a process of their own, forked and recalled.
 SAME = BEGIN + """
 def shown(run):
-    return [run.fault, run.met, run.idle, run.unreached, run.answers, run.events, run.reached, [tuple(met) for met in run.places]]
+    places = [tuple(met) for met in run.places]
+    return [run.fault, run.met, run.idle, run.unreached, run.answers, run.events, run.reached, places]
 
 for command in COMMANDS:
     target = Target(sys.argv[1], command, seconds=60)
@@ -102,7 +107,8 @@ def lacks(server):
     server.put("room", ROOM.encode())
     passes = ["sh", "room"]
     for line, words, wanted in [
-        ("2.0 rx before settle", [], (FOUND, "2.0 rx before settle: at this place, the test makes another request: arrive")),
+        ("2.0 rx before settle", [],
+         (FOUND, "2.0 rx before settle: at this place, the test makes another request: arrive")),
         ("4.0 rx before settle", [], (FOUND, "4.0 rx before settle: the run doesn't reach this place")),
         ("rx before settle#2", [], (FOUND, "rx before settle#2: the run makes this request 1 time")),
         ("rx before offer#1", [], (FOUND, "rx before offer#1: the run makes this request 0 times")),
@@ -122,9 +128,12 @@ def rows(server):
     status, out, errors = replay(server, text, "--out", "charts/", command=["sh", "each"])
     log = [line.partition(" ->")[0] for line in (server.get("charts/log.txt") or b"").decode().splitlines()]
     at = log.index(f"# arrive {FRAME}") + 1
-    server.check("rows: in the log", log[at:at + 7], ["# step rxdata", "# offer", "# step rxdone", "# step rxdata", f"# arrive {FRAME}", "# step rxdata", "# settle"])
+    server.check("rows: in the log", log[at:at + 7],
+                 ["# step rxdata", "# offer", "# step rxdone", "# step rxdata", f"# arrive {FRAME}", "# step rxdata",
+                  "# settle"])
     shown = [line.split()[:2] for line in out.splitlines() if re.match(r" +\d+\.0", line)]
-    server.check("rows: in the chart", (status, shown, errors), (PASSES, [["2.0", "offer"], ["3.0", "step"], ["4.0", "settle"]], ""))
+    server.check("rows: in the chart", (status, shown, errors),
+                 (PASSES, [["2.0", "offer"], ["3.0", "step"], ["4.0", "settle"]], ""))
     check_picture(server, "requests")
     check_dump(server, "requests")
 
@@ -133,14 +142,17 @@ def ticks(server):
     """Steps of the EEPROM and the PHY are played after the default steps, in the order of the lines."""
     server.put("hasty", HASTY.encode())
     held, step = "0.2 hold eeprom before read EERD\n", "0.2 eeprom before read EERD\n"
-    for name, text, status in [("held", held, FOUND), ("held and played", held + step, PASSES), ("played before it is held", step + held, PASSES)]:
+    for name, text, status in [("held", held, FOUND), ("held and played", held + step, PASSES),
+                               ("played before it is held", step + held, PASSES)]:
         got = replay(server, text, command=["sh", "hasty"])
         server.check(f"ticks: {name}", (got[0], "did nothing" in got[1], got[2]), (status, False, ""))
     text = "0.2 hold eeprom before read EERD\n0.2 phy before read EERD\n"
     got = replay(server, text, command=["sh", "hasty"])
-    server.check("ticks: of the other one", (got[0], got[1].splitlines()[0]), (FOUND, "0.2 phy before read EERD: it did nothing"))
+    server.check("ticks: of the other one", (got[0], got[1].splitlines()[0]),
+                 (FOUND, "0.2 phy before read EERD: it did nothing"))
     got = replay(server, step, command=["sh", "hasty"])
-    server.check("ticks: one too many", (got[0], got[1].splitlines()[0]), (PASSES, "0.2 eeprom before read EERD: it did nothing"))
+    server.check("ticks: one too many", (got[0], got[1].splitlines()[0]),
+                 (PASSES, "0.2 eeprom before read EERD: it did nothing"))
     # The read is pending when the round begins, and its default step is left out after that.
     server.put("hasty", HASTY.replace('ask "readl', 'ask "step rxdata"\nask "readl').encode())
     held, step = "1.1 hold eeprom before read EERD\n", "1.0 eeprom before step\n"
@@ -158,16 +170,19 @@ def ticks(server):
 
 def counted(server):
     """Which requests begin rounds, and which are accesses: those that the server doesn't refuse."""
-    requests = ["offer", "arrive 0", "step fly", "settle 1", "settle", "read 0 65537", "readl 0x100000", "readw 0xFEB00008", "readl 0xFEB00008",
-                "outl 0xCF8 0x80002010", "outl 0xCFC 0xE0000000", "readl 0xFEB00008", "writel 0xE0000014 1", "b64read 0xE0000014 4", "clock_step", "read 0x100000 0",
+    requests = ["offer", "arrive 0", "step fly", "settle 1", "settle", "read 0 65537", "readl 0x100000",
+                "readw 0xFEB00008", "readl 0xFEB00008", "outl 0xCF8 0x80002010", "outl 0xCFC 0xE0000000",
+                "readl 0xFEB00008", "writel 0xE0000014 1", "b64read 0xE0000014 4", "clock_step", "read 0x100000 0",
                 "b64write 0xE0000014 4 AQE=", "b64write 0xE0000014 4 AQEAAA==", "readl 0xE0000014"]
     server.put("requests", lines(requests))
-    text = "\n".join(["1.1 rx before read STATUS", "1.2 rx before write EERD", "1.3 hold eeprom before read EERD", "1.4 rx before read 0x100000",
+    text = "\n".join(["1.1 rx before read STATUS", "1.2 rx before write EERD", "1.3 hold eeprom before read EERD",
+                      "1.4 rx before read 0x100000",
                       "1.5 rx before write EERD", "1.6 hold eeprom before read EERD"])
     status, out, errors = replay(server, text, command=["sh", "-c", "exec 3<&0; cat requests & exec cat <&3 >answers"])
     server.check("counted: accesses", (status, re.findall("another|reach", out), errors), (PASSES, [], ""))
     got = (server.get("answers") or b"").decode().splitlines()
-    server.check("counted: reads of EERD, and the last of them in base64", (got[13], got[18]), ("OK AAAAAA==", "OK 0x0000000000000100"))
+    server.check("counted: reads of EERD, and the last of them in base64", (got[13], got[18]),
+                 ("OK AAAAAA==", "OK 0x0000000000000100"))
 
 
 def same(server):
@@ -179,30 +194,39 @@ def same(server):
 def shrinks(server):
     """A given schedule is made smaller, and shown like one that was found."""
     server.put("room", ROOM.encode())
-    server.put("given", b"1.0 tx before arrive\n2.0 rxdata before arrive\n2.0 rxdone before arrive\n2.1 rx before read rx[0]+12\n")
+    server.put("given",
+               b"1.0 tx before arrive\n2.0 rxdata before arrive\n2.0 rxdone before arrive\n"
+               b"2.1 rx before read rx[0]+12\n")
     wanted = ["1.0 tx before arrive: it did nothing", "3 deviations: exit status 1: there was room"]
     for name, words in [("", []), (" with a process for each run", ["--apart"])]:
         status, out, errors = find(server, "--shrink", "given", *words, "--out", "found", command=FAILS)
         found = (server.get("found") or b"").decode().splitlines()[2:]
         server.check(f"shrinks: one that fails{name}", (status, found, errors), (FOUND, [SMALLEST], ""))
-        server.check(f"shrinks: what is printed{name}", (out.splitlines()[:2], "\nsmallest: " in out, out.endswith(CHART)), (wanted, True, True))
+        server.check(f"shrinks: what is printed{name}",
+                     (out.splitlines()[:2], "\nsmallest: " in out, out.endswith(CHART)), (wanted, True, True))
     status, out, errors = find(server, "--shrink", "given", command=["sh", "room"])
     server.check("shrinks: one that passes", (status, out, errors), (PASSES, f"{wanted[0]}\nThe test passes.\n", ""))
     result = json.loads(find(server, "--shrink", "given", "--json", command=FAILS)[1])
-    server.check("shrinks: as JSON", [result[key] for key in ("result", "fault", "schedule", "seed")], ["fails", "exit status 1: there was room", [SMALLEST], None])
+    server.check("shrinks: as JSON", [result[key] for key in ("result", "fault", "schedule", "seed")],
+                 ["fails", "exit status 1: there was room", [SMALLEST], None])
     server.put("given", b"2.0 rxdata before settle\n")
     wanted = "2.0 rxdata before settle: at this place, the test makes another request: arrive\n"
     server.check("shrinks: another request", find(server, "--shrink", "given", command=FAILS), (FOUND, wanted, ""))
-    server.check("shrinks: any request", find(server, "--shrink", "given", "--any-access", command=FAILS)[1].endswith(CHART), True)
+    server.check("shrinks: any request", find(server, "--shrink", "given", "--any-access",
+                                              command=FAILS)[1].endswith(CHART), True)
     server.put("link", LINK.encode())
-    server.put("given", b"options --link 3\n0.3 phy before read STATUS\n0.4 phy before read STATUS\n0.4 tx before read STATUS\n")
+    server.put("given",
+               b"options --link 3\n0.3 phy before read STATUS\n0.4 phy before read STATUS\n0.4 tx before read STATUS\n")
     status, out, _ = find(server, "--shrink", "given", "--out", "found", command=["sh", "link"])
     found = (server.get("found") or b"").decode().splitlines()[2:]
-    server.check("shrinks: steps that aren't searched", (status, found, out.count("another one may fail"), "smallest" in out),
+    server.check("shrinks: steps that aren't searched",
+                 (status, found, out.count("another one may fail"), "smallest" in out),
                  (FOUND, ["options --link 3", *["0.4 phy before read STATUS"] * 2], 1, False))
     error = "races: use either --replay or --shrink\nFor more information, try '--help'.\n"
-    server.check("shrinks: no replay", find(server, "--shrink", "given", "--replay", "given", command=FAILS), (USAGE, "", error))
-    server.check("shrinks: no file", find(server, "--shrink", "none", command=FAILS)[2].splitlines()[0], "races: none: No such file or directory")
+    server.check("shrinks: no replay", find(server, "--shrink", "given", "--replay", "given", command=FAILS),
+                 (USAGE, "", error))
+    server.check("shrinks: no file", find(server, "--shrink", "none", command=FAILS)[2].splitlines()[0],
+                 "races: none: No such file or directory")
 
 
 def all_cases(server):

@@ -1,14 +1,15 @@
-"""A guest with a small driver and a host that answers pings, in the place of QEMU. The driver or the host may have a bug.
+"""A guest with a small driver and a host that answers pings, in the place of QEMU. The driver or the host may have a
+bug.
 
 usage: board .. -- python3 tests/echo_guest.py SOCKET BUG
 
 The board starts this script as it starts QEMU (linux_hostile.py). BUG is one of:
-  none    replies are right
-  byte    a byte of the reply to a drawn request is changed
-  twice   a reply is sent twice
-  lost    a request isn't answered
-  length  the driver reads the length of a frame before DD
-  reset   no bug, but the driver resets the adapter now and then
+    none    replies are right
+    byte    a byte of the reply to a drawn request is changed
+    twice   a reply is sent twice
+    lost    a request isn't answered
+    length  the driver reads the length of a frame before DD
+    reset   no bug, but the driver resets the adapter now and then
 """
 
 import os

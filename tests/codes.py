@@ -1,0 +1,51 @@
+"""The text that the program prints on standard error if it fails, from the table of codes in its source.
+
+tests/helps.py has the same meanings word for word, as the help prints them.
+"""
+
+from typing import Iterator, Optional
+
+from harness import TOP, Program
+from page_maker.codes import Code, read_codes
+
+TABLE = {f"{row.code} {row.name}": row for row in read_codes(TOP)}
+# The codes of an input that is refused or can't be read. A second line names the input, in place of IN.
+OF_INPUT = ("E60", "E61", "E62", "E63", "E64", "E66")
+
+
+def code_of(fault: str) -> Code:
+    """The row of the table for the text of a fault, such as `line 3: E51 Count` or `E68 Open: missing.pcap`."""
+    label = " ".join(fault.removeprefix("line ").split(": ")[1 if fault.startswith("line ") else 0].split()[:2])
+    return TABLE[label]
+
+
+def failure(fault: str, path: Optional[str] = None) -> bytes:
+    """What the program prints for a fault; of an input with a path also the second line."""
+    row, text = code_of(fault), f"nicbench: {fault}\n"
+    if path is not None and row.code in OF_INPUT:
+        text += f"nicbench: {row.text.replace('IN', path)}\n"
+    return text.encode()
+
+
+def second_lines(bench: Program) -> None:
+    """The second line names the input that is refused, of several feeds too, and has a command that can be copied."""
+    bench.put("old.pcapng", b"\x0a\x0d\x0d\x0a" + bytes(100))
+    told = (b"nicbench: E61 Magic\n"
+            b"nicbench: old.pcapng isn't a pcap file. Convert a pcapng file: editcap -F pcap old.pcapng OUT\n")
+    bench.ends("a second line: pass", ["pass", "old.pcapng", "out.pcap"], 1, b"", told)
+    bench.ends("a second line: show", ["show", "./old.pcapng"], 1, b"", told.replace(b"old.", b"./old."))
+    bench.put("good.pcap", bytes.fromhex("d4c3b2a1020004000000000000000000ffff000001000000"))
+    bench.put("feeds.scenario", b"host a 02:00:00:00:00:01 w\nhost b 02:00:00:00:00:02 w\n"
+              b"feed a good.pcap\nfeed b old.pcapng\nfeed a good.pcap\n")
+    bench.ends("a second line: the second of three feeds", ["run", "feeds.scenario", "."], 1, b"",
+               told + b"nicbench: existing files in OUTDIR are unchanged\n")
+    bench.check("codes: each is one of the table", sorted(faults_of_helps()), sorted(TABLE))
+
+
+def faults_of_helps() -> Iterator[str]:
+    """The codes with names in the rows of the helps of the program and of `run`."""
+    from helps import HELP, RUN_HELP
+    for line in (HELP + RUN_HELP).decode().splitlines():
+        words = line.split()
+        if line.startswith("  E") and len(words) > 2 and words[0][1:].isdigit() and line[15:16] == " " != line[16:17]:
+            yield f"{words[0]} {words[1]}"

@@ -1,0 +1,133 @@
+"""Words of the command line: versions, helps, and words that are refused."""
+
+import os
+
+from helps import DRIVE_HELP, HELP, PASS_HELP, RUN_HELP, SERVE_HELP, SHOW_HELP
+import sources
+
+FOR_MORE = b"\nFor more information, try '--help'.\n"
+PASS_USAGE = b"\nUsage: nicbench pass [OPTIONS] <IN> <OUT>\n" + FOR_MORE
+RUN_USAGE = b"\nUsage: nicbench run [OPTIONS] <SCENARIO> <OUTDIR>\n" + FOR_MORE
+RUN_FILES_USAGE = b"\nUsage: nicbench run <SCENARIO> <OUTDIR>\n" + FOR_MORE
+SHOW_USAGE = b"\nUsage: nicbench show <TRACE>\n" + FOR_MORE
+SERVE_USAGE = b"\nUsage: nicbench serve [OPTIONS]\n" + FOR_MORE
+ADDRESS_FORM = b"an address is six pairs of hexadecimal digits joined by colons, such as 02:00:00:00:00:01"
+GROUP_FORM = b"a group is an address whose first byte is odd, such as 01:00:5e:00:00:01"
+NOT_UNICODE = b"error: invalid UTF-8 was detected in one or more arguments\n\nUsage: nicbench <COMMAND>\n" + FOR_MORE
+RING_FORM = b"descriptors are a decimal number below 65536, such as 64"
+BUFFERS_FORM = b"buffers are a decimal number below 65536, such as 512"
+VLAN_FORM = b"a VLAN is a decimal number from 0 to 4095, such as 5"
+
+
+def words(bench):
+    """Invalid arguments: status 2, and the text on standard error. No file is created."""
+    texts = [
+        ([], HELP),
+        (["--help"], HELP),
+        (["-h"], HELP),
+        (["help"], HELP),
+        *((line, f"nicbench {sources.version()}\n".encode())
+          for line in [["--version"], ["-V"], ["--version", "pass"]]),
+        (["pass", "--version"],
+         b"error: unexpected argument '--version' found\n\n  tip: to pass '--version' as a value, use '-- --version'\n"
+         + PASS_USAGE),
+        (["pass", "--help"], PASS_HELP),
+        (["pass", "-h"], PASS_HELP),
+        (["pass", "a", "--help"], PASS_HELP),
+        (["help", "pass"], PASS_HELP),
+        (["run", "-h"], RUN_HELP),
+        (["--fly"], b"error: unexpected argument '--fly' found\n\nUsage: nicbench <COMMAND>\n" + FOR_MORE),
+        (["help", "fly"], b"error: unrecognized subcommand 'fly'\n\nUsage: nicbench <COMMAND>\n" + FOR_MORE),
+        (["pass", "a", "b", "--vlan"], b"error: a value is required for '--vlan <N>' but none was supplied\n"
+         + FOR_MORE),
+        (["pass", "--group=01:00:5e:00:00:01", "--group=xx", "a", "b"],
+         b"error: the argument '--group <G>' cannot be used multiple times\n" + PASS_USAGE),
+        (["pass", "a", "b", "--address", "xx", "--address", "xx"],
+         b"error: the argument '--address <A>' cannot be used multiple times\n" + PASS_USAGE),
+        (["serve", "--seed", "-7"], b"error: unexpected argument '-7' found\n" + SERVE_USAGE),
+        (["pass"],
+         b"error: the following required arguments were not provided:\n  <IN>\n  <OUT>\n\n"
+         b"Usage: nicbench pass <IN> <OUT>\n" + FOR_MORE),
+        (["pass", "a"],
+         b"error: the following required arguments were not provided:\n  <OUT>\n\nUsage: nicbench pass <IN> <OUT>\n"
+         + FOR_MORE),
+        (["pass", "a", "b", "c"], b"error: unexpected argument 'c' found\n" + PASS_USAGE),
+        (["fly", "a"], b"error: unrecognized subcommand 'fly'\n\nUsage: nicbench <COMMAND>\n" + FOR_MORE),
+        (["show", "--help"], SHOW_HELP),
+        (["help", "show"], SHOW_HELP),
+        (["run", "--help"], RUN_HELP),
+        (["help", "run"], RUN_HELP),
+        (["run"], b"error: the following required arguments were not provided:\n  <SCENARIO>\n  <OUTDIR>\n"
+         + RUN_FILES_USAGE),
+        (["run", "a"], b"error: the following required arguments were not provided:\n  <OUTDIR>\n" + RUN_FILES_USAGE),
+        (["run", "--wires", "a"],
+         b"error: the following required arguments were not provided:\n  <OUTDIR>\n\n"
+         b"Usage: nicbench run --wires <SCENARIO> <OUTDIR>\n" + FOR_MORE),
+        (["run", "--wires", "a", "b", "--wires"],
+         b"error: the argument '--wires' cannot be used multiple times\n" + RUN_USAGE),
+        (["run", "--wires=yes", "a", "b"],
+         b"error: unexpected value 'yes' for '--wires' found; no more were expected\n\n"
+         b"Usage: nicbench run --wires <SCENARIO> <OUTDIR>\n" + FOR_MORE),
+        (["run", "--nanos", "a", "b", "--nanos"],
+         b"error: the argument '--nanos' cannot be used multiple times\n" + RUN_USAGE),
+        (["pass", "--nanos", "--nanos", "a", "b"],
+         b"error: the argument '--nanos' cannot be used multiple times\n" + PASS_USAGE),
+        (["pass", "--nanos=9", "a", "b"],
+         b"error: unexpected value '9' for '--nanos' found; no more were expected\n\n"
+         b"Usage: nicbench pass --nanos <IN> <OUT>\n" + FOR_MORE),
+        (["run", "a", "b", "c"], b"error: unexpected argument 'c' found\n" + RUN_USAGE),
+        (["show"], b"error: the following required arguments were not provided:\n  <TRACE>\n" + SHOW_USAGE),
+        (["show", "a", "b"], b"error: unexpected argument 'b' found\n" + SHOW_USAGE),
+        (["show", "a", "--vlan", "5"],
+         b"error: unexpected argument '--vlan' found\n\n  tip: to pass '--vlan' as a value, use '-- --vlan'\n"
+         + SHOW_USAGE),
+        (["serve", "--help"], SERVE_HELP),
+        (["help", "serve"], SERVE_HELP),
+        *((["drive", option, value, "--send", "a", "--receive", "b"],
+           b"error: invalid value '" + value.encode() + b"' for '" + option.encode() + b" <N>': " + what + b"\n"
+           + FOR_MORE)
+          for option, what in [("--rx", RING_FORM), ("--tx", RING_FORM), ("--buffers", BUFFERS_FORM)]
+          for value in ["", "65536", "+8", "0x8", "8 "]),
+        (["drive", "--help"], DRIVE_HELP),
+        (["help", "drive"], DRIVE_HELP),
+        (["serve", "a"], b"error: unexpected argument 'a' found\n" + SERVE_USAGE),
+        (["serve", "--vlan", "5"], b"error: unexpected argument '--vlan' found\n" + SERVE_USAGE),
+        (["serve", "--rxa", "3"],
+         b"error: invalid value '3' for '--rxa <N>': kilobytes are an even decimal number from 2 to 48, such as 48\n"
+         + FOR_MORE),
+        (["pass", "--vlan", "a", "b"],
+         b"error: the following required arguments were not provided:\n  <OUT>\n\n"
+         b"Usage: nicbench pass --vlan <N> <IN> <OUT>\n" + FOR_MORE),
+        (["pass", "--foo", "a", "b"],
+         b"error: unexpected argument '--foo' found\n\n  tip: to pass '--foo' as a value, use '-- --foo'\n"
+         + PASS_USAGE),
+    ]
+    for option, name in [("--address", b"--address <A>"), ("--group", b"--group <G>"), ("--vlan", b"--vlan <N>")]:
+        value = {"--address": "02:00:00:00:00:01", "--group": "01:00:5e:00:00:01", "--vlan": "5"}[option]
+        texts.append((["pass", option, value, option, value, "a", "b"],
+                      b"error: the argument '" + name + b"' cannot be used multiple times\n" + PASS_USAGE))
+    values = {
+        "--address": (ADDRESS_FORM, ["", "02:00:00:00:00", "02:00:00:00:00:01:02", "02:00:00:00:00:0g", "2:0:0:0:0:1",
+                                     "02-00-00-00-00-01", "020000000001",
+                                     "02:00:00:00:00:1", "02:00:00:00:00:011", "0200:00:00:00:001", "02:00:00:00:00:+1",
+                                     "02:00:00:00:00:é"]),
+        "--group": (GROUP_FORM, ["", "02:00:00:00:00:01", "01:00:5e:00:00", "01:00:5e:00:00:0x"]),
+        "--vlan": (VLAN_FORM, ["", "4096", "70000", "99999999999999999999", "+8", "0x5", "5 ", "five"]),
+    }
+    for option, (form, texts_of) in values.items():
+        for value in texts_of:
+            name = {"--address": b"--address <A>", "--group": b"--group <G>", "--vlan": b"--vlan <N>"}[option]
+            texts.append((["pass", option, value, "a", "b"],
+                          b"error: invalid value '" + value.encode() + b"' for '" + name + b"': " + form + b"\n"
+                          + FOR_MORE))
+    # Of several bad values the first in the order of the help is told.
+    bad_address = b"error: invalid value 'x' for '--address <A>': " + ADDRESS_FORM + b"\n" + FOR_MORE
+    bad_group = b"error: invalid value 'y' for '--group <G>': " + GROUP_FORM + b"\n" + FOR_MORE
+    texts.append((["pass", "--vlan", "4096", "--group", "y", "--address", "x", "a", "b"], bad_address))
+    texts.append((["pass", "--vlan", "4096", "--group", "y", "a", "b"], bad_group))
+    for line in [[b"\xff"], ["pass", b"a\xff.pcap", "b"], ["pass", "a", "b", b"--vlan=\xc3"], [b"\xff", "--help"]]:
+        texts.append((line, NOT_UNICODE))
+    before = set(os.listdir(bench.folder)) - {"a", "b", "c"}
+    for line, text in texts:
+        bench.ends(f"words {line}", line, 2, b"", text)
+    bench.check("words: no file is made", set(os.listdir(bench.folder)), before)

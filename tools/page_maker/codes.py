@@ -1,0 +1,72 @@
+"""The codes that the program prints if it fails: the table in its source, and the rows of its help made from it."""
+
+import os
+import re
+import textwrap
+from typing import NamedTuple
+
+CODES = os.path.join("crates", "nicbench", "src", "codes.rt")
+ENTRY = re.compile(r'const (E\d+): Code = Code \{\s*label: "(E\d+) (\w+)",\s*status: (\d),'
+                   r'\s*text: "((?:[^"\\]|\\.)*)",\s*\};', re.S)
+# A row of the help: a code, its name, and its meaning, which may go on in lines that begin with 16 spaces.
+ROW = re.compile(r"^  (E\d+) (\w+) +\S.*(?:\n {16}\S.*)*", re.M)
+HELP_TEXT = re.compile(r'(?P<name>\b(?:RUN|PROGRAM)_NOTE: &str =\s+")(?P<text>(?:[^"\\]|\\.)*)')
+WIDTH, INDENT = 100, 16
+
+
+class Code(NamedTuple):
+    """A row of the table: `E61`, `Magic`, 1, and the meaning with what a user can do."""
+
+    code: str
+    name: str
+    status: int
+    text: str
+
+
+def read_codes(root: str) -> list[Code]:
+    """The table of codes, in its order. Raises ValueError if a constant has the label of another one."""
+    with open(os.path.join(root, CODES), encoding="utf-8") as file:
+        source = file.read()
+    out = []
+    for constant, code, name, status, text in ENTRY.findall(source):
+        if constant != code:
+            raise ValueError(f"{CODES}: {constant} has the label of {code}")
+        out.append(Code(code, name, int(status), re.sub(r"\\\n\s*", "", text)))
+    if len(out) != len(re.findall(r": Code = ", source)):
+        raise ValueError(f"{CODES}: a code doesn't have the form of the others")
+    return out
+
+
+def code_table(codes: list[Code]) -> str:
+    """The table of docs/ERRORS.md."""
+    return "\n".join(["| Code | Name | Status | Meaning, and what to do |", "|---|---|---|---|",
+                      *(f"| {row.code} | {row.name} | {row.status} | {row.text} |" for row in codes)]) + "\n"
+
+
+def help_row(row: Code) -> str:
+    """A row of the help."""
+    start = f"  {row.code} {row.name}".ljust(INDENT)
+    return textwrap.fill(row.text, WIDTH, initial_indent=start, subsequent_indent=" " * INDENT,
+                         break_long_words=False, break_on_hyphens=False)
+
+
+def with_codes(source: str, codes: list[Code]) -> str:
+    """The source of the help texts with the rows of the table. A row with the same words keeps its line breaks.
+
+    Raises ValueError if the rows aren't those of the table, in its order.
+    """
+    rows = {row.code: row for row in codes}
+    found = []
+
+    def new_row(match: re.Match) -> str:
+        found.append(match.group(1))
+        row = rows.get(match.group(1))
+        if row is None or match.group().split() == [row.code, row.name, *row.text.split()]:
+            return match.group()
+        return help_row(row)
+
+    out = HELP_TEXT.sub(lambda match: match["name"] + ROW.sub(new_row, match["text"]), source)
+    if found != [row.code for row in codes]:
+        wanted = [row.code for row in codes]
+        raise ValueError(f"the help texts have rows of {found}, and {CODES} has {wanted}")
+    return out
