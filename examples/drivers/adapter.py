@@ -1,4 +1,4 @@
-"""An adapter behind `nicbench serve`, as a driver and a wire see it."""
+"""The adapter of `nicbench serve`, as a driver and a wire see it."""
 
 from contextlib import contextmanager
 
@@ -46,8 +46,8 @@ class Adapter:
     def ask(self, *requests):
         """Returns the answers to requests, each without its OK.
 
-        Sends many before it reads the first answer, but a long one alone. If a handler is set, sends each one alone. So
-        the handler may cut in between any two requests.
+        Sends many before it reads the first answer, but a long one by itself. If a handler is set, sends each one by
+        itself. So the handler may cut in between any two requests.
         """
         if len(requests) == 1:
             answers = self.ask_at_once(requests)
@@ -154,6 +154,10 @@ class Adapter:
     def settle(self):
         """Plays steps until nothing is left to do, and returns the number of steps that did something."""
         return int(self.ask("settle")[0], 0)
+
+    def choose(self, limit):
+        """A number below the limit, which a schedule of `tools/races` chooses: 0 by default."""
+        return int(self.ask(f"choose {limit}")[0], 0)
 
     def interleave(self, count):
         """From now on plays up to `count` steps before each access."""

@@ -40,7 +40,9 @@ class Arrivals(Traffic):
         return [frame for fate, frame in self.adapter.arrived if fate == "stored"]
 
     def finish(self):
-        """Lets the adapter do all that is left. Then all stored frames must be received, and all missed ones counted."""
+        """Lets the adapter do all that is left. Then all stored frames must be received, and all missed ones
+        counted.
+        """
         self.settle()
         self.check(fault_of("received", self.stored(), self.driver.received))
         missed = self.missed + sum(fate == "missed" for fate, _ in self.adapter.arrived)
@@ -51,8 +53,8 @@ class Arrivals(Traffic):
 def offers(adapter, driver, is_offered=True):
     """When the handler is called, frames are on their way. Returns the first fault, or None.
 
-    In the first rounds, the packet buffer has room for them; in the last rounds, a long frame leaves too little. Without
-    `is_offered`, the frames arrive before the call.
+    In the first rounds, the packet buffer has room for them; in the last rounds, there is too little room after a long
+    frame. Without `is_offered`, the frames arrive before the call.
     """
     run = Arrivals(adapter, driver, is_offered)
     try:

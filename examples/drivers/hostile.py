@@ -7,10 +7,10 @@ PROGRAM is `nicbench`. Each seed is a run with a new server. In a run, registers
 are written at random, frames arrive, and the adapter takes steps. A seed always makes the same requests. Without
 --seed, the seeds are 1, 2, 3 and so on, until Ctrl-C.
 
-After each request, the script reads all of memory. A run fails if a byte of memory, RDH, TDH, the outcome of a step, a
-frame on the wire or the reason of a fault isn't as docs/ADAPTER.md and docs/REQUESTS.md define it, if the server rejects
-a request, or if an answer takes too long. Then the script prints the seed, the error and the log. "Finding a race" in
-docs/SERVE.md describes how to replay a log; start the server with the same --memory.
+After each request, the script reads all of memory. A run fails if the server rejects a request, or if an answer takes
+too long. It also fails if memory, a head, an outcome, a frame or the reason of a fault isn't as docs/ADAPTER.md and
+docs/REQUESTS.md define it. Then the script prints the seed, the error and the log. "Finding a race" in docs/SERVE.md
+describes how to replay a log; start the server with the same --memory.
 
 The exit status is 0 if no run failed, 1 if a run failed, and 2 if an argument is invalid or PROGRAM can't run.
 """

@@ -13,7 +13,9 @@ AFTER_RESET = 6, 6, 1
 
 
 class Resets(Arrivals):
-    """Traffic in which the adapter is reset. The driver gives up the frames that are in the adapter and in the rings then."""
+    """Traffic in which the adapter is reset. The driver gives up the frames that are in the adapter and in the rings
+    then.
+    """
 
     def __init__(self, adapter, driver):
         super().__init__(adapter, driver)
@@ -42,7 +44,9 @@ class Resets(Arrivals):
 
 
 def fill(run, slots):
-    """One frame is taken. Another one lacks only its last write-back, and one waits. Two frames are to be sent, one of which is fetched."""
+    """One frame is taken. Another one lacks only its last write-back, and one waits. Two frames are to be sent, one of
+    which is fetched.
+    """
     run.arrive(1)
     run.adapter.settle()
     run.handle()

@@ -10,7 +10,7 @@ steps the adapter takes between the accesses of the driver, so a seed that fails
 driver without a bug.
 
 A sweep runs the test `exchange` with the driver `right` and five bugs. With --test, it runs another test, or
-`exchange`, with all drivers. --without leaves a window out of the test `stages`.
+`exchange`, with all drivers. --without removes a window of the test `stages`.
 
 The exit status is 0 if the drivers without a bug pass and, except with --test, each bug is found. That of one run is 0
 if it passes.

@@ -3,11 +3,12 @@
 
 usage: compare.py [--nicbench PROGRAM] [--other COMMAND] [--registers ADDRESS] [--count N] [--file FILE] [--all] SEED..
 
-The other emulator is QEMU, or the program of `--other`, which answers requests on its standard streams as `nicbench serve`
-does; its registers begin at `--registers`. The requests are drawn by each seed, N of them, or are the lines of FILE. After
-each request, the adapter does all work that it can do. Compared are the answer, the changes of the interrupt line, the
-frames that are sent, and the rings and receive buffers in memory. Known departures (docs/EMULATORS.md) are counted and
-left out, unless there is `--all`. The exit status is 1 if there is another difference, and 2 if the emulator isn't installed.
+The other emulator is QEMU, or the program of `--other`, which answers requests on its standard streams as `nicbench
+serve` does; its registers begin at `--registers`. The requests are drawn by each seed, N of them, or are the lines of
+FILE. After each request, the adapter does all work that it can do. Compared are the answer, the changes of the
+interrupt line, the frames that are sent, and the rings and receive buffers in memory. Known departures
+(docs/EMULATORS.md) are counted and left out, unless there is `--all`. The exit status is 1 if there is another
+difference, and 2 if the emulator isn't installed.
 """
 
 import argparse
@@ -98,7 +99,7 @@ def first_difference(start, requests, counts):
 
 
 def shortest(start, requests, difference, counts):
-    """Leaves pieces of a list out, as long as it shows the same difference. Returns the list and its difference."""
+    """Removes pieces of a list, as long as it shows the same difference. Returns the list and its difference."""
     requests, tries, size = requests[:difference.at + 1], 0, difference.at // 2 + 1
     while size and tries < TRIES:
         at = 0
@@ -139,9 +140,11 @@ def requests_in(path):
 
 def arguments():
     parser = argparse.ArgumentParser(description="Compares `nicbench serve` with another emulator of the 82540EM.")
-    parser.add_argument("--nicbench", default=PROGRAM, metavar="PROGRAM", help="the program whose command `serve` is one side")
+    parser.add_argument("--nicbench", default=PROGRAM, metavar="PROGRAM",
+                        help="the program whose command `serve` is one side")
     parser.add_argument("--other", metavar="COMMAND", help="the other side, instead of QEMU")
-    parser.add_argument("--registers", default="0xFEB00000", metavar="ADDRESS", help="the first register of the other side")
+    parser.add_argument("--registers", default="0xFEB00000", metavar="ADDRESS",
+                        help="the first register of the other side")
     parser.add_argument("--count", type=int, default=400, metavar="N", help="how many requests a seed draws")
     parser.add_argument("--all", action="store_true", help="report known departures, too")
     parser.add_argument("--file", metavar="FILE", help="requests, one a line")
@@ -166,7 +169,8 @@ def main():
     if words.file:
         lists[words.file] = requests_in(words.file)
     counts = None if words.all else Counter()
-    same = [compare(lambda: [Serve(words.nicbench, image=image), other()], name, requests, counts) for name, requests in lists.items()]
+    same = [compare(lambda: [Serve(words.nicbench, image=image), other()], name, requests, counts)
+            for name, requests in lists.items()]
     for name, count in sorted((counts or {}).items()):
         print(f"known departure, {count} times: {name}")
     return 0 if all(same) else 1

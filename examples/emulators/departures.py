@@ -18,7 +18,8 @@ BITS = {
 }
 # For registers of the PHY: what differs there, and the bits that are compared. Of registers 2 and 3 all are.
 PHY = {
-    0: ("PHY register 0: bits that the model doesn't have", 0x1000), 1: ("PHY register 1: abilities, and the latch of the link", 0x20),
+    0: ("PHY register 0: bits that the model doesn't have", 0x1000),
+    1: ("PHY register 1: abilities, and the latch of the link", 0x20),
     2: ("", 0xFFFF), 3: ("", 0xFFFF)}
 OTHER_PHY = ("PHY registers after register 3", 0)
 # The bit IXSM of a receive descriptor's status, byte 12

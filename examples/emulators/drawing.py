@@ -1,8 +1,8 @@
 """Requests that are drawn by a seed.
 
 A request is a line. In `readl` and `writel` it names a register, as in `readl ICR`. Four requests stand for several:
-`offer N` offers up to N free receive slots, `arrive HEX` is the arrival of a frame if the ring has room for it, `send COMMAND
-HEX` sends a frame by a descriptor with this command byte, and `transmitter VALUE` writes TCTL and records TXQE.
+`offer N` offers up to N free receive slots. `arrive HEX` is the arrival of a frame if the ring has room for it. `send
+COMMAND HEX` sends a frame by a descriptor with this command byte. `transmitter VALUE` writes TCTL and records TXQE.
 """
 
 import random
@@ -14,7 +14,8 @@ EOP, IFCS, RS = 1, 2, 8
 # The causes of ICR, without RXDMT0: the two adapters record it in other moments, so the line would tell them apart.
 CAUSES = 0x2C7
 MAC, ALL, GROUP, OTHER = "020000000001", "ffffffffffff", "01005e000001", "020000000009"
-READ = ["CTRL", "STATUS", "EERD", "MDIC", "VET", "ICR", "ICS", "IMS", "IMC", "RCTL", "TCTL", "PBA", "RDBAL", "RDBAH", "RDLEN", "RDH", "RDT",
+READ = ["CTRL", "STATUS", "EERD", "MDIC", "VET", "ICR", "ICS", "IMS", "IMC", "RCTL", "TCTL", "PBA", "RDBAL", "RDBAH",
+        "RDLEN", "RDH", "RDT",
         "TDBAL", "TDBAH", "TDLEN", "TDH", "TDT", "MPC", "GPRC", "GPTC", "RNBC"]
 
 
@@ -51,7 +52,8 @@ class Drawing:
     def receiver(self):
         """The filter, and the size of receive buffers."""
         bits = sum(bit for bit in (UPE, MPE, BAM, VFE) if self.draw.random() < 0.4)
-        return [f"writel RCTL {EN | SECRC | bits | self.draw.randrange(4) << 12 | self.draw.randrange(4) << 16:#x}", "readl RCTL"]
+        return [f"writel RCTL {EN | SECRC | bits | self.draw.randrange(4) << 12 | self.draw.randrange(4) << 16:#x}",
+                "readl RCTL"]
 
     def transmitter(self):
         return [f"transmitter {self.draw.choice([0x400FA, 0xFA, 0x400F2, 0x3FFFFA]):#x}", "readl TCTL"]
@@ -68,7 +70,8 @@ class Drawing:
     def frame(self):
         size = self.draw.choice([60, 61, 64, 255, 256, 257, 1514, 1517, 1518, self.draw.randint(60, 1518)])
         to = self.draw.choice([MAC, MAC, ALL, GROUP, OTHER, f"01{self.draw.getrandbits(40):010x}"])
-        kind = self.draw.choice(["0800", "0806", f"8100{self.draw.getrandbits(16):04x}", f"{self.draw.getrandbits(16):04x}"])
+        kind = self.draw.choice(["0800", "0806", f"8100{self.draw.getrandbits(16):04x}",
+                                 f"{self.draw.getrandbits(16):04x}"])
         return ((bytes.fromhex(to + OTHER + kind) + self.draw.randbytes(size))[:size]).hex()
 
     def arrive(self):
@@ -79,7 +82,8 @@ class Drawing:
         return [f"send {command:#x} {self.frame()}", f"readl {self.draw.choice(['TDH', 'ICR', 'GPTC'])}"]
 
     def requests(self, count):
-        kinds = [self.read] * 6 + [self.interrupts] * 3 + [self.setting] * 3 + [self.receiver, self.transmitter, self.eeprom, self.phy] \
+        kinds = [self.read] * 6 + [self.interrupts] * 3 + [self.setting] * 3 + [self.receiver, self.transmitter,
+                                                                                self.eeprom, self.phy] \
             + [self.offer] * 3 + [self.arrive] * 8 + [self.send] * 6
         found = []
         while len(found) < count:

@@ -1,7 +1,7 @@
 """Programs with an adapter that answer requests, one a line: QEMU with its e1000, and `nicbench serve`.
 
-Every emulator here has a memory that begins at address 0, and the adapter's registers at `registers`. A request is a line
-such as `readl 0xFEB00008`; docs/REQUESTS.md lists the requests and the answers.
+Every emulator here has a memory that begins at address 0, and the adapter's registers at `registers`. A request is a
+line such as `readl 0xFEB00008`; docs/REQUESTS.md lists the requests and the answers.
 """
 
 import fcntl
@@ -89,7 +89,9 @@ class Emulator:
             raise Ended(f"{request!r} was answered by {answer!r:.80}")
 
     def patience(self):
-        """Turns of waiting for something that another thread of the emulator does: many at once, and then slower ones."""
+        """Turns of waiting for something that another thread of the emulator does: many at once, and then slower
+        ones.
+        """
         for turn in range(self.WAITS):
             yield
             if turn >= self.WAITS // 2:
@@ -117,9 +119,11 @@ class Emulator:
         raise Ended("the EEPROM doesn't answer")
 
     def deliver(self, frames):
-        """Lets the first of these frames arrive, as many as fit into the free slots of the ring, and removes them. A slot has
-        256 bytes. Returns the lines that this causes."""
-        (length, told), (head, more), (tail, last) = (self.number(f"readl {self.registers + offset:#x}") for offset in (RDLEN, RDH, RDT))
+        """Lets the first of these frames arrive, up to the free slots of the ring, and removes them. A slot has 256
+        bytes. Returns the lines that this causes.
+        """
+        (length, told), (head, more), (tail, last) = (self.number(f"readl {self.registers + offset:#x}")
+                                                      for offset in (RDLEN, RDH, RDT))
         slots = length // 16
         free, some = (tail - head) % slots if slots else 0, []
         while frames and len(some) < self.MOST and -(-len(frames[0]) // 256) <= free:
@@ -140,7 +144,8 @@ class Serve(Emulator):
 
     def __init__(self, program, seed=0, interleave=0, registers=0xFEB00000, image=None, memory=MEMORY):
         self.memory = memory
-        words = shlex.split(program) + ["serve", "--memory", str(memory), "--registers", hex(registers), "--seed", str(seed)]
+        words = shlex.split(program) + ["serve", "--memory", str(memory), "--registers", hex(registers), "--seed",
+                                        str(seed)]
         if image is None:
             super().__init__(words + ["--address", ADDRESS], registers)
         else:
@@ -174,7 +179,8 @@ class Serve(Emulator):
 
 
 class Other(Emulator):
-    """A program that answers the requests of `nicbench serve`: `readl`, `writel`, `read`, `write`, `memset` and `arrive`.
+    """A program that answers the requests of `nicbench serve`: `readl`, `writel`, `read`, `write`, `memset` and
+    `arrive`.
 
     It may not know `settle`, if its adapter does its work at once, and not `events`, if it always reports frames.
     """
@@ -194,8 +200,8 @@ class Other(Emulator):
 class Qemu(Emulator):
     """QEMU's e1000. There is no guest: the processor halts, and virtual time jumps from one timer to the next.
 
-    Frames go over a pair of sockets, one a datagram. The script sets up the PCI device, and routes its interrupt. After a
-    write of RCTL it waits until the adapter receives again, which is a second of virtual time later.
+    Frames go over a pair of sockets, one a datagram. The script sets up the PCI device, and routes its interrupt. After
+    a write of RCTL it waits until the adapter receives again, which is a second of virtual time later.
     """
 
     ADVICE = "; on Debian: apt-get install qemu-system-x86"
@@ -212,8 +218,8 @@ class Qemu(Emulator):
         self.wire, theirs = socket.socketpair(socket.AF_UNIX, socket.SOCK_DGRAM)
         self.wire.setblocking(False)
         words = shlex.split(program) + [
-            "-nodefaults", "-machine", "pc", *WORDS, "-m", "64M", "-bios", rom, "-display", "none", "-qtest", "stdio", "-qtest-log", "/dev/null",
-            "-netdev", f"dgram,id=net,local.type=fd,local.str={theirs.fileno()}",
+            "-nodefaults", "-machine", "pc", *WORDS, "-m", "64M", "-bios", rom, "-display", "none", "-qtest", "stdio",
+            "-qtest-log", "/dev/null", "-netdev", f"dgram,id=net,local.type=fd,local.str={theirs.fileno()}",
             "-device", f"e1000,mac={ADDRESS},mitigation=off,netdev=net"]
         # It warns that no timer runs, which is so.
         with open(os.path.join(self.folder.name, "errors"), "wb") as errors:
@@ -239,7 +245,9 @@ class Qemu(Emulator):
         return [f"IRQ {level} 0" for level, number in levels if number == str(self.INTERRUPT)]
 
     def turns(self):
-        """Requests that do nothing, so that QEMU's main loop does what it has to do. Returns the lines about the interrupt."""
+        """Requests that do nothing, so that QEMU's main loop does what it has to do. Returns the lines about the
+        interrupt.
+        """
         return [line for _ in range(2) for line in self.ask("inb 0x80")[1]]
 
     def sent(self):
@@ -260,7 +268,7 @@ class Qemu(Emulator):
         self.lines(f"outl 0xcfc {value:#x}")
 
     def set_up(self):
-        """Finds the device on the bus, gives it an address and the bus, and has its interrupt reported."""
+        """Finds the device on the bus, sets its address, lets it use the bus, and has its interrupt reported."""
         device = next(number for number in range(32) if self.configuration(number, 0) == 0x100E8086)
         self.configure(1, 0x60, self.INTERRUPT * 0x01010101)  # the four interrupts of the bus
         self.configure(device, 0x10, self.registers)

@@ -2,7 +2,7 @@
 
 import os
 
-# What QEMU has unless the command line says otherwise
+# What QEMU has without other words on the command line
 MEMORY, ADDRESS = "128M", "52:54:00:12:34:56"
 UNITS = {"": 20, "B": 0, "K": 10, "M": 20, "G": 30, "T": 40}
 # The adapter is the model of `nicbench serve`, at the place where QEMU's libqos puts a device.
@@ -51,7 +51,7 @@ def bytes_of(text):
 
 
 class MachineOptions:
-    """What a command line says: where the client listens, and what the machine has."""
+    """The words of a command line: where the client listens, and what the machine has."""
 
     def __init__(self, words):
         self.client = self.log = self.monitor = self.wire = None
@@ -126,7 +126,7 @@ class MachineOptions:
             raise Unusable(f"-nic {value}: use -netdev and -device")
 
     def set_adapter(self):
-        """Takes what the command line says of the adapter."""
+        """Takes the words of the command line for the adapter."""
         if len(self.adapters) > 1:
             raise Unusable("-device e1000: there is one adapter")
         for found in self.adapters:

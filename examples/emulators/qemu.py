@@ -3,9 +3,9 @@
 
 usage: qemu.py [--on qemu|serve] [--nicbench PROGRAM] [--qemu PROGRAM] [--frames N] [--seed N] [--log FILE]
 
-The driver sends N frames of 60 to 1,518 bytes, drawn by the seed, while N other frames arrive. The exit status is 1 if a
-frame is lost, changed or out of order on either way, and 2 if the emulator isn't installed. With `--on serve` the adapter is
-that of `nicbench serve`, which takes random steps before each access.
+The driver sends N frames of 60 to 1,518 bytes, drawn by the seed, while N other frames arrive. The exit status is 1 if
+a frame is lost, changed or out of order on either way, and 2 if the emulator isn't installed. With `--on serve` the
+adapter is that of `nicbench serve`, which takes random steps before each access.
 """
 
 import argparse
@@ -50,9 +50,11 @@ def drawn(seed, count):
 
 
 def drive(program, words, emulator, wire, log=None):
-    """Runs `nicbench drive` with these words. Its requests go to the emulator, and the answers back. Before each read of ICR,
-    frames arrive. Returns its exit status, its standard error and the number of its requests."""
-    words = shlex.split(program) + ["drive", "--registers", hex(emulator.registers), "--memory", str(emulator.memory), *words]
+    """Runs `nicbench drive` with these words. Its requests go to the emulator, and the answers back. Before each read
+    of ICR, frames arrive. Returns its exit status, its standard error and the number of its requests.
+    """
+    words = shlex.split(program) + ["drive", "--registers", hex(emulator.registers), "--memory", str(emulator.memory),
+                                    *words]
     driver = subprocess.Popen(words, stdin=subprocess.PIPE, stdout=subprocess.PIPE, stderr=subprocess.PIPE, bufsize=0)
     asks = f"readl {emulator.registers + ICR:#018x}\n"
     count = 0
@@ -104,12 +106,15 @@ def run(words, folder):
     begun = time.monotonic()
     log = open(words.log, "w", encoding="ascii") if words.log else None
     try:
-        status, errors, count = drive(words.nicbench, ["--send", sent, "--receive", received, "--expect", str(words.frames)], emulator, wire, log)
+        status, errors, count = drive(words.nicbench,
+                                      ["--send", sent, "--receive", received, "--expect", str(words.frames)], emulator,
+                                      wire, log)
     finally:
         emulator.close()
         if log:
             log.close()
-    print(f"{words.on}: {count} requests in {time.monotonic() - begun:.1f} s; the driver's program: {errors.strip() or 'nothing'}")
+    print(f"{words.on}: {count} requests in {time.monotonic() - begun:.1f} s; the driver's program: "
+          f"{errors.strip() or 'nothing'}")
     if status:
         print(f"the driver's program ended with status {status}")
         return False

@@ -19,8 +19,9 @@ HASH_SHIFTS = [4, 3, 2, 0]
 FIRST = [
     "writel IMC 0xffffffff", "writel CTRL 0x40", "writel MDIC 0x04201200", "link",
     *(f"memset {address:#x} {size:#x} 0" for address, size in AREAS.values()),
-    f"writel RDBAL {RECEIVE_RING:#x}", "writel RDBAH 0", f"writel RDLEN {DESCRIPTOR * SLOTS}", "writel RDH 0", "writel RDT 0",
-    f"writel TDBAL {TRANSMIT_RING:#x}", "writel TDBAH 0", f"writel TDLEN {DESCRIPTOR * SLOTS}", "writel TDH 0", "writel TDT 0",
+    f"writel RDBAL {RECEIVE_RING:#x}", "writel RDBAH 0", f"writel RDLEN {DESCRIPTOR * SLOTS}", "writel RDH 0",
+    "writel RDT 0", f"writel TDBAL {TRANSMIT_RING:#x}", "writel TDBAH 0", f"writel TDLEN {DESCRIPTOR * SLOTS}",
+    "writel TDH 0", "writel TDT 0",
     "writel RCTL 0x04008002", "writel TCTL 0x400fa", "readl MPC", "readl GPRC", "readl GPTC", "readl RNBC", "readl ICR"]
 # After these requests the rings and buffers are compared.
 MOVING = ("writel RDT", "writel TDT", "arrive")
@@ -28,7 +29,7 @@ MOVING = ("writel RDT", "writel TDT", "arrive")
 
 class Seen:
     """What an emulator showed at a request: the answer, the frames that it sent, the changes of its interrupt line, and
-    memory where that is compared."""
+    perhaps memory."""
 
     def __init__(self, request, answer, told, memory):
         self.request = request
@@ -46,7 +47,8 @@ class Session:
             self.plain(request)
 
     def memory(self):
-        return {name: bytes.fromhex(self.emulator.ask(f"read {address:#x} {size:#x}")[0][5:]) for name, (address, size) in AREAS.items()}
+        return {name: bytes.fromhex(self.emulator.ask(f"read {address:#x} {size:#x}")[0][5:])
+                for name, (address, size) in AREAS.items()}
 
     def plain(self, request):
         """Does one request, lets the adapter do its work, and returns what was seen."""
@@ -97,7 +99,8 @@ class Session:
     def arrives(self, frame):
         """The arrival of a frame, if the ring has room for it."""
         rctl = self.value("RCTL")
-        if -(-len(frame) // 2 // SIZES[rctl >> 16 & 3]) <= self.free() and not self.is_in_table(bytes.fromhex(frame[:12]), rctl):
+        slots = -(-len(frame) // 2 // SIZES[rctl >> 16 & 3])
+        if slots <= self.free() and not self.is_in_table(bytes.fromhex(frame[:12]), rctl):
             yield f"arrive {frame}"
 
     def transmitter(self, value):

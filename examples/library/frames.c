@@ -97,6 +97,15 @@ static void copy(struct nic82540em *nic)
     nic82540em_free(&other);
 }
 
+/* An EEPROM read ends at once if cycles of steps come after each access. */
+static void pace(struct nic82540em *nic)
+{
+    printf("cycles: %d", nic82540em_pace(nic, 65535));
+    nic82540em_write(nic, NIC_EERD, NIC_EERD_START | NIC_EERD_ADDR(2));
+    printf(", EERD: %08" PRIx32, nic82540em_read(nic, NIC_EERD));
+    printf(", too many: %d, none: %d\n", nic82540em_pace(nic, 65536), nic82540em_pace(nic, 0));
+}
+
 /* What each call returns if the handle has no adapter. */
 static void without(struct nic82540em *nic)
 {
@@ -115,8 +124,9 @@ static void without(struct nic82540em *nic)
            nic82540em_line(nic), nic82540em_settle(nic), nic82540em_interleave(nic, 1, 1), nic82540em_accesses(nic));
     printf(" %d %d %" PRIu64, nic82540em_schedule(nic, 0, NIC_PHY), nic82540em_peek(nic, NIC_VET, &value),
            nic82540em_memory(nic, &memory));
-    printf(" %" PRIx32 " %" PRIu64 " %" PRIu64 " %d", nic82540em_possible(nic), nic82540em_digest(nic),
-           nic82540em_state_digest(nic, 1), nic82540em_copy(nic, &other));
+    printf(" %" PRIx32 " %" PRIu32 " %" PRIu64 " %" PRIu64 " %d", nic82540em_possible(nic), nic82540em_choose(nic, 7),
+           nic82540em_digest(nic), nic82540em_state_digest(nic, 1), nic82540em_copy(nic, &other));
+    printf(" %d", nic82540em_pace(nic, 1));
     printf(", %s\n", bytes[0] == 1 && value == 5 && memory == bytes ? "and nothing changed" : "and something changed");
 }
 
@@ -158,7 +168,10 @@ int main(void)
     send(&nic);
     more(&nic);
     copy(&nic);
+    pace(&nic);
+    printf("choice: %" PRIu32, nic82540em_choose(&nic, 7));
     nic82540em_interleave(&nic, 3, 7);
+    printf(", with random steps below 7: %d\n", nic82540em_choose(&nic, 7) < 7);
     printf("read with steps before it: %08" PRIx32 "\n", nic82540em_read(&nic, NIC_PBA));
     refusals(&nic);
     without(&nic);
