@@ -1,10 +1,20 @@
-//! Calls of an adapter, of a solo bus and of stations, each made twice: their contracts determine the outcome.
+//! Calls of an adapter and its parts, a solo bus, stations and the PCI function, each made twice: their contracts
+//! determine the outcome.
 //!
-//! A function of this crate makes the call that it names twice, from equal states and with equal arguments. Its clauses
-//! state that both outcomes are equal. The prover knows only the clauses of the call. So these clauses exclude every
-//! body whose outcome differs in what the function compares. Most functions compare the outcomes of calls that succeed.
+//! Most functions of this crate make one call twice, from equal states and with equal arguments. Their clauses state
+//! that both outcomes are equal. The prover knows only the clauses of the call. So the call's clauses exclude every
+//! body whose outcome differs in what the function compares. Most functions compare the outcomes of calls that
+//! succeed.
 #![tactic(auto)]
 
 pub mod adapter_calls;
+pub mod descriptor_calls;
+pub mod eeprom_calls;
+pub mod filter_calls;
+pub mod memory_calls;
+pub mod pci_calls;
+pub mod phy_calls;
+pub mod queue_calls;
+pub mod register_calls;
 pub mod solo_bus_calls;
 pub mod stations_calls;

@@ -4,7 +4,7 @@ use Rattle.dma_memory.specs.Layout.{descriptor_bytes}
 use Rattle.bus.specs.declared.event.Access.{Access}
 use Rattle.bus.specs.declared.event.Access.TheVariants.{Stores}
 
--- The store of 16 zero bytes at an address.
+-- The store of 16 bytes of value 0 at an address.
 abbrev pub clears : ℕ → Access
 clears address = Stores address (replicate descriptor_bytes 0)
 

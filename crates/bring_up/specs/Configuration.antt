@@ -26,7 +26,7 @@ pub record HasRightNumbers (config : Config) : Type 0 where
   -- each VLAN is below 4,096
   pub vlans : All (λ vlan. vlan < table_numbers) (vlans_of config.vlans)
 
--- The configuration is valid in a memory of this size, in bytes.
+-- The configuration is valid in a memory of `size` bytes.
 pub record CanBeHad (config : Config) (size : ℕ) : Type 0 where
   -- rings and buffers have valid sizes
   pub counts : IsAllowed (configured_counts config)

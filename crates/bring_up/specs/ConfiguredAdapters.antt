@@ -100,7 +100,8 @@ pub record FilterIsConfigured (config : Config) (address : List ℕ) (filter : F
   pub groups : HasNumbers filter.mta (numbers_of_groups config.groups.items)
   pub group_words : AreWords filter.mta
 
--- The registers of a ring are as configured.
+-- The registers of a ring contain the base `base`, the size of `count` slots, and the tail `tail`. The head isn't
+-- stated.
 pub record RingIsConfigured (base count tail : ℕ) (registers : RingRegisters) : Type 0 where
   pub base_is : (ring_of registers).base ≡ base
   -- the number of slots
@@ -109,20 +110,23 @@ pub record RingIsConfigured (base count tail : ℕ) (registers : RingRegisters) 
 
 -- The settings that a configuration and an Ethernet address determine.
 pub record IsConfigured (config : Config) (address : List ℕ) (settings : Settings) : Type 0 where
-  -- CTRL has SLU and ASDE
+  -- CTRL contains SLU and ASDE, and no other bit
   pub device_control : settings.device_control ≡ link_control
   pub filter : FilterIsConfigured config address settings.filter
   -- TCTL has the value of initialization
   pub transmit_control : settings.transmit_control ≡ transmit_control
   -- PBA.RXA is that of the configuration
   pub allocation : settings.receive_kilobytes ≡ config.rxa
-  -- IMS has TXDW, RXDMT0, RXO and RXT0
+  -- the mask contains TXDW, RXDMT0, RXO and RXT0, and no other cause
   pub mask : settings.mask ≡ handled_causes
-  -- All receive slots except one are offered, and no transmit slot.
+  -- The receive ring begins at address 0, and RDT is the index of its last slot. The transmit ring follows, and TDT is
+  -- 0.
   pub receive_ring : RingIsConfigured 0 config.rx (config.rx - 1) settings.receive_ring
   pub transmit_ring : RingIsConfigured (descriptor_bytes * config.rx) config.tx 0 settings.transmit_ring
 
 -- The writes of initialization configure an adapter, whatever its settings were before, and don't change its EEPROM.
+-- The configuration must be valid, and the words written to MTA and VFTA must have exactly the bits of its groups and
+-- VLANs.
 abbrev pub WritesConfigure : Type 0
 WritesConfigure =
     (config : Config) (address groups vlans : List ℕ) (size : ℕ) (settings : Settings)

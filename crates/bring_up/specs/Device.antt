@@ -15,14 +15,14 @@ use Rattle.bring_up.specs.declared.init_error.InitError.{InitError}
 use Rattle.bring_up.specs.declared.init_error.InitError.TheVariants.{Checksum, EepromTimeout, Memory, NoLink, PhyTimeout}
 use Rattle.bring_up.specs.declared.init_error.InitError.TheVariants as errors
 
--- The error is returned before any access: E10 or E15. Every other error is the device's.
+-- The error is returned before any access: E10 or E15. The device causes every other error.
 abbrev pub IsBeforeAccess : InitError → Type 0
 IsBeforeAccess Memory = ⊤
 IsBeforeAccess errors.Config = ⊤
 IsBeforeAccess error = ⊥
 
 -- A device was found: the image is that of its EEPROM, with the right checksum. The adapter is at rest with these
--- settings, and its link is up.
+-- settings. Its link is up, and no MDIC command is pending.
 pub record IsFound {B : Type 0} (bus : Ghosts B) (kilobytes : ℕ) (old new : B) (image : List ℕ) : Type 0 where
   pub image_is : image ≡ (bus.world old).adapter.image
   pub sum_is_right : HasRightSum image
@@ -33,7 +33,7 @@ pub record IsFound {B : Type 0} (bus : Ghosts B) (kilobytes : ℕ) (old new : B)
   pub up : HasLink (bus.world new)
 
 -- When an error is returned. E12: only if the checksum is wrong. E11 and E13: only after at least 1,000 accesses. E14:
--- only after at least 2,000 accesses.
+-- only after at least 2,000 accesses. E10 and E15: never.
 abbrev pub IsErrorOf : InitError → (image : List ℕ) (accesses : ℕ) → Type 0
 IsErrorOf EepromTimeout image accesses = most_reads ≤ accesses
 IsErrorOf Checksum image accesses = ¬ (HasRightSum image)
@@ -42,8 +42,8 @@ IsErrorOf NoLink image accesses = 2 * most_reads ≤ accesses
 IsErrorOf Memory image accesses = ⊥
 IsErrorOf errors.Config image accesses = ⊥
 
--- When an error is returned over a lively bus. E11 and E13: never. E14: only if the checksum is right and the link
--- needs more than 2,000 ticks. So if the checksum is wrong, E12 is returned.
+-- When an error is returned over a lively bus. E11 and E13: never. E14: only if the checksum is right, and the link
+-- needs more than 2,000 ticks or is never up. Nothing is stated for E10, E12 and E15.
 abbrev pub IsErrorOfLively : InitError → World → Type 0
 IsErrorOfLively EepromTimeout before = ⊥
 IsErrorOfLively Checksum before = ⊤

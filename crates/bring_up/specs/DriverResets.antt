@@ -26,8 +26,8 @@ pub record ResetsDriver {B : Type 0} (bus : Ghosts B) (up : Bool) (pool : List �
   pub last : World
   pub goes : GoesTo up (driver_in d (bus.world old)) (driver_in d last) (driver_did [] []) first.past
   pub is_reset : bus.world middle ≡ reset_world last
-  -- After the write of CTRL, no frame is stored or put on the wire, and the driver has no slots.
+  -- After the write of CTRL, no frame is put on the wire, stored or missed, and the driver has no slots.
   pub no_frame : NoFrame later.past
   pub rests : RestsWith (reset_driver pool d) (bus.world new)
-  -- A link that is up remains up.
+  -- If the link is up and no MDIC command is pending, both remain true.
   pub link : HasLink (bus.world old) → HasLink (bus.world new)

@@ -28,8 +28,8 @@ accesses_of writes = map (λ (write : Write). Writes write.offset write.value) w
 abbrev pub LeavesDriver : {B : Type 0} → Ghosts B → List Write → (up : Bool) → DriverState → (old new : B) → Type 0
 LeavesDriver bus writes up d old new = Ran bus up (only (accesses_of writes)) (at old d) (at new d)
 
--- These writes enable the receiver of a driver that holds no frame. No frame arrives before them, and after them no
--- frame is held and no slot is finished.
+-- These writes enable the receiver of a driver that holds no frame. No frame is stored or missed in the interval.
+-- After the writes no frame is held, and no slot is finished.
 pub record LetsFramesIn {B : Type 0} (bus : Ghosts B) (writes : List Write) (d : DriverState) (old new : B) : Type 0 where
   pub ran : LeavesDriver bus writes false d old new
   pub none_held : frames_held d.oldest_receive (bus.world new) ≡ []

@@ -9,8 +9,8 @@ use Rattle.bring_up.specs.DriverSteps.{accesses_of}
 use Rattle.bring_up.specs.FilterTables.{address_writes, table_writes}
 use Rattle.bring_up.specs.SettingSteps.{Sets}
 
--- MTA is written with the bits of these groups, VFTA with the bits of these VLANs, and then the receive addresses with
--- this address. There is no other access.
+-- MTA is written with exactly the bits of the groups `named`, and VFTA with exactly those of the VLANs `named_vlans`.
+-- Then the receive addresses are written with `address`. There is no other access.
 pub record SetsFilter {B : Type 0} (bus : Ghosts B) (named : List (List ℕ)) (named_vlans address : List ℕ) (old new : B) : Type 0 where
   -- the words of both tables
   pub groups : List ℕ

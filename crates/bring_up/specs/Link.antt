@@ -51,14 +51,15 @@ status_word = command_word 2 1 0
 abbrev pub IsCommand : ℕ → Type 0
 IsCommand word = (word ≡ restart_word) ⊎ (word ≡ status_word)
 
--- Of `all` ticks, some came before the command was written, one tick ended the command, and the other ticks came later.
+-- Of `all` ticks, `before` were played before the command was written, one tick ended the command, and `later` followed. Over a lively
+-- bus, `before` is at least 1.
 pub record TicksOfCommand (lively : Type 0) (all : ℕ) : Type 0 where
   pub before : ℕ
   pub later : ℕ
   pub all_are : before + 1 + later ≡ all
   pub some : lively → 1 ≤ before
 
--- A command ended between two states of MDIC and the PHY, and then MDIC has this value.
+-- A command ended between two states of MDIC and the PHY, and then MDIC contains the value `answer`.
 pub record EndsCommand (lively : Type 0) (word all : ℕ) (a b : Management) (answer : ℕ) : Type 0 where
   pub ticks : TicksOfCommand lively all
   -- the PHY after the tick that ends the command
@@ -83,8 +84,7 @@ pub record Commands {B : Type 0} (bus : Ghosts B) (word : ℕ) (result : Result 
 pub record Negotiates {B : Type 0} (bus : Ghosts B) (result : Result (Unit {0}) InitError) (old new : B) : Type 0 where
   pub asks : WritesOneRegister bus MDIC old new
   pub link : (bus.world new).adapter.phy.link ≡ (bus.world old).adapter.phy.link
-  -- If the result is Ok, autonegotiation was started in this call: fewer ticks came since its start than in the whole
-  -- call.
+  -- If the result is Ok, autonegotiation was started in this call: fewer ticks were played since its start than in the whole call.
   pub started : IfOk result (λ done. (begun : IsNegotiating (bus.world new).adapter) × (begun.ticks < asks.past.phy_ticks))
   pub late : IfErr result (λ error. most_reads ≤ length asks.past.accesses)
   pub in_time : bus.lively old → IsOk result
@@ -96,7 +96,7 @@ pub record AwaitsLink {B : Type 0} (bus : Ghosts B) (result : Result (Unit {0}) 
   -- If the result is Ok, MDIC contains a status with bits 5 and 2: autonegotiation is complete and the link is up.
   pub seen : IfOk result
       (λ done. HasBit (bus.world new).adapter.mdic.value status_complete × HasBit (bus.world new).adapter.mdic.value status_link)
-  -- If the result is Ok, the link is up.
+  -- If the result is Ok, the link is up, and no MDIC command is pending.
   pub up : IfOk result (λ done. HasLink (bus.world new))
   pub late : IfErr result (λ error. most_reads ≤ length asks.past.accesses)
   pub no_link : result ≡ Err NoLink → 2 * most_reads ≤ length asks.past.accesses

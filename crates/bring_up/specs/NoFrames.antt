@@ -19,8 +19,8 @@ pub record HasNoFrames (d : DriverState) (world : World) : Type 0 where
   pub none_held : frames_held d.oldest_receive world ≡ []
   pub none_to_send : frames_to_send world ≡ []
 
--- `HasNoFrames` remains true in an interval in which RCTL isn't written and no frame is accepted for sending. In the interval, no frame is
--- stored, missed or put on the wire.
+-- While the transmit side is off, `HasNoFrames` remains true in an interval in which RCTL isn't written, and no frame is taken or
+-- accepted. In the interval, no frame is stored, missed or put on the wire.
 abbrev pub NoFramesStay : Type 0
 NoFramesStay =
     (d d' : DriverState) (a b : World) (past : Past) → GoesTo false (driver_in d a) (driver_in d' b) (driver_did [] []) past

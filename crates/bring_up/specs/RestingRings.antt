@@ -31,8 +31,8 @@ pub record HasReceiveRing (rx : ℕ) (world : World) : Type 0 where
   pub knows : KnowsRing (receive_ring world) 0 rx 0
   pub transmits : world.adapter.transmit_ring ≡ new_ring
 
--- The call makes exactly these writes. If `before` holds of the world before the call, `after` holds of the world after
--- the call. In this case no frame is stored or put on the wire, and memory doesn't change.
+-- The call makes exactly the writes `writes`. If `before` holds of the world before the call, `after` holds of the
+-- world after the call. In this case no frame is put on the wire, stored or missed, and memory doesn't change.
 pub record SetsAtRest {B : Type 0} (bus : Ghosts B) (writes : List Write) (before after : World → Type 0) (old new : B) : Type 0 where
   pub sets : Sets bus writes old new
   pub only : sets.past.accesses ≡ accesses_of writes
@@ -40,7 +40,8 @@ pub record SetsAtRest {B : Type 0} (bus : Ghosts B) (writes : List Write) (befor
   pub no_frame : before (bus.world old) → NoFrame sets.past
   pub memory : before (bus.world old) → (bus.world new).memory ≡ (bus.world old).memory
 
--- A driver that has offered no slot is ready in this world, and no frame is held or to be sent.
+-- A driver that has offered no slot is ready in this world, with its transmit side off. RCTL.EN is 0, and no frame is
+-- held or to be sent.
 pub record BeginsAtRest (counts : Counts) (setup : DriverSetup) (groups : List (List ℕ)) (pool : List ℕ) (world : World) : Type 0 where
   pub begun : IsAtBeginning false counts setup groups pool world
   pub ready : ReadyWith false (new_driver counts setup groups pool) world
@@ -54,9 +55,9 @@ DriversBeginAtRest =
     → IsAllowed counts → HasOneOwner counts.buffers pool → size_of counts ≤ length world.memory
     → HasReceiveRing counts.rx world → BeginsAtRest counts setup groups pool world
 
--- A driver whose adapter was reset is ready again after its receive ring is set up at rest, with no slot offered. The
--- same buffers are free, the pieces of frames that others hold are in their buffers, and no frame is held or to be
--- sent.
+-- A driver whose adapter was reset is ready again after its receive ring is set up at rest, with no slot offered. Its
+-- transmit side is off, and RCTL.EN is 0. The same buffers are free, the pieces of frames that others hold are in
+-- their buffers, and no frame is held or to be sent.
 abbrev pub DriversBeginAgain : Type 0
 DriversBeginAgain =
     (driver : DriverState) (pool : List ℕ) (world : World) → (let again = reset_driver pool driver in

@@ -30,8 +30,8 @@ RecordsNoCause past = All RecordsNone (writes_in past.accesses)
 
 -- The call makes these writes in this order, and may also read registers, load and store. The settings change only by
 -- these writes, whatever else happens. If RCTL and the rings' registers aren't written, an adapter at rest remains at
--- rest. Then no frame is stored or put on the wire, and memory doesn't change. If CTRL and MDIC aren't written, a link
--- that is up remains up.
+-- rest. Then no frame is put on the wire, stored or missed, and memory doesn't change. If CTRL and MDIC aren't
+-- written, the link is up, and no MDIC command is pending, both remain true.
 pub record Sets {B : Type 0} (bus : Ghosts B) (writes : List Write) (old new : B) : Type 0 where
   pub past : Past
   pub reports : bus.happened old new past
@@ -46,8 +46,8 @@ pub record SetsOnly {B : Type 0} (bus : Ghosts B) (writes : List Write) (old new
   pub sets : Sets bus writes old new
   pub only : sets.past.accesses ≡ accesses_of writes
 
--- The call writes no register except the one at this offset, and the settings don't change. An adapter at rest remains at rest, and no
--- frame is stored or put on the wire.
+-- The call writes no register except the one at `offset`, and the settings don't change. An adapter at rest remains at rest, and then no
+-- frame is put on the wire, stored or missed.
 pub record WritesOneRegister {B : Type 0} (bus : Ghosts B) (offset : ℕ) (old new : B) : Type 0 where
   pub past : Past
   pub reports : bus.happened old new past

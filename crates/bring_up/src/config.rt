@@ -43,7 +43,7 @@ impl Config {
     ghost use Rattle.bring_up.specs.Configuration.{CanBeHad, HasRightNumbers, configured_counts};
     ghost use Rattle.bring_up.specs.declared.init_error.InitError.TheVariants as InitError;
 
-    /// The places of rings and buffers in a memory of `size` bytes.
+    /// Returns the places of rings and buffers in a memory of `size` bytes.
     ///
     /// # Errors
     ///
@@ -65,7 +65,7 @@ impl Config {
         Ok(layout)
     }
 
-    /// Whether RXA, the groups and the VLANs are valid.
+    /// Returns whether RXA, the groups and the VLANs are valid.
     fn has_right_numbers(&self) -> bool
         ensures { IsTrue result ↔ HasRightNumbers self.now }
     {
@@ -78,7 +78,7 @@ impl Config {
     }
 }
 
-/// Whether this number of kilobytes is a valid value of PBA.RXA.
+/// Returns whether this number of kilobytes is a valid value of PBA.RXA.
 fn is_allocation(kilobytes: u8) -> bool
     ensures { IsTrue result ↔ IsAllocation kilobytes }
 {

@@ -4,9 +4,11 @@ ghost use Rattle.bring_up.specs.ConfiguredAdapters.{LinkComesFirst, RingsComeLas
 ghost use Rattle.bring_up.specs.ConfiguredAdapters.{WritesConfigure};
 
 /// What the register writes of initialization do.
-/// - `configure`: they configure an adapter, whatever its settings were before, and don't change its EEPROM.
-/// - `rings_last`: no write before those of the rings is a write of RCTL or of a ring's register.
-/// - `link_first`: no write of the filter, of the rings, or after those of the rings is a write of CTRL or MDIC.
+/// - `configure`: these writes configure an adapter, whatever its settings were before, and don't change its EEPROM.
+/// - `rings_last`: if the tables have 128 words, no write before those of the rings is a write of RCTL or of a ring's
+///   register.
+/// - `link_first`: if the tables have 128 words, the writes of the filter, of the rings and after the rings write
+///   neither CTRL nor MDIC.
 /// - `agree`: a driver's setup determines PBA.RXA and the registers of the filter except MTA.
 pub fn writes_configure()
     ensures configure { WritesConfigure }

@@ -34,7 +34,7 @@ pub fn reset_device<B: Bus>(bus: &mut B)
     bus.read(ICR);
 }
 
-/// Assigns this many kilobytes of the packet buffer to received frames (PBA.RXA).
+/// Assigns `kilobytes` of the packet buffer to received frames (PBA.RXA).
 pub fn allocate_packet_buffer<B: Bus>(bus: &mut B, kilobytes: u8)
     ensures keeps { Keeps B.Bus bus.old bus.new }
     ensures sets { B.honest bus.old → SetsOnly B.Bus (allocation_writes kilobytes) bus.old bus.new }
@@ -51,8 +51,8 @@ pub fn set_link_up<B: Bus>(bus: &mut B)
     bus.write(CTRL, Ctrl::SLU.union(Ctrl::ASDE).bits());
 }
 
-/// The causes that a driver enables: TXDW (a transmit descriptor was written back), RXT0 (a frame was received), RXDMT0
-/// (few receive descriptors are left) and RXO (a frame was missed).
+/// Returns the causes that a driver enables: TXDW (a transmit descriptor was written back), RXT0 (a frame was
+/// received), RXDMT0 (few receive descriptors are still offered) and RXO (a frame was missed).
 pub fn interrupt_causes() -> Cause
     ensures { result.0 ≡ handled_causes }
 {

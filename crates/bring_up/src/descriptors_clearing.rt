@@ -13,12 +13,12 @@ use dma_memory::DESCRIPTOR_BYTES;
 /// The 16 bytes of a cleared descriptor, all 0.
 const CLEAR: [u8; 16] = [0; 16];
 
-/// Clears the descriptor at an address, by one store of 16 zero bytes. A driver that is ready remains ready in these
-/// cases.
+/// Clears the descriptor at an address, by one store of 16 bytes of value 0. A driver that is ready remains ready in
+/// these cases.
 /// - `sent`: the descriptor belongs to the transmit ring, and the transmit side is off.
 /// - `received`: the descriptor is that of the last receive slot, and the driver's oldest receive slot is slot 0.
 /// - `spare`: the descriptor is that of a receive slot that is neither outstanding nor staged, and the driver's oldest
-/// receive slot is slot 0.
+///   receive slot is slot 0.
 pub fn clear_descriptor<B: Bus>(bus: &mut B, address: u64)
     requires { address + descriptor_bytes ≤ B.extent bus.old }
     ensures keeps { Keeps B.Bus bus.old bus.new }
@@ -39,7 +39,7 @@ pub fn clear_descriptor<B: Bus>(bus: &mut B, address: u64)
 /// Clears `count` descriptors from an address on, by one store each. A driver that is ready remains ready in two cases.
 /// - `ran`: the descriptors are the first descriptors of the transmit ring, and the transmit side is off.
 /// - `spare`: the descriptors are those of receive slots that are neither outstanding nor staged, and the driver's
-/// oldest receive slot is slot 0.
+///   oldest receive slot is slot 0.
 pub fn clear_descriptors<B: Bus>(bus: &mut B, first: u64, count: u16)
     requires memory { first + descriptor_bytes * count ≤ B.extent bus.old }
     requires addresses { first + descriptor_bytes * count < address_limit }

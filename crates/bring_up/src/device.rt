@@ -19,7 +19,7 @@ use eeprom::{Image, checksum_ok};
 /// - [`EepromTimeout`](InitError::EepromTimeout): 1,000 reads of EERD for one word didn't show DONE.
 /// - [`Checksum`](InitError::Checksum): the image's checksum is wrong.
 /// - [`PhyTimeout`](InitError::PhyTimeout): for a command to the PHY, 1,000 reads of MDIC didn't show R, or one showed
-/// R and E.
+///   R and E.
 /// - [`NoLink`](InitError::NoLink): none of 1,000 reads of the PHY's status showed a link that is up and negotiated.
 pub fn find_device<B: Bus>(bus: &mut B, kilobytes: u8) -> Result<Image, InitError>
     ensures keeps { Keeps B.Bus bus.old bus.new }

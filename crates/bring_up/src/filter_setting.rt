@@ -25,7 +25,7 @@ pub fn set_filter<B: Bus>(bus: &mut B, groups: &[[u8; 6]], vlans: &[u16], addres
     write_addresses(bus, address);
 }
 
-/// The VLANs of a configuration; empty if tagged frames of all VLANs pass.
+/// Returns the VLANs of a configuration, or an empty list if tagged frames of all VLANs pass.
 pub fn named_vlans(vlans: &Option<ArrayVec<u16, MOST_VLANS>>) -> &[u16]
     ensures { result.now ≡ vlans_of vlans.now }
 {

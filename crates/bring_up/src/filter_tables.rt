@@ -14,8 +14,8 @@ use bus::Bus;
 use registers::GroupOffset;
 use rx_engine::{AddressWords, RECEIVE_ADDRESSES, TABLE_WORDS, TableBit, hash_of};
 
-/// The group table with the bits of these groups. Bits 47:36 of a group's address select its bit (RCTL.MO is 00). All
-/// other bits are 0.
+/// Returns the group table with the bits of these groups. Bits 47:36 of a group's address select the group's bit
+/// (RCTL.MO is 00). All other bits are 0.
 pub fn group_table(groups: &[[u8; 6]]) -> [u32; TABLE_WORDS]
     ensures { HasNumbers result (numbers_of_groups groups.now) }
 {
@@ -26,7 +26,7 @@ pub fn group_table(groups: &[[u8; 6]]) -> [u32; TABLE_WORDS]
     table
 }
 
-/// The VLAN table with the bits of these VLANs, whose numbers must be below 4,096. All other bits are 0.
+/// Returns the VLAN table with the bits of these VLANs, whose numbers must be below 4,096. All other bits are 0.
 pub fn vlan_table(vlans: &[u16]) -> [u32; TABLE_WORDS]
     requires { All (λ vlan. vlan < table_numbers) vlans.now }
     ensures { HasNumbers result vlans.now }
@@ -38,7 +38,7 @@ pub fn vlan_table(vlans: &[u16]) -> [u32; TABLE_WORDS]
     table
 }
 
-/// A table with no bit set.
+/// Returns a table with no bit set.
 fn empty_table() -> [u32; TABLE_WORDS]
     ensures { result ≡ replicate TABLE_WORDS 0 }
 {

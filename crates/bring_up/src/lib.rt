@@ -1,4 +1,5 @@
-//! Initializes an 82540EM over any bus: separate calls for reset, EEPROM, PHY, filter, rings and interrupts.
+//! Initializes an 82540EM over any bus: separate calls for reset, EEPROM, PHY, filter, rings and interrupts. Keeps the
+//! list of joined multicast groups and the group table (MTA) together.
 //!
 //! Section numbers are those of Intel's "PCI/PCI-X Family of Gigabit Ethernet Controllers Software
 //! Developer's Manual": "14.3 General Initialization", "14.4 Receive Initialization" and "14.5 Transmit
@@ -38,3 +39,9 @@ pub use ring_registers::{
 
 /// The number of reads of a register after which a driver gives up (our choice).
 pub const MOST_READS: u16 = 1000;
+
+mod groups;
+mod groups_law;
+
+pub use groups::{GroupError, Groups};
+pub use groups_law::groups_determine_table;

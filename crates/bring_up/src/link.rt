@@ -62,7 +62,7 @@ pub fn negotiate<B: Bus>(bus: &mut B) -> Result<(), InitError>
 ///
 /// - [`NoLink`](InitError::NoLink): none of these reads showed a link that is up and negotiated.
 /// - [`PhyTimeout`](InitError::PhyTimeout): for a read of the status, 1,000 reads of MDIC didn't show R, or one showed
-/// R and E.
+///   R and E.
 pub fn await_link<B: Bus>(bus: &mut B) -> Result<(), InitError>
     ensures keeps { Keeps B.Bus bus.old bus.new }
     ensures errors { IfErr result (λ error. (error ≡ InitError.PhyTimeout) ⊎ (error ≡ InitError.NoLink)) }
@@ -77,7 +77,7 @@ pub fn await_link<B: Bus>(bus: &mut B) -> Result<(), InitError>
     Err(InitError::NoLink)
 }
 
-/// Whether the PHY's status shows that autonegotiation is complete (bit 5) and that the link is up (bit 2).
+/// Returns whether the PHY's status shows that autonegotiation is complete (bit 5) and that the link is up (bit 2).
 fn shows_link(status: u32) -> bool
     ensures { IsTrue result ↔ (Meet status (alone status_complete) × Meet status (alone status_link)) }
 {

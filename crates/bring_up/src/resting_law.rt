@@ -21,8 +21,10 @@ pub fn drivers_begin_again()
 {}
 
 /// What remains true while a driver sets up its receive ring.
-/// - `quiet`: while RCTL.EN is 0 and RCTL isn't written, no frame is stored, put on the wire or held.
-/// - `transmit_ring`: the registers of the transmit ring keep their reset values until one of them is written.
+/// - `quiet`: let RCTL.EN be 0, no frame be held or to be sent, and the transmit side be off. Until RCTL is written,
+///   this remains true, and no frame is put on the wire, stored or missed.
+/// - `transmit_ring`: while the transmit side is off, the registers of the transmit ring keep their reset values until
+///   one of them is written.
 /// - `staged`, `cleared`: stores of descriptors write no register.
 pub fn drivers_without_frames_stay_so()
     ensures quiet { NoFramesStay }

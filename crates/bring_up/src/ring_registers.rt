@@ -22,10 +22,10 @@ use bitflags::Flags;
 use bus::Bus;
 use registers::{Rctl, Tctl};
 
-/// The collision threshold of full duplex, 0x0F, in TCTL.CT. It has no effect in the adapter's model.
+/// The collision threshold of full duplex, 0x0F, in TCTL.CT. The threshold has no effect in the adapter's model.
 const COLLISION_THRESHOLD: u32 = 0x0F << 4;
 
-/// The collision distance of full duplex, 0x40, in TCTL.COLD. It has no effect in the adapter's model.
+/// The collision distance of full duplex, 0x40, in TCTL.COLD. The distance has no effect in the adapter's model.
 const COLLISION_DISTANCE: u32 = 0x40 << 12;
 
 /// The number of values of a 32-bit register.
@@ -40,8 +40,9 @@ pub struct RingPlace {
     pub bytes: u32,
 }
 
-/// Sets up the receive ring, with no slot offered. If the ring begins at address 0, an adapter at rest whose rings have
-/// their reset values remains at rest. After the writes, its receive ring has this base and size (`HasReceiveRing`).
+/// Sets up the receive ring, with no slot offered. Let the ring begin at address 0, and memory have room for it. Then
+/// an adapter at rest whose rings have their reset values remains at rest. After the writes, its receive ring has this
+/// base and size (`HasReceiveRing`).
 pub fn set_receive_ring<B: Bus>(bus: &mut B, ring: RingPlace)
     ensures keeps { Keeps B.Bus bus.old bus.new }
     ensures sets { B.honest bus.old → SetsOnly B.Bus (ring_setup_writes RDBAL ring.base ring.bytes) bus.old bus.new }
@@ -57,9 +58,9 @@ pub fn set_receive_ring<B: Bus>(bus: &mut B, ring: RingPlace)
     bus.write(RDT, 0);
 }
 
-/// Sets up the transmit ring, with no slot offered. A driver that is ready with its transmit side off remains ready in
-/// this case: the registers of the transmit ring have their reset values, and `ring` is at its place in the layout
-/// (`CanSetTransmitRing`). After the writes, the transmit ring agrees with this driver.
+/// Sets up the transmit ring, with no slot offered. Before the call, let a driver be ready with its transmit side off.
+/// The driver remains ready if the registers of the transmit ring have their reset values and `ring` is at its place
+/// in the layout (`CanSetTransmitRing`). After the writes, the transmit ring agrees with this driver.
 pub fn set_transmit_ring<B: Bus>(bus: &mut B, ring: RingPlace)
     ensures keeps { Keeps B.Bus bus.old bus.new }
     ensures sets { B.honest bus.old → SetsOnly B.Bus (ring_setup_writes TDBAL ring.base ring.bytes) bus.old bus.new }
@@ -85,9 +86,10 @@ pub fn disable_receiver<B: Bus>(bus: &mut B)
     bus.write(RCTL, 0);
 }
 
-/// Enables the receiver, with broadcast frames and buffers of 256 bytes. If `promiscuous`, frames to every destination
-/// pass the filter. If `by_vlan`, a tagged frame passes only if its VLAN is in the VLAN table. If RCTL.EN was 0 and no
-/// frame was held, a driver that is ready remains ready, and no frame is held after the write.
+/// Enables the receiver, with broadcast frames and buffers of 256 bytes. If `promiscuous` is true, frames to every
+/// destination pass the filter. If `by_vlan` is true, a tagged frame passes only if its VLAN is in the VLAN table. If
+/// RCTL.EN was 0, no frame was held, and the transmit side was off, a driver that is ready remains ready. No frame is
+/// held after the write.
 pub fn enable_receiver<B: Bus>(bus: &mut B, promiscuous: bool, by_vlan: bool)
     ensures keeps { Keeps B.Bus bus.old bus.new }
     ensures sets { B.honest bus.old → SetsOnly B.Bus (receive_writes promiscuous by_vlan) bus.old bus.new }
@@ -98,7 +100,7 @@ pub fn enable_receiver<B: Bus>(bus: &mut B, promiscuous: bool, by_vlan: bool)
     bus.write(RCTL, receive_control(promiscuous, by_vlan));
 }
 
-/// The value of RCTL that enables the receiver.
+/// Returns the value of RCTL that enables the receiver.
 fn receive_control(promiscuous: bool, by_vlan: bool) -> u32
     ensures { result ≡ receive_control promiscuous by_vlan }
 {
@@ -128,21 +130,21 @@ pub fn enable_transmitter<B: Bus>(bus: &mut B)
     bus.write(TCTL, transmit_control());
 }
 
-/// The value of TCTL that enables the transmitter.
+/// Returns the value of TCTL that enables the transmitter.
 fn transmit_control() -> u32
     ensures { result ≡ transmit_control }
 {
     Tctl::EN.union(Tctl::PSP).bits() | COLLISION_THRESHOLD | COLLISION_DISTANCE
 }
 
-/// The low 32 bits of an address.
+/// Returns the low 32 bits of an address.
 fn low_word(address: u64) -> u32
     ensures { result ≡ address % register_limit }
 {
     (address % WORD) as u32
 }
 
-/// The high 32 bits of an address.
+/// Returns the high 32 bits of an address.
 fn high_word(address: u64) -> u32
     ensures { result ≡ address / register_limit }
 {

@@ -14,7 +14,7 @@ use std::alloc::{AllocError, Global};
 /// The size in bytes of the memory for rings of 8 slots and 16 receive buffers.
 const NEEDED: u64 = 22_528;
 
-/// A configuration with rings of 8 slots, 16 receive buffers, and no groups or VLANs.
+/// Returns a configuration with rings of 8 slots, 16 receive buffers, and no groups or VLANs.
 pub(crate) fn config() -> Config {
     Config {
         rx: 8,
@@ -27,7 +27,8 @@ pub(crate) fn config() -> Config {
     }
 }
 
-/// A lively bus with a new adapter, and with memory for the rings and buffers, so that the adapter can be initialized.
+/// Returns a lively bus with a new adapter, and with memory for the rings and buffers, so that the adapter can be
+/// initialized.
 pub(crate) fn good_bus(alloc: Global) -> Result<SoloBus, AllocError> {
     let image = Image::with_address([0x02, 0, 0, 0, 0, 0x01]);
     let adapter = Adapter::new(alloc, &image, Link::After(1))?;

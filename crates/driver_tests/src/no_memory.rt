@@ -1,5 +1,5 @@
-//! Calls of a host, its driver and its bus that allocate no memory. They succeed, even if every allocation after the
-//! initialization fails.
+//! Calls of a host, its driver and its bus that allocate no memory. The calls succeed even if every allocation after
+//! the initialization fails.
 
 use crate::buses::{good_bus, new_host};
 use adapter::StepKind;

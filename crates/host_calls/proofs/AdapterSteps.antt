@@ -33,7 +33,7 @@ use Rattle.stations.specs.AtomicSteps.{At, AtomicStep, OccursAt}
 use Rattle.stations.specs.Stations.{StationState, stations_after, wire_of, world_at}
 use Rattle.stations.proofs.HostTrails.{world-here}
 use Rattle.stations.specs.AtomicRuns.{IsTick, LeadsTo, events_at, past_at}
-use Rattle.delivery.specs.Happenings.{Moved, happened_in}
+use Rattle.host_calls.specs.Happenings.{Moved, happened_in}
 use Rattle.packet_socket.specs.HostState.{HostState}
 use Rattle.host_calls.proofs.Calling.{runs-alone}
 use Rattle.host_calls.proofs.GroupsKept.{stay-alone}

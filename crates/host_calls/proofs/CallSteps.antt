@@ -28,7 +28,7 @@ use Rattle.stations.specs.ToldTicks.{TickTold}
 use Rattle.stations.specs.Stations.{StationState, world_at}
 use Rattle.stations.proofs.HostTrails.{trail-of}
 use Rattle.stations.specs.AtomicRuns.{LeadsTo, events_at, events_by, is_go, past_at}
-use Rattle.delivery.specs.Happenings.{happened_in}
+use Rattle.host_calls.specs.Happenings.{happened_in}
 use Rattle.packet_socket.specs.HostState.{HostState, all_of, queue_at}
 use Rattle.packet_socket.specs.HostCalls.{Given, HostReady, host_did, given_for}
 use Rattle.packet_socket.specs.declared.receive.RecvError.{RecvError}

@@ -22,8 +22,8 @@ use Rattle.driver_law.specs.Calls.{FlowsTo, HasNoForgottenWork, IsRefilled}
 use Rattle.packet_socket.proofs.Intervals.{host-happens, host-join}
 use Rattle.packet_socket.specs.HostCalls.{Given, HostDid, HostFlowsTo, HostGoesTo, HostReady, host_did, driver_of, in_world}
 use Rattle.packet_socket.specs.HostState.{HostState}
-use Rattle.delivery.proofs.Laws.{lent-calls, outcomes-tell}
-use Rattle.delivery.specs.TickNumbers.{numbers}
+use Rattle.host_calls.proofs.Laws.{lent-calls, outcomes-tell}
+use Rattle.host_calls.specs.TickNumbers.{numbers}
 use Rattle.host_calls.specs.CallsOfHosts.{CallRuns, HostRuns}
 use Rattle.packet_socket.specs.HostActs.{IsOfHost, OnlyLastWrites}
 use Rattle.host_calls.proofs.HostTrails.{happens-alone, happens-elsewhere, none-alone, none-elsewhere}

@@ -35,8 +35,8 @@ use Rattle.packet_socket.specs.QueueLaws.{queue-within}
 use Rattle.stations.specs.Stations.{StationState, backlog_at, wire_at, world_at}
 use Rattle.stations.proofs.HostTrails.{trail-of}
 use Rattle.stations.specs.AtomicRuns.{past_at}
-use Rattle.delivery.proofs.Laws.{frames-move}
-use Rattle.delivery.specs.Happenings.{Moved, missed, put, reached, toward}
+use Rattle.host_calls.proofs.Laws.{frames-move}
+use Rattle.host_calls.specs.Happenings.{Moved, missed, put, reached, toward}
 use Rattle.host_calls.specs.DrainedHosts.{CanBeDrained, Drains, DrainsInto, HoldsNothing, count_adapter_steps, count_frames, count_held}
 use Rattle.host_calls.specs.DrainedHosts.{count_pieces, pieces_left}
 use Rattle.host_calls.specs.ConnectedHosts.{connected}

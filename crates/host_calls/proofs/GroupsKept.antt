@@ -17,8 +17,8 @@ use Rattle.driver.specs.declared.interrupt.Handled.TheVariants as answers
 use Rattle.driver.specs.declared.transmit.SendError.TheVariants.{RingFull, TooLong, TooShort}
 use Rattle.packet_socket.specs.HostActs.{HostAct, IsOfDriver}
 use Rattle.packet_socket.specs.HostCalls.{Given}
-use Rattle.joined_groups.specs.declared.groups.GroupError.{GroupError}
-use Rattle.joined_groups.specs.declared.groups.GroupError.TheVariants.{GroupsFull, Joined, NotGroup, NotJoined}
+use Rattle.bring_up.specs.declared.groups.GroupError.{GroupError}
+use Rattle.bring_up.specs.declared.groups.GroupError.TheVariants.{GroupsFull, Joined, NotGroup, NotJoined}
 use Rattle.packet_socket.specs.HostEffects.{InterruptEffect, JoinEffect, LeaveEffect, MakesNoAccess, RecvEffect, SendEffect}
 use Rattle.packet_socket.specs.HostState.{HostState}
 use Rattle.packet_socket.specs.declared.receive.RecvError.{RecvError}

@@ -13,8 +13,8 @@ use Rattle.stations.specs.AtomicSteps.{AtomicStep}
 use Rattle.stations.specs.Stations.{StationState, world_at}
 use Rattle.stations.specs.AtomicRunLaws.{leads_join}
 use Rattle.stations.specs.AtomicRuns.{IsTick, LeadsTo, events_at, events_by, past_at}
-use Rattle.delivery.proofs.Laws.{frames-move}
-use Rattle.delivery.specs.Happenings.{Happening, Moved, happened_by, happened_in, missed, put, reached, stored, toward}
+use Rattle.host_calls.proofs.Laws.{frames-move}
+use Rattle.host_calls.specs.Happenings.{Happening, Moved, happened_by, happened_in, missed, put, reached, stored, toward}
 use Rattle.packet_socket.specs.HostState.{HostState}
 use Rattle.packet_socket.specs.HostCalls.{Given}
 use Rattle.host_calls.proofs.Calling.{ready-behind, runs-alone, runs-join}

@@ -16,7 +16,7 @@ use Rattle.stations.specs.AtomicRuns.{LeadsTo, past_at, steps_told}
 use Rattle.stations.specs.AtomicSteps.{At, AtomicStep, Idles, after}
 use Rattle.stations.specs.Stations.{StationState}
 use Rattle.stations.specs.ToldTicks.{TickTold, tick_told}
-use Rattle.delivery.specs.Happenings.{Happening, happened_in, put, put_in_one, stored, stored_by, outcome_happenings}
+use Rattle.host_calls.specs.Happenings.{Happening, happened_in, put, put_in_one, stored, stored_by, outcome_happenings}
 use Rattle.host_calls.specs.Notes.{early_put, first_stored, frames_put, frames_stored, is_of_host}
 use Rattle.host_calls.proofs.FirstAccess.{tick-accesses}
 use Rattle.host_calls.proofs.SplitSteps.{own-accesses}

@@ -23,7 +23,7 @@ use Rattle.stations.specs.Stations.{StationState}
 use Rattle.stations.specs.declared.tick.Tick.TheVariants.{Deliver, Go, Step}
 use Rattle.stations.specs.declared.tick.Tick.{Tick}
 use Rattle.stations.specs.AtomicRuns.{LeadsTo, events_at, is_go}
-use Rattle.delivery.specs.Happenings.{happened_in}
+use Rattle.host_calls.specs.Happenings.{happened_in}
 use Rattle.packet_socket.specs.HostActs.{IsOfDriver, IsTailWrite}
 use Rattle.host_calls.specs.DrainedHosts.{IsDrainStep}
 

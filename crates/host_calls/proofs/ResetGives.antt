@@ -26,7 +26,7 @@ use Rattle.stations.specs.AtomicRunLaws.{leads_join, past_join, steps_told_join}
 use Rattle.stations.specs.AtomicRuns.{LeadsTo, counted_of, events_at, past_at, steps_told}
 use Rattle.stations.specs.AtomicSteps.{AtomicStep, after}
 use Rattle.stations.specs.Stations.{StationState, world_at}
-use Rattle.delivery.proofs.Laws.{frames-move}
+use Rattle.host_calls.proofs.Laws.{frames-move}
 use Rattle.driver.specs.Resetting.{free_accesses, quiet_writes}
 use Rattle.host_calls.proofs.AdaptersStay.{adapter-behind}
 use Rattle.host_calls.proofs.NotedSteps.{early-puts, first-stores, no-late_puts, no-later_stores}

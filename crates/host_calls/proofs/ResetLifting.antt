@@ -18,13 +18,13 @@ use Rattle.driver_law.specs.Calls.{GoesTo, HasNoForgottenWork, SumsMisses, drive
 use Rattle.driver_law.specs.DriverState.{DriverSetup, DriverState, holding, with_owners}
 use Rattle.driver_law.specs.Resets.{reset_driver}
 use Rattle.bring_up.specs.ConfiguredAdapters.{HasSetup}
-use Rattle.joined_groups.specs.Groups.{HasTable}
+use Rattle.bring_up.specs.Groups.{HasTable}
 use Rattle.driver.specs.Resetting.{later_accesses, quiet_accesses, stop_accesses}
 use Rattle.packet_socket.specs.HostCalls.{HostReady, driver_of, host_at, waiting_frames}
 use Rattle.packet_socket.specs.HostResets.{HostResets}
 use Rattle.packet_socket.specs.HostState.{HostState}
-use Rattle.delivery.proofs.Laws.{lent-calls, outcomes-tell}
-use Rattle.delivery.specs.TickNumbers.{numbers}
+use Rattle.host_calls.proofs.Laws.{lent-calls, outcomes-tell}
+use Rattle.host_calls.specs.TickNumbers.{numbers}
 use Rattle.host_calls.proofs.Calling.{lent_call, work-unheld}
 use Rattle.host_calls.proofs.ResetParts.{ResetRan, rest_accesses, steps_ran, sums-held}
 use Rattle.host_calls.proofs.ResetIntervals.{interval}

@@ -19,7 +19,7 @@ use Rattle.bus.specs.declared.event.Access.TheVariants.{Reads, Writes}
 use Rattle.bring_up.proofs.WritesAtRest.{reset-written}
 use Rattle.bring_up.specs.ConfiguredAdapters.{AreWords, FilterHasSetup, HasSetup}
 use Rattle.bring_up.specs.RingRegisters.{receive_control}
-use Rattle.joined_groups.specs.Groups.{HasTable}
+use Rattle.bring_up.specs.Groups.{HasTable}
 use Rattle.stations.specs.AtomicRunLaws.{leads_join, past_join}
 use Rattle.stations.specs.AtomicRuns.{IsTick, LeadsTo, past_at}
 use Rattle.stations.specs.AtomicSteps.{AtomicStep, after}

@@ -49,7 +49,7 @@ MakesStages k Ends steps old = (past_at k steps).accesses ≡ []
 MakesStages k (Then made Holds later) steps old =
     MakesStage k made Holds steps old (λ rest middle. MakesStages k later rest middle)
 
--- Host k ran this act in these steps, and its sockets returned the frames `given`.
+-- Host k ran the act `act` in the steps `steps`, and its sockets returned the frames `given`.
 pub record InSteps (k : ℕ) (given : List Given) (steps : List AtomicStep) (old new : ConnectedHost) (act : HostAct) : Type 0 where
   -- the accesses, stage by stage
   pub stages : MakesStages k act.stages steps old.stations

@@ -7,8 +7,8 @@ use Rattle.stations.specs.AtomicRuns.{LeadsTo, counted_of, is_go, noted_of, past
 use Rattle.driver_law.specs.Calls.{HasNoForgottenWork, IsRefilled}
 use Rattle.packet_socket.specs.HostActs.{IsOfDriver, IsOfHost, OnlyLastWrites}
 use Rattle.packet_socket.specs.HostCalls.{Given, HostDid, HostFlowsTo, host_did, in_world}
-use Rattle.delivery.specs.Happenings.{happened_in, tick_happenings}
-use Rattle.delivery.specs.TickNumbers.{numbers, noted_numbers}
+use Rattle.host_calls.specs.Happenings.{happened_in, tick_happenings}
+use Rattle.host_calls.specs.TickNumbers.{numbers, noted_numbers}
 use Rattle.host_calls.specs.ConnectedHosts.{ConnectedHost, PlayedCall}
 
 -- The last step, if there is one, is an access.
@@ -17,9 +17,8 @@ EndsWithAccess [] = ⊤
 EndsWithAccess (step ∷ []) = ¬ IsNoAccess step
 EndsWithAccess (step ∷ next ∷ later) = EndsWithAccess (next ∷ later)
 
--- The atomic steps of a call lead from one state of all stations to another. They are the ticks of the call and the
--- accesses of its host. The observer was told each tick's outcome in order, with the number of accesses before the
--- tick.
+-- The atomic steps of a call lead from one state of all stations to another. These steps are the ticks of the call and the accesses of its
+-- host. The observer was told each tick's outcome in order, with the number of accesses before the tick.
 pub record StepsOfCall (call : PlayedCall) (steps : List AtomicStep) (old new : List StationState) : Type 0 where
   pub leads : LeadsTo call.caller steps old new
   -- without accesses and Gos, the steps are the ticks of the call, in order
@@ -35,7 +34,7 @@ pub record StepsOfCall (call : PlayedCall) (steps : List AtomicStep) (old new : 
 
 -- What host k does during a call.
 pub record HostRuns (k : ℕ) (steps : List AtomicStep) (done : HostDid) (old new : ConnectedHost) : Type 0 where
-  -- the host's frames are sent, held and returned in order
+  -- the host's frames are sent, held and returned in order, and the host is ready at the end
   pub flows : HostFlowsTo true (in_world old.host (world_at old.stations k)) (in_world new.host (world_at new.stations k)) done
       (past_at k steps)
   -- each access of the host may be one of a host's call
@@ -57,8 +56,8 @@ pub record GroupsStay (k : ℕ) (steps : List AtomicStep) (old new : ConnectedHo
   -- each access is a load, a store, a read of ICR or MPC, or a write of TDT or RDT
   pub accesses : All (IsOfDriver old.host.driver.layout) (past_at k steps).accesses
 
--- A call of a host: its atomic steps, and what the host did. The host's sockets returned the frames `given`, and it
--- accepted the frames `accepted` for sending.
+-- A call of a host: its atomic steps, and what the host did. The host's sockets returned the frames `given`, and the host accepted the
+-- frames `accepted` for sending.
 pub record CallRuns (call : PlayedCall) (given : List Given) (accepted : List (List ℕ)) (old new : ConnectedHost) : Type 0 where
   pub steps : List AtomicStep
   pub of_call : StepsOfCall call steps old.stations new.stations

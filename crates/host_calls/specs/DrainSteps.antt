@@ -7,7 +7,7 @@ use Rattle.adapter.specs.World.{World}
 use Rattle.stations.specs.AtomicSteps.{AtomicStep}
 use Rattle.stations.specs.Stations.{StationState, world_at}
 use Rattle.stations.specs.AtomicRuns.{LeadsTo, events_at}
-use Rattle.delivery.specs.Happenings.{Moved, happened_in}
+use Rattle.host_calls.specs.Happenings.{Moved, happened_in}
 use Rattle.driver_law.specs.Calls.{driver_in, frames_ended}
 use Rattle.packet_socket.specs.HostState.{HostState, all_of}
 use Rattle.packet_socket.specs.HostCalls.{Given, host_did}
@@ -17,7 +17,7 @@ use Rattle.host_calls.specs.DrainedHosts.{IsDrainStep, count_adapter_steps, coun
 
 -- The measure
 
--- 1 if the interrupt line is asserted
+-- 1 if the interrupt line is asserted, else 0
 abbrev pub count_line : Interrupts → ℕ
 count_line causes = min 1 (bit_and causes.recorded causes.mask)
 
@@ -38,7 +38,8 @@ count_steps host world =
 abbrev pub steps_of : Bool → ℕ
 steps_of stepped = if stepped then 1 else 0
 
--- Only `count` frames were moved out of the packet buffer of this host, and nothing happened at other hosts.
+-- The only happenings are that `count` frames were moved out of the packet buffer of host `number`. There is no event
+-- at other hosts, and the filter doesn't change.
 pub record DrainMovesFrames (number : ℕ) (played : List AtomicStep) (old new : List StationState) : Type 0 where
   pub count : ℕ
   pub moved : happened_in played ≡ replicate count (Moved number)
@@ -47,7 +48,7 @@ pub record DrainMovesFrames (number : ℕ) (played : List AtomicStep) (old new :
   -- the registers of the filter, which include RCTL, are unchanged
   pub filter : (world_at new number).adapter.filter ≡ (world_at old number).adapter.filter
 
--- How the counts change in this number of steps, in which sockets returned `given` frames.
+-- How the counts change in `steps` steps, in which sockets returned `given` frames.
 pub record CountsSteps (steps number given : ℕ) (old new : ConnectedHost) : Type 0 where
   -- each step reduces the measure by at least one
   pub most : steps + count_steps new.host (world_at new.stations number) ≤ count_steps old.host (world_at old.stations number)

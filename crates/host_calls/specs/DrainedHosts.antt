@@ -15,7 +15,7 @@ use Rattle.bus.specs.declared.event.Event.TheVariants.{Accesses, Arrives, Steps}
 use Rattle.stations.specs.AtomicSteps.{At, AtomicStep, Idles}
 use Rattle.stations.specs.Stations.{StationState, backlog_at, world_at}
 use Rattle.stations.specs.AtomicRuns.{LeadsTo}
-use Rattle.delivery.specs.Happenings.{Moved, happened_in}
+use Rattle.host_calls.specs.Happenings.{Moved, happened_in}
 use Rattle.driver_law.specs.Calls.{HasNoForgottenWork, IsRefilled, sum_limit}
 use Rattle.driver.specs.HandlerSteps.{GrowsBy}
 use Rattle.driver.specs.declared.receiver.Received.{Received}
@@ -84,10 +84,10 @@ IsDrainStep number (Idles tick) = ⊥
 -- The count of missed frames doesn't change: the driver's sum plus MPC, up to the greatest u64. An exact count remains
 -- exact.
 pub record KeepsMisses (h : HostState) (a : World) (h' : HostState) (b : World) : Type 0 where
-  -- a count below the greatest u64 doesn't change
+  -- a sum that fits into a u64 doesn't change
   pub sum : h.driver.missed + a.adapter.missed_packets < sum_limit
       → h'.driver.missed + b.adapter.missed_packets ≡ h.driver.missed + a.adapter.missed_packets
-  -- a count of at least the greatest u64 remains at least the greatest u64
+  -- a sum of at least the greatest u64 remains at least the greatest u64
   pub sticks : sum_limit - 1 ≤ h.driver.missed + a.adapter.missed_packets → sum_limit - 1 ≤ h'.driver.missed + b.adapter.missed_packets
   -- Let the driver's sum be exact, MPC be below its greatest value, and both together fit into a u64. Then the sum
   -- remains exact, and MPC remains below its greatest value.
@@ -102,16 +102,18 @@ pub record AreStepsOf (steps number given : ℕ) (old : ConnectedHost) : Type 0 
   -- at least the adapter's steps, plus one for each frame returned
   pub at_least : count_adapter_steps (world_at old.stations number) + given ≤ steps
 
--- The frames to be sent, the frames that wait at ends of wires, and every other host's adapter and memory don't change.
+-- The drained host's frames to be sent, the frames that wait at ends of wires, and every other host's adapter and
+-- memory don't change.
 pub record KeepsOthers (number : ℕ) (old new : List StationState) : Type 0 where
-  -- the frames to be sent don't change
+  -- the drained host's frames to be sent don't change
   pub to_send : frames_to_send (world_at new number) ≡ frames_to_send (world_at old number)
   -- the frames that wait at the ends of wires don't change
   pub lines : (k : ℕ) → backlog_at new k ≡ backlog_at old k
   -- every other host's adapter and memory don't change
   pub others : (k : ℕ) → k ≢ number → world_at new k ≡ world_at old k
 
--- The atomic steps of a drain: what the host did, and that each frame in the packet buffer was moved.
+-- The atomic steps of a drain: what the host did, and that each frame in the receive packet buffer was moved to
+-- memory.
 pub record GoesBy (number : ℕ) (given : List Given) (old new : ConnectedHost) : Type 0 where
   -- the atomic steps
   pub played : List AtomicStep
@@ -125,7 +127,7 @@ pub record GoesBy (number : ℕ) (given : List Given) (old new : ConnectedHost) 
   pub runs : HostRuns number played (host_did taken given []) old new
   -- no group is joined or left
   pub stay : GroupsStay number played old new
-  -- each frame of the receive packet buffer was moved to the ring, and nothing else happened
+  -- each frame of the receive packet buffer was moved to memory, and there is no other happening
   pub moved : happened_in played ≡ replicate (length (world_at old.stations number).adapter.receiver.buffer) (Moved number)
 
 -- A drain of a host: its sockets returned the frames `given`, in `steps` steps.
@@ -139,9 +141,10 @@ pub record Drains (steps number : ℕ) (given : List Given) (old new : Connected
   -- The frames without a socket were counted, up to the greatest u64.
   pub unclaimed : GrowsBy old.host.unclaimed new.host.unclaimed
       (without_socket old.host.kinds (frames_held old.host.driver.oldest_receive (world_at old.stations number)))
-  -- the frames to be sent, the frames that wait at ends of wires, and other hosts don't change
+  -- the drained host's frames to be sent, the frames that wait at ends of wires, and other hosts' adapters and
+  -- memories don't change
   pub keeps : KeepsOthers number old.stations new.stations
-  -- the count of missed frames doesn't change
+  -- the count of missed frames doesn't change, and an exact count remains exact
   pub misses : KeepsMisses old.host (world_at old.stations number) new.host (world_at new.stations number)
   -- the atomic steps of the drain
   pub by : GoesBy number given old new

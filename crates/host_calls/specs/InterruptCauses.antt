@@ -18,8 +18,8 @@ use Rattle.driver.specs.declared.interrupt.Handled.{Handled}
 use Rattle.driver.specs.declared.interrupt.Handled.TheVariants.{NotMine}
 use Rattle.driver.specs.declared.interrupt.Handled.TheVariants as answers
 
--- The first access among these steps is the caller's read of ICR, with the value `causes`. `early` are the steps before
--- this read.
+-- The first access among the steps `steps` is the caller's read of ICR, with the value `causes`. `early` are the steps
+-- before this read.
 pub record ReadsIcrFirst (caller : ℕ) (steps early : List AtomicStep) (causes : ℕ) : Type 0 where
   -- the steps after the read
   pub later : List AtomicStep
@@ -36,8 +36,8 @@ ends_after ends Part = false
 ends_after ends Done = false
 ends_after ends outcome = ends
 
--- The outcome records none of TXDW, RXO and RXT0: no frame was put or missed, and no frame's last piece was written
--- back. `ends` states whether the piece in progress is the last of its frame.
+-- By an event with this outcome, no frame was put or missed, and no frame's last piece was written back. So the event
+-- records none of TXDW, RXO and RXT0. `ends` states whether the piece in progress is the last of its frame.
 abbrev pub IsQuietOutcome : (ends : Bool) → FrameOutcome → Type 0
 IsQuietOutcome ends (Put frame) = ⊥
 IsQuietOutcome ends Done = ends ≡ false

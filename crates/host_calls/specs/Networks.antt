@@ -46,6 +46,6 @@ nth_host network k = host_or_empty (slice_get network.hosts k)
 abbrev pub connected_at : NetworkState → (k : ℕ) → ConnectedHost
 connected_at network k = connected (nth_host network k) network.stations
 
--- Of all drivers and sockets, only those of the k-th host change. Stations may change.
+-- Of all hosts, at most the k-th changes: its driver, sockets, queues and count. Stations may change.
 abbrev pub OnlyHostChanges : (k : ℕ) → (old new : NetworkState) → Type 0
 OnlyHostChanges k old new = new.hosts ≡ slice_set old.hosts k (nth_host new k)

@@ -34,8 +34,9 @@ early_put host told = if is_of_host host told.tick && nat_le told.accesses 2 the
 abbrev pub first_stored : (host : ℕ) → TickTold → List (List ℕ)
 first_stored host told = if is_of_host host told.tick && told.accesses == 0 then frames_stored told.outcome else []
 
--- The notes of a host's ticks: the number of frames that the host put, up to the greatest u64, and a list of at most
--- `most` frames that the host held.
+-- The notes of a host's ticks: the number of frames that the host put after at most 2 accesses, up to the greatest
+-- u64. They contain a list of at most `most` frames: those held at the start, and then those stored before the first
+-- access.
 pub record Notes : Type 0 where
   pub host : ℕ
   pub most : ℕ

@@ -70,7 +70,7 @@ pub record PartsAccess (k : ℕ) (counts : Counts) (setup : DriverSetup) (values
   pub early : (past_at k parts.early).accesses ≡ []
   -- before CTRL.RST is written, MPC is read
   pub stopping : (past_at k parts.stopping).accesses ≡ Reads MPC values.misses ∷ []
-  -- before RCTL is written again, the registers are set up, and receive slots are offered
+  -- before RCTL is written again, IMC is written, ICR is read, the registers are set up, and receive slots are offered
   pub resting : (past_at k parts.resting).accesses ≡ Writes IMC 0xFFFFFFFF ∷ Reads ICR values.causes
       ∷ quiet_writes setup counts values.groups values.vlans ++ free_accesses counts values.numbers
   -- after that, the transmit side is set up and IMS is written

@@ -7,7 +7,7 @@ use Rattle.adapter.specs.World.{World}
 use Rattle.bus.specs.AdaptersAtRest.{NoFrame}
 use Rattle.bus.specs.Link.{HasLink}
 use Rattle.bring_up.specs.ConfiguredAdapters.{HasSetup}
-use Rattle.joined_groups.specs.Groups.{HasTable}
+use Rattle.bring_up.specs.Groups.{HasTable}
 use Rattle.stations.specs.AtomicRuns.{LeadsTo, counted_of, past_at}
 use Rattle.stations.specs.AtomicSteps.{AtomicStep, after}
 use Rattle.stations.specs.Stations.{StationState, world_at}
@@ -21,7 +21,7 @@ use Rattle.host_calls.specs.CallsOfHosts.{StepsOfCall}
 use Rattle.host_calls.specs.ConnectedHosts.{ConnectedHost, PlayedCall}
 use Rattle.host_calls.specs.ResetSteps.{PartsAccess, ResetParts, ResetValues, at_rest, before_reset, reset_of, whole_reset}
 
--- the host after MPC was read
+-- the host after `misses` was read from MPC and added to its driver's sum
 abbrev pub stopped_host : (misses : ℕ) → HostState → HostState
 stopped_host misses host = record host { driver = with_missed misses host.driver }
 
@@ -48,8 +48,8 @@ pub record RestsInSteps (k : ℕ) (setup : DriverSetup) (parts : ResetParts) (la
   -- no frame is put, stored or missed
   pub no_frame : NoFrame (past_at k (at_rest k setup parts))
 
--- The driver begins again after the reset: slots with the buffers `numbers` are outstanding, and no slot is staged. The
--- value of MPC was added to its sum of missed frames. In the host, only the driver changes.
+-- The driver begins again after the reset: slots with the buffers `numbers` are outstanding, and no slot is staged. The value of MPC was
+-- added to the driver's sum of missed frames. In the host, only the driver changes.
 pub record HostBeginsAgain (misses : ℕ) (numbers : List ℕ) (old new : HostState) : Type 0 where
   -- nothing but the driver changes
   pub host : new ≡ record old { driver = new.driver }
@@ -87,7 +87,7 @@ pub record KeepsInReset (k : ℕ) (steps : List AtomicStep) (old new : Connected
   -- no count of missed frames is lost
   pub sums : SumsMisses (driver_in old.host.driver (world_at old.stations k)) (driver_in new.host.driver (world_at new.stations k))
       (past_at k steps)
-  -- a link that is up remains up
+  -- If the link is up and no MDIC command is pending, both remain true.
   pub link : HasLink (world_at old.stations k) → HasLink (world_at new.stations k)
 
 -- Host k reset its adapter in these steps.

@@ -17,7 +17,7 @@ use packet_socket::{Host, HostAnswer, HostCall};
 use rx_engine::MOST_FRAMES;
 use stations::Nobody;
 
-/// The first socket for which a frame waits.
+/// Returns the index of the first socket for which a frame waits, if there is such a socket.
 fn first_waiting(host: &Host) -> Option<usize>
     ensures none { IfNone result (all_of host.now.queues ≡ []) }
     ensures some { IfSome result (λ socket. (socket < length host.now.kinds) × (queue_at host.now.queues socket ≢ [])) }
@@ -85,7 +85,8 @@ impl Network {
         self.move_piece(number)
     }
 
-    /// The first kind of step: the adapter writes back the descriptor of the piece in progress, if there is one.
+    /// Takes the first kind of step: the adapter writes back the descriptor of the piece in progress. Returns `false`
+    /// if no piece is in progress.
     fn finish(&mut self, number: usize) -> bool
         requires there { number < length self.old.hosts }
         requires stands { CanBeDrained (nth_host self.old number) (world_at self.old.stations number) }
@@ -98,8 +99,8 @@ impl Network {
         matches!(self.stations.step(number, StepKind::RxDone), Outcome::Done)
     }
 
-    /// The second kind of step: the host handles an interrupt, without ticks. Only this host and its station change,
-    /// and no end of a wire changes.
+    /// Takes the second kind of step: the host handles an interrupt, without ticks. Only this host and its station
+    /// change, and no end of a wire changes.
     fn handle(&mut self, number: usize, bytes: &mut [u8; 1518])
         requires there { number < length self.old.hosts }
         requires stands { CanBeDrained (nth_host self.old number) (world_at self.old.stations number) }
@@ -112,8 +113,8 @@ impl Network {
         self.call(number, HostCall::Interrupt, &[], &mut Nobody, bytes);
     }
 
-    /// The third kind of step: a socket returns its oldest frame, without ticks, and the frame is passed to the sink.
-    /// The frame is first copied to `bytes`.
+    /// Takes the third kind of step: a socket returns its oldest frame, without ticks, and the frame is passed to the
+    /// sink. The frame is first copied to `bytes`.
     fn give<S: FrameSink>(
         &mut self,
         number: usize,
@@ -140,8 +141,8 @@ impl Network {
         }
     }
 
-    /// The last kind of step: the adapter moves the next piece of the oldest frame in the packet buffer to memory, if
-    /// there is a frame.
+    /// Takes the last kind of step: the adapter moves the next piece of the oldest frame in the packet buffer to
+    /// memory. Returns `false` if the packet buffer is empty.
     fn move_piece(&mut self, number: usize) -> bool
         requires there { number < length self.old.hosts }
         requires stands { CanBeDrained (nth_host self.old number) (world_at self.old.stations number) }

@@ -13,7 +13,7 @@ pub trait FrameSink {
     /// The number of further frames for which the sink has room.
     ghost room_left: { Self → ℕ };
 
-    /// The number of further frames for which the sink has room.
+    /// Returns the number of further frames for which the sink has room.
     fn room(&self) -> usize
         ensures { result ≡ room_left self.now };
 

@@ -41,7 +41,7 @@ impl Model for Noted {
 }
 
 impl Noted {
-    /// Notes of no ticks. Stored frames are appended to `holding`, up to `most` frames in all.
+    /// Returns notes of no tick. Later, stored frames are appended to `holding`, up to `most` frames in all.
     pub(crate) fn new(host: usize, most: usize, holding: Vec<Frame>) -> Noted
         requires room { most ≤ vec_capacity holding }
         requires fits { length holding.items ≤ most }
@@ -61,7 +61,8 @@ impl Noted {
         }
     }
 
-    /// Notes a tick.
+    /// Notes a tick. Counts a frame that this host put after at most 2 accesses, and appends a frame that it stored
+    /// before the first access.
     fn note(&mut self, tick: Tick, accesses: u64, outcome: Outcome<()>, frame: &[u8])
         requires fits { length frame.now ≤ longest_frame }
         ensures { NotesTicks self.old self.new (tick_told tick accesses (with_frame frame.now outcome) ∷ []) }
@@ -79,7 +80,7 @@ impl Noted {
         }
     }
 
-    /// The number of frames put, and the list of frames held.
+    /// Returns the number of frames put, and the list of frames held.
     pub(crate) fn into_parts(self) -> (u64, Vec<Frame>)
         ensures put { result.0 ≡ self.put }
         ensures holding { result.1.items ≡ self.holding }
@@ -88,7 +89,7 @@ impl Noted {
     }
 }
 
-/// Whether a tick is a step or a delivery at this host.
+/// Returns whether a tick is a step or a delivery at this host.
 fn is_of(host: usize, tick: Tick) -> bool
     ensures { result ≡ notes.is_of_host host tick }
 {
@@ -98,7 +99,8 @@ fn is_of(host: usize, tick: Tick) -> bool
     }
 }
 
-/// An observer of the ticks of a reset. It passes what it is told to another observer, and also takes notes.
+/// An observer of the ticks of a reset. This observer passes what it is told to another observer, and also takes
+/// notes.
 #[derive(Drop)]
 pub(crate) struct Giving<'a, O: Observer> {
     pub(crate) observer: &'a mut O,

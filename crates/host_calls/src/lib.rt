@@ -1,5 +1,5 @@
 //! A network of hosts on wires: calls of hosts with ticks inside them, drains of a host, and what an interrupt
-//! handler's answer implies.
+//! handler's answer implies. Laws of what happens to frames in a network.
 #![tactic(auto)]
 
 mod calls;
@@ -15,3 +15,15 @@ pub use causes_law::answers_tell_causes;
 pub use frame_sink::FrameSink;
 pub use network::Network;
 pub use resetting::{GivenUp, WasReset};
+
+mod answers_law;
+mod delivery_law;
+
+pub use answers_law::{
+    idle_ticks_answer_nothing, tails_offer_slots, ticks_are_answered_by_counting,
+};
+pub use delivery_law::{
+    calls_say_at_their_access, deliveries_join, fates_are_judged_by_the_buffer, fates_are_right,
+    groups_change, lent_calls_are_told, lists_grow_and_shrink, outcomes_tell_steps,
+    steps_move_frames,
+};

@@ -40,7 +40,7 @@ impl Model for Network {
 ///
 /// # Errors
 ///
-/// Only if memory can't be allocated. After this error, nothing has changed.
+/// Returns an error only if an allocation fails. Then nothing has changed.
 fn connect_station(
     hosts: &mut Vec<Host>,
     stations: &mut Stations,
@@ -70,7 +70,7 @@ fn append(hosts: &mut Vec<Host>, host: Host)
 }
 
 impl Network {
-    /// A network without hosts.
+    /// Returns a network without hosts.
     pub fn new(alloc: Global) -> Network
         ensures { result ≡ record {
           hosts = [];
@@ -87,7 +87,7 @@ impl Network {
     ///
     /// # Errors
     ///
-    /// Only if memory is refused. Then nothing has changed.
+    /// Returns an error only if an allocation fails. Then nothing has changed.
     pub fn connect(
         &mut self,
         alloc: Global,
@@ -110,14 +110,14 @@ impl Network {
         Ok(())
     }
 
-    /// The number of hosts.
+    /// Returns the number of hosts.
     pub fn len(&self) -> usize
         ensures { result ≡ length self.now.hosts }
     {
         self.hosts.len()
     }
 
-    /// The host with this number, if it exists.
+    /// Returns the host with this number, if it exists.
     pub fn host(&self, number: usize) -> Option<&Host>
         ensures none { IsNone result ↔ (length self.now.hosts ≤ number) }
         ensures some { IfSome result (λ host. host.now ≡ nth_host self.now number) }
@@ -125,14 +125,14 @@ impl Network {
         self.hosts.get(number)
     }
 
-    /// The stations of all hosts.
+    /// Returns the stations of all hosts.
     pub fn stations(&self) -> &Stations
         ensures { result.now ≡ self.now.stations }
     {
         &self.stations
     }
 
-    /// Plays a tick outside a call. The observer is told its outcome, with this number of accesses.
+    /// Plays a tick outside a call. The observer is told the tick's outcome, with the number `accesses`.
     #[inline(always)]
     pub fn play<O: Observer>(&mut self, tick: Tick, accesses: u64, observer: &mut O)
         requires room { 0 < O.room_left observer.old }
@@ -143,8 +143,8 @@ impl Network {
         self.stations.play(tick, accesses, observer);
     }
 
-    /// Plays all ticks except each `Go`, outside a call. The observer is told each outcome, with this number of
-    /// accesses.
+    /// Plays all ticks except each `Go`, outside a call. The observer is told each outcome, with the number
+    /// `accesses`.
     pub fn play_rest<O: Observer>(&mut self, ticks: &[Tick], accesses: u64, observer: &mut O)
         requires room { length ticks.now ≤ O.room_left observer.old }
         ensures plays { PlaysTicks O.Observer (without_go is_go ticks.now) accesses

@@ -42,7 +42,7 @@ pub struct WasReset {
     pub accesses: u64,
 }
 
-/// Removes `count` frames from the front of a list, or all frames if it has fewer.
+/// Removes `count` frames from the front of a list, or all frames if the list has fewer.
 fn drop_first(frames: &mut Vec<Frame>, count: u64)
     ensures { frames.new.items ≡ drop (min (length frames.old.items) count) frames.old.items }
 {
@@ -51,12 +51,12 @@ fn drop_first(frames: &mut Vec<Frame>, count: u64)
 }
 
 impl Network {
-    /// The frames that would be lost if a reset of host `number` wrote CTRL.RST now. The list of held frames has room
-    /// for those that may be stored before the receiver is disabled. Nothing changes.
+    /// Returns the frames that would be lost if a reset of host `number` wrote CTRL.RST now. The list of held frames
+    /// has room for those that may be stored before the receiver is disabled. Nothing changes.
     ///
     /// # Errors
     ///
-    /// Only if memory is refused.
+    /// Returns an error only if an allocation fails.
     pub fn before_reset(&self, alloc: Global, number: usize) -> Result<GivenUp, AllocError>
         requires there { number < length self.now.hosts }
         requires ready { HostReady (nth_host self.now number) (world_at self.now.stations number) }
@@ -79,8 +79,8 @@ impl Network {
     }
 
     /// Resets the adapter of host `number`, while ticks are played on all stations. `found` is the result of
-    /// [`before_reset`](Network::before_reset). No memory is allocated. No driver or socket of another host changes;
-    /// ticks may change all stations.
+    /// [`before_reset`](Network::before_reset). The call allocates no memory. No driver or socket of another host
+    /// changes; ticks may change all stations.
     pub fn reset<O: Observer>(
         &mut self,
         number: usize,

@@ -34,7 +34,7 @@ counts_are_one unit keeps frames counts others before after before' after' p q =
     let fates = fates_are_one keeps frames p.fates q.fates p.right q.right in
     grind (arith, fates, p.read_is, q.read_is, p.illegal_is, q.illegal_is, p.filtered_is, q.filtered_is, p.written_is, q.written_is)
 
--- What two passes write is equal.
+-- The bytes that two passes write are equal.
 pub written_is_one : (unit : Unit) (keeps : Filter) (frames : List (List ℕ)) (counts others : PassCounts) (bytes : List ℕ)
     (after after' : Option (List ℕ)) → WritesKept unit keeps frames counts (Some bytes) after
     → WritesKept unit keeps frames others (Some bytes) after' → after ≡ after'

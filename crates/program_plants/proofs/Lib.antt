@@ -1,3 +1,4 @@
 mod Fates
 mod OneJob
+mod OnePlay
 mod WrongValues

@@ -223,7 +223,7 @@ same_adapter_one (Serve a) (Serve b) job other same p q = record {
 same_adapter_one (Serve a) _ job other same p q = absurd same
 same_adapter_one _ b job other same p q = absurd p
 
--- Options are for jobs with one adapter.
+-- Jobs that the same options are for have one adapter.
 pub adapter_one : (words : List Text) (job other : ServeJob) → IsAnswer words job true → IsAnswer words other true
     → HaveSameAdapter job other
 adapter_one words job other p q = same_adapter_one p.0 q.0 job other (asked_one words p.0 q.0 p.1 q.1) p.2 q.2

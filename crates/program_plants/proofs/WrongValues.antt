@@ -84,7 +84,7 @@ drive_spelled rows job option.Expect text has is given = of_form SpellsDecimal _
 drive_spelled rows job option.Idle text has is given = of_form SpellsDecimal _ job.idle text is.idle given
 drive_spelled rows job _ text has is given = absurd (true≢false (sym has))
 
--- The other subcommands have no options with values.
+-- The other subcommands have no option of `ValueOption`.
 has_none : (name : Text) (one : ValueOption) → bytes_eq name (codes "pass") ≡ false → bytes_eq name (codes "serve") ≡ false
     → bytes_eq name (codes "drive") ≡ false → has_option name one ≡ false
 has_none name option.Address pass serve drive = ap₂ (λ (a b : Bool). a || b) pass serve
@@ -126,7 +126,7 @@ line_values words (Ok job) (Err Memory) asked refused = tt
 line_values words (Ok job) (Ok other) asked refused = tt
 line_values words (Err error) two asked refused = tt
 
--- Options are for the adapter of a job, or they aren't.
+-- Options can't both be and not be for the adapter of a job.
 
 image_moved : (a b c : ServeImage) → AreSameImages a b → AreSameImage a c → AreSameImage b c
 image_moved (image.Address a) (image.Address b) (image.Address c) p q = sym p ∙ q

@@ -54,7 +54,7 @@ pub record AreSameDrives (a b : DriveJob) : Type 0 where
   pub send : a.send.now ≡ b.send.now
   pub receive : a.receive.now ≡ b.receive.now
 
--- The same subcommand, with the same values.
+-- Both jobs are of the same subcommand, with the same values.
 abbrev pub AreSameJobs : Job → Job → Type 0
 AreSameJobs (Pass a) (Pass b) = AreSamePasses a b
 AreSameJobs (Run a) (Run b) = AreSameRuns a b

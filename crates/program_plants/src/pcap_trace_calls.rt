@@ -26,7 +26,7 @@ pub fn read_trace<S: Source>(
     (Trace::read(alloc, one), Trace::read(alloc, other))
 }
 
-/// [`Trace::write`] to two sinks. The contract leaves open when a write fails.
+/// [`Trace::write`] to two sinks with the same bytes. The contract leaves open when a write fails.
 pub fn write_trace<W: Sink>(
     one: &mut W,
     other: &mut W,
@@ -62,7 +62,8 @@ pub fn new_writer(
     )
 }
 
-/// [`RecordWriter::write`] twice: the contract leaves open how many of its bytes a writer keeps.
+/// [`RecordWriter::write`] twice. The contract leaves open when a write fails, and how many of its bytes a writer
+/// keeps.
 pub fn write_record<W: Sink>(
     one: &mut RecordWriter,
     other: &mut RecordWriter,

@@ -6,7 +6,7 @@ ghost use Rattle.program_files.specs.Adapters.{HaveSameAdapter};
 use command_line::ServeJob;
 use std::alloc::{AllocError, Global};
 
-/// [`program_files::is_for`] of two jobs: options are for both jobs only if these have the same adapter.
+/// [`program_files::is_for`] of two jobs: options are for both jobs only if both jobs have the same adapter.
 pub fn is_for(
     alloc: Global,
     options: &[String],

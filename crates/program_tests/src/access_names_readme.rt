@@ -1,12 +1,14 @@
 //! The code of the README of `access_names`, word for word.
 
-use access_names::{Engine, Target, memory_target};
-use adapter::Adapter;
-use adapter::offsets::{ICR, RDBAL, RDLEN};
+use access_names::{Engine, EngineFault, Reason, Target, fault_of, memory_target};
+use adapter::offsets::{ICR, RDBAL, RDLEN, TCTL, TDLEN, TDT};
+use adapter::{Adapter, Outcome, StepKind};
+use bitflags::Flags;
 use bus::Machine;
 use dma_memory::HostMemory;
 use eeprom::Image;
 use mdic_phy::Link;
+use registers::Tctl;
 use std::test::Fail;
 
 #[test]
@@ -26,7 +28,28 @@ fn the_code_of_the_readme_of_access_names(rt: HostRuntime) -> Result<(), Fail> {
     assert_eq!(rt; target, status);
     let name = target.to_string(rt.alloc())?;
     assert_eq!(rt; name.as_str(), "rx[1]+8");
-    let name = Target::Register(ICR).to_string(rt.alloc())?;
-    assert_eq!(rt; name.as_str(), "ICR");
+    assert_eq!(rt; Target::Register(ICR).name().as_slice(), b"ICR".as_slice());
+    Ok(())
+}
+
+#[test]
+fn the_code_of_the_readme_of_access_names_where_a_step_is_a_fault(
+    rt: HostRuntime,
+) -> Result<(), Fail> {
+    let image = Image::with_address([0x02, 0, 0, 0, 0, 0x01]);
+    let adapter = Adapter::new(rt.alloc(), &image, Link::Never)?;
+    let mut machine = Machine::new(adapter, HostMemory::new(rt.alloc(), 4_096)?);
+    // A ring of eight descriptors at address 0. The first one is the adapter's, and contains zeros.
+    machine.write(TDLEN, 128);
+    machine.write(TDT, 1);
+    machine.write(TCTL, Tctl::EN.bits());
+    let outcome = machine.step(StepKind::TxTake, true);
+    assert_eq!(rt; outcome, Outcome::Fault);
+    let fault = EngineFault {
+        engine: Engine::Transmit,
+        index: 0,
+        reason: Reason::Eop,
+    };
+    assert_eq!(rt; fault_of(&machine, StepKind::TxTake), Some(fault));
     Ok(())
 }

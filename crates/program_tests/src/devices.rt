@@ -10,7 +10,7 @@ use std::alloc::Global;
 use std::io;
 use std::test::Fail;
 
-/// Writes a trace of two frames of 60 bytes, with times in microseconds, which has 176 bytes.
+/// Writes a trace of two frames of 60 bytes, with times in microseconds. The trace has 176 bytes.
 fn record<W: Sink>(writer: &mut RecordWriter, sink: &mut W) -> Result<(), WriteError>
     requires { W.failures sink.old < u64.MAX }
 {
@@ -19,14 +19,14 @@ fn record<W: Sink>(writer: &mut RecordWriter, sink: &mut W) -> Result<(), WriteE
     writer.flush(sink)
 }
 
-/// The trace of these two frames.
+/// Returns a sink with the trace of the two frames of `record`.
 fn two_frames(alloc: Global) -> Result<VecSink, Fail> {
     let mut sink = VecSink::new(alloc);
     record(&mut RecordWriter::new(alloc, Unit::Micros)?, &mut sink)?;
     Ok(sink)
 }
 
-/// The number of frames that are read from a source, or why the source is rejected.
+/// Returns the number of frames that are read from a source, or why no trace is read.
 fn count<S: Source>(alloc: Global, source: &mut S) -> Result<usize, ReadError>
     requires { S.failures source.old < u64.MAX }
 {

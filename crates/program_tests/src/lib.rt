@@ -8,8 +8,6 @@ mod command_line_readme;
 #[cfg(test)]
 mod devices;
 #[cfg(test)]
-mod engine_faults_readme;
-#[cfg(test)]
 mod names_of_targets;
 #[cfg(test)]
 mod no_memory;

@@ -1,18 +1,19 @@
-//! Calls that write, and take no memory. They succeed, even if every allocation fails after their arguments were made.
+//! Calls that write, and allocate nothing. The calls succeed even if every allocation fails after their arguments were
+//! made.
 
 use descriptors::Frame;
 use pcap_bench::Frames;
 use pcap_trace::{Trace, Unit, WriterSink};
 use std::alloc::{AllocError, Global};
 
-/// A frame of 60 bytes, with its time.
+/// Returns a list with one frame of 60 bytes and its time.
 fn packets(alloc: Global) -> Result<Vec<(u64, Frame)>, AllocError> {
     let mut packets = Vec::new(alloc);
     packets.push((7, Frame::from_slice(&[0xA5; 60])))?;
     Ok(packets)
 }
 
-/// A trace with a frame of 60 bytes.
+/// Returns a trace with one frame of 60 bytes.
 fn trace(alloc: Global) -> Result<Trace, AllocError> {
     let mut frames = Frames::new(alloc);
     frames.push(&[0xA5; 60])?;

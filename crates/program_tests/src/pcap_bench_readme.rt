@@ -5,7 +5,7 @@ use std::test::Fail;
 
 #[test]
 fn the_code_of_the_readme_of_pcap_bench(rt: HostRuntime) -> Result<(), Fail> {
-    // One of two frames goes to the address that is asked for.
+    // One of the two frames has the destination that the filter accepts.
     let mut frames = Frames::new(rt.alloc());
     frames.push(&[0x02, 0, 0, 0, 0, 0x01, 0x02, 0, 0, 0, 0, 0x09, 0x08, 0])?;
     frames.push(&[0x02, 0, 0, 0, 0, 0x07, 0x02, 0, 0, 0, 0, 0x09, 0x08, 0])?;

@@ -12,7 +12,7 @@ fn the_code_of_the_readme_of_pcap_trace(rt: HostRuntime) -> Result<(), Fail> {
     writer.write(&mut sink, Unit::Micros, 1, &[0xAA; 64])?;
     writer.flush(&mut sink)?;
     assert_eq!(rt; sink.bytes().len(), 24 + 76 + 80);
-    // They are read again, from a source that may be cut.
+    // The frames are read again, from a source of bytes in memory.
     let mut source = SliceSource::new(sink.bytes());
     let trace = Trace::read(rt.alloc(), &mut source)?;
     assert_eq!(rt;

@@ -1,4 +1,4 @@
-//! A server of an adapter whose reader is interrupted and fails.
+//! A server of an adapter, whose reader is interrupted and then fails.
 
 use adapter_server::{ServeError, ServeOptions, serve};
 use std::io;

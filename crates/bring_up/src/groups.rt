@@ -1,0 +1,228 @@
+// The joined groups, and how groups are joined and left.
+
+ghost use Rattle.std.specs.Prelude.{◌≡◌, ◌≢◌, ◌≤◌, ◌<◌, ◌↔◌, ◌+◌, ◌*◌, [], ◌∷◌, ◌++◌, length, slice_set, All, Bool};
+ghost use Rattle.std.specs.Prelude.{Err, IfNone, IfSome, IsTrue, Some, slice_get};
+ghost use Rattle.std.specs.Result.{OnErr, OnOk};
+ghost use Rattle.std.specs.List.{Contains};
+ghost use Rattle.rx_engine.specs.Addresses.{IsGroup};
+ghost use Rattle.rx_engine.specs.GroupLists.{Removes};
+ghost use Rattle.bus.specs.Keeping.{Keeps};
+ghost use Rattle.bring_up.specs.WrittenRegisters.{register_limit};
+ghost use Rattle.bus.specs.declared.event.Access.TheVariants.{Writes};
+ghost use Rattle.driver_law.specs.Calls.{IsReadyOver, Ran, at, only};
+ghost use Rattle.driver_law.specs.DriverState.{DriverState};
+ghost use Rattle.bring_up.specs.Groups.{AreNamedOnce, ChangesJoined, HasNumber, RewritesWord, with_groups};
+ghost use Rattle.bring_up.specs.declared.groups.GroupError.TheVariants.{GroupsFull, Joined, NotGroup, NotJoined};
+
+use crate::{MOST_GROUPS, group_table};
+use adapter::offsets::{MTA, REGISTER_BYTES};
+use arrayvec::ArrayVec;
+use bus::Bus;
+use registers::GroupOffset;
+use rx_engine::{TABLE_WORDS, TableBit, hash_of};
+use std::marker::Model;
+use thiserror::Error;
+
+/// The reason why a group isn't joined or left.
+#[derive(Clone, Copy, Debug, PartialEq, Eq, Error)]
+pub enum GroupError {
+    /// The low bit of the address's first byte is clear, so the address isn't that of a group.
+    #[error("E23 NotGroup")]
+    NotGroup,
+    /// 32 groups are joined.
+    #[error("E24 GroupsFull")]
+    GroupsFull,
+    /// The group isn't joined.
+    #[error("E25 NotJoined")]
+    NotJoined,
+    /// The group is joined already.
+    #[error("E26 Joined")]
+    Joined,
+}
+
+/// The groups that a host has joined, each once, in the order in which they were joined.
+#[derive(Clone, Debug, Drop)]
+pub struct Groups {
+    list: ArrayVec<[u8; 6], MOST_GROUPS>,
+}
+
+impl Model for Groups {
+    ghost use Rattle.std.specs.Prelude.{List, ℕ};
+    ghost use Rattle.bring_up.specs.Groups.{AreJoined};
+
+    ghost Value = { List (List ℕ) };
+
+    ghost view = { λ groups. groups.list.items };
+
+    ghost invariant = { λ groups. AreJoined groups.list.items };
+}
+
+impl Groups {
+    ghost use Rattle.bring_up.specs.Groups.{AreJoined};
+
+    /// Returns the groups of a configuration, each once.
+    pub fn of(named: &[[u8; 6]]) -> Groups
+        requires most { length named.now ≤ MOST_GROUPS }
+        requires groups { All IsGroup named.now }
+        ensures { AreNamedOnce named.now result }
+    {
+        let mut groups = Groups {
+            list: ArrayVec::new(),
+        };
+        for group in named {
+            if !groups.contains(group) {
+                groups.list.push(*group);
+            }
+        }
+        groups
+    }
+
+    /// Returns the groups, in order.
+    pub fn as_slice(&self) -> &[[u8; 6]]
+        ensures { result.now ≡ self.now }
+    {
+        self.list.as_slice()
+    }
+
+    /// Returns whether a group is joined.
+    pub fn contains(&self, group: &[u8; 6]) -> bool
+        ensures is { IsTrue result ↔ Contains self.now group.now }
+        ensures joined { AreJoined self.now }
+    {
+        let _list = &self.list;
+        self.place_of(group).is_some()
+    }
+
+    /// Returns the place of a group in the list, or `None` if the group isn't joined.
+    fn place_of(&self, group: &[u8; 6]) -> Option<usize>
+        ensures some { IfSome result (λ place. slice_get self.now place ≡ Some group.now) }
+        ensures none { IfNone result (¬ (Contains self.now group.now)) }
+    {
+        for (place, joined) in self.list.iter().enumerate() {
+            if joined == group {
+                return Some(place);
+            }
+        }
+        None
+    }
+
+    /// Returns whether a joined group has the same number as this group.
+    fn has_number(&self, group: &[u8; 6]) -> bool
+        ensures { IsTrue result ↔ HasNumber self.now group.now }
+    {
+        let number = hash_of(GroupOffset::Bits47To36, group);
+        for joined in self.list.as_slice() {
+            if hash_of(GroupOffset::Bits47To36, joined) == number {
+                return true;
+            }
+        }
+        false
+    }
+
+    /// Joins a group. If no joined group has the same number, the call writes one word of the group table; otherwise
+    /// it makes no access.
+    ///
+    /// # Errors
+    ///
+    /// E23 [`NotGroup`](GroupError::NotGroup) if this isn't the address of a group, else E26
+    /// [`Joined`](GroupError::Joined) if the group is joined already, else E24 [`GroupsFull`](GroupError::GroupsFull)
+    /// if 32 groups are joined. After an error, nothing has changed, and there was no access.
+    pub fn join<B: Bus>(&mut self, bus: &mut B, group: [u8; 6]) -> Result<(), GroupError>
+        ensures keeps { Keeps B.Bus bus.old bus.new }
+
+        // Over any bus.
+        ensures not_group { (result ≡ Err NotGroup) ↔ (¬ (IsGroup group)) }
+        ensures joined { (result ≡ Err Joined) ↔ (IsGroup group × Contains self.old group) }
+        ensures full { (result ≡ Err GroupsFull)
+            ↔ (IsGroup group × (¬ (Contains self.old group)) × (length self.old ≡ MOST_GROUPS)) }
+        ensures else_ok { result ≢ Err NotJoined }
+        ensures refused { OnErr result ((self.new ≡ self.old) × (bus.new ≡ bus.old)) }
+        ensures list { OnOk result (self.new ≡ self.old ++ group ∷ []) }
+        ensures room { OnOk result (length self.old < MOST_GROUPS) }
+        ensures quiet { HasNumber self.old group → bus.new ≡ bus.old }
+
+        // Over a bus that obeys the law.
+        ensures changes { (up : Bool) (d : DriverState) → IsReadyOver B.Bus up (at bus.old d)
+            → OnOk result (ChangesJoined B.Bus up self.old group (at bus.old (with_groups self.old d))
+            (at bus.new (with_groups self.new d))) }
+    {
+        if group[0] % 2 == 0 {
+            return Err(GroupError::NotGroup);
+        }
+        if self.contains(&group) {
+            return Err(GroupError::Joined);
+        }
+        if self.list.is_full() {
+            return Err(GroupError::GroupsFull);
+        }
+        let shares = self.has_number(&group);
+        self.list.push(group);
+        if !shares {
+            write_word(bus, self.list.as_slice(), &group);
+        }
+        Ok(())
+    }
+
+    /// Leaves a group. If no other joined group has the same number, the call writes one word of the group table;
+    /// otherwise it makes no access.
+    ///
+    /// # Errors
+    ///
+    /// E23 [`NotGroup`](GroupError::NotGroup) if this isn't the address of a group, else E25
+    /// [`NotJoined`](GroupError::NotJoined) if the group isn't joined. After an error, nothing has changed, and there
+    /// was no access.
+    pub fn leave<B: Bus>(&mut self, bus: &mut B, group: [u8; 6]) -> Result<(), GroupError>
+        ensures keeps { Keeps B.Bus bus.old bus.new }
+
+        // Over any bus.
+        ensures not_group { (result ≡ Err NotGroup) ↔ (¬ (IsGroup group)) }
+        ensures not_joined { (result ≡ Err NotJoined) ↔ (IsGroup group × (¬ (Contains self.old group))) }
+        ensures else_ok { (result ≢ Err Joined) × (result ≢ Err GroupsFull) }
+        ensures refused { OnErr result ((self.new ≡ self.old) × (bus.new ≡ bus.old)) }
+        ensures list { OnOk result (Removes group self.old self.new) }
+        ensures quiet { HasNumber self.new group → bus.new ≡ bus.old }
+
+        // Over a bus that obeys the law.
+        ensures changes { (up : Bool) (d : DriverState) → IsReadyOver B.Bus up (at bus.old d)
+            → OnOk result (ChangesJoined B.Bus up self.new group (at bus.old (with_groups self.old d))
+            (at bus.new (with_groups self.new d))) }
+    {
+        if group[0] % 2 == 0 {
+            return Err(GroupError::NotGroup);
+        }
+        let Some(place) = self.place_of(&group) else {
+            return Err(GroupError::NotJoined);
+        };
+        self.list.remove(place);
+        if !self.has_number(&group) {
+            let left = self.list.as_slice();
+            write_word(bus, left, &group);
+        }
+        Ok(())
+    }
+}
+
+/// Writes the word of the group table that contains the bit of a group's number. The word gets exactly the bits of
+/// these groups.
+fn write_word<B: Bus>(bus: &mut B, groups: &[[u8; 6]], group: &[u8; 6])
+    ensures keeps { Keeps B.Bus bus.old bus.new }
+    ensures rewrites { (up : Bool) (d : DriverState) → IsReadyOver B.Bus up (at bus.old d)
+        → RewritesWord B.Bus up group.now groups.now d bus.old bus.new }
+{
+    let table = group_table(groups);
+    let word = TableBit::of(hash_of(GroupOffset::Bits47To36, group)).word;
+    set_word(bus, word, table[usize::from(word)]);
+}
+
+/// Writes a word of the group table.
+fn set_word<B: Bus>(bus: &mut B, word: u8, value: u32)
+    requires { word < TABLE_WORDS }
+    ensures keeps { Keeps B.Bus bus.old bus.new }
+    ensures table { B.honest bus.old
+        → (B.world bus.new).adapter.filter.mta ≡ slice_set (B.world bus.old).adapter.filter.mta word value }
+    ensures fits { value < register_limit }
+    ensures runs { (up : Bool) (d : DriverState) → IsReadyOver B.Bus up (at bus.old d)
+        → Ran B.Bus up (only (Writes (MTA + REGISTER_BYTES * word) value ∷ [])) (at bus.old d) (at bus.new d) }
+{
+    bus.write(MTA + REGISTER_BYTES * u32::from(word), value);
+}

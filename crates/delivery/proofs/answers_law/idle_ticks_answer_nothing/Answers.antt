@@ -1,5 +1,0 @@
-use Rattle.delivery.proofs.Ticks.{absent-nothing, go-nothing}
-use Rattle.delivery.proofs.answers_law.idle_ticks_answer_nothing.Goals as goal
-
-pub returns : goal.returns
-returns c = record { absent = absent-nothing; go = go-nothing }

@@ -1,6 +1,0 @@
-use Rattle.delivery.proofs.OffFates.{fates-off}
-use Rattle.delivery.proofs.RightFates.{fates-right, filter-stays, tails-leave_reception}
-use Rattle.delivery.proofs.delivery_law.fates_are_right.Goals as goal
-
-pub returns : goal.returns
-returns c = record { fates = fates-right; tails = tails-leave_reception; off = fates-off; filter = filter-stays }

@@ -1,5 +1,0 @@
-use Rattle.delivery.proofs.RightFates.{changes-alone, word-changes}
-use Rattle.delivery.proofs.delivery_law.groups_change.Goals as goal
-
-pub returns : goal.returns
-returns c = record { written = word-changes; alone = changes-alone }

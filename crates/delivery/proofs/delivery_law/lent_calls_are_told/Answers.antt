@@ -1,5 +1,0 @@
-use Rattle.delivery.proofs.Laws.{lent-calls}
-use Rattle.delivery.proofs.delivery_law.lent_calls_are_told.Goals as goal
-
-pub returns : goal.returns
-returns g c = lent-calls g.met.O.Observer.composes

@@ -1,0 +1,47 @@
+-- What an adapter receives in an interval, and the accesses that don't change how it receives (our choice).
+use Rattle.std.specs.Prelude.{⊤, ◌≡◌, ℕ, List, IfSome}
+use Rattle.rx_engine.specs.Registers.{FilterRegisters}
+use Rattle.adapter.specs.Receiving.{room}
+use Rattle.adapter.specs.State.{AdapterState}
+use Rattle.adapter.specs.Table.{register_at}
+use Rattle.adapter.specs.declared.register.Register.{Register}
+use Rattle.adapter.specs.declared.register.Register.TheVariants.{Ims, Receive, Tctl, Transmit}
+use Rattle.adapter.specs.declared.register.RingRegister.TheVariants.{Tail}
+use Rattle.bus.specs.declared.event.Access.{Access}
+use Rattle.bus.specs.declared.event.Access.TheVariants.{Loads, Reads, Stores, Writes}
+use Rattle.host_calls.specs.Fates.{AreRightFates, KeepsGroups, Mark, reception}
+
+-- The register is RDT, TCTL, IMS, or one of the transmit ring.
+abbrev pub IsNotOfReception : Register → Type 0
+IsNotOfReception (Receive Tail) = ⊤
+IsNotOfReception (Transmit part) = ⊤
+IsNotOfReception Tctl = ⊤
+IsNotOfReception Ims = ⊤
+IsNotOfReception register = ⊥
+
+-- The access is a load, a store, a read, a write of one of these registers (`IsNotOfReception`), or a write to an offset without a
+-- register. Such an access changes neither the filter nor the receive packet buffer and its size.
+abbrev pub LeavesReception : Access → Type 0
+LeavesReception (Reads offset value) = ⊤
+LeavesReception (Writes offset value) = IfSome (register_at offset) IsNotOfReception
+LeavesReception (Loads address size) = ⊤
+LeavesReception (Stores address bytes) = ⊤
+
+-- The registers of the receive filter are the same, except MTA.
+abbrev pub SameButGroups : FilterRegisters → FilterRegisters → Type 0
+SameButGroups a b = b ≡ record a { mta = b.mta }
+
+-- Between two states of an adapter, the filter except MTA and the room of the packet buffer don't change. The fates of the frames that
+-- arrived are right. For these fates, the receive side is enabled at the beginning and at the end. The host has joined `groups` in the
+-- first state and `groups'` in the second.
+pub record ReceivesRightly (groups : List (List ℕ)) (a : AdapterState) (all : List Mark) (groups' : List (List ℕ)) (b : AdapterState)
+    : Type 0 where
+  -- The registers of the receive filter, which include RCTL, are the same at the end, except MTA.
+  pub filter : SameButGroups a.filter b.filter
+  -- MTA is the same, too, if no group is joined or left.
+  pub unchanged : KeepsGroups all → b.filter ≡ a.filter
+  -- RXA of PBA is the same at the end.
+  pub kilobytes : b.receive_kilobytes ≡ a.receive_kilobytes
+  -- Each frame that arrived has the right fate: by the groups in force, the frames in the packet buffer, and whether
+  -- the receive side was enabled. The marks lead from the groups and frames at the beginning to those at the end.
+  pub fates : AreRightFates a.filter (room a) (reception groups a.receiver.buffer) all (reception groups' b.receiver.buffer)

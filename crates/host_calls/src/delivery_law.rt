@@ -1,0 +1,118 @@
+// Laws of what happens to frames.
+
+ghost use Rattle.host_calls.specs.DeliveryLaws.{CallsAreToldBetweenTicks, DeliveriesJoin, FatesAreJudgedByTheBuffer};
+ghost use Rattle.host_calls.specs.DeliveryLaws.{FatesAreOff, FatesAreRight, FilterStays, OutcomesTellByNumber};
+ghost use Rattle.host_calls.specs.DeliveryLaws.{GroupsChangeAlone, LentCallsAreTold, NoAccessIsToldAtTheEnd};
+ghost use Rattle.host_calls.specs.DeliveryLaws.{OneAccessIsToldAtItsPlace, OneOutcomeTellsItsStep, OneTickLeads};
+ghost use Rattle.host_calls.specs.DeliveryLaws.{OnlyTicksAreTold, OutcomesTellSteps, ReceptionsJoin, RightFatesJoin};
+ghost use Rattle.host_calls.specs.DeliveryLaws.{StepsMoveFrames, TailWritesLeaveReception, WaitsJoin};
+ghost use Rattle.host_calls.specs.DeliveryLaws.{WiresDecideToward, WritesChangeGroups};
+ghost use Rattle.host_calls.specs.Lists.{AcceptedArePadded, GoesBehind, GoesJoin, GoesToOneEnd, GoesWithoutDrops};
+
+use stations::Observer;
+
+/// The outcomes of ticks determine what happened in their atomic steps.
+/// - `call`: this holds for the ticks of a call, in order. Each outcome has the number of accesses before its tick.
+///   This number is the number of `Go`s before the tick, but at most the number of accesses of the complete call.
+/// - `alone`: this also holds for one tick that is played outside a call, even if the tick is Go.
+/// - `leads`: if this tick isn't Go, its atomic step leads from the old state of all stations to the new one.
+pub fn outcomes_tell_steps()
+    ensures call { OutcomesTellSteps }
+    ensures alone { OneOutcomeTellsItsStep }
+    ensures leads { OneTickLeads }
+{}
+
+/// `call` of [`outcomes_tell_steps`] applies to each call over a lent bus after `finish`, if the bus counted no access
+/// before the call. The observer was told the outcome of each tick.
+pub fn lent_calls_are_told<O: Observer>()
+    ensures { LentCallsAreTold O.Observer }
+{}
+
+/// `tick_happenings_around` inserts what a call itself did into the happenings of the call's ticks.
+/// - `between`: the happenings of the ticks are the same, in the same order. What the call did is between two of them,
+///   or before or after all of them.
+/// - `nothing`: if the call did nothing, the happenings are those of its ticks.
+/// - `access`: if the call made one access, what it did is between the happenings before this access and those after
+///   it.
+/// - `none`: if the call made no access, what it did is after the happenings of all its ticks.
+/// - `numbers`: the outcomes whose numbers of accesses meet a condition determine what happened in the steps with
+///   these numbers of accesses before them.
+pub fn calls_say_at_their_access()
+    ensures between { CallsAreToldBetweenTicks }
+    ensures nothing { OnlyTicksAreTold }
+    ensures access { OneAccessIsToldAtItsPlace }
+    ensures none { NoAccessIsToldAtTheEnd }
+    ensures numbers { OutcomesTellByNumber }
+{}
+
+/// What atomic steps do to the frames of each host. The happenings contain exactly the frames that its adapter put,
+/// stored and missed. The frames that waited at the host's end of the wire, followed by those that other hosts put
+/// there, have reached the host in this order or still wait. Hosts and wires don't change, and no frame is accepted or
+/// returned.
+pub fn steps_move_frames()
+    ensures { StepsMoveFrames }
+{}
+
+/// The conditions under which fates are right.
+/// - `fates`: each frame that reaches the host has the first fate that applies, by the filter and by the frames in the
+///   packet buffer. RCTL.EN must be 1, and MTA must have exactly the bits of the joined groups. The host's driver may
+///   write no registers except RDT, TCTL, IMS and those of the transmit ring. The filter, the groups and the buffer's
+///   room don't change.
+/// - `tails`: `fates` permits writes of RDT and TDT.
+/// - `off`: while RCTL.EN is 0 and RCTL isn't written, each frame that reaches a host is dropped. No frame is moved
+///   from its receive packet buffer to memory.
+/// - `filter`: while only the registers of `fates` are written, the filter doesn't change.
+pub fn fates_are_right()
+    ensures fates { FatesAreRight }
+    ensures tails { TailWritesLeaveReception }
+    ensures off { FatesAreOff }
+    ensures filter { FilterStays }
+{}
+
+/// A host joins or leaves a group. The filter except MTA, and the frames in the packet buffer, don't change.
+/// - `written`: the driver writes a word of MTA.
+/// - `alone`: the driver makes no access.
+pub fn groups_change()
+    ensures written { WritesChangeGroups }
+    ensures alone { GroupsChangeAlone }
+{}
+
+/// Two consecutive lists of happenings join.
+/// - `lists`: each list of a host is its list for the first happenings, followed by its list for the later ones.
+/// - `toward`: the frames that other hosts put on a host's wire depend only on the wires of the hosts.
+/// - `waits`: the frames that reached a host, followed by those that wait at its end, are those that waited at the
+///   start, followed by those that others put on its wire. If this is true of each of two consecutive intervals, and
+///   wires don't change, it is true of both together.
+/// - `fates`: if the fates of both lists are right, and the second list begins with the final reception of the first,
+///   the fates of the joined list are right.
+/// - `receptions`: `ReceivesRightly` of two consecutive intervals holds for both together.
+pub fn deliveries_join()
+    ensures lists { DeliveriesJoin }
+    ensures toward { WiresDecideToward }
+    ensures waits { WaitsJoin }
+    ensures fates { RightFatesJoin }
+    ensures receptions { ReceptionsJoin }
+{}
+
+/// If all fates are right, each single fate is right. The right fate depends on the groups in force, the frames in the
+/// packet buffer, and whether the receive side is enabled when the frame arrives. The groups are those at the start,
+/// changed by each join and leave since. The frames are those at the start, followed by those stored since. Frames
+/// that left or that a reset dropped are not among them.
+pub fn fates_are_judged_by_the_buffer()
+    ensures { FatesAreJudgedByTheBuffer }
+{}
+
+/// Laws of lists of frames that grow at their end, and from whose end a reset removes frames.
+/// - `join`: two consecutive changes of a list are together one change.
+/// - `behind`: frames before the list at the beginning are still before the list at the end.
+/// - `one_end`: the beginning and the happenings determine the end.
+/// - `without`: if no frame is removed, the list at the end is the list at the beginning, followed by all frames that
+///   were added.
+/// - `padded`: the frames that are added to the frames due are the accepted frames, padded.
+pub fn lists_grow_and_shrink()
+    ensures join { GoesJoin }
+    ensures behind { GoesBehind }
+    ensures one_end { GoesToOneEnd }
+    ensures without { GoesWithoutDrops }
+    ensures padded { AcceptedArePadded }
+{}

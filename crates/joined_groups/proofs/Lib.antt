@@ -1,3 +1,0 @@
-pub mod JoinedLists
-pub mod Numbers
-pub mod Words

@@ -1,6 +1,0 @@
-use Rattle.std.proofs.Common.{◌≤◌, length, take}
-use Rattle.joined_groups.specs.Groups.{AreNamedOnce}
-use Rattle.joined_groups.proofs.groups.Groups.of.Given as goal
-
-abbrev pub invariant-loop-group : goal.invariant-loop-group
-invariant-loop-group l = AreNamedOnce (take l.group-index l.named) l.groups × (length l.groups ≤ l.group-index)

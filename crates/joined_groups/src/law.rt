@@ -1,8 +1,0 @@
-// A law of group tables.
-
-ghost use Rattle.joined_groups.specs.Groups.{TablesAgree};
-
-/// If a group table has exactly the bits of the joined groups, these groups determine its words.
-pub fn groups_determine_table()
-    ensures { TablesAgree }
-{}

@@ -1,0 +1,162 @@
+//! The calls of `PlayedAdapter`, each made twice. Both observers are told the same list.
+
+ghost use Rattle.std.specs.Prelude.{◌≡◌, List, true};
+ghost use Rattle.played_adapter.specs.Told.{Told};
+
+use adapter::{Fate, Outcome, StepKind};
+use played_adapter::{Move, Observer, PlayedAdapter};
+
+/// [`PlayedAdapter::step`] twice.
+pub fn step<O: Observer>(
+    one: &mut PlayedAdapter,
+    other: &mut PlayedAdapter,
+    kind: StepKind,
+    observer: &mut O,
+    another: &mut O,
+) -> (Outcome<()>, Outcome<()>)
+    requires { one.old ≡ other.old }
+    ensures outcome { result.0 ≡ result.1 }
+    ensures state { one.new ≡ other.new }
+    ensures told { (told : List Told) × O.heard observer.old observer.new told × O.heard another.old another.new told }
+{
+    (one.step(kind, observer), other.step(kind, another))
+}
+
+/// [`PlayedAdapter::arrive`] twice.
+pub fn arrive<O: Observer>(
+    one: &mut PlayedAdapter,
+    other: &mut PlayedAdapter,
+    frame: &[u8],
+    observer: &mut O,
+    another: &mut O,
+) -> (Fate, Fate)
+    requires { one.old ≡ other.old }
+    ensures fate { result.0 ≡ result.1 }
+    ensures state { one.new ≡ other.new }
+    ensures told { (told : List Told) × O.heard observer.old observer.new told × O.heard another.old another.new told }
+{
+    (one.arrive(frame, observer), other.arrive(frame, another))
+}
+
+/// [`PlayedAdapter::deliver_all`] twice.
+pub fn deliver_all<O: Observer>(
+    one: &mut PlayedAdapter,
+    other: &mut PlayedAdapter,
+    observer: &mut O,
+    another: &mut O,
+)
+    requires { one.old ≡ other.old }
+    ensures state { one.new ≡ other.new }
+    ensures told { (told : List Told) × O.heard observer.old observer.new told × O.heard another.old another.new told }
+{
+    one.deliver_all(observer);
+    other.deliver_all(another);
+}
+
+/// [`PlayedAdapter::make_all`] twice.
+pub fn make_all<O: Observer>(
+    one: &mut PlayedAdapter,
+    other: &mut PlayedAdapter,
+    moves: &[Move],
+    observer: &mut O,
+    another: &mut O,
+)
+    requires { one.old ≡ other.old }
+    ensures state { one.new ≡ other.new }
+    ensures told { (told : List Told) × O.heard observer.old observer.new told × O.heard another.old another.new told }
+{
+    one.make_all(moves, observer);
+    other.make_all(moves, another);
+}
+
+/// [`PlayedAdapter::read`] twice.
+pub fn read<O: Observer>(
+    one: &mut PlayedAdapter,
+    other: &mut PlayedAdapter,
+    offset: u32,
+    observer: &mut O,
+    another: &mut O,
+) -> (u32, u32)
+    requires { one.old ≡ other.old }
+    ensures answer { result.0 ≡ result.1 }
+    ensures state { one.new ≡ other.new }
+    ensures told { (told : List Told) × O.heard observer.old observer.new told × O.heard another.old another.new told }
+{
+    (one.read(offset, observer), other.read(offset, another))
+}
+
+/// [`PlayedAdapter::write`] twice.
+pub fn write<O: Observer>(
+    one: &mut PlayedAdapter,
+    other: &mut PlayedAdapter,
+    offset: u32,
+    value: u32,
+    observer: &mut O,
+    another: &mut O,
+)
+    requires { one.old ≡ other.old }
+    ensures state { one.new ≡ other.new }
+    ensures told { (told : List Told) × O.heard observer.old observer.new told × O.heard another.old another.new told }
+{
+    one.write(offset, value, observer);
+    other.write(offset, value, another);
+}
+
+/// [`PlayedAdapter::load`] twice.
+pub fn load<O: Observer>(
+    one: &mut PlayedAdapter,
+    other: &mut PlayedAdapter,
+    address: u64,
+    into: &mut [u8],
+    other_into: &mut [u8],
+    observer: &mut O,
+    another: &mut O,
+) -> (bool, bool)
+    requires state { one.old ≡ other.old }
+    requires bytes { into.old ≡ other_into.old }
+    ensures answer { result.0 ≡ result.1 }
+    ensures bytes { into.new ≡ other_into.new }
+    ensures state { one.new ≡ other.new }
+    ensures told { (told : List Told) × O.heard observer.old observer.new told × O.heard another.old another.new told }
+{
+    (
+        one.load(address, into, observer),
+        other.load(address, other_into, another),
+    )
+}
+
+/// [`PlayedAdapter::store`] twice.
+pub fn store<O: Observer>(
+    one: &mut PlayedAdapter,
+    other: &mut PlayedAdapter,
+    address: u64,
+    bytes: &[u8],
+    observer: &mut O,
+    another: &mut O,
+) -> (bool, bool)
+    requires { one.old ≡ other.old }
+    ensures answer { result.0 ≡ result.1 }
+    ensures state { one.new ≡ other.new }
+    ensures told { (told : List Told) × O.heard observer.old observer.new told × O.heard another.old another.new told }
+{
+    (
+        one.store(address, bytes, observer),
+        other.store(address, bytes, another),
+    )
+}
+
+/// [`PlayedAdapter::take_put`] twice.
+pub fn take_put(
+    one: &mut PlayedAdapter,
+    other: &mut PlayedAdapter,
+    into: &mut [u8],
+    other_into: &mut [u8],
+) -> (usize, usize)
+    requires state { one.old ≡ other.old }
+    requires bytes { into.old ≡ other_into.old }
+    ensures length { result.0 ≡ result.1 }
+    ensures state { one.new ≡ other.new }
+    ensures bytes { into.new ≡ other_into.new }
+{
+    (one.take_put(into), other.take_put(other_into))
+}
