@@ -1,4 +1,5 @@
--- The effect of writes on later reads, by the table: the laws that `offsets_by_table` and `accesses_by_table` state.
+-- The effect of accesses and resets on what registers read, by the table: the laws that `offsets_by_table`, `accesses_by_table` and
+-- `resets_by_table` state.
 use Rattle.std.specs.Prelude.{◌≡◌, ◌≢◌, ◌%◌, ◌<◌, ◌&&◌, ℕ, true, false, List, Some, bit_and, if◌then◌else◌}
 use Rattle.mdic_phy.specs.declared.phy.Link.{Link}
 use Rattle.mdic_phy.specs.Phy.{link_is_up}
@@ -11,7 +12,7 @@ use Rattle.adapter.specs.State.{AdapterState, HasRegisters}
 use Rattle.adapter.specs.Table.{IsInTable, StandsAt, register_at, row_of}
 use Rattle.registers.specs.Places.{ctrl_slu}
 
--- Each register of the table is at its offset, and no other register is at this offset.
+-- Each register of the table is at its offset, and no other register is at this offset. Offsets are multiples of 4 below 0x5800.
 pub record OffsetsByTable : Type 0 where
   pub there : (register : Register) → IsInTable register → register_at (row_of register).offset ≡ Some register
   pub only : (offset : ℕ) (register : Register) → register_at offset ≡ Some register → StandsAt offset register
@@ -24,7 +25,7 @@ pub record AccessesByRegister (offset : ℕ) (register : Register) (state : Adap
   pub read : after_read offset state ≡ read_of register state
   pub written : (value : ℕ) → after_write offset value state ≡ write_of register value state
 
--- If no register is at the offset, a read returns 0, and nothing changes.
+-- If no register is at the offset, a read returns 0, and neither a read nor a write changes anything.
 pub record IgnoresAccesses (offset : ℕ) (state : AdapterState) : Type 0 where
   pub answered : answer_at offset state ≡ 0
   pub read : after_read offset state ≡ state
@@ -38,15 +39,14 @@ abbrev pub OutsideIsIgnored : Type 0
 OutsideIsIgnored = (offset : ℕ) (state : AdapterState) → ((register : Register) → ¬ (StandsAt offset register))
     → IgnoresAccesses offset state
 
--- A register whose kept bits are its whole rule reads these bits of the value last written.
+-- Right after a write that is no reset, a register whose kept bits are its whole rule reads these bits of the written value.
 abbrev pub PlainReadsBack : Type 0
 PlainReadsBack =
     (register : Register) (kept value : ℕ) (state : AdapterState)
     → HasRegisters state → IsInTable register → (row_of register).kept ≡ Some kept → is_reset register value ≡ false
     → answer register (write_of register value state) ≡ bit_and value kept
 
--- A write of the first register changes what the second one reads: CTRL.SLU changes STATUS, ICS changes ICR, IMC
--- changes IMS.
+-- A write of the first register can change what the second register reads: CTRL.SLU changes STATUS, ICS changes ICR, and IMC changes IMS.
 pub data Touches : Register → Register → Type 0 where
   link_shown : Touches Ctrl Status
   causes_set : Touches Ics Icr
@@ -66,7 +66,7 @@ OthersStayAtRead =
 
 -- The values of STATUS, ICR and IMS after a write of CTRL, ICS or IMC.
 pub record TouchedRead (value : ℕ) (state : AdapterState) : Type 0 where
-  -- After a write of CTRL that is no reset, STATUS shows the link if SLU, bit 6, was written as 1.
+  -- After a write of CTRL that is no reset, STATUS shows a link if and only if the PHY's link is up and SLU, bit 6, was written as 1.
   pub link_shown : is_reset Ctrl value ≡ false
       → answer Status (write_of Ctrl value state) ≡ (if link_is_up state.phy && is_set value ctrl_slu then status_of_link_up else 0)
   -- After a write of ICS, ICR also reads the written causes.
@@ -77,9 +77,9 @@ pub record TouchedRead (value : ℕ) (state : AdapterState) : Type 0 where
 abbrev pub TouchedByWrites : Type 0
 TouchedByWrites = (value : ℕ) (state : AdapterState) → TouchedRead value state
 
--- The registers after a write of CTRL with RST.
+-- The registers, the PHY and the EEPROM after a write of CTRL with RST.
 pub record IsReset (before after : AdapterState) : Type 0 where
-  -- Each register except PBA reads its reset value of the table.
+  -- Each register except PBA reads its reset value from the table.
   pub registers : (register : Register) → IsInTable register → register ≢ Pba → answer register after ≡ (row_of register).reset before.image
   -- PBA, the PHY and the EEPROM don't change.
   pub allocation : answer Pba after ≡ answer Pba before
@@ -89,7 +89,7 @@ pub record IsReset (before after : AdapterState) : Type 0 where
 abbrev pub ResetByTable : Type 0
 ResetByTable = (value : ℕ) (state : AdapterState) → is_reset Ctrl value ≡ true → IsReset state (write_of Ctrl value state)
 
--- After power-on, each register, including PBA, reads its reset value of the table.
+-- After power-on, each register, including PBA, reads its reset value from the table.
 abbrev pub PowerOnByTable : Type 0
 PowerOnByTable =
     (register : Register) (words : List ℕ) (link : Link) → IsInTable register

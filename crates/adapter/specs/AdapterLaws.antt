@@ -142,7 +142,7 @@ HasRegisters-read Rnbc state adapter =
     of-parts adapter.tables adapter.allocation adapter.causes (of-counters c.missed c.received c.transmitted (omega arith))
 HasRegisters-read _ state adapter = of-parts adapter.tables adapter.allocation adapter.causes adapter.counters
 
--- The causes that a tick records are causes of the adapter.
+-- The causes that a tick of the PHY records are causes of the adapter.
 causes_told-alone : (ticked : Ticked) → IsSubset (causes_told ticked) all_causes
 causes_told-alone ticked = by_tests ticked.link_changed ticked.access_complete
   where
@@ -152,7 +152,7 @@ causes_told-alone ticked = by_tests ticked.link_changed ticked.access_complete
     by_tests false true = refl
     by_tests false false = refl
 
--- If more causes are recorded, the registers still have values that an adapter can have.
+-- If more causes of the adapter are recorded, the registers still meet their invariant.
 HasRegisters-with_causes : (causes : ℕ) (state : AdapterState) → IsSubset causes all_causes → HasRegisters state
     → HasRegisters (with_causes causes state)
 HasRegisters-with_causes causes state alone adapter =
@@ -165,7 +165,7 @@ HasRegisters-told (Some ticked) state adapter =
     (of-parts adapter.tables adapter.allocation adapter.causes adapter.counters)
 HasRegisters-told None state adapter = adapter
 
--- A cause that is recorded only if a test passes is a cause of the adapter.
+-- A test that selects a cause of the adapter or no cause selects only causes of the adapter.
 cause-alone : (test : Bool) (cause : ℕ) → IsSubset cause all_causes → IsSubset (if test then cause else 0) all_causes
 cause-alone true cause alone = alone
 cause-alone false cause alone = refl

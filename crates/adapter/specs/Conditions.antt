@@ -1,4 +1,4 @@
--- The conditions under which a driver and its adapter share memory (our choice).
+-- The conditions under which a driver and its adapter share memory, and on the sizes of receive buffers and pieces (our choice).
 use Rattle.std.specs.Prelude.{◌≡◌, ◌≤◌, ◌<◌, ◌++◌, ℕ, true, All, length, map}
 use Rattle.descriptors.specs.Frames.{IsLegal, longest_frame}
 use Rattle.dma_memory.specs.Areas.{AreSeparate}
@@ -18,19 +18,21 @@ use Rattle.adapter.specs.World.{World, receive_ring, transmit_ring}
 abbrev pub Reports : Queued → Type 0
 Reports queued = queued.report ≡ true
 
--- The conditions on a world, if these slots are the oldest that the driver counts in its rings.
+-- The conditions on a world whose driver has these oldest slots in its rings.
 pub record Sound (oldest_receive oldest_transmit : ℕ) (world : World) : Type 0 where
-  -- In the receive ring, finished slots come first, then the slot in progress, then the offered slots.
+  -- The outstanding slots of the receive ring are finished slots, then the slot in progress, if any, then the offered slots (`IsDealt`).
   pub receive_slots : IsDealt world.memory (receive_ring world) oldest_receive (in_work world)
-  -- In the transmit ring, finished slots come first, then the slots of the frames in the packet buffer, then the offered slots.
+  -- The outstanding slots of the transmit ring are written-back slots, then those of the frames in the packet buffer, then the offered
+  -- slots (`IsDealt`).
   pub transmit_slots : IsDealt world.memory (transmit_ring world) oldest_transmit (buffered world)
-  -- Both rings, and the data and buffers of their slots, are inside memory and don't overlap.
+  -- Both rings and the areas of `frame_areas` are inside memory, and no two of these areas overlap.
   pub separate : AreSeparate world.memory (areas oldest_receive world)
-  -- Every frame to be sent asks for a report.
+  -- The descriptor of each frame to be sent asks for a report.
   pub reports : All Reports (world.adapter.transmitter.buffer ++ map (fetched true world.memory) (offered (transmit_ring world)))
-  -- After the last EOP, the slots contain the moved bytes of the packet buffer's oldest frame.
+  -- In finished slots and the slot in progress, the pieces after the last end of a frame are the moved bytes of the receive packet
+  -- buffer's oldest frame.
   pub begun : HasBegun world.memory (finished_pieces oldest_receive world) world.adapter.receiver
-  -- If TDH isn't TDT, TCTL.PSP is set.
+  -- If TDH and TDT differ, TCTL.PSP is set.
   pub pads : ¬ (world.adapter.transmit_ring.head ≡ world.adapter.transmit_ring.tail) → HasBit world.adapter.transmit_control tctl_psp
 
 -- The finished slots and the slot in progress contain frames that are cut into receive buffers of this size, as the adapter cuts them.
@@ -39,16 +41,16 @@ pub record AreCut (size oldest_receive : ℕ) (world : World) : Type 0 where
   pub sized : HasBit world.adapter.filter.rctl rctl_en → buffer_size world ≡ size
   -- No finished descriptor reports an error.
   pub have_no_errors : All (λ slot. (descriptor_at world.memory slot).errors ≡ 0) (finished oldest_receive world)
-  -- Each piece fills its buffer, unless it is the last of its frame.
+  -- A piece that isn't the last of its frame has this size. The last piece of a frame has at least 1 byte, and at most this size.
   pub cut : All (IsCut size) (pieces_in_slots oldest_receive world)
   -- Each frame that ends in these slots is legal.
   pub legal : All IsLegal (frames_of (pieces_in_slots oldest_receive world))
-  -- The bytes after the last EOP are fewer than the bytes of the longest legal frame.
+  -- The bytes after the last end of a frame in these slots are fewer than the bytes of the longest legal frame.
   pub short : length (begun_of (pieces_in_slots oldest_receive world)) < longest_frame
 
 -- Receive buffers of this size have room for each finished piece, for the piece in progress, and for later pieces.
 pub record FitBuffers (size oldest_receive : ℕ) (world : World) : Type 0 where
-  -- If RCTL.EN is set, RCTL.BSIZE selects no larger size.
+  -- If RCTL.EN is set, RCTL.BSIZE selects at most this size.
   pub large : HasBit world.adapter.filter.rctl rctl_en → buffer_size world ≤ size
   -- Each finished piece has at most this size.
   pub finished_fit : All (λ slot. (named world.memory slot).size ≤ size) (finished oldest_receive world)

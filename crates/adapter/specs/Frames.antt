@@ -22,8 +22,8 @@ use Rattle.adapter.specs.Rings.{ring_of}
 use Rattle.adapter.specs.State.{AdapterState}
 use Rattle.adapter.specs.Transmitting.{PutAnswers, TakeAnswers, after_put, after_take, memory_after_put}
 
--- The frames still to be sent: first those in the transmit packet buffer, then those that the descriptors from TDH to TDT name. They are
--- padded if TCTL.PSP is set.
+-- The frames still to be sent: first those in the transmit packet buffer, then those of the offered transmit descriptors. If TCTL.PSP is
+-- set, the frames of descriptors are padded.
 abbrev pub frames_to_send : List ℕ → AdapterState → List (List ℕ)
 frames_to_send memory state = to_send memory (ring_of state.transmit_ring) (pads state.transmit_control) state.transmitter.buffer
 
@@ -33,40 +33,41 @@ TakingLeavesFrames =
     (memory : List ℕ) (state : AdapterState) (answer : FrameOutcome) → TakeAnswers memory state answer
     → frames_to_send memory (after_take answer memory state) ≡ frames_to_send memory state
 
--- Byte 12 of the descriptor of the oldest frame is apart from the descriptors that are still to be taken, and from their frames.
+-- If a frame is in the packet buffer, byte 12 of its oldest frame's descriptor is apart from the first ten bytes of each offered transmit
+-- descriptor, and from the data of this descriptor.
 abbrev pub ReportStandsApart : List ℕ → AdapterState → Type 0
 ReportStandsApart memory state =
     IfFront state.transmitter.buffer (λ queued.
     All (λ slot. IsAwayFrom memory (area_at (status_place queued) 1) (address_of (ring_of state.transmit_ring) slot))
     (offered_places (ring_of state.transmit_ring)))
 
--- A put step removes the first of the frames to be sent.
+-- If `ReportStandsApart` holds, a put step that puts a frame removes this frame, the first of the frames to be sent.
 abbrev pub PuttingTakesFirst : Type 0
 PuttingTakesFirst =
     (wire_free : Bool) (memory : List ℕ) (state : AdapterState) (frame : List ℕ) → PutAnswers wire_free state (Put frame)
     → ReportStandsApart memory state
     → frames_to_send memory state ≡ frame ∷ frames_to_send (memory_after_put (Put frame) memory state) (after_put (Put frame) state)
 
--- The bytes to which the next piece is written are apart from the descriptor at RDH, which names them.
+-- The bytes to which the next piece is written are apart from the descriptor at RDH, which contains their address.
 abbrev pub PlaceStandsApart : List ℕ → AdapterState → Type 0
 PlaceStandsApart memory state =
     let descriptor = address_of (ring_of state.receive_ring) state.receive_ring.head in
     AreApart (area_at (named_address memory descriptor) (piece_size state)) (descriptor_area descriptor)
 
--- After a step or an arrival, the frames held are those from before, followed by `more`. `finished` are the pieces in finished slots.
+-- After a step or an arrival, the frames held are those from before, followed by `more`. `finished` are the pieces in finished slots. The
+-- slots contain the moved bytes of the oldest frame (`HasBegun`).
 abbrev pub HoldsThen : (more : List (List ℕ)) → (finished : List Piece) → (memory memory' : List ℕ) → (state state' : AdapterState) → Type 0
 HoldsThen more finished memory memory' state state' =
     Holds (held memory finished state.receiver) (held memory' finished state'.receiver) more memory' finished state'.receiver
 
--- A data step doesn't change the frames held, whatever its outcome: the next piece of the packet buffer's oldest frame becomes the piece in
--- progress.
+-- If `HasBegun` and `PlaceStandsApart` hold, a data step doesn't change the frames held, whatever its outcome.
 abbrev pub DataLeavesFrames : Type 0
 DataLeavesFrames =
     (finished : List Piece) (memory : List ℕ) (state : AdapterState) (answer : FrameOutcome)
     → HasBegun memory finished state.receiver → DataAnswers memory state answer → PlaceStandsApart memory state
     → HoldsThen [] finished memory (memory_after_data_step answer memory state) state (after_data answer state)
 
--- A done step makes the piece in progress a finished one at its descriptor, if the piece is apart from the descriptor.
+-- A done step makes the piece in progress a finished piece, if the piece and its descriptor are inside memory and apart.
 abbrev pub DoneFinishesPiece : Type 0
 DoneFinishesPiece =
     (finished : List Piece) (memory : List ℕ) (state : AdapterState) (work : Work)

@@ -10,11 +10,11 @@ use Rattle.adapter.specs.State.{AdapterState}
 use Rattle.adapter.specs.declared.register_file.RegisterFile.{RegisterFile}
 use Rattle.adapter.specs.declared.ring.RingRegisters.{RingRegisters}
 
--- What the registers of a ring feed.
+-- The values that the registers of a ring feed to a hasher.
 abbrev pub ring_writes : RingRegisters → HashWrites
 ring_writes ring = u32 ring.base_low ++ u32 ring.base_high ++ u32 ring.length_bytes ++ u16 ring.head ++ u16 ring.tail
 
--- What the registers that a reset sets feed.
+-- The values that the register file feeds to a hasher.
 abbrev pub file_writes : RegisterFile → HashWrites
 file_writes file = u32 file.ctrl.0
     ++ u32 file.tctl.0
@@ -30,7 +30,7 @@ file_writes file = u32 file.ctrl.0
     ++ mdic_writes file.mdic
     ++ filter_writes file.filter
 
--- The registers that a reset sets, from the plain data of an adapter.
+-- The register file, which contains the registers that a reset sets, from the plain data of an adapter.
 abbrev pub file_of : AdapterState → RegisterFile
 file_of adapter = record {
   ctrl = record { 0 = adapter.device_control };
@@ -47,7 +47,7 @@ file_of adapter = record {
   filter = adapter.filter;
 }
 
--- What an adapter feeds: the value of PBA, the registers that a reset sets, the PHY, and both engines.
+-- The values that an adapter feeds to a hasher: the value of PBA, the register file, the PHY, and both engines.
 abbrev pub adapter_writes : AdapterState → HashWrites
 adapter_writes adapter = u32 (allocation_shown adapter.receive_kilobytes)
     ++ file_writes (file_of adapter)

@@ -17,7 +17,7 @@ use Rattle.adapter.specs.Steps.{after_step}
 use Rattle.adapter.specs.Table.{IsInTable, row_of}
 
 -- An event at an adapter: a read at an offset, a write of a word at an offset, a step of the adapter, or a frame from the wire. A step
--- contains its outcome and the memory before it, and a frame its fate.
+-- contains its outcome and the memory before the step. An arrival contains the fate of the frame.
 pub data AdapterEvent : Type 0 where
   Read : ℕ → AdapterEvent
   Write : ℕ → ℕ → AdapterEvent
@@ -36,21 +36,22 @@ abbrev pub after_events : List AdapterEvent → AdapterState → AdapterState
 after_events [] state = state
 after_events (event ∷ later) state = after_events later (after_event event state)
 
--- CTRL is written with RST.
+-- Whether the event is a write of CTRL with RST.
 abbrev pub is_reset_event : AdapterEvent → Bool
 is_reset_event (Read offset) = false
 is_reset_event (Write offset value) = offset == (row_of Ctrl).offset && is_reset Ctrl value
 is_reset_event (Step kind answer memory) = false
 is_reset_event (Arrive fate frame) = false
 
--- A step of this kind with this outcome advances the head of a ring, and the head register is at this offset.
+-- Whether a step of this kind with this outcome advances the head register at this offset.
 abbrev pub moves_head : ℕ → StepKind → FrameOutcome → Bool
 moves_head place TxTake Took = place == (row_of (Transmit Head)).offset
 moves_head place RxData Part = place == (row_of (Receive Head)).offset
 moves_head place RxData Moved = place == (row_of (Receive Head)).offset
 moves_head place kind answer = false
 
--- The event sets the register at this offset: by a write, by a step that advances a head, or by a reset.
+-- Whether the event sets the register at this offset: a write of the register, a reset, or a step that advances the head that is at this
+-- offset.
 abbrev pub sets_register : ℕ → AdapterEvent → Bool
 sets_register place (Read offset) = false
 sets_register place (Write offset value) = offset == place || is_reset_event (Write offset value)
@@ -65,13 +66,13 @@ NoneSets place events = list_any (sets_register place) events ≡ false
 abbrev pub reads : List ℕ → Link → List AdapterEvent → ℕ → ℕ
 reads words link events offset = answer_at offset (after_events events (new_adapter words link))
 
--- The value of a register whose kept bits are its whole rule depends only on the last write to it and on the last reset. Other reads,
--- writes and steps don't matter.
+-- The value of a register whose kept bits are its whole rule, until the next event that sets the register. After power-on or a reset, the
+-- register has its reset value. After a write that is no reset, the register has the kept bits of the written value.
 pub record ReadsByHistory (register : Register) (kept : ℕ) (words : List ℕ) (link : Link) : Type 0 where
   -- If no event has set the register, it reads its reset value.
   pub never_written : (all : List AdapterEvent) → NoneSets (row_of register).offset all
       → reads words link all (row_of register).offset ≡ (row_of register).reset words
-  -- If no event has set the register after a write, it reads the kept bits of the written value.
+  -- If no event has set the register after a write that is no reset, it reads the kept bits of the written value.
   pub written : (before : List AdapterEvent) (value : ℕ) (after : List AdapterEvent)
       → is_reset_event (Write (row_of register).offset value) ≡ false → NoneSets (row_of register).offset after
       → reads words link (before ++ Write (row_of register).offset value ∷ after) (row_of register).offset ≡ bit_and value kept
@@ -80,7 +81,7 @@ pub record ReadsByHistory (register : Register) (kept : ℕ) (words : List ℕ) 
       → is_reset_event event ≡ true → NoneSets (row_of register).offset after
       → reads words link (before ++ event ∷ after) (row_of register).offset ≡ (row_of register).reset words
 
--- The law of the history, for each register whose kept bits are its whole rule.
+-- `ReadsByHistory` holds for each register of the table whose kept bits are its whole rule.
 abbrev pub PlainByHistory : Type 0
 PlainByHistory =
     (register : Register) (kept : ℕ) (words : List ℕ) (link : Link)

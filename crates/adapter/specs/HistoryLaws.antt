@@ -51,7 +51,7 @@ image-told : (told : Option Ticked) (state : AdapterState) → (after_phy_told t
 image-told (Some ticked) state = refl
 image-told None state = refl
 
--- The engines don't change EEPROM, EERD, MDIC and the PHY.
+-- The EEPROM, EERD, MDIC and the PHY are the same before and after.
 pub record LeavesParts (before after : AdapterState) : Type 0 where
   pub image : after.image ≡ before.image
   pub eerd : after.eerd ≡ before.eerd
@@ -139,7 +139,7 @@ plain-eeprom : (register : Register) (kept : ℕ) (state : AdapterState) → (ro
 plain-eeprom Eerd kept state plain = cc
 plain-eeprom _ kept state plain = refl
 
--- The test whether a number is equal to itself passes.
+-- The test `==` is true for a number and itself.
 elsewhere : (place : ℕ) → ¬ ((place == place) ≡ false)
 elsewhere place none = false≢true (sym none ∙ eq-eqb place place refl)
 

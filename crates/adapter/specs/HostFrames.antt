@@ -15,11 +15,13 @@ finished_pieces oldest world = map (piece_in world.memory) (finished oldest worl
 abbrev pub pieces_in_slots : ℕ → World → List Piece
 pieces_in_slots oldest world = in_slots world.memory (finished_pieces oldest world) world.adapter.receiver
 
--- The frames held: first those that end in slots, each with its pieces joined, then those in the receive packet buffer, oldest first.
+-- The frames held: first those that end in finished slots or in the slot in progress, each with its pieces joined, then those in the
+-- receive packet buffer, oldest first.
 abbrev pub frames_held : ℕ → World → List (List ℕ)
 frames_held oldest world = held world.memory (finished_pieces oldest world) world.adapter.receiver
 
--- The frames that the host has still to send: first those in the packet buffer, then the frame of each descriptor from TDH to TDT, padded.
+-- The frames that the host has still to send: first those in the packet buffer, then the frame of each offered transmit descriptor,
+-- padded.
 abbrev pub frames_to_send : World → List (List ℕ)
 frames_to_send world = to_send world.memory (transmit_ring world) true world.adapter.transmitter.buffer
 

@@ -1,11 +1,11 @@
--- Outcomes of steps, with the frame that a step put on the wire (our choice).
+-- Outcomes of steps and deliveries, with the frame that was put or delivered (our choice).
 use Rattle.std.specs.Prelude.{ℕ, List, [], ◌∷◌}
 use Rattle.tx_engine.specs.Transmitter.{Queued}
 use Rattle.adapter.specs.State.{AdapterState}
 use Rattle.adapter.specs.declared.outcome.Outcome.{Outcome}
 use Rattle.adapter.specs.declared.outcome.Outcome.TheVariants.{Took, Put, WireFull, Part, Moved, Done, Delivered, Ticked, Nothing, Fault}
 
--- An outcome that contains the bytes of its frame.
+-- An outcome that contains the bytes of its frame, if it is `Put` or `Delivered`.
 abbrev pub FrameOutcome : Type 0
 FrameOutcome = Outcome (List ℕ)
 
@@ -27,8 +27,8 @@ with_frame frame Ticked = Ticked
 with_frame frame Nothing = Nothing
 with_frame frame Fault = Fault
 
--- The outcome of a step of the adapter in this state, with the frame that the step put. This frame is the oldest one in the transmit packet
--- buffer.
+-- The same outcome, with the oldest frame of this state's transmit packet buffer if the outcome contains a frame. This is the outcome of a
+-- step from this state: a step that puts a frame puts the oldest one.
 abbrev pub framed : {F : Type 0} → Outcome F → AdapterState → FrameOutcome
 framed outcome state = with_frame (oldest state.transmitter.buffer) outcome
 

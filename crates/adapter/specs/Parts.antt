@@ -14,12 +14,12 @@ use Rattle.adapter.specs.History.{AdapterEvent, Read, Write, Step, Arrive, after
 use Rattle.adapter.specs.Registers.{is_reset, new_adapter}
 use Rattle.adapter.specs.Table.{register_at, row_of}
 
--- The write of EERD, if the written register is EERD.
+-- The write of EERD, as a list: empty if the written register isn't EERD.
 abbrev pub eerd_written : Option Register → ℕ → List eerd.Operation
 eerd_written (Some Eerd) value = eerd.Write value ∷ []
 eerd_written found value = []
 
--- The operation on EERD in an event, except for a reset.
+-- The operation on EERD in an event, as a list of at most one operation. A reset is no operation here.
 abbrev pub eerd_operation : AdapterEvent → List eerd.Operation
 eerd_operation (Read offset) = []
 eerd_operation (Write offset value) = eerd_written (register_at offset) value
@@ -32,13 +32,14 @@ abbrev pub eerd_operations : List AdapterEvent → List eerd.Operation
 eerd_operations [] = []
 eerd_operations (event ∷ later) = eerd_operation event ++ eerd_operations later
 
--- The write of MDIC, if the written register is MDIC. A reset of the adapter counts as a write of a word without a command.
+-- The write of MDIC, as a list: empty if the written register isn't MDIC. A reset of the adapter counts as a write of 0, which contains no
+-- command.
 abbrev pub mdic_written : Option Register → ℕ → List MdicEvent
 mdic_written (Some Mdic) value = mdic.Write value ∷ []
 mdic_written (Some Ctrl) value = if is_reset Ctrl value then mdic.Write 0 ∷ [] else []
 mdic_written found value = []
 
--- The operation on MDIC in an event.
+-- The operation on MDIC in an event, as a list of at most one operation.
 abbrev pub mdic_event : AdapterEvent → List MdicEvent
 mdic_event (Read offset) = []
 mdic_event (Write offset value) = mdic_written (register_at offset) value

@@ -40,7 +40,7 @@ mdic-idle : (pending : Option Operation) (value : ℕ) (state : PhyState) → is
 mdic-idle (Some operation) value state none = absurd (true≢false none)
 mdic-idle None value state none = refl
 
--- If no count is running, a tick doesn't change the PHY.
+-- If no countdown is running, a tick of the PHY doesn't change the negotiation.
 negotiation-still : (negotiation : Negotiation) → is_running negotiation ≡ false → counted negotiation ≡ negotiation
 negotiation-still NotStarted still = refl
 negotiation-still (Running left) still = absurd (true≢false still)
@@ -89,7 +89,7 @@ both-read : (register : Register) (state : AdapterState) → both_of (read_of re
 both-read Icr state = refl
 both-read _ state = refl
 
--- The engines change neither MDIC nor the PHY.
+-- A change for which `LeavesParts` holds changes neither MDIC nor the PHY.
 both-left : (before after : AdapterState) → LeavesParts before after → both_of after ≡ both_of before
 both-left before after left = rw (left.mdic, left.phy) refl
 

@@ -1,5 +1,5 @@
--- The reception of a frame ("3.2 Packet Reception"). The frame arrives, and data steps move it to memory piece by piece. After each data
--- step, a done step writes back the descriptor.
+-- The reception of a frame ("3.2 Packet Reception"). The frame arrives, and data steps move it to memory piece by piece. After a data step
+-- has moved a piece, a done step writes back the piece's descriptor.
 use Rattle.std.specs.Prelude.{◌≡◌, ◌+◌, ◌*◌, ◌==◌}
 use Rattle.std.specs.Prelude.{ℕ, Bool, true, false, List, Option, None, Some, length, if◌then◌else◌}
 use Rattle.dma_memory.specs.Areas.{ChangesOnly, area_at}
@@ -27,11 +27,12 @@ use Rattle.adapter.specs.Rings.{ring_of}
 use Rattle.adapter.specs.State.{AdapterState}
 use Rattle.adapter.specs.Transmitting.{moved_on}
 
--- The size of the receive packet buffer in bytes: the kilobytes of PBA.RXA (13.4.16).
+-- The size of the receive packet buffer in bytes: 1,024 times PBA.RXA, a number of kilobytes (13.4.16).
 abbrev pub room : AdapterState → ℕ
 room state = state.receive_kilobytes * 1024
 
--- A frame that is stored if the packet buffer has room for it, and missed otherwise.
+-- RCTL.EN is set, and the frame is legal and passes the receive filter. The frame is then stored if the packet buffer has room for it,
+-- else missed.
 abbrev pub GetsIn : AdapterState → List ℕ → Type 0
 GetsIn state frame = IsAccepted state.filter frame
 
@@ -48,8 +49,9 @@ abbrev pub no_buffers_counted : AdapterState → ℕ
 no_buffers_counted state = if state.receive_ring.head == state.receive_ring.tail then one_more state.no_receive_buffers
     else state.no_receive_buffers
 
--- The adapter after a frame with this fate. A stored frame is the last one in the packet buffer. MPC counts a missed frame, and RXO, bit 6,
--- is recorded.
+-- The adapter after the arrival of a frame with this fate. A stored frame is added at the end of the packet buffer. If the frame is
+-- missed, MPC counts it, and RXO, bit 6, is recorded. If the frame is stored or missed while RDH equals RDT, RNBC counts it. Any other
+-- fate changes nothing.
 abbrev pub after_arrive : Fate → List ℕ → AdapterState → AdapterState
 after_arrive Off frame state = state
 after_arrive Illegal frame state = state
@@ -59,7 +61,8 @@ after_arrive Missed frame state =
 after_arrive Stored frame state =
     record state { receiver = after_arrival Stored frame state.receiver; no_receive_buffers = no_buffers_counted state }
 
--- There is a frame to move, and a descriptor for its next piece.
+-- A data step has something to do: a frame is in the packet buffer, and a descriptor is offered. RCTL.EN is set, no fault has stopped data
+-- steps, and no piece is in progress.
 abbrev pub HasFrameAndDescriptor : AdapterState → Type 0
 HasFrameAndDescriptor state = HasFrameToMove state.filter.rctl (ring_of state.receive_ring) state.receiver
 
@@ -71,11 +74,12 @@ piece_size state = length (next_piece state.filter.rctl state.receiver)
 abbrev pub is_last_piece : AdapterState → Bool
 is_last_piece state = is_last state.filter.rctl state.receiver
 
--- The next piece of the oldest frame can be moved to the buffer that the descriptor at RDH names.
+-- The next piece of the oldest frame can be moved: RDH and RDT are slots of the ring, and RCTL.BSEX is 0. The descriptor at RDH is inside
+-- memory, and so are the bytes of its buffer that the piece fills.
 abbrev pub CanMovePiece : List ℕ → AdapterState → Type 0
 CanMovePiece memory state = CanMove state.filter.rctl (ring_of state.receive_ring) memory (piece_size state)
 
--- Which outcome a data step has, by the adapter and the memory before it.
+-- Which outcome a data step has, by the adapter and the memory before the step.
 abbrev pub DataAnswers : List ℕ → AdapterState → FrameOutcome → Type 0
 DataAnswers memory state Nothing = ¬ (HasFrameAndDescriptor state)
 DataAnswers memory state Fault = HasFrameAndDescriptor state × (¬ (CanMovePiece memory state))
@@ -83,11 +87,12 @@ DataAnswers memory state Part = HasFrameAndDescriptor state × CanMovePiece memo
 DataAnswers memory state Moved = HasFrameAndDescriptor state × CanMovePiece memory state × (is_last_piece state ≡ true)
 DataAnswers memory state _ = ⊥
 
--- The causes that a data step records: RXDMT0, bit 4, if the free descriptors are then half the ring (13.4.17; 13.4.22, RDMTS 00).
+-- The causes that a data step that moves a piece records: RXDMT0, bit 4, if half of the ring's descriptors are then offered (13.4.17;
+-- 13.4.22, RDMTS 00).
 abbrev pub causes_of_moving : RingRegisters → ℕ
 causes_of_moving ring = if is_half_offered (ring_of (moved_on ring)) then alone rxdmt0 else 0
 
--- The adapter after a data step with this answer of the engine, which used the descriptor at RDH.
+-- The adapter after a data step that moved a piece, by the answer of the engine, `Part` or `Moved`.
 abbrev pub after_move : Data → AdapterState → AdapterState
 after_move answer state =
     with_causes (causes_of_moving state.receive_ring) (record state {
@@ -95,8 +100,9 @@ after_move answer state =
       receive_ring = moved_on state.receive_ring;
     })
 
--- The adapter after a data step with this outcome. After `Part` or `Moved`, a piece of the oldest frame is in progress, and RDH has
--- advanced. After `Moved`, the frame is removed from the packet buffer. A fault stops the step.
+-- The adapter after a data step with this outcome. After `Part` or `Moved`, a piece of the oldest frame is in progress, RDH has advanced,
+-- and the causes of `causes_of_moving` are recorded. After `Moved`, the frame is removed from the packet buffer. After `Fault`, data steps
+-- are stopped.
 abbrev pub after_data : FrameOutcome → AdapterState → AdapterState
 after_data Part state = after_move (answers.Part (is_half_offered (ring_of (moved_on state.receive_ring)))) state
 after_data Moved state = after_move (answers.Moved (is_half_offered (ring_of (moved_on state.receive_ring)))) state
@@ -104,7 +110,8 @@ after_data Fault state =
     record state { receiver = engine_after_data answers.Fault state.filter.rctl (ring_of state.receive_ring) state.receiver }
 after_data _ state = state
 
--- The memory after a data step with this outcome: a moved piece is in the buffer that the descriptor at RDH names.
+-- The memory after a data step with this outcome: a moved piece is in the buffer that the descriptor at RDH points to. If the outcome is
+-- neither `Part` nor `Moved`, memory doesn't change.
 abbrev pub memory_after_data_step : FrameOutcome → List ℕ → AdapterState → List ℕ
 memory_after_data_step Part memory state =
     memory_after_data (answers.Part (is_half_offered (ring_of (moved_on state.receive_ring))))
@@ -114,14 +121,14 @@ memory_after_data_step Moved memory state =
     state.filter.rctl (ring_of state.receive_ring) state.receiver memory
 memory_after_data_step _ memory state = memory
 
--- A data step changes memory at most in the bytes of the piece, in the buffer that the descriptor at RDH names.
+-- A data step changes memory at most in the bytes of the piece, in the buffer that the descriptor at RDH points to.
 abbrev pub DataChangesOnly : AdapterState → List ℕ → List ℕ → Type 0
 DataChangesOnly state memory memory' =
     ChangesOnly memory memory'
     (area_at (named_address memory (address_of (ring_of state.receive_ring) state.receive_ring.head))
     (piece_size state))
 
--- Which outcome a done step has, by the adapter before it.
+-- Which outcome a done step has, by the adapter before the step.
 abbrev pub DoneAnswers : AdapterState → FrameOutcome → Type 0
 DoneAnswers state Nothing = state.receiver.work ≡ None
 DoneAnswers state Done = ¬ (state.receiver.work ≡ None)
@@ -136,18 +143,20 @@ is_ending (Some work) = work.ends
 abbrev pub causes_of_finishing : Option Work → ℕ
 causes_of_finishing work = if is_ending work then alone rxt0 else 0
 
--- GPRC after a done step: it counts a frame when the descriptor of its last piece is written back (our choice).
+-- GPRC after a done step: GPRC counts a frame if the piece in progress is the last of the frame (our choice).
 abbrev pub received_counted : AdapterState → ℕ
 received_counted state = if is_ending state.receiver.work then one_more state.received_packets else state.received_packets
 
--- The adapter after a done step with this outcome: no piece is in progress.
+-- The adapter after a done step with this outcome. After `Done`, no piece is in progress. If the piece that was in progress is the last of
+-- its frame, RXT0 is recorded, and GPRC counts the frame.
 abbrev pub after_done : FrameOutcome → AdapterState → AdapterState
 after_done Done state =
     with_causes (causes_of_finishing state.receiver.work)
     (record state { receiver = engine_after_done state.receiver; received_packets = received_counted state })
 after_done _ state = state
 
--- The memory after a done step: bytes 8 to 15 of the descriptor of the piece in progress are written, if it is inside memory.
+-- The memory after a done step: bytes 8 to 15 of the descriptor of the piece in progress are written, if the whole descriptor is inside
+-- memory.
 abbrev pub memory_after_done_step : List ℕ → AdapterState → List ℕ
 memory_after_done_step memory state = memory_after_done state.receiver.work memory
 

@@ -4,10 +4,10 @@ use Rattle.registers.specs.Bits.{union}
 use Rattle.registers.specs.Counting.{greatest_count}
 use Rattle.adapter.specs.State.{AdapterState}
 
--- The state in which these causes are recorded, too, whether they are in the mask or not (13.4.17 "Interrupt Cause Read Register").
+-- The state after these causes are recorded, whether they are in the mask or not (13.4.17 "Interrupt Cause Read Register").
 abbrev pub with_causes : ℕ → AdapterState → AdapterState
 with_causes causes state = record state { causes = record state.causes { recorded = union state.causes.recorded causes } }
 
--- A count increased by one, up to its greatest value.
+-- A count increased by 1, or the greatest value of a counter, if the count is already this value.
 abbrev pub one_more : ℕ → ℕ
 one_more count = min (count + 1) greatest_count

@@ -47,7 +47,7 @@ ring-new Length = refl
 ring-new Head = refl
 ring-new Tail = refl
 
--- A register whose kept bits are its whole rule reads the number that was set.
+-- A register whose kept bits are its whole rule reads the number that `with_register` stored.
 pub with_register-same : (register : Register) (kept number : ℕ) (state : AdapterState)
     → HasRegisters state → IsInTable register → (row_of register).kept ≡ Some kept
     → answer register (with_register register number state) ≡ number
@@ -134,7 +134,7 @@ touched_by_writes value state = record {
   mask_cleared = refl;
 }
 
--- The entry of an array of 16 entries, of which the first is given and the others are 0.
+-- An entry of an array of 16 entries: entry 0 is `first`, and the others are 0.
 entry-at_reset : (first entry : ℕ) → entry < 16 → slice_index (first ∷ replicate 15 0) entry ≡ (if entry == 0 then first else 0)
 entry-at_reset first zero within = refl
 entry-at_reset first (suc entry) within =
@@ -146,7 +146,7 @@ no_link : (up : Bool) → (if up && false then status_of_link_up else 0) ≡ 0
 no_link true = refl
 no_link false = refl
 
--- Each register except PBA reads its reset value of the table.
+-- Each register except PBA reads its reset value from the table.
 pub answer-at_reset : (register : Register) (words : List ℕ) (phy : PhyState) (kilobytes : ℕ) → IsInTable register → register ≢ Pba
     → answer register (adapter_at_reset words phy kilobytes) ≡ (row_of register).reset words
 answer-at_reset Status words phy kilobytes within differ = no_link (link_is_up phy)
@@ -159,7 +159,7 @@ answer-at_reset (Rah entry) words phy kilobytes within differ = entry-at_reset _
 answer-at_reset (Vfta word) words phy kilobytes within differ = get_or-replicate 128 word 0 0 within
 answer-at_reset _ words phy kilobytes within differ = refl
 
--- What a reset does to the registers.
+-- A reset has the effect that `IsReset` states.
 is_reset-after : (before after : AdapterState) → after ≡ after_reset before → IsReset before after
 is_reset-after before after same =
     subst (λ (state : AdapterState). IsReset before state) (sym same) (record {

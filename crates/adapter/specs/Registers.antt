@@ -21,7 +21,8 @@ use Rattle.adapter.specs.State.{AdapterState}
 use Rattle.adapter.specs.Table.{row_of, register_at, address_low_at_reset, address_high_at_reset}
 use Rattle.rx_engine.specs.declared.filter.TheConstants.{VLAN_TYPE}
 
--- The receive filter: the first of the 16 receive addresses comes from the EEPROM.
+-- The receive filter after a reset: the first of the 16 receive addresses is the address in the EEPROM, and VET is the VLAN type of IEEE
+-- 802.1Q. RCTL, MTA, VFTA and the other receive addresses are 0.
 abbrev pub filter_at_reset : List ℕ → FilterRegisters
 filter_at_reset words = record {
   ral = address_low_at_reset 0 words ∷ replicate 15 0;
@@ -32,7 +33,7 @@ filter_at_reset words = record {
   vet = VLAN_TYPE;
 }
 
--- An adapter after a reset, by the words of its EEPROM, its PHY and its PBA.
+-- An adapter after a reset, by the words of its EEPROM, the state of its PHY, and the kilobytes of PBA.RXA.
 abbrev pub adapter_at_reset : List ℕ → PhyState → ℕ → AdapterState
 adapter_at_reset words phy kilobytes = record {
   image = words;
@@ -54,16 +55,17 @@ adapter_at_reset words phy kilobytes = record {
   transmitter = new_transmitter;
 }
 
--- An adapter after power-on: its PHY is new, and its packet buffer has 48 kilobytes for frames that are received.
+-- An adapter after power-on: its registers have their reset values, its PHY is new, and its packet buffer has 48 kilobytes for frames that
+-- are received.
 abbrev pub new_adapter : List ℕ → Link → AdapterState
 new_adapter words link = adapter_at_reset words (new_phy link) 48
 
--- The adapter after a reset by CTRL.RST (our choice). The PHY and PBA don't change, and every other register has its reset value. Both
--- packet buffers are empty, no piece is in progress, and no engine is stopped.
+-- The adapter after a reset by CTRL.RST (our choice). The EEPROM, the PHY and PBA don't change, and every other register has its reset
+-- value. Both packet buffers are empty, no piece is in progress, and no engine is stopped.
 abbrev pub after_reset : AdapterState → AdapterState
 after_reset state = adapter_at_reset state.image state.phy state.receive_kilobytes
 
--- STATUS shows the link of the PHY while CTRL.SLU, bit 6, is set (our choice).
+-- Whether STATUS shows a link: the link of the PHY is up, and CTRL.SLU, bit 6, is set (our choice).
 abbrev pub shows_link : AdapterState → Bool
 shows_link state = link_is_up state.phy && is_set state.device_control ctrl_slu
 
@@ -92,7 +94,7 @@ answer (Ral entry) state = slice_index state.filter.ral entry
 answer (Rah entry) state = slice_index state.filter.rah entry
 answer (Vfta word) state = slice_index state.filter.vfta word
 
--- The state after a read of a register: the read clears ICR and the counters, and changes nothing else.
+-- The state after a read of a register. A read of ICR or of a counter clears the register; any other read changes nothing.
 abbrev pub read_of : Register → AdapterState → AdapterState
 read_of Icr state = record state { causes = record state.causes { recorded = 0 } }
 read_of Mpc state = record state { missed_packets = 0 }
@@ -101,7 +103,7 @@ read_of Gptc state = record state { transmitted_packets = 0 }
 read_of Rnbc state = record state { no_receive_buffers = 0 }
 read_of register state = state
 
--- The state in which a register whose kept bits are its whole rule has this value.
+-- The state in which a register whose kept bits are its whole rule has this value. For any other register, the state is the same.
 abbrev pub with_register : Register → ℕ → AdapterState → AdapterState
 with_register Ctrl number state = record state { device_control = number }
 with_register Vet number state = record state { filter = record state.filter { vet = number } }
@@ -115,7 +117,7 @@ with_register (Rah entry) number state = record state { filter = record state.fi
 with_register (Vfta word) number state = record state { filter = record state.filter { vfta = slice_set state.filter.vfta word number } }
 with_register register number state = state
 
--- The state after a write of a register that has another rule. STATUS and the counters ignore the write.
+-- The state after a write of a register whose kept bits aren't its whole rule. STATUS and the counters ignore the write.
 abbrev pub by_rule : Register → ℕ → AdapterState → AdapterState
 by_rule Eerd value state = record state { eerd = eeprom.after_write value state.eerd }
 by_rule Mdic value state = record state { mdic = mdi.after_write value }
@@ -126,7 +128,7 @@ by_rule Imc value state = record state { causes = record state.causes { mask = d
 by_rule Pba value state = record state { receive_kilobytes = allocation_written value state.receive_kilobytes }
 by_rule register value state = state
 
--- A write of CTRL with RST, bit 26, resets the adapter, and its other bits are ignored (our choice).
+-- Whether a write resets the adapter: a write of CTRL with RST, bit 26. The other bits of this value are ignored (our choice).
 abbrev pub is_reset : Register → ℕ → Bool
 is_reset Ctrl value = is_set value ctrl_rst
 is_reset register value = false

@@ -1,5 +1,5 @@
--- The five registers of a descriptor ring (3.2.6 "Receive Descriptor Queue Structure" and 3.4 "Transmit Descriptor Ring
--- Structure"). That the other bits read 0 is our choice.
+-- The five registers of a descriptor ring (3.2.6 "Receive Descriptor Queue Structure" and 3.4 "Transmit Descriptor Ring Structure"). A
+-- read of these registers returns 0 in the bits that a write doesn't store (our choice).
 use Rattle.std.specs.Prelude.{◌+◌, ◌*◌, ◌^◌, ℕ, bit_and}
 use Rattle.descriptors.specs.declared.ring.Ring.{Ring}
 use Rattle.adapter.specs.declared.register.RingRegister.{RingRegister}
@@ -34,7 +34,7 @@ ring_answer Length ring = ring.length_bytes
 ring_answer Head ring = ring.head
 ring_answer Tail ring = ring.tail
 
--- The registers of a ring after one is set to this number.
+-- The registers of a ring after this number is stored in one of them.
 abbrev pub with_ring : RingRegister → ℕ → RingRegisters → RingRegisters
 with_ring BaseLow number ring = record ring { base_low = number }
 with_ring BaseHigh number ring = record ring { base_high = number }
@@ -42,11 +42,11 @@ with_ring Length number ring = record ring { length_bytes = number }
 with_ring Head number ring = record ring { head = number }
 with_ring Tail number ring = record ring { tail = number }
 
--- The ring's registers after a write of a word.
+-- The registers of a ring after a write of a word to one of them.
 abbrev pub ring_written : RingRegister → ℕ → RingRegisters → RingRegisters
 ring_written register value ring = with_ring register (bit_and value (ring_kept register)) ring
 
--- The ring that these registers define. Its address consists of the high word and the low word.
+-- The ring that these registers define. The ring's address consists of the high word and the low word.
 abbrev pub ring_of : RingRegisters → Ring
 ring_of registers = record {
   base = registers.base_high * 2 ^ 32 + registers.base_low;

@@ -1,4 +1,4 @@
--- When both engines of an adapter can run: what a step needs so that it isn't a fault (that a step can fault is our choice).
+-- The conditions under which no step of an engine is a fault (that a step can fault is our choice).
 use Rattle.std.specs.Prelude.{◌≡◌, ◌≢◌, ℕ, false, List, All}
 use Rattle.registers.specs.Bits.{HasBit}
 use Rattle.descriptors.specs.Ring.{HasValidIndices}
@@ -7,23 +7,23 @@ use Rattle.tx_engine.specs.Fetching.{IsTransmittable, descriptor_at}
 use Rattle.adapter.specs.Slots.{offered}
 use Rattle.adapter.specs.World.{World, receive_ring, transmit_ring}
 
--- The descriptor at an address can be transmitted: it has EOP and the legacy format, and names 1 to 1,518 bytes of memory.
+-- The descriptor at an address can be transmitted: it has EOP and the legacy format, and points to 1 to 1,518 bytes inside memory.
 abbrev pub CanTransmit : List ℕ → ℕ → Type 0
 CanTransmit memory descriptor = IsTransmittable memory (descriptor_at memory descriptor)
 
--- The engines can run: together with `Sound`, no step of an engine is a fault.
+-- The engines can run: no fault has stopped an engine, and if `Sound` also holds for the world, no step of an engine is a fault.
 pub record CanRun (world : World) : Type 0 where
   -- No fault has stopped the receive engine.
   pub receiver_runs : world.adapter.receiver.stopped ≡ false
   -- No fault has stopped the transmit engine.
   pub transmitter_runs : world.adapter.transmitter.stopped ≡ false
-  -- If RDH isn't RDT, both are indices of descriptors in the receive ring.
+  -- If RDH and RDT differ, both are indices of descriptors in the receive ring.
   pub receive_indices : world.adapter.receive_ring.head ≢ world.adapter.receive_ring.tail → HasValidIndices (receive_ring world)
-  -- If TDH isn't TDT, both are indices of descriptors in the transmit ring.
+  -- If TDH and TDT differ, both are indices of descriptors in the transmit ring.
   pub transmit_indices : world.adapter.transmit_ring.head ≢ world.adapter.transmit_ring.tail → HasValidIndices (transmit_ring world)
   -- RCTL.BSEX is 0.
   pub not_extended : ¬ (HasBit world.adapter.filter.rctl rctl_bsex)
-  -- The descriptors from TDH to TDT can be transmitted.
+  -- Each offered transmit descriptor can be transmitted.
   pub transmittable : All (CanTransmit world.memory) (offered (transmit_ring world))
 
 -- If the engines can run in the first world, they can run in the second.

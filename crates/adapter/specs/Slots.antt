@@ -1,5 +1,5 @@
 -- The slots of both rings as a driver counts them, from its oldest slot on ("3.2.6 Receive Descriptor Queue Structure", "3.4 Transmit
--- Descriptor Ring Structure"). The address of its descriptor identifies a slot.
+-- Descriptor Ring Structure"). A slot is identified by the address of its descriptor.
 use Rattle.std.specs.Prelude.{◌≡◌, ◌<◌, ◌⊎◌, ◌++◌, ℕ, false, List, [], ◌∷◌, All, Option, None, Some, map}
 use Rattle.descriptors.specs.declared.ring.Ring.{Ring}
 use Rattle.descriptors.specs.Ring.{count_of}
@@ -8,22 +8,22 @@ use Rattle.rx_engine.specs.declared.engine.Work.{Work}
 use Rattle.tx_engine.specs.Transmitter.{Queued}
 use Rattle.adapter.specs.World.{World, receive_ring, transmit_ring}
 
--- From the oldest slot on, there are first finished slots, then the slots that the engine has taken, then the offered slots. Taken and
--- offered slots don't have DD. A ring without slots has no outstanding slot.
+-- From slot `oldest` on, the outstanding slots of the ring are first finished slots, then the slots of `taken`, then the offered slots.
+-- Slots of `taken` and offered slots don't have DD. Slot `oldest` is a slot of the ring, or no slot is outstanding.
 pub record IsDealt (memory : List ℕ) (ring : Ring) (oldest : ℕ) (taken : List ℕ) : Type 0 where
   -- The oldest slot is a slot of the ring, or no slot is outstanding.
   pub slot : (oldest < count_of ring) ⊎ (outstanding ring oldest ≡ [])
-  -- The outstanding slots are the finished ones, then those that the engine has taken, then the offered ones.
+  -- The outstanding slots are the finished ones, then those of `taken`, then the offered ones.
   pub classes : outstanding ring oldest ≡ done_slots memory ring oldest ++ (taken ++ offered ring)
-  -- No slot that is taken or offered has DD set.
+  -- No slot of `taken` and no offered slot has DD set.
   pub not_done : All (λ descriptor. is_done memory descriptor ≡ false) (taken ++ offered ring)
 
--- The slot of the piece in progress.
+-- The slot of the piece in progress, as a list of at most one slot.
 abbrev pub slot_of_work : Option Work → List ℕ
 slot_of_work None = []
 slot_of_work (Some work) = work.descriptor ∷ []
 
--- The slot of the receive ring whose piece is in progress.
+-- The slot of the receive ring whose piece is in progress, as a list of at most one slot.
 abbrev pub in_work : World → List ℕ
 in_work world = slot_of_work world.adapter.receiver.work
 
@@ -31,10 +31,11 @@ in_work world = slot_of_work world.adapter.receiver.work
 abbrev pub buffered : World → List ℕ
 buffered world = map (λ (queued : Queued). queued.descriptor) world.adapter.transmitter.buffer
 
--- The finished slots of the receive ring, from the driver's oldest slot on.
+-- The finished slots of the receive ring, from the driver's oldest slot up to, but not including, the first outstanding slot without DD.
 abbrev pub finished : ℕ → World → List ℕ
 finished oldest world = done_slots world.memory (receive_ring world) oldest
 
--- The written-back slots of the transmit ring, from the driver's oldest slot on.
+-- The written-back slots of the transmit ring, from the driver's oldest slot up to, but not including, the first outstanding slot without
+-- DD.
 abbrev pub written_back : ℕ → World → List ℕ
 written_back oldest world = done_slots world.memory (transmit_ring world) oldest

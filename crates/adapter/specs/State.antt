@@ -15,7 +15,7 @@ use Rattle.registers.specs.PacketBuffer.{IsAllocation}
 
 -- The whole state of an adapter, as plain data.
 pub record AdapterState : Type 0 where
-  -- The 64 words of the EEPROM, which never change.
+  -- The words of the EEPROM, which never change.
   pub image : List ℕ
   -- The state of the PHY.
   pub phy : PhyState
@@ -43,9 +43,10 @@ pub record AdapterState : Type 0 where
   pub received_packets : ℕ
   -- GPTC, the count of transmitted frames.
   pub transmitted_packets : ℕ
-  -- RNBC, the count of frames that were stored or missed while no descriptor was free.
+  -- RNBC, the count of frames that were stored or missed while RDH equaled RDT.
   pub no_receive_buffers : ℕ
-  -- The receive packet buffer, the piece in progress, and whether a fault has stopped `RxData`.
+  -- The receive packet buffer, the number of moved bytes of its oldest frame, the piece in progress, and whether a fault has stopped
+  -- `RxData`.
   pub receiver : Receiver
   -- The transmit packet buffer, and whether a fault has stopped `TxTake`.
   pub transmitter : Transmitter
@@ -92,7 +93,7 @@ pub record HasRegisters (state : AdapterState) : Type 0 where
 
 -- The invariant of every adapter: of its registers, of its receive engine, and of its EEPROM, which has 64 words.
 pub record IsAdapter (state : AdapterState) : Type 0 where
-  -- The registers have values that an adapter can have.
+  -- The registers meet their invariant.
   pub registers : HasRegisters state
   -- The receive engine meets its invariant.
   pub receiver : IsReceiver state.receiver

@@ -15,7 +15,8 @@ use Rattle.adapter.specs.State.{AdapterState}
 use Rattle.adapter.specs.Transmitting.{PutAnswers, PutChangesOnly, TakeAnswers, after_put, after_take, memory_after_put}
 use Rattle.registers.specs.Places.{alone, lsc, mdac}
 
--- A read of the EEPROM that is pending ends with its word (13.4.4 "EEPROM Read Register").
+-- The adapter after a tick of the EEPROM: a pending read ends, and EERD then contains the word (13.4.4 "EEPROM Read Register"). If no read
+-- is pending, nothing changes.
 abbrev pub after_eeprom_tick : AdapterState → AdapterState
 after_eeprom_tick state = record state { eerd = eeprom.after_tick state.image state.eerd }
 
@@ -31,16 +32,16 @@ after_phy_told (Some ticked) state =
     (record state { phy = mdi.phy_after_tick state.mdic state.phy; mdic = mdi.mdic_after_tick state.mdic state.phy })
 after_phy_told None state = state
 
--- A tick of the PHY lowers its count, and then ends a pending command of MDIC (13.4.7 "MDI Control Register"). If no count is running and
--- no command is pending, nothing changes.
+-- The adapter after a tick of the PHY. The tick decreases a running link countdown, then ends a pending command of MDIC (13.4.7 "MDI
+-- Control Register"), and records the causes of `causes_told`. If no countdown is running and no command is pending, nothing changes.
 abbrev pub after_phy_tick : AdapterState → AdapterState
 after_phy_tick state = after_phy_told (mdi.told state.mdic state.phy) state
 
--- The outcome of a tick: `Ticked` if it had something to do, else `Nothing`.
+-- The outcome of a tick: `Ticked` if the tick had something to do, else `Nothing`.
 abbrev pub ticked : Bool → FrameOutcome
 ticked has_work = if has_work then DidTick else Nothing
 
--- Which outcome a step has, by the adapter and the memory before it.
+-- Which outcome a step has, by the adapter and the memory before the step, and by whether the wire has room for a frame.
 abbrev pub Answers : StepKind → Bool → List ℕ → AdapterState → FrameOutcome → Type 0
 Answers TxTake wire_free memory state answer = TakeAnswers memory state answer
 Answers TxPut wire_free memory state answer = PutAnswers wire_free state answer
@@ -49,13 +50,13 @@ Answers RxDone wire_free memory state answer = DoneAnswers state answer
 Answers EepromTick wire_free memory state answer = answer ≡ ticked (eeprom.is_pending state.eerd)
 Answers PhyTick wire_free memory state answer = answer ≡ ticked (mdi.has_work state.mdic state.phy)
 
--- Whether a step of this kind has something to do: its outcome isn't `Nothing`, whatever is in memory and on the wire.
+-- `works` is whether a step of this kind has something to do: its outcome isn't `Nothing`, whatever is in memory and on the wire.
 abbrev pub TellsWork : StepKind → Bool → AdapterState → Type 0
 TellsWork kind works state =
     (wire_free : Bool) (memory : List ℕ) (answer : FrameOutcome) → Answers kind wire_free memory state answer
     → IsTrue works ↔ (answer ≢ Nothing)
 
--- The adapter after a step with this outcome on this memory.
+-- The adapter after a step with this outcome, by the memory before the step.
 abbrev pub after_step : StepKind → FrameOutcome → List ℕ → AdapterState → AdapterState
 after_step TxTake answer memory state = after_take answer memory state
 after_step TxPut answer memory state = after_put answer state
@@ -73,7 +74,7 @@ memory_after_step RxDone answer memory state = memory_after_done_step memory sta
 memory_after_step EepromTick answer memory state = memory
 memory_after_step PhyTick answer memory state = memory
 
--- The bytes that a step of each kind may change in memory. It changes no other bytes.
+-- Memory differs at most in the bytes that a step of this kind may change.
 abbrev pub ChangesAtMost : StepKind → AdapterState → List ℕ → List ℕ → Type 0
 ChangesAtMost TxTake state memory memory' = memory' ≡ memory
 ChangesAtMost TxPut state memory memory' = PutChangesOnly state memory memory'

@@ -1,5 +1,5 @@
--- The table of registers (chapter 13 "Register Descriptions"): the offset of each register, the bits that a write stores, and the value
--- after a reset. PBA's reset value is the manual's. The other reset values, and the kept bits if the manual has more, are our choice.
+-- The table of registers (chapter 13 "Register Descriptions"): the offset of each register, the bits that a write stores, and the reset
+-- value. PBA's reset value is the manual's. The other reset values, and the kept bits if the manual has more, are our choice.
 use Rattle.std.specs.Prelude.{◌≡◌, ◌+◌, ◌-◌, ◌*◌, ◌/◌, ◌%◌, ◌<◌, ◌==◌, ◌&&◌, ℕ, List, [], ◌∷◌, Option, Some, None, find, nat_lt, nat_le}
 use Rattle.std.specs.Prelude.{slice_index, if◌then◌else◌}
 use Rattle.adapter.specs.declared.register.RingRegister.TheVariants.{BaseLow, BaseHigh, Length, Head, Tail}
@@ -18,18 +18,18 @@ pub record Row : Type 0 where
   -- The bits that a write stores and a read returns, if these bits are the register's whole rule. Otherwise `None`: the register has
   -- another rule.
   pub kept : Option ℕ
-  -- The value after a reset, by the words of the EEPROM.
+  -- The value after power-on and, except for PBA, after a reset, by the words of the EEPROM.
   pub reset : List ℕ → ℕ
 
--- A register whose kept bits are its whole rule.
+-- The row of a register whose kept bits are its whole rule. Its reset value is the same for each EEPROM.
 abbrev pub plain : ℕ → ℕ → ℕ → Row
 plain offset kept reset = record { offset = offset; kept = Some kept; reset = λ words. reset }
 
--- A register with another rule.
+-- The row of a register whose kept bits aren't its whole rule. Its reset value is the same for each EEPROM.
 abbrev pub ruled : ℕ → ℕ → Row
 ruled offset reset = record { offset = offset; kept = None; reset = λ words. reset }
 
--- RAL(0) is words 0 and 1 of the EEPROM, the earlier in the low half; the other entries are 0 (our choice)
+-- RAL(0) is words 0 and 1 of the EEPROM, word 0 in the low half; the other entries are 0 (our choice)
 abbrev pub address_low_at_reset : ℕ → List ℕ → ℕ
 address_low_at_reset entry words = if entry == 0 then slice_index words 1 * 65536 + slice_index words 0 else 0
 
@@ -37,15 +37,15 @@ address_low_at_reset entry words = if entry == 0 then slice_index words 1 * 6553
 abbrev pub address_high_at_reset : ℕ → List ℕ → ℕ
 address_high_at_reset entry words = if entry == 0 then alone rah_av + slice_index words 2 else 0
 
--- The row of each register. The comment above a row states the register's rule, if kept bits aren't the whole rule.
+-- The row of each register. If a register does more than store its kept bits, the comment above its row states its rule.
 abbrev pub row_of : Register → Row
 -- a write with RST, bit 26, resets the adapter; RST reads 0
 row_of Ctrl = plain 0x0000 control_mask 0
 -- read only: 0x83 while the PHY's link is up and CTRL.SLU is set, else 0
 row_of Status = ruled 0x0008 0
--- it reads a word of the EEPROM (crate `eeprom`)
+-- reads a word of the EEPROM (crate `eeprom`)
 row_of Eerd = ruled 0x0014 0
--- it reads and writes registers of the PHY (crate `mdic_phy`)
+-- reads and writes registers of the PHY (crate `mdic_phy`)
 row_of Mdic = ruled 0x0020 0
 row_of Vet = plain 0x0038 0x0000FFFF 0x8100
 -- causes 0x2D7; a read clears all causes, and a write clears each cause whose bit is written as 1
@@ -98,19 +98,20 @@ single_registers =
     ∷ Transmit BaseLow ∷ Transmit BaseHigh ∷ Transmit Length ∷ Transmit Head ∷ Transmit Tail
     ∷ Mpc ∷ Gprc ∷ Gptc ∷ Rnbc ∷ []
 
--- The register at an offset in an array of `count` registers that begins at `first`, `step` bytes from one to the next.
+-- The register at an offset, if it is one of the `count` registers of an array. The offset of the first is `first`, and the others follow
+-- at distances of `step` bytes.
 abbrev pub array_register : ℕ → ℕ → ℕ → (ℕ → Register) → ℕ → Option Register
 array_register first count step register offset =
     if nat_le first offset && ((offset - first) % step == 0 && nat_lt ((offset - first) / step) count)
     then Some (register ((offset - first) / step))
     else None
 
--- The first register, if there is one, else the second.
+-- The first argument if it is a register, else the second.
 abbrev pub or_else : Option Register → Option Register → Option Register
 or_else (Some register) other = Some register
 or_else None other = other
 
--- The register of an array at an offset.
+-- The register of MTA, RAL, RAH or VFTA at an offset, if there is one.
 unfoldable pub array_register_at : ℕ → Option Register
 array_register_at offset =
     or_else (array_register 0x5200 128 4 Mta offset)

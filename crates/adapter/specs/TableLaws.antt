@@ -106,7 +106,7 @@ abbrev AllInTable : List Register → Type 0
 AllInTable [] = Unit {0}
 AllInTable (register ∷ others) = IsInTable register × AllInTable others
 
--- If a search by offset finds a register, this register is at the offset.
+-- If a search by offset in a list of registers of the table finds a register, this register is at the offset.
 found_stands : (offset : ℕ) (registers : List Register) (register : Register)
     → AllInTable registers → find (λ r. (row_of r).offset == offset) registers ≡ Some register → StandsAt offset register
 found_stands offset [] register all found = cc
@@ -121,7 +121,7 @@ found_stands offset (first ∷ others) register all found =
         subst (λ (r : Register). StandsAt offset r) same (record { in_table = all.0; there = equal refl })
     by_test false equal later is = later is
 
--- If a search in an array finds a register, this register is at the offset.
+-- If a search in an array of registers of the table finds a register, this register is at the offset.
 array_stands : (first count step : ℕ) (word : ℕ → Register) (offset : ℕ) (register : Register)
     → ((n : ℕ) → n < count → StandsAt (first + step * n) (word n))
     → ((distance : ℕ) → distance % step ≡ 0 → step * (distance / step) ≡ distance)

@@ -1,4 +1,4 @@
--- The two steps of transmission ("3.3 Packet Transmission"): a frame is taken from the ring, and a frame is put onto the wire.
+-- The two steps of transmission ("3.3 Packet Transmission"): TxTake takes a frame from the ring, and TxPut puts a frame onto the wire.
 use Rattle.std.specs.Prelude.{◌≡◌, ◌≢◌, ◌==◌, ◌++◌, ◌∷◌, [], ℕ, List, Bool, true, false, drop, if◌then◌else◌}
 use Rattle.descriptors.specs.Ring.{address_of, next_of}
 use Rattle.registers.specs.Places.{alone, txdw, txqe}
@@ -12,15 +12,16 @@ use Rattle.adapter.specs.Recording.{one_more, with_causes}
 use Rattle.adapter.specs.Rings.{ring_of}
 use Rattle.adapter.specs.State.{AdapterState}
 
--- There is nothing to take: TCTL.EN is 0, a fault has stopped the engine, the packet buffer holds four frames, or TDH equals TDT.
+-- There is nothing to take: TCTL.EN is 0, a fault has stopped the engine, the packet buffer contains four frames, or TDH equals TDT.
 abbrev pub HasNothingToTake : AdapterState → Type 0
 HasNothingToTake state = HasNoFrameToTake state.transmit_control state.transmitter (ring_of state.transmit_ring)
 
--- The descriptor at TDH can be taken.
+-- The descriptor at TDH can be taken: TDH and TDT are slots of the ring, and the descriptor is inside memory and can be transmitted
+-- (`IsTransmittable`).
 abbrev pub CanTake : List ℕ → AdapterState → Type 0
 CanTake memory state = IsFetchable memory (ring_of state.transmit_ring)
 
--- Which outcome TxTake has, by the adapter and the memory before it.
+-- Which outcome TxTake has, by the adapter and the memory before the step.
 abbrev pub TakeAnswers : List ℕ → AdapterState → FrameOutcome → Type 0
 TakeAnswers memory state Nothing = HasNothingToTake state
 TakeAnswers memory state Fault = (¬ (HasNothingToTake state)) × (¬ (CanTake memory state))
@@ -31,12 +32,12 @@ TakeAnswers memory state _ = ⊥
 abbrev pub moved_on : RingRegisters → RingRegisters
 moved_on ring = record ring { head = next_of (ring_of ring) ring.head }
 
--- The causes that TxTake records: TXQE, bit 1, if TDH then equals TDT (13.4.17).
+-- The causes that TxTake records if it takes a frame: TXQE, bit 1, if TDH then equals TDT (13.4.17).
 abbrev pub causes_of_taking : RingRegisters → ℕ
 causes_of_taking ring = if (moved_on ring).head == ring.tail then alone txqe else 0
 
--- The adapter after TxTake with this outcome. After `Took`, the frame is the last one in the packet buffer, and TDH has advanced. A fault
--- stops the step.
+-- The adapter after TxTake with this outcome. After `Took`, the frame is the last one in the packet buffer, TDH has advanced, and the
+-- causes of `causes_of_taking` are recorded. After `Fault`, TxTake is stopped.
 abbrev pub after_take : FrameOutcome → List ℕ → AdapterState → AdapterState
 after_take Took memory state =
     with_causes (causes_of_taking state.transmit_ring) (record state {
@@ -49,12 +50,12 @@ after_take Took memory state =
 after_take Fault memory state = record state { transmitter = record state.transmitter { stopped = true } }
 after_take _ memory state = state
 
--- The frame is the oldest of a packet buffer.
+-- The packet buffer isn't empty, and this frame is the oldest one in it.
 abbrev pub IsOldest : List Queued → List ℕ → Type 0
 IsOldest [] frame = ⊥
 IsOldest (queued ∷ later) frame = queued.frame ≡ frame
 
--- Which outcome TxPut has, by the adapter before it.
+-- Which outcome TxPut has, by the adapter before the step, and by whether the wire has room for a frame.
 abbrev pub PutAnswers : Bool → AdapterState → FrameOutcome → Type 0
 PutAnswers wire_free state Nothing = state.transmitter.buffer ≡ []
 PutAnswers wire_free state WireFull = (state.transmitter.buffer ≢ []) × (wire_free ≡ false)
@@ -67,7 +68,8 @@ abbrev pub causes_of_putting : List Queued → ℕ
 causes_of_putting [] = 0
 causes_of_putting (queued ∷ later) = if queued.report then alone txdw else 0
 
--- The adapter after its oldest frame is removed from the packet buffer: GPTC counts the frame, and the causes are recorded.
+-- The adapter after its oldest frame is removed from the packet buffer: GPTC counts the frame, and the causes of `causes_of_putting` are
+-- recorded.
 abbrev pub without_oldest : AdapterState → AdapterState
 without_oldest state =
     with_causes (causes_of_putting state.transmitter.buffer) (record state {
@@ -75,17 +77,18 @@ without_oldest state =
       transmitted_packets = one_more state.transmitted_packets;
     })
 
--- The state after TxPut with this result.
+-- The adapter after TxPut with this outcome. If the outcome isn't `Put`, nothing changes.
 abbrev pub after_put : FrameOutcome → AdapterState → AdapterState
 after_put (Put frame) state = without_oldest state
 after_put _ state = state
 
--- Memory after the oldest frame of a packet buffer is put on the wire.
+-- Memory after the oldest frame of a packet buffer is put onto the wire. If the packet buffer is empty, memory doesn't change.
 abbrev pub reported : List Queued → List ℕ → List ℕ
 reported [] memory = memory
 reported (queued ∷ later) memory = written_back memory queued
 
--- The memory after TxPut: if the descriptor asks for a report, the status byte of the frame's descriptor contains only DD.
+-- The memory after TxPut with this outcome. If a frame was put, and its descriptor asks for a report, byte 12 of this descriptor is 0x01
+-- (DD), unless memory ends before this byte.
 abbrev pub memory_after_put : FrameOutcome → List ℕ → AdapterState → List ℕ
 memory_after_put (Put frame) memory state = reported state.transmitter.buffer memory
 memory_after_put _ memory state = memory

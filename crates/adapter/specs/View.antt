@@ -1,4 +1,4 @@
--- The plain data of an adapter, from its fields.
+-- The plain data of an adapter, from its fields and from its register file.
 use Rattle.std.specs.Prelude.{ℕ, List}
 use Rattle.adapter.specs.declared.adapter.Adapter.TheInside.{Inside}
 use Rattle.adapter.specs.declared.register_file.RegisterFile.{RegisterFile}
@@ -8,7 +8,7 @@ use Rattle.adapter.specs.Registers.{filter_at_reset}
 use Rattle.adapter.specs.Rings.{new_ring}
 use Rattle.adapter.specs.State.{AdapterState, IsAdapter}
 
--- The plain data of the fields.
+-- The plain data of an adapter with these fields.
 abbrev pub state_of : Inside → AdapterState
 state_of inside = record {
   image = inside.image;
@@ -30,11 +30,28 @@ state_of inside = record {
   transmitter = inside.transmitter;
 }
 
+-- The plain data of an adapter with this register file: the registers that a reset sets.
+abbrev pub with_file : RegisterFile → AdapterState → AdapterState
+with_file file state = record state {
+  device_control = file.ctrl.0;
+  eerd = file.eerd;
+  mdic = file.mdic;
+  causes = file.causes;
+  filter = file.filter;
+  transmit_control = file.tctl.0;
+  receive_ring = file.receive_ring;
+  transmit_ring = file.transmit_ring;
+  missed_packets = file.mpc;
+  received_packets = file.gprc;
+  transmitted_packets = file.gptc;
+  no_receive_buffers = file.rnbc;
+}
+
 -- The invariant of the fields.
 abbrev pub IsConsistent : Inside → Type 0
 IsConsistent inside = IsAdapter (state_of inside)
 
--- The registers after a reset.
+-- The register file after a reset, by the words of the EEPROM.
 abbrev pub registers_at_reset : List ℕ → RegisterFile
 registers_at_reset words = record {
   ctrl = record { 0 = 0 };

@@ -29,6 +29,6 @@ world_after_read offset world = record world { adapter = after_read offset world
 abbrev pub world_after_write : ℕ → ℕ → World → World
 world_after_write offset value world = record world { adapter = after_write offset value world.adapter }
 
--- The world after a store to memory.
+-- The world after these bytes are stored in memory, from this address on.
 abbrev pub world_after_store : ℕ → List ℕ → World → World
 world_after_store address bytes world = record world { memory = with_bytes world.memory address bytes }

@@ -3,25 +3,27 @@
 use crate::Adapter;
 use registers::Counter;
 
-/// The values of an adapter's statistics registers (13.7 "Statistics Registers").
-#[derive(Clone, Copy, Debug, PartialEq, Eq)]
+/// The values of an adapter's statistics registers, which count since their last read or the last reset (13.7
+/// "Statistics Registers").
+#[derive(Clone, Copy)]
 pub struct FrameCounts {
     /// MPC: frames that were missed because the receive packet buffer had no room.
     pub missed: u32,
-    /// RNBC: frames that were stored or missed while no descriptor was free.
+    /// RNBC: frames that were stored or missed while RDH equaled RDT, so that no descriptor was offered.
     pub without_descriptor: u32,
-    /// GPRC: frames that were received, each counted as its descriptor is written back.
+    /// GPRC: frames that were received, each counted when the descriptor of its last piece is written back.
     pub received: u32,
-    /// GPTC: frames that were transmitted, each counted as it is put onto the wire.
+    /// GPTC: frames that were transmitted, each counted when it is put onto the wire.
     pub transmitted: u32,
 }
 
 /// The numbers of frames that wait in the two packet buffers of an adapter.
-#[derive(Clone, Copy, Debug, PartialEq, Eq)]
+#[derive(Clone, Copy)]
 pub struct WaitingFrames {
-    /// Frames that were stored. A frame counts until its last piece is moved.
+    /// The number of frames in the receive packet buffer. A frame is counted until its last piece is written to
+    /// memory.
     pub received: u16,
-    /// Frames that were taken from the ring and aren't on the wire yet.
+    /// The number of frames in the transmit packet buffer: they were taken from the ring, and aren't on the wire yet.
     pub transmit: u8,
 }
 
@@ -29,7 +31,7 @@ impl Adapter {
     ghost use Rattle.std.specs.Prelude.{◌≡◌, length};
     ghost use Rattle.adapter.specs.State.{IsAdapter};
 
-    /// The values of the statistics registers. Unlike a driver's read, this call clears no register.
+    /// Returns the values of the statistics registers. Unlike a driver's read, this call clears no register.
     pub fn counts(&self) -> FrameCounts
         ensures missed { result.missed ≡ self.now.missed_packets }
         ensures without_descriptor { result.without_descriptor ≡ self.now.no_receive_buffers }
@@ -44,7 +46,7 @@ impl Adapter {
         }
     }
 
-    /// The numbers of frames that wait in the packet buffers.
+    /// Returns the numbers of frames that wait in the packet buffers.
     pub fn waiting(&self) -> WaitingFrames
         ensures received { result.received ≡ length self.now.receiver.buffer }
         ensures transmit { result.transmit ≡ length self.now.transmitter.buffer }
@@ -55,8 +57,8 @@ impl Adapter {
         }
     }
 
-    /// Sets MPC, as if this number of frames had been missed since the last read of MPC. A test uses this call to bring
-    /// MPC near its greatest value, 0xFFFF_FFFF, at which MPC sticks.
+    /// Sets MPC to `count`, as if this number of frames had been missed since the last read of MPC. A test uses this
+    /// call to bring MPC near 0xFFFF_FFFF, at which MPC saturates.
     pub fn set_missed(&mut self, count: u32)
         ensures state { self.new ≡ record self.old { missed_packets = count } }
         ensures adapter { IsAdapter self.new }

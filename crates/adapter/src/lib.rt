@@ -13,6 +13,7 @@ mod outcome;
 mod pending;
 mod receive;
 mod register;
+mod register_access;
 mod register_file;
 mod ring;
 mod step;

@@ -117,7 +117,7 @@ pub const RNBC: u32 = 0x40A0;
 /// MTA, the first of 128 words of the multicast table array (13.5.1).
 pub const MTA: u32 = 0x5200;
 
-/// The last word of MTA.
+/// The offset of the last word of MTA.
 pub const MTA_LAST: u32 = 0x53FC;
 
 /// RAL(0), receive address low, the first of 16 (13.5.2). RAH(n) follows RAL(n).
@@ -132,5 +132,5 @@ pub const ADDRESS_PAIR_BYTES: u32 = 8;
 /// VFTA, the first of 128 words of the VLAN filter table array (13.5.4).
 pub const VFTA: u32 = 0x5600;
 
-/// The last word of VFTA.
+/// The offset of the last word of VFTA.
 pub const VFTA_LAST: u32 = 0x57FC;

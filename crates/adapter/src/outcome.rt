@@ -1,13 +1,14 @@
 // Outcomes of steps and deliveries.
 
 use rx_engine::Fate;
+use std::alloc::AllocError;
 
 /// The outcome of a step of an adapter, or of a delivery to it.
 ///
 /// `F` is the type of the frame in an outcome. [`step`](crate::Adapter::step) uses `()`, because
 /// [`to_put`](crate::Adapter::to_put) returns the frame before the step. Lists of outcomes contain the frame itself.
 /// Contracts that compare outcomes use the bytes of the frame (`FrameOutcome`).
-#[derive(Clone, Copy, Debug, Drop, PartialEq, Eq)]
+#[derive(Debug, Drop, PartialEq, Eq)]
 pub enum Outcome<F> {
     /// A frame was taken from the transmit ring.
     Took,
@@ -24,20 +25,36 @@ pub enum Outcome<F> {
     Done,
     /// This frame was delivered, and had this fate.
     Delivered(F, Fate),
-    /// The EEPROM or the PHY did something.
+    /// A tick ended a read of the EEPROM, or changed the PHY or MDIC.
     Ticked,
     /// There was nothing to do. Nothing changed.
     Nothing,
-    /// A ring, a descriptor or the memory that it names couldn't be used, or RCTL.BSEX is set. Memory and the registers
-    /// of the rings are unchanged. Steps of this kind return `Nothing` until a write of CTRL with RST.
+    /// The ring, the descriptor or the memory that the descriptor points to can't be used, or RCTL.BSEX is set for
+    /// `RxData`. Memory and the registers of the rings are unchanged. Steps of this kind return `Nothing` until a
+    /// write of CTRL with RST.
     Fault,
+}
+
+impl<F: Copy> Copy for Outcome<F> {}
+
+impl<F: Copy> Clone for Outcome<F> {
+    ghost use Rattle.std.specs.Prelude.{⊤, ◌≡◌};
+
+    ghost is_clone = { λ outcome copy. copy ≡ outcome };
+
+    ghost is_infallible = { λ _. ⊤ };
+
+    /// Returns a copy of the outcome. The call never fails.
+    fn clone(&self) -> Result<Outcome<F>, AllocError> {
+        Ok(*self)
+    }
 }
 
 impl<F> Outcome<F> {
     ghost use Rattle.std.specs.Prelude.{◌≡◌};
     ghost use Rattle.adapter.specs.Outcomes.{with_frame};
 
-    /// The same outcome, with this frame if the outcome contains a frame.
+    /// Returns the same outcome, with this frame if the outcome contains a frame.
     pub fn with_frame<G>(self, frame: G) -> Outcome<G>
     where
         F: Drop,

@@ -17,12 +17,12 @@ use rx_engine::{RxEngine, append_finished, append_piece, bytes_in_progress};
 use tx_engine::{TxEngine, append_queued};
 
 impl Adapter {
-    /// Appends the frames that the host has still to send to `sending`: first those in the transmit packet buffer, then
-    /// those of the descriptors from TDH to TDT, padded.
+    /// Appends the frames still to be sent to `sending`: first those in the transmit packet buffer, then those of the
+    /// offered transmit descriptors, padded.
     ///
     /// Appends the frames that the host holds to `holding`. First come the frames that end in finished slots or in the
     /// piece in progress, from slot `oldest` of the receive ring on. The frames in the receive packet buffer follow.
-    /// Both lists must have room for these frames. No memory is allocated.
+    /// Both lists must have room for these frames: the call allocates no memory.
     pub fn pending(
         &self,
         memory: &HostMemory,
@@ -48,7 +48,7 @@ impl Adapter {
         append_buffered(&self.receiver, holding);
     }
 
-    /// Appends the frames that end in finished slots and in the piece in progress.
+    /// Appends the frames that end in finished slots or in the piece in progress, from slot `oldest` on.
     fn append_in_slots(&self, memory: &HostMemory, oldest: u16, holding: &mut Vec<Frame>)
         requires can { CanReadHeld oldest (record { memory = memory.now; adapter = self.now }) }
         requires room { length holding.old.items

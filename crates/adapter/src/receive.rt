@@ -1,49 +1,40 @@
 // Arrivals and steps of reception.
 
 ghost use Rattle.std.specs.Prelude.{◌≡◌, length};
-ghost use Rattle.adapter.specs.DataOutcomes.{causes_of_answer, outcome_of};
+ghost use Rattle.adapter.specs.DataOutcomes.{causes_of_answer, outcome_of, outcome_of_done};
 ghost use Rattle.adapter.specs.Outcomes.{framed};
 ghost use Rattle.adapter.specs.State.{IsAdapter};
 ghost use Rattle.adapter.specs.Receiving.{DataAnswers, DataChangesOnly, DoneAnswers, DoneChangesOnly, IsFate};
 ghost use Rattle.adapter.specs.Receiving.{after_arrive, after_data, after_done, memory_after_data_step};
-ghost use Rattle.adapter.specs.Receiving.{memory_after_done_step, no_buffers_counted};
+ghost use Rattle.adapter.specs.Receiving.{is_ending, memory_after_done_step};
 
 use crate::Adapter;
 use crate::outcome::Outcome;
 use bitflags::Flags;
 use dma_memory::HostMemory;
 use registers::Cause;
-use rx_engine::{Data, Done, Fate, arrive, rx_data, rx_done};
+use rx_engine::{Data, Done, Fate, RxEngine, arrive, rx_data, rx_done};
 
-#[tactic(auto, using(registers::specs::Laws::subsets))]
 impl Adapter {
-    /// A frame arrives from the wire. Its fate is the first variant of [`Fate`] that applies. The fate depends on RCTL,
-    /// on the receive filter, and on the room in the packet buffer, whose size PBA selects.
+    /// Delivers a frame from the wire, and returns its fate: the first variant of [`Fate`] that applies. The fate
+    /// depends on RCTL, on the receive filter, and on the room in the packet buffer, whose size PBA selects.
     ///
     /// If the frame is missed, MPC counts it, and RXO is recorded. If the frame is stored or missed while RDH equals
     /// RDT, RNBC counts it (our choice). If a write of PBA makes the packet buffer smaller, the frames in the buffer
-    /// remain. Then each arriving frame is missed until there is room for it.
+    /// remain. A frame that would be stored is then missed while the buffer has no room for it.
     pub fn arrive(&mut self, frame: &[u8]) -> Fate
         ensures fate { IsFate self.old frame.now result }
         ensures state { self.new ≡ after_arrive result frame.now self.old }
         ensures adapter { IsAdapter self.new }
     {
-        let room = self.room();
-        let file = &mut self.file;
-        let fate = arrive(&mut self.receiver, &file.filter, room, frame);
-        match fate {
-            Fate::Off | Fate::Illegal | Fate::Filtered => {}
-            Fate::Missed => {
-                file.mpc.bump();
-                file.causes.raise(Cause::RXO);
-                file.count_no_buffers();
-            }
-            Fate::Stored => file.count_no_buffers(),
-        }
+        let room = self.packet_buffer.bytes();
+        let fate = arrive(&mut self.receiver, &self.file.filter, room, frame);
+        self.file.note_arrival(fate);
         fate
     }
 
-    /// Writes the next piece of the packet buffer's oldest frame to memory.
+    /// Performs a data step: writes the next piece of the packet buffer's oldest frame to memory. If a piece was
+    /// written, and half of the ring's descriptors are now offered, RXDMT0 is recorded.
     pub(crate) fn move_piece(&mut self, memory: &mut HostMemory) -> Outcome<()>
         ensures answer { DataAnswers memory.old self.old (framed result self.old) }
         ensures state { self.new ≡ after_data (framed result self.old) self.old }
@@ -60,8 +51,8 @@ impl Adapter {
         outcome_of(answer)
     }
 
-    /// Writes back the descriptor of the piece in progress. If the frame ends in this piece, RXT0 is recorded, and GPRC
-    /// counts the frame.
+    /// Performs a done step: writes back the descriptor of the piece in progress. If the frame ends in this piece, the
+    /// step records RXT0, and GPRC counts the frame.
     pub(crate) fn finish_piece(&mut self, memory: &mut HostMemory) -> Outcome<()>
         ensures answer { DoneAnswers self.old (framed result self.old) }
         ensures state { self.new ≡ after_done (framed result self.old) self.old }
@@ -70,21 +61,34 @@ impl Adapter {
         ensures size { length memory.new ≡ length memory.old }
         ensures adapter { IsAdapter self.new }
     {
-        let ends = match self.receiver.work() {
-            Some(work) => work.ends,
-            None => false,
-        };
-        match rx_done(&mut self.receiver, memory) {
-            Done::Nothing => Outcome::Nothing,
-            Done::Done => {
-                self.file.note_finished(ends);
-                Outcome::Done
-            }
-        }
+        let ends = is_ending(&self.receiver);
+        let answer = rx_done(&mut self.receiver, memory);
+        self.file.note_finished(ends);
+        outcome_of_done(answer)
     }
 }
 
-/// The outcome of a data step with this answer of the engine.
+/// Returns whether a piece is in progress that is the last one of its frame.
+fn is_ending(engine: &RxEngine) -> bool
+    ensures { result ≡ is_ending engine.now.work }
+{
+    match engine.work() {
+        Some(work) => work.ends,
+        None => false,
+    }
+}
+
+/// Returns the outcome of a done step with this answer of the engine.
+fn outcome_of_done(answer: Done) -> Outcome<()>
+    ensures { result ≡ outcome_of_done answer }
+{
+    match answer {
+        Done::Nothing => Outcome::Nothing,
+        Done::Done => Outcome::Done,
+    }
+}
+
+/// Returns the outcome of a data step with this answer of the engine.
 fn outcome_of(answer: Data) -> Outcome<()>
     ensures { result ≡ outcome_of answer }
 {
@@ -96,8 +100,8 @@ fn outcome_of(answer: Data) -> Outcome<()>
     }
 }
 
-/// The causes that a data step with this answer of the engine records: RXDMT0 if the free descriptors are now half the
-/// ring.
+/// Returns the causes that a data step with this answer of the engine records: RXDMT0 if a piece was written, and half
+/// of the ring's descriptors are now offered.
 fn causes_of_answer(answer: Data) -> Cause
     ensures { result.0 ≡ causes_of_answer answer }
 {

@@ -5,7 +5,7 @@ ghost use Rattle.std.specs.Prelude.{◌≡◌, ◌≢◌, ◌<◌, ◌/◌, ◌%
 use crate::offsets::*;
 
 /// A register of one of the two descriptor rings.
-#[derive(Clone, Copy, PartialEq, Eq)]
+#[derive(Clone, Copy)]
 pub enum RingRegister {
     /// RDBAL, TDBAL: the low word of the ring's address.
     BaseLow,
@@ -13,14 +13,15 @@ pub enum RingRegister {
     BaseHigh,
     /// RDLEN, TDLEN: the ring's length in bytes.
     Length,
-    /// RDH, TDH: the index of the first descriptor that the adapter owns, unless head equals tail.
+    /// RDH, TDH: the index of the first descriptor that the adapter owns. If head equals tail, the adapter owns no
+    /// descriptor.
     Head,
     /// RDT, TDT: the index of the descriptor after the last one that the adapter owns.
     Tail,
 }
 
 /// A register of the adapter (chapter 13).
-#[derive(Clone, Copy, PartialEq, Eq)]
+#[derive(Clone, Copy)]
 pub enum Register {
     /// CTRL, device control.
     Ctrl,
@@ -71,7 +72,7 @@ pub enum Register {
 impl Register {
     ghost use Rattle.adapter.specs.Table.{IsInTable, register_at};
 
-    /// The register at an offset in bytes, or `None` if there is none.
+    /// Returns the register at an offset in bytes, or `None` if no register is at the offset.
     #[tactic(auto, unfolding(crate::specs::Table::register_at, crate::specs::Table::array_register_at))]
     #[inline(always)]
     pub fn at(offset: u32) -> Option<Register>
@@ -116,7 +117,7 @@ impl Register {
     }
 }
 
-/// The register that is this number of bytes after RAL(0), up to RAH(15).
+/// Returns the register `distance` bytes after RAL(0): a RAL if `distance` is a multiple of 8, else a RAH.
 fn address_register(distance: u32) -> Register
     requires { distance < 128 }
     ensures even { distance % 8 ≡ 0 → result ≡ Register.Ral (distance / 8) }

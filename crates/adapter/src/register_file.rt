@@ -1,6 +1,6 @@
-// The registers that a reset sets.
+// The register file: the registers that a reset sets.
 
-ghost use Rattle.std.specs.Prelude.{◌≡◌, ◌<◌, ◌==◌, if◌then◌else◌, fold, length, slice_index};
+ghost use Rattle.std.specs.Prelude.{◌≡◌, ◌<◌, ◌==◌, [], ◌∷◌, if◌then◌else◌, fold, length, slice_index};
 ghost use Rattle.registers.specs.Bits.{union};
 ghost use Rattle.registers.specs.Places.{alone, rxt0};
 ghost use Rattle.adapter.specs.Hashed.{file_writes};
@@ -13,9 +13,10 @@ use bitflags::Flags;
 use eeprom::{Eerd, Image};
 use mdic_phy::Mdic;
 use registers::{Cause, Causes, Counter, Ctrl, Tctl};
-use rx_engine::{Filter, VLAN_TYPE};
+use rx_engine::{Fate, Filter, VLAN_TYPE};
 use std::alloc::AllocError;
-use std::hash::Hasher;
+use std::hash::{Hash, Hasher};
+use tx_engine::Put;
 
 /// The number of bits of a word of the EEPROM.
 const WORD_BITS: u32 = 16;
@@ -23,7 +24,8 @@ const WORD_BITS: u32 = 16;
 /// AV, bit 31 of RAH: the address is valid.
 const ADDRESS_VALID: u32 = 1 << 31;
 
-/// The registers that a reset sets: all except PBA and those of the PHY. RCTL and VET are in the filter.
+/// The registers that a reset sets: all except PBA and those of the PHY. STATUS isn't stored. The filter contains RAL,
+/// RAH, MTA, VFTA, RCTL and VET.
 #[derive(Drop)]
 pub(crate) struct RegisterFile {
     pub(crate) ctrl: Ctrl,
@@ -43,7 +45,7 @@ pub(crate) struct RegisterFile {
 impl Clone for RegisterFile {
     ghost is_clone = { λ file copy. copy ≡ file };
 
-    /// A copy of the registers.
+    /// Returns a copy of the registers.
     ///
     /// # Errors
     ///
@@ -67,9 +69,14 @@ impl Clone for RegisterFile {
 }
 
 impl RegisterFile {
-    ghost use Rattle.adapter.specs.View.{registers_at_reset};
+    ghost use Rattle.std.specs.Prelude.{ℕ, List};
+    ghost use Rattle.adapter.specs.DataOutcomes.{file_after_put};
+    ghost use Rattle.adapter.specs.Hashed.{file_of};
+    ghost use Rattle.adapter.specs.Receiving.{after_arrive};
+    ghost use Rattle.adapter.specs.State.{AdapterState};
+    ghost use Rattle.adapter.specs.View.{registers_at_reset, with_file};
 
-    /// The registers after power-on and after a reset, with the address of the EEPROM in the first
+    /// Returns the registers after power-on and after a reset, with the Ethernet address from the EEPROM in the first
     /// pair of RAL and RAH.
     pub(crate) fn at_reset(image: &Image) -> Self
         ensures registers { result ≡ registers_at_reset image.now }
@@ -91,8 +98,25 @@ impl RegisterFile {
         }
     }
 
-    /// If RDH equals RDT, RNBC counts a frame that is stored or missed.
-    pub(crate) fn count_no_buffers(&mut self)
+    /// Counts the arrival of a frame with this fate. If the frame is missed, MPC counts it, and RXO is recorded. If
+    /// the frame is stored or missed while RDH equals RDT, RNBC counts it. Any other fate changes nothing.
+    pub(crate) fn note_arrival(&mut self, fate: Fate)
+        ensures { (frame : List ℕ) (rest : AdapterState)
+            → self.new ≡ file_of (after_arrive fate frame (with_file self.old rest)) }
+    {
+        match fate {
+            Fate::Off | Fate::Illegal | Fate::Filtered => {}
+            Fate::Missed => {
+                self.mpc.bump();
+                self.causes.raise(Cause::RXO);
+                self.count_no_buffers();
+            }
+            Fate::Stored => self.count_no_buffers(),
+        }
+    }
+
+    /// RNBC counts a stored or missed frame, if RDH equals RDT.
+    fn count_no_buffers(&mut self)
         ensures { self.new ≡ record self.old {
           rnbc = (if self.old.receive_ring.head == self.old.receive_ring.tail then one_more self.old.rnbc
               else self.old.rnbc);
@@ -103,7 +127,8 @@ impl RegisterFile {
         }
     }
 
-    /// Records the write-back of a receive descriptor. If a frame ends in it, RXT0 is recorded, and GPRC counts it.
+    /// If `ends` is true, records the end of a received frame: RXT0 is recorded, and GPRC counts the frame. If `ends`
+    /// is false, nothing changes.
     pub(crate) fn note_finished(&mut self, ends: bool)
         ensures { self.new ≡ record self.old {
           causes = record self.old.causes {
@@ -119,18 +144,43 @@ impl RegisterFile {
         }
     }
 
-    /// Feeds all registers to a hasher. Equal registers feed the same bytes.
+    /// Returns the values of MPC, GPRC, GPTC and RNBC, in this order.
+    fn counts(&self) -> [u32; 4]
+        ensures { result ≡ self.now.mpc ∷ self.now.gprc ∷ self.now.gptc ∷ self.now.rnbc ∷ [] }
+    {
+        [
+            self.mpc.value(),
+            self.gprc.value(),
+            self.gptc.value(),
+            self.rnbc.value(),
+        ]
+    }
+
+    /// If a step `TxPut` with this answer of the engine put a frame onto the wire, GPTC counts the frame. If the
+    /// frame's descriptor asks for a report, TXDW is recorded.
+    pub(crate) fn note_put(&mut self, answer: Put)
+        ensures { self.new ≡ file_after_put answer self.old }
+    {
+        if let Put::Put { reported } = answer {
+            let causes = if reported {
+                Cause::TXDW
+            } else {
+                Cause::empty()
+            };
+            self.causes.raise(causes);
+            self.gptc.bump();
+        }
+    }
+
+    /// Feeds these registers to a hasher. Equal registers feed the same bytes.
     pub(crate) fn feed<H: Hasher>(&self, hasher: &mut H)
         ensures { hasher.new ≡ fold H.write hasher.old (file_writes self.now) }
     {
-        hasher.write_u32(self.ctrl.bits());
-        hasher.write_u32(self.tctl.bits());
-        hasher.write_u32(self.causes.recorded());
-        hasher.write_u32(self.causes.masked());
-        hasher.write_u32(self.mpc.value());
-        hasher.write_u32(self.gprc.value());
-        hasher.write_u32(self.gptc.value());
-        hasher.write_u32(self.rnbc.value());
+        let controls = [self.ctrl.0, self.tctl.0];
+        let causes = [self.causes.recorded(), self.causes.masked()];
+        u32::hash_slice(&controls, hasher);
+        u32::hash_slice(&causes, hasher);
+        u32::hash_slice(&self.counts(), hasher);
         self.receive_ring.feed(hasher);
         self.transmit_ring.feed(hasher);
         self.eerd.feed(hasher);
@@ -139,8 +189,8 @@ impl RegisterFile {
     }
 }
 
-/// The filter after a reset: the first receive address is the address in the EEPROM, and VET is the VLAN type of IEEE
-/// 802.1Q (our choice).
+/// Returns the filter after a reset: the first receive address is the address in the EEPROM, and VET is the VLAN type
+/// of IEEE 802.1Q (our choice). The other registers of the filter are 0.
 #[tactic(auto, using(crate::proofs::Words::and_address_high))]
 fn filter_at_reset(image: &Image) -> Filter
     ensures filter { result ≡ filter_at_reset image.now }
@@ -153,7 +203,7 @@ fn filter_at_reset(image: &Image) -> Filter
     filter
 }
 
-/// RAL(0) after a reset: the first two words of the EEPROM, the earlier in the low half.
+/// Returns RAL(0) after a reset: words 0 and 1 of the EEPROM, word 0 in the low half.
 #[tactic(auto, using(crate::proofs::Words::or_words))]
 fn address_low(image: &Image) -> u32
     ensures { result ≡ address_low_at_reset 0 image.now }
@@ -161,7 +211,7 @@ fn address_low(image: &Image) -> u32
     u32::from(image.word(1)) << WORD_BITS | u32::from(image.word(0))
 }
 
-/// RAH(0) after a reset: the third word of the EEPROM, and AV.
+/// Returns RAH(0) after a reset: word 2 of the EEPROM, with AV set.
 #[tactic(auto, using(crate::proofs::Words::or_valid))]
 fn address_high(image: &Image) -> u32
     ensures high { result ≡ address_high_at_reset 0 image.now }

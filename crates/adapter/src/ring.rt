@@ -6,7 +6,7 @@ ghost use Rattle.adapter.specs.Rings.{new_ring, ring_answer, ring_of, ring_writt
 
 use crate::register::RingRegister;
 use descriptors::Ring;
-use std::hash::Hasher;
+use std::hash::{Hash, Hasher};
 
 /// The bits that RDBAL and TDBAL store: a ring's address is a multiple of 16.
 const BASE_LOW_BITS: u32 = 0xFFFF_FFF0;
@@ -14,7 +14,7 @@ const BASE_LOW_BITS: u32 = 0xFFFF_FFF0;
 /// The bits that RDLEN and TDLEN store: a ring's length in bytes is a multiple of 128.
 const LENGTH_BITS: u32 = 0x000F_FF80;
 
-/// The bits of a descriptor's index in RDH, RDT, TDH and TDT.
+/// The bits that RDH, RDT, TDH and TDT store: the index of a descriptor.
 const INDEX_BITS: u32 = 0xFFFF;
 
 /// The values of the registers of a descriptor ring.
@@ -28,14 +28,14 @@ pub struct RingRegisters {
     pub base_high: u32,
     /// The ring's length in bytes, a multiple of 128.
     pub length_bytes: u32,
-    /// The index of the first descriptor that the adapter owns, unless head equals tail.
+    /// The index of the first descriptor that the adapter owns. If head equals tail, the adapter owns no descriptor.
     pub head: u16,
     /// The index of the descriptor after the last one that the adapter owns.
     pub tail: u16,
 }
 
 impl RingRegisters {
-    /// Registers that are all 0, as after a reset: a ring without descriptors.
+    /// Returns registers that are all 0, as after a reset: a ring without descriptors.
     pub(crate) fn new() -> Self
         ensures { result ≡ new_ring }
     {
@@ -48,7 +48,7 @@ impl RingRegisters {
         }
     }
 
-    /// The value of a register.
+    /// Returns the value of a register.
     pub(crate) fn read(&self, register: RingRegister) -> u32
         ensures { result ≡ ring_answer register self.now }
     {
@@ -61,7 +61,7 @@ impl RingRegisters {
         }
     }
 
-    /// Writes a register, which stores only the bits that it has.
+    /// Writes a register: stores the register's kept bits of the value.
     pub(crate) fn write(&mut self, register: RingRegister, value: u32)
         ensures { self.new ≡ ring_written register value self.old }
     {
@@ -78,14 +78,11 @@ impl RingRegisters {
     pub(crate) fn feed<H: Hasher>(&self, hasher: &mut H)
         ensures { hasher.new ≡ fold H.write hasher.old (ring_writes self.now) }
     {
-        hasher.write_u32(self.base_low);
-        hasher.write_u32(self.base_high);
-        hasher.write_u32(self.length_bytes);
-        hasher.write_u16(self.head);
-        hasher.write_u16(self.tail);
+        u32::hash_slice(&[self.base_low, self.base_high, self.length_bytes], hasher);
+        u16::hash_slice(&[self.head, self.tail], hasher);
     }
 
-    /// The ring that the registers define.
+    /// Returns the ring that the registers define.
     pub(crate) fn ring(&self) -> Ring
         ensures { result ≡ ring_of self.now }
     {

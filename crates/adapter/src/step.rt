@@ -1,9 +1,9 @@
 // The kinds of steps of an adapter.
 
-/// The kind of a step. Any steps may happen between two accesses of a driver.
+/// The kind of a step. Any number of steps of any kinds may happen between two accesses of a driver.
 #[derive(Clone, Copy, Debug, PartialEq, Eq)]
 pub enum StepKind {
-    /// Takes the frame that the transmit descriptor at TDH points to into the transmit packet buffer.
+    /// Copies the frame that the transmit descriptor at TDH points to into the transmit packet buffer.
     TxTake,
     /// Puts the oldest frame of the transmit packet buffer onto the wire.
     TxPut,
@@ -14,6 +14,6 @@ pub enum StepKind {
     RxDone,
     /// Ends a pending read of the EEPROM.
     EepromTick,
-    /// Lowers the PHY's count of ticks until the link is up, and ends a pending command of MDIC.
+    /// Decreases the PHY's running link countdown by 1, and then ends a pending command of MDIC.
     PhyTick,
 }

@@ -11,8 +11,8 @@ use rx_engine::has_frame_to_move;
 use tx_engine::is_idle;
 
 impl Adapter {
-    /// Whether a step of this kind has something to do: its outcome isn't `Nothing`. This depends neither on memory nor
-    /// on the wire: [`TxPut`](StepKind::TxPut) has something to do even if the wire is full.
+    /// Returns whether a step of this kind has something to do: its outcome isn't `Nothing`. The result depends
+    /// neither on memory nor on the wire: [`TxPut`](StepKind::TxPut) has something to do even if the wire is full.
     pub fn has_work(&self, kind: StepKind) -> bool
         ensures work { TellsWork kind result self.now }
     {
@@ -26,7 +26,7 @@ impl Adapter {
         }
     }
 
-    /// Whether a step `TxTake` would take a frame, or be a fault.
+    /// Returns whether a step `TxTake` would take a frame or be a fault.
     fn has_frame_to_take(&self) -> bool
         ensures { IsTrue result ↔ (¬ (HasNothingToTake self.now)) }
     {
@@ -37,15 +37,16 @@ impl Adapter {
         )
     }
 
-    /// Whether a frame waits in the transmit packet buffer.
+    /// Returns whether a frame waits in the transmit packet buffer.
     fn has_frame_to_put(&self) -> bool
         ensures { IsTrue result ↔ (self.now.transmitter.buffer ≢ []) }
     {
         !self.transmitter.is_empty()
     }
 
-    /// Whether the receive engine can begin a piece: RCTL.EN is set, the engine is running and idle, a frame is in the
-    /// packet buffer, and a descriptor is offered.
+    /// Returns whether the receive engine can begin a piece. RCTL.EN must be set, no fault may have stopped the
+    /// engine, and no piece may be in progress. A frame must be in the packet buffer, and a descriptor must be
+    /// offered.
     fn has_piece_to_move(&self) -> bool
         ensures { IsTrue result ↔ HasFrameAndDescriptor self.now }
     {
@@ -53,7 +54,7 @@ impl Adapter {
         has_frame_to_move(&self.receiver, &ring, self.file.filter.rctl())
     }
 
-    /// Whether a piece is in progress.
+    /// Returns whether a piece is in progress.
     fn has_piece_in_progress(&self) -> bool
         ensures { IsTrue result ↔ (¬ (self.now.receiver.work ≡ None)) }
     {

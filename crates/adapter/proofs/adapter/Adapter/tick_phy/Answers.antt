@@ -1,0 +1,40 @@
+use Rattle.std.proofs.Common.{sym, ◌∙◌, ap}
+use Rattle.adapter.specs.Steps.{after_phy_tick}
+use Rattle.adapter.specs.View.{state_of}
+use Rattle.adapter.proofs.StepStates.{alone-raised, tick-answers, tick-nothing, tick-state}
+use Rattle.adapter.proofs.adapter.Adapter.tick_phy.Goals as goal
+
+pub invariant_of-self : goal.invariant_of-self
+invariant_of-self c =
+    let before = c.self.invariant in
+    record {
+      registers = record {
+        tables = before.registers.tables;
+        allocation = before.registers.allocation;
+        causes = alone-raised c.self.inside.file.causes c.raise.new.self c.causes_of_tick.result.0 c.raise.ensures before.registers.causes;
+        counters = before.registers.counters;
+      };
+      receiver = before.receiver;
+      image = before.image;
+    }
+
+pub returns-clause-state : goal.returns-clause-state
+returns-clause-state c =
+    tick-state c.tick-told.result c.tick-told.new.phy c.tick-told.new.self c.causes_of_tick.result.0 c.raise.new.self
+    (state_of c.self.inside) c.causes_of_tick.ensures c.raise.ensures c.tick-told.ensures.phy c.tick-told.ensures.mdic
+    c.tick-told.ensures.mdic_stays c.tick-told.ensures.phy_stays c.tick-told.ensures.told
+    ∙ ap after_phy_tick c.self.view_is
+
+pub returns-clause-answer : goal.returns-clause-answer
+returns-clause-answer c =
+    rw (c.outcome_of_tick.ensures, sym c.self.view_is)
+    (tick-answers _ c.tick-told.result (state_of c.self.inside) c.tick-told.ensures.told)
+
+pub returns-clause-nothing : goal.returns-clause-nothing
+returns-clause-nothing c = λ nothing.
+    returns-clause-state c
+    ∙ rw (sym c.self.view_is) (tick-nothing _ c.tick-told.result (state_of c.self.inside) c.tick-told.ensures.told
+    (sym c.outcome_of_tick.ensures ∙ nothing))
+
+pub returns-clause-adapter : goal.returns-clause-adapter
+returns-clause-adapter c = invariant_of-self c
