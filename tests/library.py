@@ -10,7 +10,6 @@ CMake and pip, too. For a compiler or tool that isn't there, the script prints a
 failed', and the exit status is 1 if anything failed.
 """
 
-import base64
 import os
 import re
 import runpy
@@ -22,19 +21,15 @@ from harness import TOOLS, TOP, Program, test_all, text_of, words_of_script
 import adapter
 import large_driver
 import library_examples
+import library_served
 import nic82540em
 import sweep
 from driver import CTRL, EERD, ICR, RCTL, RDH, RDLEN, RDT
 from expected import EN, RST
-from random_requests import BAM, RandomRequests, Words
+from library_served import MEMORY, REGISTER_BYTES, REQUESTS, InProcess, Served, requests_of
+from random_requests import BAM
 
-MEMORY = 8192
 GPRC, MPC = 0x4074, 0x4010
-SEEDS, REQUESTS = 10, 1000
-# The steps before an access, of every other seed
-STEPS = 3
-# The size of the area of all registers in bytes, and the bytes of a register
-AREA, REGISTER_BYTES = 0x20000, 4
 REFUSED_MEMORY = "WARNING: AddressSanitizer failed to allocate"
 SEEDS_OF_SWEEP = 25
 
@@ -89,176 +84,10 @@ def names(library):
     library.check("the calls in Python", {f"nic82540em_{name}" for name in nic82540em.CALLS}, exported)
     outcomes = re.findall(r"^    NIC_(\w+),?", header[header.index("NIC_NOTHING"):header.index("/* The fates")], re.M)
     library.check("the outcomes in Python", [name.upper() for name in nic82540em.OUTCOMES], ["NOTHING", *outcomes])
-    finder = runpy.run_path(os.path.join(TOOLS, "race_finder", "names.py"))
+    finder = runpy.run_path(os.path.join(TOP, "finder", "names.py"))
     library.check("the steps of the finder of races", sorted(finder["STEP_KINDS"]), sorted(nic82540em.KINDS))
     library.check("its outcomes", sorted(finder["OUTCOMES"]), sorted(nic82540em.OUTCOMES))
     library.check("its fates", sorted(finder["FATES"]), sorted(nic82540em.FATES))
-
-
-# One list of requests in process and by `serve`.
-
-class InProcess:
-    """Answers requests of `serve` by the library."""
-
-    def __init__(self, library, memory, **options):
-        self.nic = nic82540em.Nic(library, memory=memory, **options)
-
-    def register(self, address, size):
-        """The offset of the register that an access goes to, or None."""
-        offset = address - adapter.REGISTERS
-        return offset if size == REGISTER_BYTES and 0 <= offset < AREA and offset % REGISTER_BYTES == 0 else None
-
-    def load(self, address, size):
-        offset = self.register(address, size)
-        return self.nic.load(address,
-                             size) if offset is None else self.nic.read(offset).to_bytes(REGISTER_BYTES, "little")
-
-    def store(self, address, data):
-        offset = self.register(address, len(data))
-        if offset is None:
-            self.nic.store(address, data)
-        else:
-            self.nic.write(offset, int.from_bytes(data, "little"))
-        return ""
-
-    def answer(self, request, seed):
-        """The answer to a request, without OK."""
-        verb, *words = request.split()
-        if verb == "readl":
-            return f"0x{int.from_bytes(self.load(int(words[0], 0), REGISTER_BYTES), 'little'):016x}"
-        if verb == "writel":
-            return self.store(int(words[0], 0), int(words[1], 0).to_bytes(REGISTER_BYTES, "little"))
-        if verb == "read":
-            return "0x" + self.load(int(words[0], 0), int(words[1], 0)).hex()
-        if verb == "write":
-            return self.store(int(words[0], 0), bytes.fromhex(words[2][2:]))
-        if verb == "b64write":
-            return self.store(int(words[0], 0), base64.b64decode(words[2]))
-        if verb == "memset":
-            return self.store(int(words[0], 0), bytes([int(words[2], 0)]) * int(words[1], 0))
-        if verb in ("settle", "line"):
-            return f"0x{int(getattr(self.nic, verb)()):016x}"
-        if verb == "interleave":
-            self.nic.interleave(int(words[0]), seed)
-            return ""
-        if verb == "pace":
-            self.nic.pace(int(words[0]))
-            return ""
-        if verb == "choose":
-            return f"0x{self.nic.choose(int(words[0], 0)):016x}"
-        if verb == "offer":
-            self.nic.offer(bytes.fromhex("".join(words)))
-            return ""
-        if verb == "wire":
-            self.nic.fill_wire(words[0] == "full")
-            return ""
-        return {"step": lambda: self.nic.step(words[0]),
-                "arrive": lambda: self.nic.arrive(bytes.fromhex("".join(words))),
-                "log": lambda: ""}[verb]()
-
-    def reply(self, request, seed):
-        """What a request does: the answer, the frames that were put on the wire, and the interrupt line."""
-        try:
-            answer = self.answer(request, seed)
-        except nic82540em.Refused:
-            answer = "refused"
-        frames = []
-        while (frame := self.nic.take_put()) is not None:
-            frames.append(frame)
-        return answer, frames, self.nic.line()
-
-
-class Served(adapter.Adapter):
-    """The same by `serve`."""
-
-    def reply(self, request):
-        self.wire.clear()
-        try:
-            answer = self.ask(request)[0]
-        except adapter.Refused:
-            answer = "refused"
-        return answer, list(self.wire), self.line
-
-
-class Size:
-    """What the requests of a hostile driver have to know of memory."""
-
-    def __init__(self, size):
-        self.memory, self.registers = bytes(size), {}
-
-
-def requests_of(seed):
-    """Requests of a hostile driver, with some that are refused, and with steps before accesses for every other seed."""
-    drawn = RandomRequests(Words(seed), Size(MEMORY))
-    # The answers are compared with those of `serve`, so no registers have to be read before steps and arrivals.
-    drawn.before_steps, drawn.before_frames = [], []
-    asked = [f"interleave {STEPS}"] if seed % 2 else []
-    while len(asked) < REQUESTS:
-        drawn.phase(40)
-        asked += [request for request, _ in drawn.take() if not request.startswith(("log", "events"))]
-        asked += ["line", "settle", f"read {MEMORY - 2:#x} 3", f"write {2**64 - 1:#x} 1 0x00", f"read {MEMORY:#x} 0"]
-    return asked[:REQUESTS]
-
-
-def same_answers(library):
-    for seed in range(1, SEEDS + 1):
-        inside = InProcess(library.shared, MEMORY)
-        with Served(library.program, "--memory", str(MEMORY), "--seed", str(seed)) as served:
-            differ = next(((request, got, wanted) for request in requests_of(seed)
-                           if (got := inside.reply(request, seed)) != (wanted := served.reply(request))), None)
-            library.check(f"{REQUESTS} requests of seed {seed}, in process and served", differ, None)
-
-
-def events_in(told, request, answer):
-    """The events in what `serve` reported of a request, with the log and events on."""
-    found, fault = [], ""
-    if request.startswith("arrive") and answer != "refused":
-        found.append(("arrived", answer))
-    for line in told:
-        words = line.split()
-        if words[0] == "arrived":
-            found.append(("arrived", words[1]))
-        elif words[:2] == ["#", "step"] and words[4] == "fault":
-            fault = words[2]
-        elif words[:2] == ["#", "step"] and words[4] != "nothing":
-            found.append(("step", words[2], words[4]))
-        elif words[0] == "fault":
-            found.append(("fault", fault, int(words[2]), words[3]))
-        elif words[0] == "IRQ":
-            found.append(("line", words[1] == "raise"))
-    return found
-
-
-def with_offers(seed):
-    """Requests of a hostile driver, with choices and offered frames, and with a wire that is full now and then."""
-    for place, request in enumerate(requests_of(seed)):
-        if place % 13 == 5:
-            yield f"choose {place % 7 and 1 << place % 30}"
-        if place % 11 == 3:
-            yield "offer " + (bytes([255] * 6) + bytes([place & 255]) * (14 + place % 60)).hex()
-        if place % 60 in (20, 50):
-            yield f"wire {'full' if place % 60 == 20 else 'free'}"
-        if place % 40 in (10, 25):
-            yield f"pace {1 + place % 3 if place % 40 == 10 else 0}"
-        yield request
-
-
-def events_as_served(library):
-    """The answers, frames and events are those of `serve`, also of steps and arrivals before accesses."""
-    kinds = set()
-    for seed in range(1, SEEDS + 1):
-        inside, differ = InProcess(library.shared, MEMORY), None
-        inside.nic.events(True)
-        with Served(library.program, "--memory", str(MEMORY), "--seed", str(seed)) as served:
-            served.ask("log on")
-            for request in with_offers(seed):
-                served.told.clear()
-                got, wanted = inside.reply(request, seed), served.reply(request)
-                got, wanted = (got, inside.nic.take_events()), (wanted, events_in(served.told, request, wanted[0]))
-                kinds |= {event[0] for event in got[1]} | {event[2] for event in got[1] if event[0] == "step"}
-                differ = differ or (got != wanted and (request, got, wanted)) or None
-        library.check(f"events of seed {seed}, in process and served", differ, None)
-    library.check("kinds of events", {"fault", "arrived", "line", "wirefull"} - kinds, set())
 
 
 def events_that_wait(library):
@@ -437,7 +266,7 @@ def is_built(library, words):
     return ran.returncode == 0
 
 
-PARTS = (same_answers, events_as_served, events_that_wait, image_and_missed, steps_by_schedule, state_without_accesses,
+PARTS = (*library_served.PARTS, events_that_wait, image_and_missed, steps_by_schedule, state_without_accesses,
          steps_that_are_possible, copies, states_by_contents, steps_by_ticks, frames_that_wait, drivers,
          *library_examples.PARTS)
 

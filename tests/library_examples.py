@@ -29,7 +29,8 @@ def examples_in_c(library):
     if not library.is_there("cc", "the examples in C"):
         return
     alone = ["-DALONE"]
-    for name, extra in ("first", []), ("frames", []), ("state", []), ("fuzz", alone), ("fuzz_driver", alone):
+    for name, extra in (("first", []), ("frames", []), ("state", []), ("schedule", []), ("fuzz", alone),
+                        ("fuzz_driver", alone)):
         source, wanted = os.path.join(EXAMPLES, f"{name}.c"), text_of("examples", "library", f"{name}.txt")
         for how, words in ("", []), ("_sanitized", [SANITIZERS, "-g"]):
             target = library.path(name + how)
@@ -40,7 +41,7 @@ def examples_in_c(library):
     if library.compiles("the code of LIBRARY.md", "cc", "-std=c99", *WARNINGS, "-o", "page", "page.c", *library.flags):
         library.prints("the code of LIBRARY.md: runs", [library.path("page")], "00000080\n")
     if library.is_there("valgrind", "the examples in C by valgrind"):
-        for name in "first", "frames", "state":
+        for name in "first", "frames", "state", "schedule":
             library.prints(f"{name}: by valgrind", ["valgrind", "-q", "--leak-check=full", "--error-exitcode=9",
                                                     library.path(name)], text_of("examples", "library", f"{name}.txt"))
 
@@ -164,6 +165,7 @@ def refused_memory(library):
         if library.compiles("refused memory", "cc", *flags, "-o", target, source, *library.flags):
             library.prints("refused memory: runs", [target], "new: refused at each of 11 allocations\n"
                            "copy: refused at each of 11 allocations\noffer: refused at each of 2 allocations\n"
+                           "play: 5 of 9 allocations end it\n"
                            "no block is left\n")
 
 
@@ -178,6 +180,8 @@ def examples_in_other_languages(library):
            f"NIC82540EM_LIB={os.path.join(library.root, 'lib')}"]
     library.prints("events.py: runs", [*env, sys.executable, "-B", os.path.join(EXAMPLES, "events.py")],
                    text_of("examples", "library", "events.txt"))
+    library.prints("schedule.py: runs", [*env, sys.executable, "-B", os.path.join(EXAMPLES, "schedule.py")],
+                   text_of("examples", "library", "schedule.txt").replace("2 is faulty", "2 of the schedule"))
     if library.is_there("rustc", "the crate and the example in Rust"):
         rustc = ["rustc", "--edition", "2021", "-O", "-D", "warnings"]
         path = ["-L", f"native={os.path.join(library.root, 'lib')}"]

@@ -49,8 +49,9 @@ int main(void)
     struct nic82540em nic = NIC82540EM_NONE, copy = NIC82540EM_NONE;
     struct nic82540em_options options = NIC82540EM_DEFAULTS;
     struct nic82540em_event event;
+    static const char schedule[] = "1.0 rx before settle\n1.1 tx before read VET\n1.2 choose 2 before choose\n";
     uint32_t value = 7;
-    long refused;
+    long refused, ends = 0;
 
     options.memory = 4096;
     for (refused = 0;; refused++) {
@@ -79,6 +80,21 @@ int main(void)
         CHECK(nic82540em_settle(&nic) == 0 && !nic82540em_take_event(&nic, &event));
     CHECK(refused > 0 && nic82540em_settle(&nic) == 0 && nic82540em_take_event(&nic, &event) && event.what == NIC_ARRIVED);
     printf("offer: refused at each of %ld allocations\n", refused);
+    for (refused = 0;; refused++) {
+        long before = live;
+
+        left = refused;
+        value = nic82540em_play(&nic, schedule, sizeof schedule - 1);
+        CHECK(value == 0 || (value == NIC_REFUSED && live == before));
+        if (left >= 0) /* no allocation failed */
+            break;
+        ends += value == NIC_REFUSED;
+    }
+    CHECK(value == 0);
+    printf("play: %ld of %ld allocations end it\n", ends, refused);
+    left = 0;
+    CHECK(nic82540em_begin_round(&nic, NIC_BY_SETTLE) && nic82540em_read(&nic, NIC_VET) == 0x1234);
+    CHECK(nic82540em_choose(&nic, 9) == 2 && left == 0);
     left = 0;
     CHECK(nic82540em_peek(&copy, NIC_VET, &value) && value == 0x1234);
     CHECK(nic82540em_read(&nic, NIC_VET) == 0x1234 && nic82540em_settle(&nic) == 0);

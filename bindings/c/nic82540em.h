@@ -10,7 +10,7 @@
  *   - The areas that two pointers of one call point to must not overlap.
  *   - Make all calls for one adapter in one thread.
  *
- * Only nic82540em_new, nic82540em_copy and nic82540em_offer request memory.
+ * Only nic82540em_new, nic82540em_copy, nic82540em_offer and nic82540em_play request memory.
  *
  * If the handle has no adapter (before nic82540em_new, and after nic82540em_free), each call but nic82540em_new returns
  * 0, false or NIC_REFUSED, and changes nothing.
@@ -202,19 +202,42 @@ bool nic82540em_interleave(struct nic82540em *nic, uint32_t count, uint64_t seed
  * changes nothing, if `count` is above 65,535. */
 bool nic82540em_pace(struct nic82540em *nic, uint32_t count);
 
-/* Returns a number below `limit`, or 0 if `limit` is 0: after nic82540em_interleave with a `count` above 0, a random one,
- * else 0. So the seed also determines choices of a test, such as the next packet, as `choose` of `nicbench serve` does. */
+/* Returns a number below `limit`, or 0 if `limit` is 0. After nic82540em_interleave with a `count` above 0, the number
+ * is random. Otherwise, it is the number that the schedule of nic82540em_play has for this call, if this number is
+ * below `limit`, or else 0. So the seed also determines choices of a test, such as the next packet, as `choose` of
+ * `nicbench serve` does. */
 uint32_t nic82540em_choose(struct nic82540em *nic, uint32_t limit);
 
-/* Adds a step of this kind to the end of the schedule. Before each access, the first steps of the schedule whose
- * `access` is at most the number of the access are played, before random steps. So add steps in the order of their
- * accesses. Returns false, and changes nothing, if there is no such kind, or 4,096 steps wait. */
+/* Adds a step of this kind to the end of the list of scheduled steps. Before each access, the first steps of the list
+ * whose `access` is at most the number of the access are played, before random steps. So add steps in the order of
+ * their accesses. Returns false, and changes nothing, if there is no such kind, or 4,096 steps wait. */
 bool nic82540em_schedule(struct nic82540em *nic, uint64_t access, uint32_t kind);
 
-/* From now on, a step NIC_EEPROM and then a step NIC_PHY are played before each access, before the steps of the schedule,
+/* From now on, a step NIC_EEPROM and then a step NIC_PHY are played before each access, before the scheduled steps,
  * if `on` is true. So an EEPROM read or an MDIC command ends before the next access, and the link is up after some
  * accesses. A new adapter has no such steps. */
 void nic82540em_ticks(struct nic82540em *nic, bool on);
+
+/* Schedules: what happens before accesses and requests of a test, as text (finder/README.md, "A schedule"). */
+
+/* From now on, plays the schedule in these `count` bytes, in place of another one, as `nicbench serve --schedule` does.
+ * Before each access, the EEPROM and the PHY each take a step if they have work, unless the schedule holds it. Then come
+ * the deviations of this access, before other steps. nic82540em_choose answers the schedule's number, and there are no
+ * random steps. A line `options` has no effect. Returns 0. If the schedule isn't played, nothing changes: returns the
+ * number of the first faulty line, from 1 on, or NIC_REFUSED if the text isn't UTF-8 or memory is refused. */
+uint32_t nic82540em_play(struct nic82540em *nic, const void *text, size_t count);
+
+/* The requests that begin a round. */
+enum {
+    NIC_BY_ARRIVE, /* nic82540em_arrive */
+    NIC_BY_OFFER,  /* nic82540em_offer */
+    NIC_BY_STEP,   /* nic82540em_step */
+    NIC_BY_SETTLE  /* nic82540em_settle */
+};
+
+/* Begins a round of the schedule: plays the deviations before this request. Call it before each such call of the test.
+ * Without a schedule, nothing happens. Returns false, and changes nothing, if there is no such request. */
+bool nic82540em_begin_round(struct nic82540em *nic, uint32_t request);
 
 /* Events: what happened, also in steps before accesses and in nic82540em_settle. */
 

@@ -19,6 +19,8 @@ OUTCOMES = "nothing", "took", "put", "wirefull", "part", "moved", "done", "ticke
 FATES = "off", "illegal", "filtered", "missed", "stored"
 REASONS = "no_fault", "ring", "descriptor", "dext", "eop", "length", "buffer", "bsex"
 # end of names
+# The requests that begin a round of a schedule
+REQUESTS = "arrive", "offer", "step", "settle"
 # What an event is
 STEPPED, ARRIVED, LINE = range(3)
 # The words of the EEPROM
@@ -87,6 +89,8 @@ CALLS: Dict[str, Tuple[Any, List[Any]]] = {
     "fill_wire": (None, [ctypes.c_bool]),
     "events": (None, [ctypes.c_bool]),
     "take_event": (ctypes.c_bool, [ctypes.POINTER(Event)]),
+    "play": (ctypes.c_uint32, [ctypes.c_char_p, ctypes.c_size_t]),
+    "begin_round": (ctypes.c_bool, [ctypes.c_uint32]),
 }
 
 
@@ -263,14 +267,16 @@ class Nic:
             raise Refused(f"pace {count}")
 
     def choose(self, limit: int) -> int:
-        """Returns a number below `limit`: a random one if random steps are played before accesses, else 0."""
+        """Returns a number below `limit`. If random steps are played before accesses, the number is random. Otherwise,
+        it is that of the schedule if this number is below `limit`, or else 0.
+        """
         if not 0 < limit < 1 << 32:
             raise Refused(f"choose {limit}")
         return self.call("choose", limit)
 
     def schedule(self, access: int, kind: str) -> None:
-        """Adds a step to the end of the schedule. It is played before the access with this number; the first has number
-        0.
+        """Adds a step to the end of the list of scheduled steps. It is played before the access with this number; the
+        first has number 0.
         """
         if kind not in KINDS or not 0 <= access < 1 << 64 or not self.call("schedule", access, KINDS.index(kind)):
             raise Refused(f"schedule {access} {kind}")
@@ -278,6 +284,18 @@ class Nic:
     def ticks(self, on: bool) -> None:
         """From now on, plays a step of the EEPROM and one of the PHY before each access, or not."""
         self.call("ticks", on)
+
+    def play(self, schedule: bytes) -> None:
+        """From now on, plays a schedule, in place of another one. Random steps end."""
+        answer = self.call("play", schedule, len(schedule))
+        if answer:
+            raise Refused("memory is refused, or no UTF-8" if answer == REFUSED else f"line {answer} of the schedule")
+
+    def begin_round(self, request: str) -> None:
+        """Begins a round of the schedule, and plays what comes before this request, one of REQUESTS."""
+        if request not in REQUESTS:
+            raise Refused(f"begin_round {request}")
+        self.call("begin_round", REQUESTS.index(request))
 
     # Events
 
@@ -318,13 +336,13 @@ def image_in(path: str) -> list[int]:
     return [int.from_bytes(data[place:place + 2], "little") for place in range(0, len(data), 2)]
 
 
-def options_of(words: Sequence[str]) -> tuple[int, dict[str, Any]]:
-    """The settings of `Nic`, and the seed, from options of `serve`.
+def options_of(words: Sequence[str]) -> tuple[int, Optional[str], dict[str, Any]]:
+    """The seed, the file of the schedule, and the settings of `Nic`, from options of `serve`.
 
-    They are --memory, --link, --rxa, --address, --missed, --image and --seed.
+    They are --memory, --link, --rxa, --address, --missed, --image, --seed and --schedule.
     """
     names = {"--memory": "memory", "--link": "link", "--rxa": "rxa", "--missed": "missed", "--seed": "seed"}
-    settings: dict[str, Any] = {"seed": 0}
+    settings: dict[str, Any] = {"seed": 0, "schedule": None}
     if len(words) % 2:
         raise Refused(f"{words[-1]} has no value")
     for name, value in zip(words[::2], words[1::2]):
@@ -332,11 +350,13 @@ def options_of(words: Sequence[str]) -> tuple[int, dict[str, Any]]:
             settings["address"] = bytes.fromhex(value.replace(":", ""))
         elif name == "--image":
             settings["image"] = image_in(value)
+        elif name == "--schedule":
+            settings["schedule"] = value
         elif name in names:
             settings[names[name]] = 0 if value == "never" else int(value, 0)
         else:
             raise Refused(f"{name} isn't an option of an adapter in process")
-    return settings.pop("seed"), settings
+    return settings.pop("seed"), settings.pop("schedule"), settings
 
 
 class Adapter:
@@ -344,8 +364,11 @@ class Adapter:
 
     def __init__(self, library: Union[str, ctypes.CDLL, None] = None, *options: str) -> None:
         """Makes an adapter by the library with this path, with options of `serve`."""
-        self.seed, settings = options_of(options)
+        self.seed, schedule, settings = options_of(options)
         self.nic = Nic(library, **settings)
+        if schedule is not None:
+            with open(schedule, "rb") as file:
+                self.nic.play(file.read())
         self.line = False  # whether the interrupt line is asserted
         self.wire: list[bytes] = []  # the frames that were put on the wire
         self.told: list[str] = []  # the changes of the interrupt line and the frames, as lines of `serve`
@@ -414,22 +437,26 @@ class Adapter:
 
     def step(self, kind: str) -> str:
         """Plays a step of the adapter, and returns its outcome."""
+        self.nic.begin_round("step")
         outcome = self.nic.step(kind)
         self.look()
         return outcome
 
     def arrive(self, frame: bytes) -> str:
         """Lets a frame arrive from the wire, and returns its fate."""
+        self.nic.begin_round("arrive")
         fate = self.nic.arrive(frame)
         self.look()
         return fate
 
     def offer(self, frame: bytes) -> None:
         """Offers a frame: it arrives before a later access, or in the next `settle`."""
+        self.nic.begin_round("offer")
         self.nic.offer(frame)
 
     def settle(self) -> int:
         """Plays steps until nothing is left to do, and returns the number of steps that did something."""
+        self.nic.begin_round("settle")
         moved = self.nic.settle()
         self.look()
         return moved

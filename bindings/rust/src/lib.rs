@@ -164,6 +164,19 @@ pub enum Event {
     Line(bool),
 }
 
+/// A request of a test that begins a round of a schedule.
+#[derive(Clone, Copy, Debug, PartialEq, Eq)]
+pub enum Request {
+    /// [`Nic::arrive`].
+    Arrive,
+    /// [`Nic::offer`].
+    Offer,
+    /// [`Nic::step`].
+    Step,
+    /// [`Nic::settle`].
+    Settle,
+}
+
 /// A call was refused. Nothing changed.
 #[derive(Clone, Copy, Debug, PartialEq, Eq)]
 pub enum Error {
@@ -175,20 +188,27 @@ pub enum Error {
     NoMemory,
     /// The number of steps before an access, or of cycles after one, is above 65,535; or 4,096 steps wait.
     TooManySteps,
+    /// This line of a schedule, numbered from 1, is the first faulty one.
+    Line(u32),
 }
 
 impl fmt::Display for Error {
     fn fmt(&self, f: &mut fmt::Formatter<'_>) -> fmt::Result {
-        f.write_str(match self {
+        let text = match self {
             Error::New => "an option is out of range, or memory is refused",
             Error::OutOfRange => "some of the bytes are outside memory",
             Error::NoMemory => "memory is refused",
             Error::TooManySteps => "the number of steps before an access, or of cycles after one, is above 65,535; or 4,096 steps wait",
-        })
+            Error::Line(line) => return write!(f, "line {line} of the schedule is faulty"),
+        };
+        f.write_str(text)
     }
 }
 
 impl std::error::Error for Error {}
+
+/// The result of a call that refuses something.
+const REFUSED: u32 = 0xFFFF_FFFF;
 
 /// The words of the EEPROM.
 pub const IMAGE_WORDS: usize = 64;
@@ -305,6 +325,8 @@ extern "C" {
     fn nic82540em_fill_wire(nic: &mut Handle, full: bool);
     fn nic82540em_events(nic: &mut Handle, on: bool);
     fn nic82540em_take_event(nic: &mut Handle, into: &mut RawEvent) -> bool;
+    fn nic82540em_play(nic: &mut Handle, text: *const u8, count: usize) -> u32;
+    fn nic82540em_begin_round(nic: &mut Handle, request: u32) -> bool;
 }
 
 /// An adapter with its host's memory and its wire. It is freed when it is dropped.
@@ -452,8 +474,9 @@ impl Nic {
         is_done.then_some(()).ok_or(Error::TooManySteps)
     }
 
-    /// Returns a number below `limit`, or 0 if `limit` is 0: a random one if random steps are played before accesses,
-    /// else 0. The seed of [`interleave`](Nic::interleave) determines it.
+    /// Returns a number below `limit`, or 0 if `limit` is 0. If random steps are played before accesses, the number is
+    /// random: the seed of [`interleave`](Nic::interleave) determines it. Otherwise, the number is that of the schedule
+    /// if this number is below `limit`, or else 0.
     ///
     /// ```
     /// use nic82540em::{Nic, Options};
@@ -467,8 +490,8 @@ impl Nic {
         unsafe { nic82540em_choose(&mut self.handle, limit) }
     }
 
-    /// Adds a step to the end of the schedule. It is played before the access with number `access`; the first access has
-    /// number 0. Add steps in the order of their accesses. At most 4,096 steps wait.
+    /// Adds a step to the end of the list of scheduled steps. It is played before the access with number `access`; the
+    /// first access has number 0. Add steps in the order of their accesses. At most 4,096 steps wait.
     pub fn schedule(&mut self, access: u64, kind: Step) -> Result<(), Error> {
         let is_done = unsafe { nic82540em_schedule(&mut self.handle, access, kind as u32) };
         is_done.then_some(()).ok_or(Error::TooManySteps)
@@ -477,6 +500,32 @@ impl Nic {
     /// From now on, plays a step of the EEPROM and one of the PHY before each access, or not.
     pub fn ticks(&mut self, on: bool) {
         unsafe { nic82540em_ticks(&mut self.handle, on) }
+    }
+
+    /// From now on, plays a schedule, in place of another one. While it is played, no random steps are played. A line
+    /// `options` has no effect.
+    ///
+    /// ```
+    /// use nic82540em::{Error, Nic, Options, Request};
+    ///
+    /// let mut nic = Nic::new(&Options::default()).unwrap();
+    /// assert_eq!(nic.play("1.1 choose 2 before choose\n1.1 rx before ICR\n"), Err(Error::Line(2)));
+    /// nic.play("1.1 choose 2 before choose\n").unwrap();
+    /// nic.begin_round(Request::Settle);
+    /// nic.settle();
+    /// assert_eq!((nic.choose(7), nic.choose(7)), (2, 0));
+    /// ```
+    pub fn play(&mut self, schedule: &str) -> Result<(), Error> {
+        match unsafe { nic82540em_play(&mut self.handle, schedule.as_ptr(), schedule.len()) } {
+            0 => Ok(()),
+            REFUSED => Err(Error::NoMemory),
+            line => Err(Error::Line(line)),
+        }
+    }
+
+    /// Begins a round of the schedule, and plays what comes before this request. Call it before each such call.
+    pub fn begin_round(&mut self, request: Request) {
+        unsafe { nic82540em_begin_round(&mut self.handle, request as u32) };
     }
 
     /// From now on, keeps events, or not. At most 4,096 wait; while so many wait, a further event isn't kept.

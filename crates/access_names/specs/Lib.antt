@@ -1,2 +1,5 @@
-pub mod Targets
+pub mod Faults
 pub mod Names
+pub mod Reasons
+pub mod Rings
+pub mod Targets

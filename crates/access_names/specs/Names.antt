@@ -1,5 +1,5 @@
 -- The names of targets. Registers have the names of chapter 13 "Register Descriptions"; the rest is our choice.
-use Rattle.std.specs.Prelude.{◌==◌, ◌++◌, ℕ, List, [], Option, Some, None, codes, false, if◌then◌else◌}
+use Rattle.std.specs.Prelude.{◌==◌, ◌++◌, ℕ, List, [], Option, Some, None, codes, drop, false, if◌then◌else◌}
 use Rattle.std.specs.Fmt.{decimal, digits}
 use Rattle.adapter.specs.Table.{register_at}
 use Rattle.adapter.specs.declared.register.RingRegister.{RingRegister}
@@ -7,8 +7,9 @@ use Rattle.adapter.specs.declared.register.RingRegister.TheVariants.{BaseLow, Ba
 use Rattle.adapter.specs.declared.register.Register.{Register as AdapterRegister}
 use Rattle.adapter.specs.declared.register.Register.TheVariants.{Ctrl, Status, Eerd, Mdic, Vet, Icr, Ics, Ims, Imc, Rctl, Tctl}
 use Rattle.adapter.specs.declared.register.Register.TheVariants.{Pba, Receive, Transmit, Mpc, Gprc, Gptc, Rnbc, Mta, Ral, Rah, Vfta}
-use Rattle.engine_faults.specs.declared.engine_fault.Engine.{Engine}
-use Rattle.engine_faults.specs.declared.engine_fault.Engine.TheVariants as engines
+use Rattle.access_names.specs.declared.engine_fault.Engine.{Engine}
+use Rattle.access_names.specs.declared.engine_fault.Engine.TheVariants as engines
+use Rattle.access_names.specs.declared.name.TargetName.{TargetName}
 use Rattle.access_names.specs.declared.target.Target.{Target}
 use Rattle.access_names.specs.declared.target.Target.TheVariants.{Register, Descriptor, Memory}
 
@@ -20,7 +21,7 @@ Text = List ℕ
 abbrev pub hexadecimal : ℕ → Text
 hexadecimal number = codes "0x" ++ digits 16 false number
 
--- a number in brackets
+-- the text of a number, in brackets
 abbrev pub bracketed : Text → Text
 bracketed number = codes "[" ++ number ++ codes "]"
 
@@ -42,7 +43,7 @@ transmit_register Length = codes "TDLEN"
 transmit_register Head = codes "TDH"
 transmit_register Tail = codes "TDT"
 
--- the name of a register, or of the array that it is part of
+-- the name of a register, or of the array that contains the register
 abbrev pub manual_name : AdapterRegister → Text
 manual_name Ctrl = codes "CTRL"
 manual_name Status = codes "STATUS"
@@ -67,7 +68,7 @@ manual_name (Ral entry) = codes "RAL"
 manual_name (Rah entry) = codes "RAH"
 manual_name (Vfta word) = codes "VFTA"
 
--- the number of a register in its array, if it is part of one
+-- the number of a register in its array, from 0, if the register is part of an array
 abbrev pub array_index : AdapterRegister → Option ℕ
 array_index (Mta word) = Some word
 array_index (Ral entry) = Some entry
@@ -75,12 +76,12 @@ array_index (Rah entry) = Some entry
 array_index (Vfta word) = Some word
 array_index register = None
 
--- an index in brackets, if there is one
+-- an index in brackets, or no text if there is no index
 abbrev pub index_text : Option ℕ → Text
 index_text (Some index) = bracketed (decimal index)
 index_text None = []
 
--- the name of the register at this offset, if there is one
+-- the name of this register, with its index if it is in an array; or, if there is no register, `register` with the offset in brackets
 abbrev pub register_text : Option AdapterRegister → ℕ → Text
 register_text (Some register) offset = manual_name register ++ index_text (array_index register)
 register_text None offset = codes "register" ++ bracketed (hexadecimal offset)
@@ -92,7 +93,7 @@ abbrev pub ring_text : Engine → Text
 ring_text engines.Receive = codes "rx"
 ring_text engines.Transmit = codes "tx"
 
--- the first byte has the name of its descriptor
+-- + and a byte's number in its descriptor; for byte 0 no text, so byte 0 has the name of the descriptor
 abbrev pub byte_text : ℕ → Text
 byte_text byte = if byte == 0 then [] else codes "+" ++ decimal byte
 
@@ -101,3 +102,7 @@ abbrev pub target_text : Target → Text
 target_text (Register offset) = register_text (register_at offset) offset
 target_text (Descriptor ring index byte) = ring_text ring ++ bracketed (decimal index) ++ byte_text byte
 target_text (Memory address) = hexadecimal address
+
+-- the bytes of a name: the bytes of its buffer from `start` on
+abbrev pub name_bytes : TargetName → Text
+name_bytes name = drop name.start name.bytes

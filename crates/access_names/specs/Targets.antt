@@ -1,33 +1,33 @@
 -- The target at an address in memory. Sections 3.2.6 "Receive Descriptor Queue Structure" and 3.4 "Transmit Descriptor Ring Structure"
--- define where descriptors are; that the receive ring comes first if both have the address is our choice.
+-- define where descriptors are; to prefer the receive ring if both rings contain the address is our choice.
 use Rattle.std.specs.Prelude.{◌&&◌, ◌+◌, ◌-◌, ◌/◌, ◌%◌, ℕ, Bool, Option, Some, None, if◌then◌else◌, nat_le, nat_lt}
 use Rattle.adapter.specs.Rings.{ring_of}
 use Rattle.adapter.specs.State.{AdapterState}
 use Rattle.descriptors.specs.declared.ring.Ring.{Ring}
-use Rattle.engine_faults.specs.declared.engine_fault.Engine.{Engine}
-use Rattle.engine_faults.specs.declared.engine_fault.Engine.TheVariants.{Receive, Transmit}
+use Rattle.access_names.specs.declared.engine_fault.Engine.{Engine}
+use Rattle.access_names.specs.declared.engine_fault.Engine.TheVariants.{Receive, Transmit}
 use Rattle.access_names.specs.declared.target.Target.{Target}
 use Rattle.access_names.specs.declared.target.Target.TheVariants.{Descriptor, Memory}
 
--- whether a descriptor of the ring has this address
+-- whether this address is in the ring
 abbrev pub is_in_ring : Ring → ℕ → Bool
 is_in_ring ring address = nat_le ring.base address && nat_lt address (ring.base + ring.bytes)
 
--- the byte of a descriptor that is this many bytes after the base of an engine's ring; a descriptor has 16 bytes
+-- the byte at this distance in bytes from the base of an engine's ring; a descriptor has 16 bytes
 abbrev pub descriptor_at : Engine → ℕ → Target
 descriptor_at engine distance = Descriptor engine (distance / 16) (distance % 16)
 
--- the byte of an engine's ring at this address, if there is one
+-- the byte of an engine's ring at this address, if the address is in the ring
 abbrev pub target_in_ring : Engine → Ring → ℕ → Option Target
 target_in_ring engine ring address =
     if is_in_ring ring address then Some (descriptor_at engine (address - ring.base)) else None
 
--- the first target, if there is one; otherwise the second
+-- the first target if there is one, or else the second target
 abbrev pub or_else : Option Target → Target → Target
 or_else (Some target) other = target
 or_else None other = other
 
--- the target at this address
+-- the target of an access at this address in memory
 abbrev pub memory_target_in : AdapterState → ℕ → Target
 memory_target_in adapter address =
     or_else (target_in_ring Receive (ring_of adapter.receive_ring) address)

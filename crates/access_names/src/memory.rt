@@ -1,18 +1,20 @@
 // The target at an address in memory.
 
 ghost use Rattle.std.specs.Prelude.{◌≡◌};
-ghost use Rattle.engine_faults.specs.Rings.{ring_of_engine};
+ghost use Rattle.access_names.specs.Rings.{ring_of_engine};
 ghost use Rattle.access_names.specs.Targets.{memory_target_in, target_in_ring};
 
 use crate::target::Target;
+use crate::{Engine, RingWords};
 use bus::Machine;
 use descriptors::RX_DESC_BYTES;
-use engine_faults::{Engine, RingWords};
 
 const DESCRIPTOR_BYTES: u64 = RX_DESC_BYTES as u64;
 
-/// The target of an access at this address in memory: a descriptor of the receive ring if the address is in this ring,
-/// else one of the transmit ring if the address is in that ring, else memory.
+/// Returns the target of an access at this address in memory.
+///
+/// The target is a descriptor of the receive ring if the address is in the receive ring. Otherwise, the target is a
+/// descriptor of the transmit ring if the address is in the transmit ring, or else a byte of memory.
 pub fn memory_target(machine: &Machine, address: u64) -> Target
     ensures target { result ≡ memory_target_in machine.now.world.adapter address }
 {
@@ -25,7 +27,7 @@ pub fn memory_target(machine: &Machine, address: u64) -> Target
     Target::Memory(address)
 }
 
-/// The descriptor of an engine's ring at this address, if there is one.
+/// Returns the byte of an engine's ring at this address, or `None` if the address isn't in the ring.
 fn target_in_ring(machine: &Machine, engine: Engine, address: u64) -> Option<Target>
     ensures target { result ≡ target_in_ring engine (ring_of_engine engine machine.now.world) address }
 {

@@ -5,10 +5,10 @@ ghost use Rattle.std.specs.Fmt.{WritesOnOk};
 ghost use Rattle.adapter.specs.Table.{register_at};
 ghost use Rattle.access_names.specs.Names.{register_text, ring_text, target_text};
 
+use crate::Engine;
 use crate::register_names::{index_of, name_of};
 use crate::target::Target;
 use adapter::Register;
-use engine_faults::Engine;
 use std::fmt;
 
 impl fmt::Display for Target {
@@ -44,8 +44,8 @@ fn write_register<W: fmt::Write>(offset: u32, f: &mut fmt::Formatter<W>) -> fmt:
     }
 }
 
-/// The word for the ring of an engine.
-fn ring_word(engine: Engine) -> &'static str
+/// Returns the word for the ring of an engine.
+pub(crate) fn ring_word(engine: Engine) -> &'static str
     ensures { result.now ≡ ring_text engine }
 {
     match engine {

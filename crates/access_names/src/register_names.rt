@@ -5,7 +5,7 @@ ghost use Rattle.access_names.specs.Names.{array_index, manual_name, receive_reg
 
 use adapter::{Register, RingRegister};
 
-/// The manual's name of a register, or of the array that it is part of.
+/// Returns the manual's name of a register, or of the array that contains the register.
 pub(crate) fn name_of(register: Register) -> &'static str
     ensures { result.now ≡ manual_name register }
 {
@@ -59,7 +59,7 @@ fn transmit_name(register: RingRegister) -> &'static str
     }
 }
 
-/// The number of a register in its array, or `None` if it isn't part of one.
+/// Returns the number of a register in its array, from 0, or `None` if the register isn't part of an array.
 pub(crate) fn index_of(register: Register) -> Option<u8>
     ensures { result ≡ array_index register }
 {

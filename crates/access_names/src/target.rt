@@ -1,20 +1,20 @@
 // The targets of accesses.
 
-use engine_faults::Engine;
+use crate::Engine;
 
-/// The target that an access reads or writes. `Display` prints its name.
+/// What an access reads or writes. `Display` prints the target's name.
 #[derive(Clone, Copy, Debug, PartialEq, Eq)]
 pub enum Target {
     /// The register at this offset in bytes, such as `ICR`, `MTA[5]` or `RAL[0]`; `register[0x10]` if no register has
     /// this offset.
     Register(u32),
-    /// A byte of a descriptor of a ring, such as `rx[1]+8`, or `tx[0]` for the first byte.
+    /// A byte of a descriptor in a ring, such as `rx[1]+8`, or `tx[0]` for the first byte of the descriptor.
     Descriptor {
         /// The engine that owns the ring.
         ring: Engine,
         /// The number of the descriptor in its ring, from 0.
         index: u64,
-        /// The number of the byte in its descriptor, 0 to 15.
+        /// The number of the byte in its descriptor, from 0 to 15.
         byte: u64,
     },
     /// The byte at this address in memory, such as `0x10000`.

@@ -26,15 +26,15 @@ by_number works Fault answer adapter is tells = ((λ yes zero. absurd (cc)), (λ
 by_number works (Delivered unit fate) answer adapter is tells =
     ((λ yes zero. absurd (cc)), (λ other. tells.1 (λ same. absurd (cc))))
 
--- What the adapter has to do, a step answers.
+-- A kind has work in the adapter if and only if a step of this kind returns another number than 0.
 pub has_work : (kind : StepKind) (works : Bool) (watched : WatchedAdapter) → steps.TellsWork kind works watched.player.machine.world.adapter
     → HasWork kind works watched
 has_work kind works watched tells answer b answered =
     let adapter = watched.player.machine.world.adapter in
     by_number works answered.outcome answer adapter answered.number_is
-    (tells (has_room watched.player) watched.player.machine.world.memory (framed answered.outcome adapter) answered.plays.holds.occurs.1)
+    (tells (has_room watched.player) watched.player.machine.world.memory (framed answered.outcome adapter) answered.plays.0.holds.occurs.1)
 
--- Whether each of the six kinds has something to do.
+-- The function from a kind to whether it has something to do, from its six values.
 abbrev for_kind : (take put moves done eeprom phy : Bool) → StepKind → Bool
 for_kind take put moves done eeprom phy TxTake = take
 for_kind take put moves done eeprom phy TxPut = put
@@ -53,7 +53,7 @@ for_each watched take put moves done eeprom phy has0 has1 has2 has3 has4 has5 Rx
 for_each watched take put moves done eeprom phy has0 has1 has2 has3 has4 has5 EepromTick = has4
 for_each watched take put moves done eeprom phy has0 has1 has2 has3 has4 has5 PhyTick = has5
 
--- The bits of all kinds are those of a mask.
+-- The sum of the bits of all kinds is the mask.
 pub possible : (watched : WatchedAdapter) (n0 n1 n2 n3 n4 n5 : ℕ) → TellsWork TxTake 1 n0 watched → TellsWork TxPut 2 n1 watched
     → TellsWork RxData 4 n2 watched → TellsWork RxDone 8 n3 watched → TellsWork EepromTick 16 n4 watched → TellsWork PhyTick 32 n5 watched
     → TellsPossible (n0 + n1 + n2 + n3 + n4 + n5) watched

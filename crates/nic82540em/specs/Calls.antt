@@ -1,6 +1,6 @@
--- The effects of the calls of C on the adapter of a handle: numbers represent kinds, outcomes and fates (our choice).
+-- What the calls of C do with the adapter of a handle: numbers represent kinds, outcomes and fates (our choice).
 use Rattle.std.specs.Prelude.{◌≡◌, ◌≢◌, ◌↔◌, ◌+◌, ◌++◌, ◌∷◌, [], ℕ, Bool, false, true, IsTrue, List, Option, Some, None}
-use Rattle.std.specs.Prelude.{◌&&◌, if◌then◌else◌, nat_le, nat_lt, not, replicate, slice_get}
+use Rattle.std.specs.Prelude.{◌&&◌, if◌then◌else◌, is_some, length, nat_le, nat_lt, not, replicate, slice_get}
 use Rattle.rand_core.specs.Pcg32Seed.{pcg32_seed}
 use Rattle.rand_pcg.specs.Pcg.{pcg32_of_seed}
 use Rattle.adapter.specs.Registers.{after_write, new_adapter}
@@ -8,12 +8,17 @@ use Rattle.adapter.specs.State.{AdapterState}
 use Rattle.adapter.specs.declared.outcome.Outcome.{Outcome}
 use Rattle.adapter.specs.declared.step.StepKind.{StepKind}
 use Rattle.adapter.specs.declared.step.StepKind.TheVariants.{EepromTick, PhyTick, RxData, RxDone, TxPut, TxTake}
+use Rattle.access_names.specs.Targets.{memory_target_in}
+use Rattle.access_names.specs.declared.target.Target.{Target}
+use Rattle.access_names.specs.declared.target.Target.TheVariants.{Register}
 use Rattle.bus.specs.declared.event.Access.{Access}
+use Rattle.bus.specs.declared.event.Access.TheVariants.{Loads, Reads, Stores, Writes}
 use Rattle.eeprom.specs.Image.{image_with}
 use Rattle.mdic_phy.specs.declared.phy.Link.{Link}
 use Rattle.rx_engine.specs.declared.arrival.Fate.{Fate}
 use Rattle.nic82540em.specs.Numbers.{fate_number, is_receive_share, kind_with, link_with, outcome_number, refused}
 use Rattle.nic82540em.specs.Events.{HearsBetween, no_events, without_first}
+use Rattle.nic82540em.specs.Schedules.{AfterMeeting, after_choice, wanted_number}
 use Rattle.nic82540em.specs.declared.events.KeptEvent.{KeptEvent}
 use Rattle.nic82540em.specs.declared.numbers.AdapterOptions.{AdapterOptions}
 use Rattle.nic82540em.specs.declared.watched.WatchedAdapter.{WatchedAdapter}
@@ -23,48 +28,83 @@ use Rattle.played_adapter.specs.Playing.{Arrives, Steps, new_player}
 use Rattle.played_adapter.specs.Requests.{PacedAfter, ServesChoice, ServesSettle}
 use Rattle.played_adapter.specs.Told.{Told}
 use Rattle.played_adapter.specs.declared.player.PlayedAdapter.{PlayedAdapter}
+use Rattle.step_schedules.specs.declared.deviation.Before.{Before}
+use Rattle.step_schedules.specs.declared.deviation.Before.TheVariants.{Read, Write}
 
--- Something happens to the adapter, and the events of what is told of it are kept.
+-- Something happens to the adapter, and its events hear what is told about it. The schedule doesn't change.
 abbrev pub Heard : (PlayedAdapter → PlayedAdapter → List Told → Type 0) → WatchedAdapter → WatchedAdapter → Type 0
-Heard Happens a b = Tells HearsBetween a.events b.events (Happens a.player b.player)
+Heard Happens a b = Tells HearsBetween a.events b.events (Happens a.player b.player) × (b.agenda ≡ a.agenda)
 
--- The adapter changes in this way, and no event is kept.
+-- `Changes` relates the adapter before and after. The events and the schedule don't change.
 abbrev pub Silently : (PlayedAdapter → PlayedAdapter → Type 0) → WatchedAdapter → WatchedAdapter → Type 0
-Silently Changes a b = Changes a.player b.player × (b.events ≡ a.events)
+Silently Changes a b = Changes a.player b.player × (b.events ≡ a.events) × (b.agenda ≡ a.agenda)
 
--- Something happens, and then cycles are played until one does nothing, up to the maximum that was set; or no cycles are played.
+-- Something happens. If `paced` is true, cycles are then played until one does nothing, up to the maximum of `pace`.
 abbrev pub PacedOr : (paced : Bool) → (PlayedAdapter → PlayedAdapter → List Told → Type 0) → PlayedAdapter → PlayedAdapter → List Told
     → Type 0
 PacedOr true Happens a b told = PacedAfter (Happens a) b told
 PacedOr false Happens a b told = Happens a b told
 
--- Cycles are played until one does nothing, up to the maximum that was set; or nothing happens.
+-- If `paced` is true, cycles are played until one does nothing, up to the maximum of `pace`. Otherwise nothing happens.
 abbrev pub Follows : (paced : Bool) → PlayedAdapter → PlayedAdapter → List Told → Type 0
 Follows true a b told = player.Paced a b told
 Follows false a b told = (b ≡ a) × (told ≡ [])
 
--- An access or an arrival is made, or refused. Cycles come after it, if it is made and their maximum isn't 0.
+-- An access or an arrival is made, or refused. Cycles follow if it is made and the maximum of `pace` isn't 0.
 abbrev pub PacedIf : (made : Bool) → (PlayedAdapter → PlayedAdapter → List Told → Type 0) → PlayedAdapter → PlayedAdapter → List Told
     → Type 0
 PacedIf made Happens a b told = PacedOr (made && nat_lt 0 a.pace) Happens a b told
 
--- The steps before an access are played, and then the access happens. Cycles come after it.
+-- The steps before an access are played, the access happens, and cycles follow, as `PacedIf` defines.
+abbrev pub AccessedMet : Access → WatchedAdapter → WatchedAdapter → Type 0
+AccessedMet access a b = Heard (PacedIf true (player.Accessed access)) a b
+
+-- Bytes are loaded, if memory contains them. Cycles follow a load that is made.
+abbrev pub LoadsMet : (address : ℕ) → (old new : List ℕ) → (answer : Bool) → WatchedAdapter → WatchedAdapter → Type 0
+LoadsMet address old new answer a b = Heard (PacedIf answer (player.AnswersLoad address old new answer)) a b
+
+-- Bytes are stored, if memory contains their places. Cycles follow a store that is made.
+abbrev pub StoresMet : (address : ℕ) → (bytes : List ℕ) → (answer : Bool) → WatchedAdapter → WatchedAdapter → Type 0
+StoresMet address bytes answer a b = Heard (PacedIf answer (player.AnswersStore address bytes answer)) a b
+
+-- before a read or before a write, by the kind of the access
+abbrev pub before_of : Access → Before
+before_of (Reads offset value) = Read
+before_of (Writes offset value) = Write
+before_of (Loads address size) = Read
+before_of (Stores address bytes) = Write
+
+-- the target of an access of memory at this address
+abbrev pub target_at : (address : ℕ) → WatchedAdapter → Target
+target_at address a = memory_target_in a.player.machine.world.adapter address
+
+-- the target of an access
+abbrev pub target_of : Access → WatchedAdapter → Target
+target_of (Reads offset value) a = Register offset
+target_of (Writes offset value) a = Register offset
+target_of (Loads address size) a = target_at address a
+target_of (Stores address bytes) a = target_at address a
+
+-- The schedule, if there is one, meets an access. Then the access is made, as `AccessedMet` defines.
 abbrev pub Accessed : Access → WatchedAdapter → WatchedAdapter → Type 0
-Accessed access a b = Heard (PacedIf true (player.Accessed access)) a b
+Accessed access a b = AfterMeeting true (before_of access) (target_of access a) (AccessedMet access) a b
 
--- Bytes are loaded, if memory contains them. Cycles come after it.
+-- If memory contains the bytes, the schedule meets their load. Then the load is made or refused, as `LoadsMet` defines.
 abbrev pub AnswersLoad : (address : ℕ) → (old new : List ℕ) → (answer : Bool) → WatchedAdapter → WatchedAdapter → Type 0
-AnswersLoad address old new answer a b = Heard (PacedIf answer (player.AnswersLoad address old new answer)) a b
+AnswersLoad address old new answer a b =
+    AfterMeeting (player.has_bytes a.player address (length old)) Read (target_at address a) (LoadsMet address old new answer) a b
 
--- Bytes are stored, if memory contains their places. Cycles come after it.
+-- If memory contains the places, the schedule meets the store. Then the store is made or refused, as `StoresMet` defines.
 abbrev pub AnswersStore : (address : ℕ) → (bytes : List ℕ) → (answer : Bool) → WatchedAdapter → WatchedAdapter → Type 0
-AnswersStore address bytes answer a b = Heard (PacedIf answer (player.AnswersStore address bytes answer)) a b
+AnswersStore address bytes answer a b =
+    AfterMeeting (player.has_bytes a.player address (length bytes)) Write (target_at address a) (StoresMet address bytes answer) a b
 
--- All offered frames arrive, and then cycles are played until one does nothing, up to the maximum. This many steps of them do something.
+-- All offered frames arrive, and then cycles are played until one does nothing, up to their maximum number. `moved` of their steps do
+-- something.
 abbrev pub Settles : (moved : ℕ) → WatchedAdapter → WatchedAdapter → Type 0
 Settles moved a b = Heard (ServesSettle [] moved) a b
 
--- The oldest frame is taken off the wire, if it fits.
+-- The oldest frame is taken off the wire, if there is one and it fits.
 abbrev pub AnswersTaking : (old new : List ℕ) → (answer : ℕ) → WatchedAdapter → WatchedAdapter → Type 0
 AnswersTaking old new answer a b = Silently (player.AnswersTaking old new answer) a b
 
@@ -72,7 +112,7 @@ AnswersTaking old new answer a b = Silently (player.AnswersTaking old new answer
 abbrev pub pba : ℕ
 pba = 0x1000
 
--- the words of the EEPROM: those of the options, or else an image with their address
+-- the words of the EEPROM: the image of the options if they have one, or else an image with their address
 abbrev pub image_of : AdapterOptions → List ℕ
 image_of options = if options.has_image then options.image else image_with options.address
 
@@ -80,23 +120,23 @@ image_of options = if options.has_image then options.image else image_with optio
 abbrev pub with_missed : (count : ℕ) → AdapterState → AdapterState
 with_missed count adapter = record adapter { missed_packets = count }
 
--- the adapter before the first call: new, except for one write of PBA, and for MPC
+-- a new adapter, whose PBA was written once, and whose MPC has the count of the options
 abbrev pub adapter_of : AdapterOptions → Link → AdapterState
 adapter_of options link = with_missed options.missed (after_write pba options.receive_kilobytes (new_adapter (image_of options) link))
 
--- a new adapter, with memory of zeros at any address
+-- a new adapter with this link, with memory of zeros at some address
 abbrev pub IsMadeOf : AdapterOptions → Link → PlayedAdapter → Type 0
 IsMadeOf options link a = a ≡ new_player (replicate options.memory 0) (adapter_of options link) a.address
 
--- a new adapter, whose events aren't kept
+-- a new adapter with this link, whose events are off, and which plays no schedule
 abbrev pub IsMade : AdapterOptions → Link → WatchedAdapter → Type 0
-IsMade options link a = IsMadeOf options link a.player × (a.events ≡ no_events)
+IsMade options link a = IsMadeOf options link a.player × (a.events ≡ no_events) × (a.agenda ≡ None)
 
 -- The options are in range, and the adapter is new.
 pub record IsNew (options : AdapterOptions) (a : WatchedAdapter) : Type 0 where
-  -- the link with the number of the options
+  -- the setting of the link
   pub link : Link
-  -- the number of the options stands for this link
+  -- the number in the options stands for this setting
   pub link_is : link_with options.link ≡ Some link
   -- PBA.RXA may have the value of the options
   pub share : is_receive_share options.receive_kilobytes ≡ true
@@ -112,12 +152,12 @@ pub record StepAnswered (kind : StepKind) (number : ℕ) (a b : WatchedAdapter) 
   -- the step is played
   pub plays : Heard (Steps kind outcome) a b
 
--- A step of this kind is played, and this is the answer. If there is no kind, nothing happens.
+-- A step of this kind is played, and the number of its outcome is the answer. If there is no kind, nothing happens.
 abbrev pub AnswersKind : Option StepKind → (answer : ℕ) → WatchedAdapter → WatchedAdapter → Type 0
 AnswersKind (Some kind) answer a b = StepAnswered kind answer a b
 AnswersKind None answer a b = (answer ≡ refused) × (b ≡ a)
 
--- The same for the kind with this number.
+-- As `AnswersKind`, for the kind with this number.
 abbrev pub AnswersStep : (number answer : ℕ) → WatchedAdapter → WatchedAdapter → Type 0
 AnswersStep number answer a b = AnswersKind (kind_with number) answer a b
 
@@ -127,75 +167,80 @@ pub record AnswersArrival (frame : List ℕ) (answer : ℕ) (a b : WatchedAdapte
   pub fate : Fate
   -- the number of this fate
   pub number_is : answer ≡ fate_number fate
-  -- the frame arrives, and cycles come after it
+  -- the frame arrives, and cycles follow, as `PacedIf` defines
   pub arrives : Heard (PacedIf true (Arrives frame fate)) a b
 
--- A step of this kind is added to the schedule, if there is a kind and the schedule has room.
+-- A step of this kind is added to the list of scheduled steps, if there is a kind and the list has room.
 abbrev pub SchedulesKind : (access : ℕ) → Option StepKind → (answer : Bool) → PlayedAdapter → PlayedAdapter → Type 0
 SchedulesKind access (Some kind) answer a b = player.AnswersSchedule access kind answer a b
 SchedulesKind access None answer a b = (answer ≡ false) × (b ≡ a)
 
--- The same for the kind with this number, and no event is kept.
+-- As `SchedulesKind`, for the kind with this number. No event is kept.
 abbrev pub AnswersSchedule : (access number : ℕ) → (answer : Bool) → WatchedAdapter → WatchedAdapter → Type 0
 AnswersSchedule access number answer a b = Silently (SchedulesKind access (kind_with number) answer) a b
 
--- the greatest maximum of steps that are drawn before an access, and of cycles after it
+-- the greatest number that the maximum of steps drawn before an access, or of cycles after it, can be set to
 abbrev pub most_drawn : ℕ
 most_drawn = 65535
 
--- From now on, up to this many steps are drawn before each access, from this seed on.
-pub record Interleaves (count seed : ℕ) (answer : Bool) (a b : PlayedAdapter) : Type 0 where
-  -- whether the maximum is allowed
+-- From now on, up to `count` steps are drawn before each access, by a generator with this seed. While a schedule is played, none are drawn.
+pub record Interleaves (plays : Bool) (count seed : ℕ) (answer : Bool) (a b : PlayedAdapter) : Type 0 where
+  -- the answer is whether the maximum is allowed
   pub range : answer ≡ nat_le count most_drawn
-  -- if it is allowed, it is set, and the generator has this seed
-  pub taken : answer ≡ true → b ≡ record a { generator = pcg32_of_seed (pcg32_seed 16 seed); most_steps = count }
-  -- if it isn't allowed, nothing changes
+  -- if the maximum is allowed, the generator has this seed, and the maximum is set, to 0 while a schedule is played
+  pub taken : answer ≡ true → b ≡ record a { generator = pcg32_of_seed (pcg32_seed 16 seed); most_steps = if plays then 0 else count }
+  -- if the maximum isn't allowed, nothing changes
   pub refused : answer ≡ false → b ≡ a
 
--- The same, and no event is kept.
+-- As `Interleaves`. No event is kept.
 abbrev pub AnswersInterleave : (count seed : ℕ) → (answer : Bool) → WatchedAdapter → WatchedAdapter → Type 0
-AnswersInterleave count seed answer a b = Silently (Interleaves count seed answer) a b
+AnswersInterleave count seed answer a b = Silently (Interleaves (is_some a.agenda) count seed answer) a b
 
--- From now on, up to this many cycles are played after each access and each arrival.
+-- From now on, up to `count` cycles are played after each access and each call of `arrive`.
 pub record SetsPace (count : ℕ) (answer : Bool) (a b : PlayedAdapter) : Type 0 where
-  -- whether the maximum is allowed
+  -- the answer is whether the maximum is allowed
   pub range : answer ≡ nat_le count most_drawn
-  -- if it is allowed, it is set
+  -- if the maximum is allowed, it is set
   pub taken : answer ≡ true → b ≡ record a { pace = count }
-  -- if it isn't allowed, nothing changes
+  -- if the maximum isn't allowed, nothing changes
   pub refused : answer ≡ false → b ≡ a
 
--- The same, and no event is kept.
+-- As `SetsPace`. No event is kept.
 abbrev pub AnswersPace : (count : ℕ) → (answer : Bool) → WatchedAdapter → WatchedAdapter → Type 0
 AnswersPace count answer a b = Silently (SetsPace count answer) a b
 
--- A number below a limit is chosen: by the generator if steps are drawn before accesses, else 0.
-abbrev pub Chooses : (limit answer : ℕ) → WatchedAdapter → WatchedAdapter → Type 0
-Chooses limit answer a b = Heard (ServesChoice limit 0 answer) a b
+-- A number below a limit is chosen. If steps are drawn before accesses, the generator draws the number. Otherwise it is `wanted_number` if
+-- that is below the limit, or else 0. If the limit is 0, the number is 0.
+pub record Chooses (limit answer : ℕ) (a b : WatchedAdapter) : Type 0 where
+  -- the number is chosen, and the events hear what is told about the choice
+  pub chooses : Tells HearsBetween a.events b.events (ServesChoice limit (wanted_number a.agenda) answer a.player b.player)
+  -- the schedule has met the request
+  pub met : b.agenda ≡ after_choice a.agenda
 
--- A frame is offered. The answer is whether memory wasn't refused.
+-- A frame is offered. The answer is `false` if memory is refused, else `true`.
 pub record AnswersOffer (frame : List ℕ) (answer : Bool) (a b : WatchedAdapter) : Type 0 where
   -- if memory isn't refused, the frame waits
   pub taken : answer ≡ true → b ≡ record a { player = record a.player { offered = a.player.offered ++ frame ∷ [] } }
   -- if memory is refused, nothing changes
   pub refused : answer ≡ false → b ≡ a
 
--- the adapter with a wire that is full from now on, or has room until 64 frames wait
+-- the adapter whose wire is full from now on, or has room again until 64 frames wait
 abbrev pub with_wire : (full : Bool) → WatchedAdapter → WatchedAdapter
 with_wire full a = record a { player = record a.player { wire_free = not full } }
 
--- A copy of an adapter and of the events that wait.
+-- An adapter with its events and its schedule is a copy of another one.
 abbrev pub IsCopy : WatchedAdapter → WatchedAdapter → Type 0
-IsCopy a copy = player.IsCopy a.player copy.player × (copy.events ≡ a.events)
+IsCopy a copy = player.IsCopy a.player copy.player × (copy.events ≡ a.events) × (copy.agenda ≡ a.agenda)
 
--- The oldest event, if one waits, is taken. `old` and `new` are the place of the event before and after; the answer is whether one waited.
+-- The oldest event, if one waits, is taken and stored at a place. `old` and `new` are the values at this place before and after. The answer
+-- is whether an event waited.
 pub record AnswersEvent (old new : KeptEvent) (answer : Bool) (a b : WatchedAdapter) : Type 0 where
-  -- if an event waited, the place has it, and it no longer waits
+  -- if an event waited, the place contains the oldest one, which no longer waits
   pub taken : answer ≡ true → (slice_get a.events.waiting.items 0 ≡ Some new) × (b ≡ record a { events = without_first a.events })
-  -- if none waits, nothing changes
+  -- if no event waited, nothing changes
   pub refused : answer ≡ false → (slice_get a.events.waiting.items 0 ≡ None) × (new ≡ old) × (b ≡ a)
 
--- the adapter that plays ticks before later accesses, or doesn't
+-- the adapter that plays ticks before later accesses if `on` is true, and plays no ticks otherwise
 abbrev pub with_ticks : Bool → WatchedAdapter → WatchedAdapter
 with_ticks on a = record a { player = record a.player { ticks = on } }
 
@@ -203,21 +248,21 @@ with_ticks on a = record a { player = record a.player { ticks = on } }
 abbrev pub with_accesses : ℕ → WatchedAdapter → WatchedAdapter
 with_accesses accesses a = record a { player = record a.player { accesses = accesses } }
 
--- the adapter whose later events are kept, or not; the events that wait stay
+-- the adapter whose later events are kept if `on` is true; the events that wait don't change
 abbrev pub with_events : Bool → WatchedAdapter → WatchedAdapter
 with_events on a = record a { events = record a.events { on = on } }
 
 -- Steps with something to do.
 
--- Whether a step of this kind has something to do: if and only if not, 0 stands for its outcome, the number of `Nothing`.
+-- `works` is true if and only if a step of this kind has another outcome than `Nothing`, the outcome with number 0.
 abbrev pub HasWork : StepKind → (works : Bool) → WatchedAdapter → Type 0
 HasWork kind works a = (answer : ℕ) (b : WatchedAdapter) → StepAnswered kind answer a b → IsTrue works ↔ (answer ≢ 0)
 
--- the value of a bit of a mask, if it is set
+-- the value of a bit of a mask if the bit is set, else 0
 abbrev pub bit_if : Bool → (value : ℕ) → ℕ
 bit_if is_set value = if is_set then value else 0
 
--- A bit with this value is set if and only if a step of this kind has something to do.
+-- The answer is the value of a bit if a step of this kind has something to do, else 0.
 pub record TellsWork (kind : StepKind) (value : ℕ) (answer : ℕ) (a : WatchedAdapter) : Type 0 where
   -- whether a step of this kind has something to do
   pub works : Bool
@@ -226,7 +271,7 @@ pub record TellsWork (kind : StepKind) (value : ℕ) (answer : ℕ) (a : Watched
   -- the answer is the value of the bit, or 0
   pub answer_is : answer ≡ bit_if works value
 
--- A mask shows which kinds of steps have something to do: the bit with a kind's number is set if and only if a step of this kind has.
+-- The bit of a mask with the number of a kind is set if and only if a step of this kind has something to do.
 pub record TellsPossible (mask : ℕ) (a : WatchedAdapter) : Type 0 where
   -- whether a kind has something to do
   pub works : StepKind → Bool

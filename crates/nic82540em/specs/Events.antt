@@ -2,9 +2,9 @@
 use Rattle.std.specs.Prelude.{◌==◌, ◌&&◌, ◌++◌, ◌∷◌, ◌≡◌, [], ℕ, false, List, Option, Some, None, drop, if◌then◌else◌, length, nat_lt}
 use Rattle.adapter.specs.declared.step.StepKind.{StepKind}
 use Rattle.adapter.specs.declared.step.StepKind.TheVariants.{EepromTick, PhyTick, RxData, RxDone, TxPut, TxTake}
-use Rattle.engine_faults.specs.declared.engine_fault.EngineFault.{EngineFault}
-use Rattle.engine_faults.specs.declared.engine_fault.Reason.{Reason}
-use Rattle.engine_faults.specs.declared.engine_fault.Reason.TheVariants.{Ring, Descriptor, Dext, Eop, Length, Buffer, Bsex}
+use Rattle.access_names.specs.declared.engine_fault.EngineFault.{EngineFault}
+use Rattle.access_names.specs.declared.engine_fault.Reason.{Reason}
+use Rattle.access_names.specs.declared.engine_fault.Reason.TheVariants.{Ring, Descriptor, Dext, Eop, Length, Buffer, Bsex}
 use Rattle.nic82540em.specs.Numbers.{fate_number, outcome_number}
 use Rattle.nic82540em.specs.declared.events.Events.{Events}
 use Rattle.nic82540em.specs.declared.events.KeptEvent.{KeptEvent}
@@ -29,17 +29,18 @@ reason_number Length = 5
 reason_number Buffer = 6
 reason_number Bsex = 7
 
--- a step, by the numbers of its kind and its outcome; if it is a fault, with its reason and the index of its descriptor
+-- the event of a step, from the numbers of its kind and its outcome; for a fault, with its reason and the index of its descriptor
 abbrev pub step_event : (kind outcome : ℕ) → Option EngineFault → KeptEvent
 step_event kind outcome None = record { what = 0; kind = kind; value = outcome; reason = 0; index = 0 }
 step_event kind outcome (Some fault) =
     record { what = 0; kind = kind; value = outcome; reason = reason_number fault.reason; index = fault.index }
 
--- an arrival or a change of the interrupt line
+-- the event of an arrival or of a change of the interrupt line
 abbrev pub other_event : (what value : ℕ) → KeptEvent
 other_event what value = record { what = what; kind = 0; value = value; reason = 0; index = 0 }
 
--- the event of a thing that is told: of a step that isn't `Nothing`, an arrival, or a change of the interrupt line; other things have none
+-- the event of a thing that is told: of a step with another outcome than `Nothing`, an arrival, or a change of the interrupt line; other
+-- things have no event
 abbrev pub event_of : Told → Option KeptEvent
 event_of (Stepped kind outcome fault) =
     if outcome_number outcome == 0 then None else Some (step_event (kind_number kind) (outcome_number outcome) fault)
@@ -49,11 +50,11 @@ event_of (Accessed access) = None
 event_of (Noted action) = None
 event_of (Line level) = Some (other_event 2 (if level then 1 else 0))
 
--- no event waits, and new events aren't kept
+-- no event waits, 4,096 events have room, and new events aren't kept
 abbrev pub no_events : Events
 no_events = record { on = false; waiting = record { items = []; capacity = 4096 } }
 
--- the events after this one: it waits after the others, if events are kept and there is room for it
+-- the events after one event: it waits after the others, if new events are kept and there is room
 abbrev pub keeps : Events → Option KeptEvent → Events
 keeps events None = events
 keeps events (Some event) =
@@ -65,7 +66,7 @@ abbrev pub hears : List Told → Events → Events
 hears [] events = events
 hears (told ∷ later) events = hears later (keeps events (event_of told))
 
--- the events of this list were kept between two states
+-- between two states, the events heard this list
 abbrev pub HearsBetween : Events → Events → List Told → Type 0
 HearsBetween before after told = after ≡ hears told before
 

@@ -1,4 +1,4 @@
--- The happenings that an observer is told in two consecutive intervals.
+-- What an observer is told in two consecutive intervals.
 use Rattle.std.proofs.Common.{◌≡◌, ◌++◌, ◌∷◌, ◌∙◌, [], List, ap, refl, sym}
 use Rattle.nic82540em.specs.Events.{HearsBetween, event_of, hears, keeps}
 use Rattle.nic82540em.specs.declared.events.Events.{Events}

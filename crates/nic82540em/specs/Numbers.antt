@@ -9,15 +9,17 @@ use Rattle.mdic_phy.specs.declared.phy.Link.TheVariants.{After, Never}
 use Rattle.rx_engine.specs.declared.arrival.Fate.{Fate}
 use Rattle.rx_engine.specs.declared.arrival.Fate.TheVariants.{Off, Illegal, Filtered, Missed, Stored}
 
--- the number of ticks until the link is up; 0 for a link that is never up
+-- the setting of the link for this number of ticks until the link is up; for 0, the link is never up; no setting for a number above 65,535
 abbrev pub link_with : ℕ → Option Link
 link_with number = if number == 0 then Some Never else if nat_lt 65535 number then None else Some (After number)
 
--- PBA.RXA: an even number of kilobytes from 2 to 48 (13.4.16 "Packet Buffer Allocation"; the bounds are our choice)
+-- whether PBA.RXA may have this value: an even number of kilobytes from 2 to 48 (13.4.16 "Packet Buffer Allocation"; the bounds are our
+-- choice)
 abbrev pub is_receive_share : ℕ → Bool
 is_receive_share kilobytes = (kilobytes % 2 == 0) && nat_le 2 kilobytes && nat_le kilobytes 48
 
--- the number that a call returns if it refuses the number of a step
+-- the number that `step` and `arrive` return if they are refused; `play` returns this number if it is refused and can't return the number
+-- of a faulty line
 abbrev pub refused : ℕ
 refused = 0xFFFFFFFF
 

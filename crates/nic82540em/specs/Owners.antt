@@ -1,4 +1,4 @@
--- The box of an adapter that C keeps, or none (our choice).
+-- The owner of an adapter's box, or of none, in a handle of C (our choice).
 use mathlib.Core.Bool.{Bool, true, false}
 use base.Fml.{Fml, feq}
 use base.Stored.{Coded}
@@ -15,7 +15,7 @@ use Rattle.nic82540em.specs.Events.{no_events}
 use Rattle.played_adapter.specs.Playing.{new_player}
 use Rattle.mdic_phy.specs.declared.phy.Link.TheVariants.{Never}
 
--- a full owner owns a box, and an empty one has the null pointer
+-- a full owner owns a box, and an empty owner contains the null pointer
 abbrev pub held_owns : Bool → Global → Ptr → the_row.Denot → Fml
 held_owns true alloc = box_owns (ghosts.dealloc_token alloc) the_row
 held_owns false alloc = λ p x. feq (List Val) (ptr_val p ∷ []) (ptr_val null_ptr ∷ [])
@@ -23,6 +23,6 @@ held_owns false alloc = λ p x. feq (List Val) (ptr_val p ∷ []) (ptr_val null_
 abbrev pub value_coded : Coded the_row.Denot
 value_coded = the_row.coded
 
--- the value of an empty owner
+-- the ghost value of an owner that `empty` makes
 abbrev pub no_adapter : WatchedAdapter
-no_adapter = record { player = new_player [] (new_adapter [] Never) None; events = no_events }
+no_adapter = record { player = new_player [] (new_adapter [] Never) None; events = no_events; agenda = None }

@@ -5,10 +5,10 @@ ghost use Rattle.bus.specs.declared.event.Access.TheVariants.{Reads, Writes};
 ghost use Rattle.nic82540em.specs.Calls.{Accessed, AnswersLoad, AnswersStore, with_accesses};
 
 use crate::calls;
-use crate::handle::Nic;
+use crate::handle::{Nic, on_adapter};
 use std::alloc::Global;
 
-/// Reads the register at an offset in bytes.
+/// Reads the register at an offset in bytes. Returns 0 if no register is at this offset.
 #[unsafe(no_mangle)]
 pub extern "C" fn nic82540em_read(alloc: Global, nic: &mut Nic, offset: u32) -> u32
     requires sound { nic.old.owner.full ≡ nic.old.held }
@@ -17,16 +17,10 @@ pub extern "C" fn nic82540em_read(alloc: Global, nic: &mut Nic, offset: u32) -> 
     ensures done { nic.old.held ≡ true → Accessed (Reads offset result) nic.old.owner.value nic.new.owner.value }
     ensures none { nic.old.held ≡ false → (result ≡ 0) × (nic.new ≡ nic.old) }
 {
-    if !nic.held {
-        return 0;
-    }
-    let mut adapter = nic.owner.take(alloc);
-    let answer = calls::read(&mut adapter, offset);
-    nic.owner.put(adapter);
-    answer
+    on_adapter!(alloc, nic, 0, |adapter| calls::read(&mut adapter, offset))
 }
 
-/// Writes the register at an offset in bytes.
+/// Writes the register at an offset in bytes. The write does nothing if no register is at this offset.
 #[unsafe(no_mangle)]
 pub extern "C" fn nic82540em_write(alloc: Global, nic: &mut Nic, offset: u32, value: u32)
     requires sound { nic.old.owner.full ≡ nic.old.held }
@@ -35,15 +29,16 @@ pub extern "C" fn nic82540em_write(alloc: Global, nic: &mut Nic, offset: u32, va
     ensures done { nic.old.held ≡ true → Accessed (Writes offset value) nic.old.owner.value nic.new.owner.value }
     ensures none { nic.old.held ≡ false → nic.new ≡ nic.old }
 {
-    if !nic.held {
-        return;
-    }
-    let mut adapter = nic.owner.take(alloc);
-    calls::write(&mut adapter, offset, value);
-    nic.owner.put(adapter);
+    on_adapter!(
+        alloc,
+        nic,
+        (),
+        |adapter| calls::write(&mut adapter, offset, value)
+    )
 }
 
-/// Loads the bytes from an address on. Returns `false`, and changes nothing, if some of them are outside memory.
+/// Loads the bytes from an address on into `into`. Returns `false`, and changes nothing, if some of the bytes are
+/// outside memory.
 #[unsafe(no_mangle)]
 pub extern "C" fn nic82540em_load(
     alloc: Global,
@@ -58,16 +53,16 @@ pub extern "C" fn nic82540em_load(
         AnswersLoad address into.old into.new result nic.old.owner.value nic.new.owner.value }
     ensures none { nic.old.held ≡ false → (result ≡ false) × (into.new ≡ into.old) × (nic.new ≡ nic.old) }
 {
-    if !nic.held {
-        return false;
-    }
-    let mut adapter = nic.owner.take(alloc);
-    let answer = calls::load(&mut adapter, address, into);
-    nic.owner.put(adapter);
-    answer
+    on_adapter!(
+        alloc,
+        nic,
+        false,
+        |adapter| calls::load(&mut adapter, address, into)
+    )
 }
 
-/// Stores bytes from an address on. Returns `false`, and changes nothing, if some of their places are outside memory.
+/// Stores bytes in memory from an address on. Returns `false`, and changes nothing, if some bytes would be outside
+/// memory.
 #[unsafe(no_mangle)]
 pub extern "C" fn nic82540em_store(alloc: Global, nic: &mut Nic, address: u64, bytes: &[u8]) -> bool
     requires sound { nic.old.owner.full ≡ nic.old.held }
@@ -76,16 +71,15 @@ pub extern "C" fn nic82540em_store(alloc: Global, nic: &mut Nic, address: u64, b
     ensures done { nic.old.held ≡ true → AnswersStore address bytes.now result nic.old.owner.value nic.new.owner.value }
     ensures none { nic.old.held ≡ false → (result ≡ false) × (nic.new ≡ nic.old) }
 {
-    if !nic.held {
-        return false;
-    }
-    let mut adapter = nic.owner.take(alloc);
-    let answer = calls::store(&mut adapter, address, bytes);
-    nic.owner.put(adapter);
-    answer
+    on_adapter!(
+        alloc,
+        nic,
+        false,
+        |adapter| calls::store(&mut adapter, address, bytes)
+    )
 }
 
-/// The number of accesses so far, up to the greatest `u64`.
+/// Returns the number of accesses so far, up to the greatest `u64`. [`nic82540em_recount`] sets this number.
 #[unsafe(no_mangle)]
 pub extern "C" fn nic82540em_accesses(alloc: Global, nic: &mut Nic) -> u64
     requires sound { nic.old.owner.full ≡ nic.old.held }
@@ -95,13 +89,7 @@ pub extern "C" fn nic82540em_accesses(alloc: Global, nic: &mut Nic) -> u64
     ensures same { nic.old.held ≡ true → nic.new.owner.value ≡ nic.old.owner.value }
     ensures none { nic.old.held ≡ false → (result ≡ 0) × (nic.new ≡ nic.old) }
 {
-    if !nic.held {
-        return 0;
-    }
-    let mut adapter = nic.owner.take(alloc);
-    let answer = adapter.player.accesses;
-    nic.owner.put(adapter);
-    answer
+    on_adapter!(alloc, nic, 0, |adapter| adapter.player.accesses)
 }
 
 /// Sets the number of accesses so far.
@@ -113,15 +101,11 @@ pub extern "C" fn nic82540em_recount(alloc: Global, nic: &mut Nic, accesses: u64
     ensures done { nic.old.held ≡ true → nic.new.owner.value ≡ with_accesses accesses nic.old.owner.value }
     ensures none { nic.old.held ≡ false → nic.new ≡ nic.old }
 {
-    if !nic.held {
-        return;
-    }
-    let mut adapter = nic.owner.take(alloc);
-    adapter.player.accesses = accesses;
-    nic.owner.put(adapter);
+    on_adapter!(alloc, nic, (), |adapter| adapter.player.accesses = accesses)
 }
 
-/// Stores the address of the first byte of memory in `into`, if memory has a byte. Returns memory's size in bytes.
+/// Stores the address of the first byte of memory in `into`, if memory isn't empty. Returns the size of memory in
+/// bytes.
 #[unsafe(no_mangle)]
 pub extern "C" fn nic82540em_memory(alloc: Global, nic: &mut Nic, into: &mut *const u8) -> u64
     requires sound { nic.old.owner.full ≡ nic.old.held }
@@ -132,14 +116,10 @@ pub extern "C" fn nic82540em_memory(alloc: Global, nic: &mut Nic, into: &mut *co
     ensures same { nic.old.held ≡ true → nic.new.owner.value ≡ nic.old.owner.value }
     ensures none { nic.old.held ≡ false → (result ≡ 0) × (into.new ≡ into.old) × (nic.new ≡ nic.old) }
 {
-    if !nic.held {
-        return 0;
-    }
-    let adapter = nic.owner.take(alloc);
-    if let Some(address) = adapter.player.address {
-        *into = address;
-    }
-    let size = adapter.player.machine.size();
-    nic.owner.put(adapter);
-    size
+    on_adapter!(alloc, nic, 0, |adapter| {
+        if let Some(address) = adapter.player.address {
+            *into = address;
+        }
+        adapter.player.machine.size()
+    })
 }

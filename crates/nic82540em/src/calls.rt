@@ -1,11 +1,11 @@
-// The calls of C, on the adapter of a handle. After an access or an arrival, they play the cycles that `pace` has set.
+// What the exports do with the adapter of a handle. Cycles follow an access or an arrival, up to the maximum of `pace`.
 
 ghost use Rattle.std.specs.Prelude.{◌≡◌, ◌<◌, ◌&&◌, IfOk, IfSome, nat_lt};
 ghost use Rattle.bus.specs.declared.event.Access.TheVariants.{Reads, Writes};
 ghost use Rattle.nic82540em.specs.Calls.{Accessed, AnswersArrival, AnswersEvent, AnswersInterleave, AnswersLoad};
 ghost use Rattle.nic82540em.specs.Calls.{AnswersOffer, AnswersPace, AnswersSchedule, AnswersStep, AnswersStore, IsCopy};
 ghost use Rattle.nic82540em.specs.Calls.{Chooses, Follows, Heard, IsMade, IsMadeOf, IsNew, Settles, adapter_of};
-ghost use Rattle.nic82540em.specs.Calls.{image_of};
+ghost use Rattle.nic82540em.specs.Calls.{AccessedMet, LoadsMet, StoresMet, image_of};
 ghost use Rattle.nic82540em.specs.Digests.{state_digest_of};
 ghost use Rattle.played_adapter.specs.Playing.{Paced};
 
@@ -13,6 +13,7 @@ use crate::events::{Events, KeptEvent};
 use crate::numbers::{
     AdapterOptions, REFUSED, fate_number, is_receive_share, kind_with, link_with, outcome_number,
 };
+use crate::schedules::{meet_choice, meet_memory, meet_register};
 use crate::watched::WatchedAdapter;
 use adapter::Adapter;
 use adapter::offsets::PBA;
@@ -22,11 +23,13 @@ use mdic_phy::Link;
 use played_adapter::PlayedAdapter;
 use std::alloc::{AllocError, Global};
 use std::hash::{FoldHasher, Hasher};
+use step_schedules::Before;
 
-/// The greatest maximum of steps before an access, and of cycles after it (our choice).
+/// The greatest number that the maximum of random steps before an access, or of cycles after it, can be set to (our
+/// choice).
 const MOST_DRAWN: u32 = 65_535;
 
-/// The words of the EEPROM: those of the options, or else an image with their address.
+/// Returns the words of the EEPROM: the image of the options if they have one, or else an image with their address.
 fn image_of(options: &AdapterOptions) -> Image
     ensures { result ≡ image_of options.now }
 {
@@ -37,7 +40,7 @@ fn image_of(options: &AdapterOptions) -> Image
     }
 }
 
-/// A new adapter, whose PBA is written once and whose MPC is set.
+/// Returns a new adapter, whose PBA was written once, and whose MPC has the count of the options.
 fn adapter_of(alloc: Global, options: &AdapterOptions, link: Link) -> Result<Adapter, AllocError>
     ensures { IfOk result (λ adapter. adapter ≡ adapter_of options.now link) }
 {
@@ -47,7 +50,7 @@ fn adapter_of(alloc: Global, options: &AdapterOptions, link: Link) -> Result<Ada
     Ok(adapter)
 }
 
-/// A new adapter with this link.
+/// Returns a new adapter with this link and with memory of zeros.
 fn player_of(
     alloc: Global,
     options: &AdapterOptions,
@@ -60,7 +63,8 @@ fn player_of(
     PlayedAdapter::new(alloc, adapter, memory)
 }
 
-/// A new adapter with this link, whose events aren't kept.
+/// Returns a new adapter with this link and with memory of zeros. The adapter's events are off, and it plays no
+/// schedule.
 fn with_link(
     alloc: Global,
     options: &AdapterOptions,
@@ -70,10 +74,14 @@ fn with_link(
 {
     let events = Events::new(alloc)?;
     let player = player_of(alloc, options, link)?;
-    Ok(WatchedAdapter { player, events })
+    Ok(WatchedAdapter {
+        player,
+        events,
+        agenda: None,
+    })
 }
 
-/// The adapter in a box, unless memory is refused.
+/// Returns the adapter in a box, or `None` if memory is refused.
 fn boxed(alloc: Global, adapter: WatchedAdapter) -> Option<Box<WatchedAdapter>>
     ensures { IfSome result (λ boxed. boxed.value ≡ adapter) }
 {
@@ -83,9 +91,9 @@ fn boxed(alloc: Global, adapter: WatchedAdapter) -> Option<Box<WatchedAdapter>>
     }
 }
 
-/// A new adapter with memory of zeros and an empty wire, in a box.
+/// Returns a new adapter with memory of zeros and an empty wire, in a box.
 ///
-/// Returns `None` if a number of the options is out of range, or memory is refused.
+/// Returns `None` if a number of the options is out of range, or if memory is refused.
 pub(crate) fn new_boxed(alloc: Global, options: &AdapterOptions) -> Option<Box<WatchedAdapter>>
     ensures { IfSome result (λ made. IsNew options.now made.value) }
 {
@@ -93,7 +101,7 @@ pub(crate) fn new_boxed(alloc: Global, options: &AdapterOptions) -> Option<Box<W
     boxed(alloc, adapter)
 }
 
-/// A copy of the adapter and of the events that wait, in a box, unless memory is refused.
+/// Returns a copy of the adapter, its events and its schedule, in a box, or `None` if memory is refused.
 pub(crate) fn copy_boxed(alloc: Global, watched: &WatchedAdapter) -> Option<Box<WatchedAdapter>>
     ensures { IfSome result (λ made. IsCopy watched.now made.value) }
 {
@@ -103,9 +111,10 @@ pub(crate) fn copy_boxed(alloc: Global, watched: &WatchedAdapter) -> Option<Box<
     }
 }
 
-/// A new adapter with memory of zeros and an empty wire. No steps are played before accesses, and no event is kept.
+/// Returns a new adapter with memory of zeros and an empty wire. No step is played before an access, and events are
+/// off.
 ///
-/// Returns `None` if a number of the options is out of range, and if memory is refused.
+/// Returns `None` if a number of the options is out of range, or if memory is refused.
 fn new(alloc: Global, options: &AdapterOptions) -> Option<WatchedAdapter>
     ensures { IfSome result (λ made. IsNew options.now made) }
 {
@@ -119,7 +128,7 @@ fn new(alloc: Global, options: &AdapterOptions) -> Option<WatchedAdapter>
     }
 }
 
-/// Plays cycles of steps until one does nothing, up to the maximum that was set.
+/// Plays cycles until one does nothing, up to the maximum of `pace`.
 fn play_cycles(watched: &mut WatchedAdapter)
     ensures { Heard Paced watched.old watched.new }
 {
@@ -127,7 +136,7 @@ fn play_cycles(watched: &mut WatchedAdapter)
     watched.player.settle(most, &mut watched.events);
 }
 
-/// Plays cycles after an access or an arrival, if it was made and `most`, their maximum, isn't 0.
+/// Plays cycles after an access or an arrival, if `is_made` is true and `most`, the maximum number of cycles, isn't 0.
 #[inline(always)]
 fn follow(watched: &mut WatchedAdapter, is_made: bool, most: u16)
     ensures { Heard (Follows (is_made && nat_lt 0 most)) watched.old watched.new }
@@ -141,24 +150,59 @@ fn follow(watched: &mut WatchedAdapter, is_made: bool, most: u16)
 pub(crate) fn read(watched: &mut WatchedAdapter, offset: u32) -> u32
     ensures { Accessed (Reads offset result) watched.old watched.new }
 {
-    let most = watched.player.pace;
-    let value = watched.player.read(offset, &mut watched.events);
-    follow(watched, true, most);
-    value
+    meet_register(watched, Before::Read, offset);
+    read_met(watched, offset)
 }
 
 /// Writes the register at an offset in bytes.
 pub(crate) fn write(watched: &mut WatchedAdapter, offset: u32, value: u32)
     ensures { Accessed (Writes offset value) watched.old watched.new }
 {
+    meet_register(watched, Before::Write, offset);
+    write_met(watched, offset, value);
+}
+
+/// Loads the bytes from an address on into `into`. If some are outside memory, returns `false` and changes nothing.
+pub(crate) fn load(watched: &mut WatchedAdapter, address: u64, into: &mut [u8]) -> bool
+    ensures { AnswersLoad address into.old into.new result watched.old watched.new }
+{
+    meet_memory(watched, Before::Read, address, into.len() as u64);
+    load_met(watched, address, into)
+}
+
+/// Stores bytes from an address on. If some would be outside memory, returns `false` and changes nothing.
+pub(crate) fn store(watched: &mut WatchedAdapter, address: u64, bytes: &[u8]) -> bool
+    ensures { AnswersStore address bytes.now result watched.old watched.new }
+{
+    meet_memory(watched, Before::Write, address, bytes.len() as u64);
+    store_met(watched, address, bytes)
+}
+
+/// As [`read`], after the schedule has met the access.
+#[inline(always)]
+fn read_met(watched: &mut WatchedAdapter, offset: u32) -> u32
+    ensures { AccessedMet (Reads offset result) watched.old watched.new }
+{
+    let most = watched.player.pace;
+    let value = watched.player.read(offset, &mut watched.events);
+    follow(watched, true, most);
+    value
+}
+
+/// As [`write`], after the schedule has met the access.
+#[inline(always)]
+fn write_met(watched: &mut WatchedAdapter, offset: u32, value: u32)
+    ensures { AccessedMet (Writes offset value) watched.old watched.new }
+{
     let most = watched.player.pace;
     watched.player.write(offset, value, &mut watched.events);
     follow(watched, true, most);
 }
 
-/// Loads the bytes from an address on, if memory contains them.
-pub(crate) fn load(watched: &mut WatchedAdapter, address: u64, into: &mut [u8]) -> bool
-    ensures { AnswersLoad address into.old into.new result watched.old watched.new }
+/// As [`load`], after the schedule has met the access.
+#[inline(always)]
+fn load_met(watched: &mut WatchedAdapter, address: u64, into: &mut [u8]) -> bool
+    ensures { LoadsMet address into.old into.new result watched.old watched.new }
 {
     let most = watched.player.pace;
     let is_made = watched.player.load(address, into, &mut watched.events);
@@ -166,9 +210,10 @@ pub(crate) fn load(watched: &mut WatchedAdapter, address: u64, into: &mut [u8]) 
     is_made
 }
 
-/// Stores bytes from an address on, if memory contains their places.
-pub(crate) fn store(watched: &mut WatchedAdapter, address: u64, bytes: &[u8]) -> bool
-    ensures { AnswersStore address bytes.now result watched.old watched.new }
+/// As [`store`], after the schedule has met the access.
+#[inline(always)]
+fn store_met(watched: &mut WatchedAdapter, address: u64, bytes: &[u8]) -> bool
+    ensures { StoresMet address bytes.now result watched.old watched.new }
 {
     let most = watched.player.pace;
     let is_made = watched.player.store(address, bytes, &mut watched.events);
@@ -176,15 +221,15 @@ pub(crate) fn store(watched: &mut WatchedAdapter, address: u64, bytes: &[u8]) ->
     is_made
 }
 
-/// Lets all offered frames arrive, and then plays cycles of steps until a cycle does nothing. Returns the number of
-/// steps of the cycles that did something.
+/// Delivers all offered frames, and then plays cycles until one does nothing, up to `MOST_CYCLES`. Returns the number
+/// of steps of the cycles that did something.
 pub(crate) fn settle(watched: &mut WatchedAdapter) -> u64
     ensures { Settles result watched.old watched.new }
 {
     watched.player.serve_settle(&[], &mut watched.events)
 }
 
-/// Makes the adapter take the step with this number. Returns the number of the outcome.
+/// Makes the adapter take a step of the kind with this number. Returns the number of the outcome.
 ///
 /// If the number is above 5, returns [`REFUSED`] and changes nothing.
 pub(crate) fn step(watched: &mut WatchedAdapter, number: u32) -> u32
@@ -215,7 +260,7 @@ pub(crate) fn offer(alloc: Global, watched: &mut WatchedAdapter, frame: &[u8]) -
     watched.player.offered.try_push(alloc, frame).is_ok()
 }
 
-/// Adds a step of the kind with this number to the end of the schedule.
+/// Adds a step of the kind with this number to the end of the list of scheduled steps.
 ///
 /// If no kind has this number, or 4,096 steps wait, returns `false` and changes nothing.
 pub(crate) fn schedule(watched: &mut WatchedAdapter, access: u64, number: u32) -> bool
@@ -227,7 +272,8 @@ pub(crate) fn schedule(watched: &mut WatchedAdapter, access: u64, number: u32) -
     }
 }
 
-/// From now on, up to `count` steps are played before each access. A generator with this seed draws them.
+/// From now on, up to `count` steps are played before each access, unless a schedule is played. A generator with this
+/// seed draws them.
 ///
 /// If `count` is above 65,535, returns `false` and changes nothing.
 pub(crate) fn interleave(watched: &mut WatchedAdapter, count: u32, seed: u64) -> bool
@@ -236,11 +282,16 @@ pub(crate) fn interleave(watched: &mut WatchedAdapter, count: u32, seed: u64) ->
     if count > MOST_DRAWN {
         return false;
     }
-    watched.player.interleave(count as u16, seed);
+    let most = if watched.agenda.is_some() {
+        0
+    } else {
+        count as u16
+    };
+    watched.player.interleave(most, seed);
     true
 }
 
-/// From now on, up to `count` cycles of steps are played after each access and each arrival.
+/// From now on, cycles are played after each access and each call of [`arrive`] until one does nothing, up to `count`.
 ///
 /// If `count` is above 65,535, returns `false` and changes nothing.
 pub(crate) fn pace(watched: &mut WatchedAdapter, count: u32) -> bool
@@ -253,16 +304,22 @@ pub(crate) fn pace(watched: &mut WatchedAdapter, count: u32) -> bool
     true
 }
 
-/// Chooses a number below `limit`, or 0 if `limit` is 0: by the generator if steps are drawn before accesses, else 0.
+/// Chooses a number below `limit`, or 0 if `limit` is 0.
+///
+/// If steps are drawn before accesses, the generator draws the number. Otherwise the number is the one in the schedule
+/// that is due, or 0 if no number below `limit` is due.
 pub(crate) fn choose(watched: &mut WatchedAdapter, limit: u32) -> u32
     ensures done { Chooses limit result watched.old watched.new }
     ensures below { 0 < limit → result < limit }
 {
-    watched.player.serve_choose(limit, 0, &mut watched.events)
+    let wanted = meet_choice(&mut watched.agenda);
+    watched
+        .player
+        .serve_choose(limit, wanted, &mut watched.events)
 }
 
-/// A digest of the adapter's state, by its contents: its registers, the frames in its packet buffer and the work in
-/// progress. Adapters with the same state have equal digests for each seed.
+/// Returns a digest of the adapter's registers, of the frames in its packet buffers and of its work in progress.
+/// Adapters with the same state have equal digests for each seed.
 #[tactic(auto, unfolding(crate::specs::Digests::state_digest_of))]
 pub(crate) fn state_digest(watched: &WatchedAdapter, seed: u64) -> u64
     ensures { result ≡ state_digest_of seed watched.now.player.machine.world.adapter }
@@ -273,9 +330,9 @@ pub(crate) fn state_digest(watched: &WatchedAdapter, seed: u64) -> u64
     hasher.finish()
 }
 
-/// Takes the oldest event.
+/// Removes the oldest event, and stores it in `into`.
 ///
-/// If none waits, returns `false` and changes nothing.
+/// If no event waits, returns `false` and changes nothing.
 pub(crate) fn take_event(watched: &mut WatchedAdapter, into: &mut KeptEvent) -> bool
     ensures { AnswersEvent into.old into.new result watched.old watched.new }
 {
@@ -286,11 +343,16 @@ pub(crate) fn take_event(watched: &mut WatchedAdapter, into: &mut KeptEvent) -> 
     true
 }
 
-/// A copy of the adapter and of the events that wait.
+/// Returns a copy of the adapter, its events and its schedule.
 fn copy(watched: &WatchedAdapter) -> Result<WatchedAdapter, AllocError>
     ensures { IfOk result (λ copy. IsCopy watched.now copy) }
 {
     let events = watched.events.copy()?;
+    let agenda = watched.agenda.clone()?;
     let player = watched.player.copy()?;
-    Ok(WatchedAdapter { player, events })
+    Ok(WatchedAdapter {
+        player,
+        events,
+        agenda,
+    })
 }

@@ -7,18 +7,18 @@ use circular_buffer::HeapCircularBuffer;
 use frame_queue::copy_of;
 use std::alloc::{AllocError, Global};
 
-/// The number of events that may wait (our choice).
+/// The maximum number of events that wait (our choice).
 const MOST_EVENTS: usize = 4096;
 
 /// An event, as numbers.
 #[repr(C)]
 #[derive(Clone, Copy)]
 pub struct KeptEvent {
-    /// 0: a step; 1: a frame that arrived; 2: a change of the interrupt line.
+    /// 0: a step had another outcome than `Nothing`; 1: a frame arrived; 2: the interrupt line changed.
     pub what: u32,
-    /// The number of the step's kind, else 0.
+    /// The number of the step's kind, or 0 if the event isn't a step.
     pub kind: u32,
-    /// The number of the step's outcome or of the frame's fate, or the line's new level.
+    /// The number of the step's outcome or of the frame's fate, or the line's new level: 1 if it is asserted, else 0.
     pub value: u32,
     /// The number of the fault's reason, or 0 if there is no fault.
     pub reason: u32,
@@ -26,17 +26,17 @@ pub struct KeptEvent {
     pub index: u32,
 }
 
-/// The events that were kept and not taken yet, the oldest first.
+/// The events that wait until C takes them, the oldest first, and whether new events are kept.
 #[derive(Drop)]
 pub struct Events {
-    /// Whether events are kept.
+    /// Whether new events are kept.
     pub on: bool,
-    /// The events that wait.
+    /// The events that were kept and not taken yet, the oldest first.
     pub waiting: HeapCircularBuffer<KeptEvent>,
 }
 
 impl Events {
-    /// An empty list of events. New events aren't kept.
+    /// Returns an empty list of events, to which new events aren't added.
     pub(crate) fn new(alloc: Global) -> Result<Events, AllocError>
         ensures { IfOk result (λ events. events ≡ no_events) }
     {
@@ -46,7 +46,7 @@ impl Events {
         })
     }
 
-    /// A copy with the same events.
+    /// Returns a copy with the same events.
     pub(crate) fn copy(&self) -> Result<Events, AllocError>
         ensures { IfOk result (λ copy. copy ≡ self.now) }
     {
@@ -56,7 +56,7 @@ impl Events {
         })
     }
 
-    /// Keeps an event, if events are kept and fewer than 4,096 wait.
+    /// Adds an event after the others, if new events are kept and fewer than 4,096 wait. Otherwise changes nothing.
     pub(crate) fn keep(&mut self, event: KeptEvent)
         ensures { self.new ≡ keeps self.old (Some event) }
     {
@@ -65,7 +65,7 @@ impl Events {
         }
     }
 
-    /// Removes the oldest event, if one waits, and returns it.
+    /// Removes and returns the oldest event, or returns `None` if no event waits.
     pub(crate) fn take(&mut self) -> Option<KeptEvent>
         ensures event { result ≡ slice_get self.old.waiting.items 0 }
         ensures state { IfSome result (λ event. self.new ≡ without_first self.old) }

@@ -5,12 +5,12 @@ ghost use Rattle.nic82540em.specs.Events as events;
 
 use crate::events::{Events, KeptEvent};
 use crate::numbers::{fate_number, kind_number, outcome_number, reason_number};
+use access_names::EngineFault;
 use adapter::{Fate, Outcome, StepKind};
-use engine_faults::EngineFault;
 use played_adapter::Observer;
 use step_schedules::Action;
 
-/// A step, by the numbers of its kind and of its outcome.
+/// Returns the event of a step, from the numbers of its kind and its outcome, and from its fault, if there is one.
 fn step_event(kind: u32, outcome: u32, fault: Option<EngineFault>) -> KeptEvent
     ensures { result ≡ events.step_event kind outcome fault }
 {
@@ -27,7 +27,7 @@ fn step_event(kind: u32, outcome: u32, fault: Option<EngineFault>) -> KeptEvent
     }
 }
 
-/// An arrival or a change of the interrupt line, by its number and its value.
+/// Returns the event of an arrival or of a change of the interrupt line. `what` is 1 or 2.
 fn other_event(what: u32, value: u32) -> KeptEvent
     ensures { result ≡ events.other_event what value }
 {

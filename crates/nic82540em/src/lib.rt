@@ -1,8 +1,8 @@
 //! An 82540EM and its host's memory as a C library: `bindings/c/nic82540em.h` declares these calls.
 //!
-//! Each call is one of `played_adapter`'s [`PlayedAdapter`], on an adapter that C's program keeps in a handle. A handle
-//! is made with zeros. If it holds no adapter, each call but [`nic82540em_new`] returns 0, `false` or `0xFFFFFFFF`, and
-//! changes nothing.
+//! Most calls make a call of `played_adapter`'s [`PlayedAdapter`], on the adapter in a handle. The C program makes a
+//! handle of zeros. If a handle holds no adapter, each call except [`nic82540em_new`] changes nothing, and returns 0,
+//! `false` or `0xFFFFFFFF` if the call has a result.
 #![tactic(auto)]
 
 mod accesses;
@@ -15,6 +15,8 @@ mod numbers;
 mod owner;
 mod playing;
 mod possible;
+mod rounds;
+mod schedules;
 mod watched;
 
 ghost use Rattle.std.specs.Prelude.{◌≡◌, false, true};
@@ -37,10 +39,11 @@ pub use playing::{
     nic82540em_settle, nic82540em_step, nic82540em_take_event, nic82540em_take_put,
     nic82540em_ticks,
 };
+pub use rounds::{nic82540em_begin_round, nic82540em_play};
 use std::alloc::Global;
 pub use watched::WatchedAdapter;
 
-/// Makes a new adapter in a handle that holds none.
+/// Makes a new adapter in a handle that holds no adapter.
 ///
 /// Returns `false`, and changes nothing, if the handle holds an adapter, an option is out of range, or memory is
 /// refused.
@@ -78,8 +81,9 @@ pub extern "C" fn nic82540em_free(alloc: Global, nic: &mut Nic)
     }
 }
 
-/// Makes a copy of the adapter in a handle that holds none. Returns `false`, and changes nothing, if there is no
-/// adapter, if the handle `into` holds one, and if memory is refused.
+/// Copies the adapter of `nic`, with its events and its schedule, into the handle `into`, which holds no adapter.
+///
+/// Returns `false`, and changes nothing, if `nic` holds no adapter, if `into` holds one, or if memory is refused.
 #[unsafe(no_mangle)]
 pub extern "C" fn nic82540em_copy(alloc: Global, nic: &mut Nic, into: &mut Nic) -> bool
     requires sound { nic.old.owner.full ≡ nic.old.held }

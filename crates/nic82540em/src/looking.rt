@@ -1,4 +1,4 @@
-// Calls of C that only look at the adapter.
+// Calls of C that read state and change nothing.
 
 ghost use Rattle.std.specs.Prelude.{◌≡◌, false, length, true};
 ghost use Rattle.adapter.specs.Registers.{answer_at};
@@ -7,11 +7,11 @@ ghost use Rattle.bus.specs.Machines.{is_asserted};
 ghost use Rattle.nic82540em.specs.Calls.{TellsPossible};
 ghost use Rattle.nic82540em.specs.Digests.{state_digest_of};
 
-use crate::handle::Nic;
+use crate::handle::{Nic, on_adapter};
 use crate::{calls, possible};
 use std::alloc::Global;
 
-/// Whether the interrupt line is asserted.
+/// Returns whether the interrupt line is asserted.
 #[unsafe(no_mangle)]
 pub extern "C" fn nic82540em_line(alloc: Global, nic: &mut Nic) -> bool
     requires sound { nic.old.owner.full ≡ nic.old.held }
@@ -21,16 +21,11 @@ pub extern "C" fn nic82540em_line(alloc: Global, nic: &mut Nic) -> bool
     ensures same { nic.old.held ≡ true → nic.new.owner.value ≡ nic.old.owner.value }
     ensures none { nic.old.held ≡ false → (result ≡ false) × (nic.new ≡ nic.old) }
 {
-    if !nic.held {
-        return false;
-    }
-    let mut adapter = nic.owner.take(alloc);
-    let answer = adapter.player.machine.line();
-    nic.owner.put(adapter);
-    answer
+    on_adapter!(alloc, nic, false, |adapter| adapter.player.machine.line())
 }
 
-/// Stores what a read of the register at an offset would return in `into`, without an access. Returns whether it did.
+/// Stores the value that a read of the register at an offset would return in `into`, and returns `true`. This isn't an
+/// access, and changes nothing in the adapter.
 #[unsafe(no_mangle)]
 pub extern "C" fn nic82540em_peek(alloc: Global, nic: &mut Nic, offset: u32, into: &mut u32) -> bool
     requires sound { nic.old.owner.full ≡ nic.old.held }
@@ -41,16 +36,14 @@ pub extern "C" fn nic82540em_peek(alloc: Global, nic: &mut Nic, offset: u32, int
     ensures same { nic.old.held ≡ true → nic.new.owner.value ≡ nic.old.owner.value }
     ensures none { nic.old.held ≡ false → (result ≡ false) × (into.new ≡ into.old) × (nic.new ≡ nic.old) }
 {
-    if !nic.held {
-        return false;
-    }
-    let adapter = nic.owner.take(alloc);
-    *into = adapter.player.machine.value(offset);
-    nic.owner.put(adapter);
-    true
+    on_adapter!(alloc, nic, false, |adapter| {
+        *into = adapter.player.machine.value(offset);
+        true
+    })
 }
 
-/// The kinds of steps that have something to do: bit `n` is set if and only if a step with number `n` has.
+/// Returns the kinds of steps that have something to do: bit `n` is set if and only if a step of the kind with number
+/// `n` would have another outcome than `Nothing`.
 #[unsafe(no_mangle)]
 pub extern "C" fn nic82540em_possible(alloc: Global, nic: &mut Nic) -> u32
     requires sound { nic.old.owner.full ≡ nic.old.held }
@@ -60,16 +53,10 @@ pub extern "C" fn nic82540em_possible(alloc: Global, nic: &mut Nic) -> u32
     ensures same { nic.old.held ≡ true → nic.new.owner.value ≡ nic.old.owner.value }
     ensures none { nic.old.held ≡ false → (result ≡ 0) × (nic.new ≡ nic.old) }
 {
-    if !nic.held {
-        return 0;
-    }
-    let adapter = nic.owner.take(alloc);
-    let answer = possible::possible(&adapter);
-    nic.owner.put(adapter);
-    answer
+    on_adapter!(alloc, nic, 0, |adapter| possible::possible(&adapter))
 }
 
-/// The number of frames that arrived and wait in the packet buffer.
+/// Returns the number of frames in the receive packet buffer.
 #[unsafe(no_mangle)]
 pub extern "C" fn nic82540em_waiting_received(alloc: Global, nic: &mut Nic) -> u32
     requires sound { nic.old.owner.full ≡ nic.old.held }
@@ -80,16 +67,15 @@ pub extern "C" fn nic82540em_waiting_received(alloc: Global, nic: &mut Nic) -> u
     ensures same { nic.old.held ≡ true → nic.new.owner.value ≡ nic.old.owner.value }
     ensures none { nic.old.held ≡ false → (result ≡ 0) × (nic.new ≡ nic.old) }
 {
-    if !nic.held {
-        return 0;
-    }
-    let adapter = nic.owner.take(alloc);
-    let answer = u32::from(adapter.player.machine.waiting().received);
-    nic.owner.put(adapter);
-    answer
+    on_adapter!(
+        alloc,
+        nic,
+        0,
+        |adapter| u32::from(adapter.player.machine.waiting().received)
+    )
 }
 
-/// The number of frames that were fetched, wait in the packet buffer, and aren't on the wire yet.
+/// Returns the number of frames in the transmit packet buffer: frames that were fetched and aren't on the wire yet.
 #[unsafe(no_mangle)]
 pub extern "C" fn nic82540em_waiting_transmit(alloc: Global, nic: &mut Nic) -> u32
     requires sound { nic.old.owner.full ≡ nic.old.held }
@@ -100,17 +86,16 @@ pub extern "C" fn nic82540em_waiting_transmit(alloc: Global, nic: &mut Nic) -> u
     ensures same { nic.old.held ≡ true → nic.new.owner.value ≡ nic.old.owner.value }
     ensures none { nic.old.held ≡ false → (result ≡ 0) × (nic.new ≡ nic.old) }
 {
-    if !nic.held {
-        return 0;
-    }
-    let adapter = nic.owner.take(alloc);
-    let answer = u32::from(adapter.player.machine.waiting().transmit);
-    nic.owner.put(adapter);
-    answer
+    on_adapter!(
+        alloc,
+        nic,
+        0,
+        |adapter| u32::from(adapter.player.machine.waiting().transmit)
+    )
 }
 
-/// A digest of the adapter and its host's memory. It doesn't cover the wire, the steps before accesses, or the number
-/// of accesses.
+/// Returns a digest of the adapter and its host's memory. The digest doesn't cover the wire, offered frames, events,
+/// the schedule, the steps before accesses, or the number of accesses.
 #[unsafe(no_mangle)]
 pub extern "C" fn nic82540em_digest(alloc: Global, nic: &mut Nic) -> u64
     requires sound { nic.old.owner.full ≡ nic.old.held }
@@ -120,17 +105,12 @@ pub extern "C" fn nic82540em_digest(alloc: Global, nic: &mut Nic) -> u64
     ensures same { nic.old.held ≡ true → nic.new.owner.value ≡ nic.old.owner.value }
     ensures none { nic.old.held ≡ false → (result ≡ 0) × (nic.new ≡ nic.old) }
 {
-    if !nic.held {
-        return 0;
-    }
-    let adapter = nic.owner.take(alloc);
-    let answer = adapter.player.machine.digest();
-    nic.owner.put(adapter);
-    answer
+    on_adapter!(alloc, nic, 0, |adapter| adapter.player.machine.digest())
 }
 
-/// A digest of the adapter's registers, of the frames in its packet buffer, and of the work in progress. Adapters with
-/// the same state have equal digests. It covers neither memory nor what [`nic82540em_digest`] omits.
+/// Returns a digest of the adapter's registers, of the frames in its packet buffers, and of its work in progress.
+/// Adapters with the same state have equal digests for each seed. The digest covers neither memory nor what
+/// [`nic82540em_digest`] omits.
 #[unsafe(no_mangle)]
 pub extern "C" fn nic82540em_state_digest(alloc: Global, nic: &mut Nic, seed: u64) -> u64
     requires sound { nic.old.owner.full ≡ nic.old.held }
@@ -141,11 +121,5 @@ pub extern "C" fn nic82540em_state_digest(alloc: Global, nic: &mut Nic, seed: u6
     ensures same { nic.old.held ≡ true → nic.new.owner.value ≡ nic.old.owner.value }
     ensures none { nic.old.held ≡ false → (result ≡ 0) × (nic.new ≡ nic.old) }
 {
-    if !nic.held {
-        return 0;
-    }
-    let adapter = nic.owner.take(alloc);
-    let answer = calls::state_digest(&adapter, seed);
-    nic.owner.put(adapter);
-    answer
+    on_adapter!(alloc, nic, 0, |adapter| calls::state_digest(&adapter, seed))
 }

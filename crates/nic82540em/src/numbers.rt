@@ -4,15 +4,16 @@ ghost use Rattle.std.specs.Prelude.{◌≡◌};
 ghost use Rattle.nic82540em.specs.Events as events;
 ghost use Rattle.nic82540em.specs.Numbers as numbers;
 
+use access_names::Reason;
 use adapter::{Fate, Outcome, StepKind};
 use eeprom::WORDS;
-use engine_faults::Reason;
 use mdic_phy::Link;
 
-/// The number that a call returns if it refuses the number of a step.
+/// The number that `nic82540em_step` and `nic82540em_arrive` return if they are refused. `nic82540em_play` returns
+/// this number if it is refused and can't return the number of a faulty line.
 pub const REFUSED: u32 = 0xFFFF_FFFF;
 
-/// The greatest number of ticks until the link is up.
+/// The greatest number of ticks of the PHY until the link is up.
 const MOST_TICKS: u32 = 65_535;
 
 /// The options of a new adapter.
@@ -35,7 +36,7 @@ pub struct AdapterOptions {
     pub image: [u16; WORDS],
 }
 
-/// The link with this number.
+/// Returns the setting of a link that is up after this number of ticks, or never for 0. Returns `None` above 65,535.
 pub(crate) fn link_with(number: u32) -> Option<Link>
     ensures { result ≡ numbers.link_with number }
 {
@@ -55,7 +56,7 @@ pub(crate) fn is_receive_share(kilobytes: u32) -> bool
     kilobytes % 2 == 0 && 2 <= kilobytes && kilobytes <= 48
 }
 
-/// The kind of steps with this number, if there is one.
+/// Returns the kind of steps with this number, or `None` if the number is above 5.
 pub(crate) fn kind_with(number: u32) -> Option<StepKind>
     ensures { result ≡ numbers.kind_with number }
 {

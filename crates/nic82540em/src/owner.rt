@@ -1,4 +1,4 @@
-// A box whose owner is C.
+// A box that C keeps.
 
 ghost use Rattle.std.specs.Prelude.{◌≡◌, Bool, true, false};
 ghost use Rattle.nic82540em.specs.declared.watched.WatchedAdapter.{WatchedAdapter};
@@ -10,10 +10,10 @@ use std::alloc::Global;
 use std::marker::Model;
 use std::mem::replace;
 
-/// A boxed adapter, or none. C keeps it in a place of its own, and neither reads nor writes it.
+/// A boxed adapter, or none. The owner is in a handle of C. C code neither reads nor writes the owner.
 ///
-/// It isn't `Drop`, so no code here can forget an adapter. A full owner ends as a box, and an empty one as its
-/// allocator.
+/// `Owner` isn't `Drop`, so code that loses an owner doesn't compile. `into_box` consumes a full owner, and
+/// `into_alloc` an empty one.
 #[repr(C)]
 pub struct Owner {
     at: *mut u8,
@@ -27,7 +27,7 @@ impl Model for Owner {
 }
 
 impl Owner {
-    /// Takes the adapter out. The owner is empty then.
+    /// Removes and returns the adapter of a full owner. Afterwards the owner is empty.
     pub(crate) fn take(&mut self, alloc: Global) -> Box<WatchedAdapter>
         requires { self.old.full ≡ true }
         ensures value { result.value ≡ self.old.value }
@@ -45,7 +45,7 @@ impl Owner {
         let _alloc = replace(self, Owner::holding(adapter)).into_alloc();
     }
 
-    /// No adapter.
+    /// Returns an empty owner.
     fn empty(alloc: Global) -> Owner
         ensures { result.full ≡ false }
     {
@@ -55,7 +55,7 @@ impl Owner {
         }
     }
 
-    /// This adapter.
+    /// Returns a full owner with this adapter.
     fn holding(adapter: Box<WatchedAdapter>) -> Owner
         ensures full { result.full ≡ true }
         ensures value { result.value ≡ adapter.value }
@@ -63,7 +63,7 @@ impl Owner {
         Owner::of_parts(Parts::of(adapter))
     }
 
-    /// The adapter that is owned.
+    /// Returns the adapter of a full owner.
     fn into_box(self) -> Box<WatchedAdapter>
         requires { self.full ≡ true }
         ensures { result.value ≡ self.value }
@@ -71,7 +71,7 @@ impl Owner {
         self.into_parts().into_box()
     }
 
-    /// The allocator of an empty owner.
+    /// Returns the allocator of an empty owner.
     fn into_alloc(self) -> Global
         requires { self.full ≡ false }
         ensures { result ≡ self.alloc }
@@ -80,7 +80,7 @@ impl Owner {
         alloc
     }
 
-    /// The owner of a box's parts.
+    /// Returns a full owner of the box with these parts.
     fn of_parts(parts: Parts<WatchedAdapter, Global>) -> Owner
         ensures { (result.full ≡ true) × (result.value ≡ parts.value) }
     {
@@ -91,7 +91,7 @@ impl Owner {
         }
     }
 
-    /// The parts of the box that is owned.
+    /// Returns the parts of the box of a full owner.
     fn into_parts(self) -> Parts<WatchedAdapter, Global>
         requires { self.full ≡ true }
         ensures { result.value ≡ self.value }

@@ -7,11 +7,12 @@ ghost use Rattle.nic82540em.specs.Calls.{with_events, with_ticks, with_wire};
 
 use crate::calls;
 use crate::events::KeptEvent;
-use crate::handle::Nic;
+use crate::handle::{Nic, on_adapter};
 use crate::numbers::REFUSED;
 use std::alloc::Global;
 
-/// Makes the adapter take the step with this number. Returns the outcome's number, or `0xFFFFFFFF` if there is no step.
+/// Makes the adapter take a step of the kind with this number. Returns the number of the outcome, or `0xFFFFFFFF` if no
+/// kind has this number.
 #[unsafe(no_mangle)]
 pub extern "C" fn nic82540em_step(alloc: Global, nic: &mut Nic, number: u32) -> u32
     requires sound { nic.old.owner.full ≡ nic.old.held }
@@ -20,17 +21,16 @@ pub extern "C" fn nic82540em_step(alloc: Global, nic: &mut Nic, number: u32) -> 
     ensures done { nic.old.held ≡ true → AnswersStep number result nic.old.owner.value nic.new.owner.value }
     ensures none { nic.old.held ≡ false → (result ≡ REFUSED) × (nic.new ≡ nic.old) }
 {
-    if !nic.held {
-        return REFUSED;
-    }
-    let mut adapter = nic.owner.take(alloc);
-    let answer = calls::step(&mut adapter, number);
-    nic.owner.put(adapter);
-    answer
+    on_adapter!(
+        alloc,
+        nic,
+        REFUSED,
+        |adapter| calls::step(&mut adapter, number)
+    )
 }
 
-/// Lets all offered frames arrive, and plays cycles of steps until one does nothing. Returns the number of steps of the
-/// cycles that did something.
+/// Delivers all offered frames, and then plays cycles until one does nothing, up to `MOST_CYCLES`. Returns the number
+/// of steps of the cycles that did something.
 #[unsafe(no_mangle)]
 pub extern "C" fn nic82540em_settle(alloc: Global, nic: &mut Nic) -> u64
     requires sound { nic.old.owner.full ≡ nic.old.held }
@@ -39,13 +39,7 @@ pub extern "C" fn nic82540em_settle(alloc: Global, nic: &mut Nic) -> u64
     ensures done { nic.old.held ≡ true → Settles result nic.old.owner.value nic.new.owner.value }
     ensures none { nic.old.held ≡ false → (result ≡ 0) × (nic.new ≡ nic.old) }
 {
-    if !nic.held {
-        return 0;
-    }
-    let mut adapter = nic.owner.take(alloc);
-    let answer = calls::settle(&mut adapter);
-    nic.owner.put(adapter);
-    answer
+    on_adapter!(alloc, nic, 0, |adapter| calls::settle(&mut adapter))
 }
 
 /// Delivers a frame to the adapter. Returns the number of its fate.
@@ -57,16 +51,16 @@ pub extern "C" fn nic82540em_arrive(alloc: Global, nic: &mut Nic, frame: &[u8]) 
     ensures done { nic.old.held ≡ true → AnswersArrival frame.now result nic.old.owner.value nic.new.owner.value }
     ensures none { nic.old.held ≡ false → (result ≡ REFUSED) × (nic.new ≡ nic.old) }
 {
-    if !nic.held {
-        return REFUSED;
-    }
-    let mut adapter = nic.owner.take(alloc);
-    let answer = calls::arrive(&mut adapter, frame);
-    nic.owner.put(adapter);
-    answer
+    on_adapter!(
+        alloc,
+        nic,
+        REFUSED,
+        |adapter| calls::arrive(&mut adapter, frame)
+    )
 }
 
-/// Takes the oldest frame off the wire, if it fits. Returns its length in bytes, or 0 if no frame waits.
+/// Takes the oldest frame off the wire, if it fits into `into`. Returns the frame's length in bytes, also if it doesn't
+/// fit, or 0 if no frame waits.
 #[unsafe(no_mangle)]
 pub extern "C" fn nic82540em_take_put(alloc: Global, nic: &mut Nic, into: &mut [u8]) -> usize
     requires sound { nic.old.owner.full ≡ nic.old.held }
@@ -76,16 +70,11 @@ pub extern "C" fn nic82540em_take_put(alloc: Global, nic: &mut Nic, into: &mut [
         AnswersTaking into.old into.new result nic.old.owner.value nic.new.owner.value }
     ensures none { nic.old.held ≡ false → (result ≡ 0) × (into.new ≡ into.old) × (nic.new ≡ nic.old) }
 {
-    if !nic.held {
-        return 0;
-    }
-    let mut adapter = nic.owner.take(alloc);
-    let answer = adapter.player.take_put(into);
-    nic.owner.put(adapter);
-    answer
+    on_adapter!(alloc, nic, 0, |adapter| adapter.player.take_put(into))
 }
 
-/// Sets that up to `count` steps are played before each later access. A generator with this seed draws them. Returns
+/// From now on, up to `count` steps and arrivals of offered frames are played before each access. A generator with this
+/// seed draws them. While a schedule of [`nic82540em_play`](crate::nic82540em_play) is played, none are drawn. Returns
 /// `false`, and changes nothing, if `count` is above 65,535.
 #[unsafe(no_mangle)]
 pub extern "C" fn nic82540em_interleave(alloc: Global, nic: &mut Nic, count: u32, seed: u64) -> bool
@@ -96,17 +85,16 @@ pub extern "C" fn nic82540em_interleave(alloc: Global, nic: &mut Nic, count: u32
         AnswersInterleave count seed result nic.old.owner.value nic.new.owner.value }
     ensures none { nic.old.held ≡ false → (result ≡ false) × (nic.new ≡ nic.old) }
 {
-    if !nic.held {
-        return false;
-    }
-    let mut adapter = nic.owner.take(alloc);
-    let answer = calls::interleave(&mut adapter, count, seed);
-    nic.owner.put(adapter);
-    answer
+    on_adapter!(
+        alloc,
+        nic,
+        false,
+        |adapter| calls::interleave(&mut adapter, count, seed)
+    )
 }
 
-/// Sets that up to `count` cycles of steps are played after each later access and arrival, until one does nothing.
-/// Returns `false`, and changes nothing, if `count` is above 65,535.
+/// From now on, cycles are played after each access and each call of [`nic82540em_arrive`] until one does nothing, up
+/// to `count`. Returns `false`, and changes nothing, if `count` is above 65,535.
 #[unsafe(no_mangle)]
 pub extern "C" fn nic82540em_pace(alloc: Global, nic: &mut Nic, count: u32) -> bool
     requires sound { nic.old.owner.full ≡ nic.old.held }
@@ -115,17 +103,18 @@ pub extern "C" fn nic82540em_pace(alloc: Global, nic: &mut Nic, count: u32) -> b
     ensures done { nic.old.held ≡ true → AnswersPace count result nic.old.owner.value nic.new.owner.value }
     ensures none { nic.old.held ≡ false → (result ≡ false) × (nic.new ≡ nic.old) }
 {
-    if !nic.held {
-        return false;
-    }
-    let mut adapter = nic.owner.take(alloc);
-    let answer = calls::pace(&mut adapter, count);
-    nic.owner.put(adapter);
-    answer
+    on_adapter!(
+        alloc,
+        nic,
+        false,
+        |adapter| calls::pace(&mut adapter, count)
+    )
 }
 
-/// Chooses a number below `limit`, or 0 if `limit` is 0: by the generator if random steps are played before accesses,
-/// else 0.
+/// Returns a number below `limit`, or 0 if `limit` is 0.
+///
+/// If steps are drawn before accesses, the generator draws the number. Otherwise the number is the one that is due in
+/// the schedule of [`nic82540em_play`](crate::nic82540em_play), or 0 if no number below `limit` is due.
 #[unsafe(no_mangle)]
 pub extern "C" fn nic82540em_choose(alloc: Global, nic: &mut Nic, limit: u32) -> u32
     requires sound { nic.old.owner.full ≡ nic.old.held }
@@ -135,17 +124,13 @@ pub extern "C" fn nic82540em_choose(alloc: Global, nic: &mut Nic, limit: u32) ->
     ensures below { 0 < limit → result < limit }
     ensures none { nic.old.held ≡ false → (result ≡ 0) × (nic.new ≡ nic.old) }
 {
-    if !nic.held {
-        return 0;
-    }
-    let mut adapter = nic.owner.take(alloc);
-    let answer = calls::choose(&mut adapter, limit);
-    nic.owner.put(adapter);
-    answer
+    on_adapter!(alloc, nic, 0, |adapter| calls::choose(&mut adapter, limit))
 }
 
-/// Adds a step of this kind to the end of the schedule. It is played before the access with number `access`. Returns
-/// `false`, and changes nothing, if no step has this number, or 4,096 steps wait.
+/// Adds a step of the kind with this number to the end of the list of scheduled steps.
+///
+/// The step is played before the first access with a number of at least `access`, after all steps added before. Returns
+/// `false`, and changes nothing, if no kind has this number, or if 4,096 steps wait.
 #[unsafe(no_mangle)]
 pub extern "C" fn nic82540em_schedule(
     alloc: Global,
@@ -159,13 +144,12 @@ pub extern "C" fn nic82540em_schedule(
     ensures done { nic.old.held ≡ true → AnswersSchedule access number result nic.old.owner.value nic.new.owner.value }
     ensures none { nic.old.held ≡ false → (result ≡ false) × (nic.new ≡ nic.old) }
 {
-    if !nic.held {
-        return false;
-    }
-    let mut adapter = nic.owner.take(alloc);
-    let answer = calls::schedule(&mut adapter, access, number);
-    nic.owner.put(adapter);
-    answer
+    on_adapter!(
+        alloc,
+        nic,
+        false,
+        |adapter| calls::schedule(&mut adapter, access, number)
+    )
 }
 
 /// Sets whether a step of the EEPROM and one of the PHY are played before each later access.
@@ -177,15 +161,10 @@ pub extern "C" fn nic82540em_ticks(alloc: Global, nic: &mut Nic, on: bool)
     ensures done { nic.old.held ≡ true → nic.new.owner.value ≡ with_ticks on nic.old.owner.value }
     ensures none { nic.old.held ≡ false → nic.new ≡ nic.old }
 {
-    if !nic.held {
-        return;
-    }
-    let mut adapter = nic.owner.take(alloc);
-    adapter.player.ticks = on;
-    nic.owner.put(adapter);
+    on_adapter!(alloc, nic, (), |adapter| adapter.player.ticks = on)
 }
 
-/// Sets whether later events are kept: steps, arrivals and changes of the interrupt line. Those that wait stay.
+/// Sets whether later events are kept. The events that wait aren't removed.
 #[unsafe(no_mangle)]
 pub extern "C" fn nic82540em_events(alloc: Global, nic: &mut Nic, on: bool)
     requires sound { nic.old.owner.full ≡ nic.old.held }
@@ -194,15 +173,10 @@ pub extern "C" fn nic82540em_events(alloc: Global, nic: &mut Nic, on: bool)
     ensures done { nic.old.held ≡ true → nic.new.owner.value ≡ with_events on nic.old.owner.value }
     ensures none { nic.old.held ≡ false → nic.new ≡ nic.old }
 {
-    if !nic.held {
-        return;
-    }
-    let mut adapter = nic.owner.take(alloc);
-    adapter.events.on = on;
-    nic.owner.put(adapter);
+    on_adapter!(alloc, nic, (), |adapter| adapter.events.on = on)
 }
 
-/// Takes the oldest event. Returns `false`, and changes nothing, if none waits.
+/// Removes the oldest event, and stores it in `into`. Returns `false`, and changes nothing, if no event waits.
 #[unsafe(no_mangle)]
 pub extern "C" fn nic82540em_take_event(alloc: Global, nic: &mut Nic, into: &mut KeptEvent) -> bool
     requires sound { nic.old.owner.full ≡ nic.old.held }
@@ -212,17 +186,19 @@ pub extern "C" fn nic82540em_take_event(alloc: Global, nic: &mut Nic, into: &mut
         AnswersEvent into.old into.new result nic.old.owner.value nic.new.owner.value }
     ensures none { nic.old.held ≡ false → (result ≡ false) × (into.new ≡ into.old) × (nic.new ≡ nic.old) }
 {
-    if !nic.held {
-        return false;
-    }
-    let mut adapter = nic.owner.take(alloc);
-    let answer = calls::take_event(&mut adapter, into);
-    nic.owner.put(adapter);
-    answer
+    on_adapter!(
+        alloc,
+        nic,
+        false,
+        |adapter| calls::take_event(&mut adapter, into)
+    )
 }
 
-/// Adds a frame to those that are offered: it arrives before a later access, if the generator chooses so, or in
-/// [`nic82540em_settle`]. Returns `false`, and changes nothing, if memory is refused.
+/// Adds a copy of a frame to the offered frames.
+///
+/// The generator or a schedule may choose the frame's arrival before a later access, and a schedule also before a
+/// request. Otherwise the frame arrives in the next [`nic82540em_settle`]. Returns `false`, and changes nothing, if
+/// memory is refused.
 #[unsafe(no_mangle)]
 pub extern "C" fn nic82540em_offer(alloc: Global, nic: &mut Nic, frame: &[u8]) -> bool
     requires sound { nic.old.owner.full ≡ nic.old.held }
@@ -231,16 +207,15 @@ pub extern "C" fn nic82540em_offer(alloc: Global, nic: &mut Nic, frame: &[u8]) -
     ensures done { nic.old.held ≡ true → AnswersOffer frame.now result nic.old.owner.value nic.new.owner.value }
     ensures none { nic.old.held ≡ false → (result ≡ false) × (nic.new ≡ nic.old) }
 {
-    if !nic.held {
-        return false;
-    }
-    let mut adapter = nic.owner.take(alloc);
-    let answer = calls::offer(alloc, &mut adapter, frame);
-    nic.owner.put(adapter);
-    answer
+    on_adapter!(
+        alloc,
+        nic,
+        false,
+        |adapter| calls::offer(alloc, &mut adapter, frame)
+    )
 }
 
-/// Sets whether the wire is full: then no frame can be put on it, even if fewer than 64 wait.
+/// Sets whether the wire is full. While it is full, no frame is put on it, even if fewer than 64 frames wait.
 #[unsafe(no_mangle)]
 pub extern "C" fn nic82540em_fill_wire(alloc: Global, nic: &mut Nic, full: bool)
     requires sound { nic.old.owner.full ≡ nic.old.held }
@@ -249,10 +224,5 @@ pub extern "C" fn nic82540em_fill_wire(alloc: Global, nic: &mut Nic, full: bool)
     ensures done { nic.old.held ≡ true → nic.new.owner.value ≡ with_wire full nic.old.owner.value }
     ensures none { nic.old.held ≡ false → nic.new ≡ nic.old }
 {
-    if !nic.held {
-        return;
-    }
-    let mut adapter = nic.owner.take(alloc);
-    adapter.player.wire_free = !full;
-    nic.owner.put(adapter);
+    on_adapter!(alloc, nic, (), |adapter| adapter.player.wire_free = !full)
 }

@@ -6,7 +6,7 @@ ghost use Rattle.nic82540em.specs.Calls.{TellsPossible, TellsWork, bit_if};
 use crate::watched::WatchedAdapter;
 use adapter::StepKind;
 
-/// The value of a bit of a mask if it is set, else 0.
+/// Returns `value` if `is_set` is true, else 0.
 fn bit_if(is_set: bool, value: u32) -> u32
     ensures bit { result ≡ bit_if is_set value }
     ensures fits { result ≤ value }
@@ -14,7 +14,7 @@ fn bit_if(is_set: bool, value: u32) -> u32
     if is_set { value } else { 0 }
 }
 
-/// This value if a step of this kind has something to do, else 0.
+/// Returns `value` if a step of this kind has something to do, else 0.
 fn bit_of(watched: &WatchedAdapter, kind: StepKind, value: u32) -> u32
     ensures bit { TellsWork kind value result watched.now }
     ensures fits { result ≤ value }
@@ -22,8 +22,8 @@ fn bit_of(watched: &WatchedAdapter, kind: StepKind, value: u32) -> u32
     bit_if(watched.player.machine.has_work(kind), value)
 }
 
-/// The kinds of steps that have something to do. Bit `n` is set if and only if the outcome of step `n` wouldn't be
-/// `Nothing`, which has number 0. Nothing changes.
+/// Returns the kinds of steps that have something to do: bit `n` is set if and only if a step of the kind with number
+/// `n` would have another outcome than `Nothing`.
 pub(crate) fn possible(watched: &WatchedAdapter) -> u32
     ensures { TellsPossible result watched.now }
 {

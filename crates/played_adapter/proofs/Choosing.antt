@@ -1,4 +1,4 @@
--- Offered frames that arrive, and accesses that are asked for.
+-- Offered frames that arrive, and accesses of requests.
 use Rattle.std.proofs.Common.{◌≡◌, ◌∷◌, ◌∙◌, [], ℕ, List, ap, refl, subst, sym}
 use Rattle.bus.specs.Machines.{MachineState, after_event}
 use Rattle.bus.specs.Trails.{Occurs}
@@ -37,14 +37,14 @@ module _ {O : Type 0} (heard : O → O → List Told → Type 0) (laws : Compose
       (after (Arrives frame fate) (record a { offered = later })) _ b before now end
       occurs (ap (λ (m : MachineState). record a { machine = m; offered = later }) state) tells refl reports)
 
-  -- What comes before an access was played, and the access happened.
+  -- What precedes an access was played, and the access happened.
   pub accessed_after : (moves : List Move) (access : Access) (a middle b : PlayedAdapter) (before now end : O)
       → Tells heard before now (ComesBefore moves a middle) → Tells heard now end (HappensAlone access middle b)
       → Tells heard before end (AccessedAfter moves access a b)
   accessed_after moves access a middle b before now end comes happens =
       tells_both heard laws (ComesBefore moves a) (λ m rest. HappensAlone access m b rest) middle before now end comes happens
 
-  -- Then cycles were played.
+  -- An access happened after what precedes it, and then cycles were played.
   pub served : (moves : List Move) (access : Access) (a middle later b : PlayedAdapter) (before now then end : O)
       → Tells heard before now (ComesBefore moves a middle) → Tells heard now then (HappensAlone access middle later)
       → Tells heard then end (Paced later b) → Tells heard before end (ServesAccess moves access a b)

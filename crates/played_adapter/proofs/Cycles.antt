@@ -34,7 +34,7 @@ not_below : (n most : ℕ) → n ≡ most → nat_lt n most ≡ false
 not_below n most same = grind (arith, nat_tests)
 
 module _ {O : Type 0} (heard : O → O → List Told → Type 0) (laws : Composes heard) where
-  -- Cycles that each did something were played, and this many steps did something.
+  -- `count` cycles that each did something were played, and `moved` of their steps did something.
   pub record BusyCycles (count moved : ℕ) (a b : PlayedAdapter) (before now : O) : Type 0 where
     pub busy : List ℕ
     pub each : All (λ here. 0 < here) busy
@@ -78,7 +78,7 @@ module _ {O : Type 0} (heard : O → O → List Told → Type 0) (laws : Compose
         moved_is = so_far.moved_is;
       }) plays
 
-  -- No cycle is left.
+  -- The maximum number of cycles was played, and each did something.
   pub settled_late : (most moved : ℕ) (a b : PlayedAdapter) (before now : O) → BusyCycles most moved a b before now
       → Tells heard before now (Settles most moved a b)
   settled_late most moved a b before now so_far =

@@ -1,4 +1,4 @@
--- What happens and is told, in parts.
+-- Events that happened and were told, from their parts.
 use Rattle.std.proofs.Common.{◌≡◌, ◌++◌, ◌∙◌, ◌∷◌, [], ℕ, List, ap, false, length, refl}
 use Rattle.bus.specs.Machines.{MachineState, after_event}
 use Rattle.bus.specs.Trails.{Occurs}
@@ -14,7 +14,7 @@ use Rattle.played_adapter.specs.declared.player.PlayedAdapter.{PlayedAdapter}
 use Rattle.played_adapter.proofs.Telling.{tells_both}
 
 module _ {O : Type 0} (heard : O → O → List Told → Type 0) (laws : Composes heard) where
-  -- It happened, and was told; then the line was reported.
+  -- An event happened and was told, and then a change of the interrupt line was reported.
   pub happened : (one : Event) (of_it of_that : List Told) (a next m b : PlayedAdapter) (before now end : O)
       → Occurs one a.machine.world → m ≡ next → heard before now of_it → of_it ≡ of_that → Tells heard now end (Reports m b)
       → Tells heard before end (Happens one of_that next a b)

@@ -5,4 +5,5 @@ pub mod Putting
 mod Quiet
 pub mod Cycles
 pub mod Schedules
+pub mod Dues
 pub mod Telling

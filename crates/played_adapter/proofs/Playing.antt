@@ -1,4 +1,4 @@
--- The steps before an access leave its bytes in memory. Without steps before it, an access happens alone.
+-- The steps before an access don't change the size of memory. If no steps are played before an access, only the access happens.
 use Rattle.std.proofs.Common.{◌≡◌, ◌∙◌, ◌+◌, ◌++◌, ◌∷◌, ◌≤◌, [], ℕ, Bool, List, true, ap, arith, cond, length, subst, sym}
 use Rattle.std.proofs.lemmas.Bool.Decides.{nat_tests}
 use Rattle.rand_pcg.specs.Lcg.{Lcg}
@@ -57,7 +57,7 @@ scheduled_keeps step a b told played = step_keeps step.kind played.0 (without_ne
 played_keeps : (kind : StepKind) (a b : PlayedAdapter × ℕ) (told : List Told) → Plays kind a b told → size_of b.0 ≡ size_of a.0
 played_keeps kind a b told played = step_keeps kind played.outcome a.0 b.0 told played.steps
 
--- The steps before an access leave its bytes in memory.
+-- Bytes in memory are still in memory after the steps before an access.
 pub still_fits : (a b : PlayedAdapter) (told : List Told) (address count : ℕ) → has_bytes a address count ≡ true → Prepares a b told
     → address + count ≤ size_of b
 still_fits a b told address count fits steps =
@@ -73,7 +73,7 @@ still_fits a b told address count fits steps =
     let before : address + count ≤ size_of a = grind (arith, nat_tests) in
     omega arith
 
--- So do moves and what the generator chooses.
+-- Bytes in memory are still in memory after moves and what the generator draws.
 pub moves_fit : (moves : List Move) (a b : PlayedAdapter) (told : List Told) (address count : ℕ) → has_bytes a address count ≡ true
     → ComesBefore moves a b told → address + count ≤ size_of b
 moves_fit moves a b told address count fits steps =
@@ -82,7 +82,7 @@ moves_fit moves a b told address count fits steps =
     let before : address + count ≤ size_of a = grind (arith, nat_tests) in
     omega arith
 
--- Without steps before it, an access happens alone.
+-- If no steps are played before an access, only the access happens.
 
 none_drawn : (a b : PlayedAdapter) (told : List Told) → a.most_steps ≡ 0 → Interleaves a b told → (b ≡ a) × (told ≡ [])
 none_drawn a b told none steps =

@@ -1,4 +1,4 @@
--- Nothing comes before an access.
+-- Accesses before which no step is played.
 use Rattle.std.proofs.Common.{◌≡◌, [], ℕ, Bool, List, ap, cond, false, refl, subst, sym}
 use Rattle.played_adapter.specs.Draws.{drawn_count}
 use Rattle.played_adapter.specs.Order.{InOrder, Tells, Times}
@@ -14,7 +14,7 @@ none_drawn a most =
     subst (λ (n : ℕ). Times DrawsChoice (drawn_count n a.generator).0 (record a { generator = (drawn_count n a.generator).1 }) a [])
     (sym most) (refl, refl)
 
--- If no step is on, scheduled or drawn, an access is only counted.
+-- If ticks are off, the schedule is empty and no steps are drawn, the steps before an access only count the access.
 pub quiet_prepares : (a b : PlayedAdapter) → a.ticks ≡ false → a.most_steps ≡ 0 → a.scheduled.items ≡ [] → b ≡ counted a
     → Prepares a b []
 quiet_prepares a b ticks most items is = record {
@@ -33,7 +33,7 @@ quiet_prepares a b ticks most items is = record {
   told_is = refl;
 }
 
--- So the access happens alone.
+-- In this case, only the access happens.
 pub quiet_access : {O : Type 0} (heard : O → O → List Told → Type 0) (access : Access) (a b c : PlayedAdapter) (before after : O)
     → a.ticks ≡ false → a.most_steps ≡ 0 → a.scheduled.items ≡ [] → b ≡ counted a
     → Tells heard before after (HappensAlone access b c) → Tells heard before after (Accessed access a c)

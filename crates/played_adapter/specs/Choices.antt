@@ -1,4 +1,4 @@
--- The steps and arrivals that may be played before accesses and requests (our choice; `tools/race_finder/README.md`, "A schedule").
+-- The steps and arrivals that may be played before accesses and requests (our choice; `finder/README.md`, "A schedule").
 use Rattle.std.specs.Prelude.{◌==◌, ◌%◌, ℕ, List, if◌then◌else◌, length}
 use Rattle.rand_pcg.specs.Lcg.{Lcg}
 use Rattle.rand_pcg.specs.Pcg.{pcg32}
@@ -11,17 +11,18 @@ use Rattle.played_adapter.specs.Kinds.{kind_numbered}
 use Rattle.played_adapter.specs.declared.choices.Choice.{Choice}
 use Rattle.played_adapter.specs.declared.choices.Choice.TheVariants.{Step, Arrival}
 
--- the choice with this number while a frame waits
+-- the choice with this number: an arrival for 6, else a step of the kind with this number
 abbrev pub choice_numbered : ℕ → Choice
 choice_numbered number = if number == 6 then Arrival else Step (kind_numbered number)
 
--- a choice: of the six kinds of steps, and of one more, an arrival, while a frame waits
+-- the choice that the next word determines, and the generator after it: one of six kinds of steps, or, while a frame is offered, also an
+-- arrival
 abbrev pub drawn : (offered : List (List ℕ)) → Lcg → Choice × Lcg
 drawn offered generator =
     if length offered == 0 then (let kind = drawn_kind generator in (Step kind.0, kind.1))
     else (let word = pcg32 generator in (choice_numbered (word.0 % 7), word.1))
 
--- the action of a step
+-- the action that plays a step of this kind
 abbrev pub step_action : StepKind → Action
 step_action kinds.TxTake = TxTake
 step_action kinds.TxPut = TxPut

@@ -5,17 +5,17 @@ use Rattle.rand_pcg.specs.Pcg.{pcg32}
 use Rattle.adapter.specs.declared.step.StepKind.{StepKind}
 use Rattle.played_adapter.specs.Kinds.{kind_numbered}
 
--- the kind of a step
+-- the kind of steps that the next word determines, and the generator after it
 abbrev pub drawn_kind : Lcg → StepKind × Lcg
 drawn_kind generator = let word = pcg32 generator in (kind_numbered (word.0 % 6), word.1)
 
--- the number of steps before an access, up to a maximum; no word is used if the maximum is 0
+-- the number of steps and arrivals before an access, up to a maximum; no word is used if the maximum is 0
 abbrev pub drawn_count : (most : ℕ) → Lcg → ℕ × Lcg
 drawn_count most generator =
     if most == 0 then (0, generator) else (let word = pcg32 generator in (word.0 % (most + 1), word.1))
 
--- a number below a limit: that of the next word, if steps are drawn and the limit isn't 0. Otherwise, no word is used: the number is the
--- wanted one if it is below the limit, or else 0.
+-- The chosen number, and the generator after the choice. If `most` and `limit` aren't 0, the next word determines a number below `limit`.
+-- Otherwise no word is used, and the number is `wanted` if `wanted` is below `limit`, or else 0.
 abbrev pub chosen_below : (most limit wanted : ℕ) → Lcg → ℕ × Lcg
 chosen_below most limit wanted generator =
     if most == 0 || limit == 0 then (if nat_lt wanted limit then wanted else 0, generator)

@@ -6,3 +6,4 @@ pub mod Order
 pub mod Told
 pub mod Playing
 pub mod Requests
+pub mod Moves

@@ -1,9 +1,10 @@
--- Things that happen in order, and what is told of them (our choice).
+-- Things that happen in order, and what an observer is told about them (our choice).
 use Rattle.std.specs.Prelude.{◌≡◌, ◌++◌, ℕ, List, [], ◌∷◌, replicate}
 
--- What an observer is told in consecutive intervals is joined.
+-- From a state to itself, an observer is told nothing. What it is told in consecutive intervals is, joined, what it is told in the whole
+-- interval.
 pub record Composes {O T : Type 0} (heard : O → O → List T → Type 0) : Type 0 where
-  -- From a state to itself nothing was told.
+  -- From a state to itself, nothing was told.
   pub stays : (a : O) → heard a a []
   -- What was told in two consecutive intervals was told in the joined interval.
   pub joins : (a b c : O) (first later : List T) → heard a b first → heard b c later → heard a c (first ++ later)
@@ -17,13 +18,13 @@ pub record Tells {O T : Type 0} (heard : O → O → List T → Type 0) (before 
   -- this list was told between these two states
   pub hears : heard before after told
 
--- One thing happens, and then another. What is told of them is joined.
+-- One thing happens, and then another. The lists told about them are joined.
 pub record Joins {S T : Type 0} (First Later : S → List T → Type 0) (told : List T) : Type 0 where
   -- the state between them
   pub middle : S
-  -- what is told of the first thing
+  -- what is told about the first thing
   pub first : List T
-  -- what is told of the second thing
+  -- what is told about the second thing
   pub rest : List T
   -- the first thing happens
   pub happens : First middle first
@@ -37,6 +38,6 @@ abbrev pub InOrder : {X S T : Type 0} → (X → S → S → List T → Type 0) 
 InOrder Happens [] a b told = (b ≡ a) × (told ≡ [])
 InOrder Happens (x ∷ later) a c told = Joins (λ b first. Happens x a b first) (λ b rest. InOrder Happens later b c rest) told
 
--- The same thing happens this many times.
+-- The same thing happens `count` times.
 abbrev pub Times : {S T : Type 0} → (S → S → List T → Type 0) → ℕ → S → S → List T → Type 0
 Times Happens count a b told = InOrder (λ (turn : ℕ). Happens) (replicate count 0) a b told

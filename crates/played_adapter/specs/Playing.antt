@@ -1,4 +1,4 @@
--- What is played on an adapter, and what an observer is told of it (our choice).
+-- What is played on an adapter, and what an observer is told about it (our choice).
 use denote.RawPtr.{Ptr}
 use Rattle.std.specs.Prelude.{◌≡◌, ◌==◌, ◌+◌, ◌++◌, ◌<◌, ◌≤◌, ◌&&◌, ◌||◌, [], ◌∷◌, ℕ, Bool, false, true, List, Option, None, All}
 use Rattle.std.specs.Prelude.{drop, if◌then◌else◌, length, min, nat_le, nat_lt, not, sum}
@@ -19,8 +19,8 @@ use Rattle.bus.specs.declared.event.Access.TheVariants.{Loads, Stores}
 use Rattle.bus.specs.declared.event.Event.{Event}
 use Rattle.bus.specs.declared.event.Event.TheVariants as event
 use Rattle.dma_memory.specs.HostMemory.{bytes_at}
-use Rattle.engine_faults.specs.Faults.{fault_if_any}
-use Rattle.engine_faults.specs.declared.engine_fault.EngineFault.{EngineFault}
+use Rattle.access_names.specs.Faults.{fault_if_any}
+use Rattle.access_names.specs.declared.engine_fault.EngineFault.{EngineFault}
 use Rattle.rx_engine.specs.declared.arrival.Fate.{Fate}
 use Rattle.tx_engine.specs.Transmitter.{Queued}
 use Rattle.step_schedules.specs.declared.deviation.Action.{Action}
@@ -40,8 +40,8 @@ use Rattle.played_adapter.specs.declared.scheduling.ScheduledStep.{ScheduledStep
 
 -- A new adapter.
 
--- a new adapter, with any address of memory, and no access so far. The wire and the schedule are empty, with room for these numbers of
--- frames and steps.
+-- a new adapter, whose memory has this address, and no access so far; the wire and the schedule are empty, with room for this many frames
+-- and steps
 unfoldable pub new_with_room : (frames steps : ℕ) → (memory : List ℕ) → AdapterState → Option Ptr → PlayedAdapter
 new_with_room frames steps memory adapter address = record {
   machine = record { world = record { memory = memory; adapter = adapter }; reported = is_asserted adapter };
@@ -71,40 +71,41 @@ new_watched memory adapter seed address =
 abbrev pub reported : PlayedAdapter → PlayedAdapter
 reported a = record a { machine = record a.machine { reported = is_asserted a.machine.world.adapter } }
 
--- A copy of an adapter: only the address of its memory differs, and the level of its interrupt line counts as told.
+-- An adapter is a copy of another one: its memory may have another address, and the level of its interrupt line counts as told.
 pub record IsCopy (a copy : PlayedAdapter) : Type 0 where
   -- the same adapter and the same memory
   pub world : copy.machine.world ≡ a.machine.world
-  -- all else is the same, too
+  -- everything else is also the same, except the address, and the level that counts as told
   pub same : copy ≡ record (reported a) { address = copy.address }
 
 -- What happens.
 
--- the change of the interrupt line between two levels; none if they are equal
+-- the change of the interrupt line between two levels, if they differ
 abbrev pub line_told : (was is : Bool) → List Told
 line_told false true = Line true ∷ []
 line_told true false = Line false ∷ []
 line_told true true = []
 line_told false false = []
 
--- the change of the interrupt line since it was told, if it is one
+-- the change of the interrupt line since the level that counts as told, if the level now differs
 abbrev pub line_of : PlayedAdapter → List Told
 line_of a = line_told a.machine.reported (is_asserted a.machine.world.adapter)
 
--- A change of the interrupt line is told.
+-- A change of the interrupt line, if there is one, is told. Then the level of the line counts as told.
 abbrev pub Reports : PlayedAdapter → PlayedAdapter → List Told → Type 0
 Reports a b told = (b ≡ reported a) × (told ≡ line_of a)
 
--- An event happens, and leads to the next state. The observer is told of it, and then of a change of the interrupt line, if it is one.
+-- An event happens, and leads to the state `next`. The observer is told the event, and then a change of the interrupt line, if there is
+-- one.
 pub record Happens (one : Event) (of_it : List Told) (next : PlayedAdapter) (a b : PlayedAdapter) (told : List Told) : Type 0 where
   -- the event can happen in this state
   pub occurs : Occurs one a.machine.world
   -- after it, the level of the line counts as told
   pub after : b ≡ reported next
-  -- the event is told, and then the change of the line
+  -- the event is told, and then the change of the line, if there is one
   pub told_is : told ≡ of_it ++ line_of next
 
--- the adapter after an event that puts no frame
+-- the adapter after an event that changes only the machine
 abbrev pub after : Event → PlayedAdapter → PlayedAdapter
 after one a = record a { machine = after_event one a.machine }
 
@@ -112,7 +113,7 @@ after one a = record a { machine = after_event one a.machine }
 abbrev pub Arrives : (frame : List ℕ) → Fate → PlayedAdapter → PlayedAdapter → List Told → Type 0
 Arrives frame fate a b told = Happens (event.Arrives frame fate) (Arrived frame fate ∷ []) (after (event.Arrives frame fate) a) a b told
 
--- An offered frame arrives, and the later ones still wait.
+-- An offered frame arrives with this fate, and the later frames still wait.
 abbrev pub FrameArrives : (frame : List ℕ) → (later : List (List ℕ)) → Fate → PlayedAdapter → PlayedAdapter → List Told → Type 0
 FrameArrives frame later fate a b told = Happens (event.Arrives frame fate) (Offered frame fate ∷ [])
     (after (event.Arrives frame fate) (record a { offered = later })) a b told
@@ -132,7 +133,7 @@ AllArrive a b told = Times NextArrives (length a.offered) a b told
 
 -- Steps.
 
--- whether the wire has room: while it is free, and, if frames that are put wait on it, fewer of them wait than it holds
+-- whether the wire has room: the wire is free, and, if frames that are put wait on it, fewer frames wait than fit
 abbrev pub has_room : PlayedAdapter → Bool
 has_room a = a.wire_free && (not a.keeps_put || nat_lt (length a.wire.frames) a.wire.capacity)
 
@@ -154,7 +155,7 @@ after_step kind outcome a = record a {
   };
 }
 
--- the fault that a step is, if it is one, in the world after it
+-- the fault of a step, from the world after the step, or no fault if the outcome isn't a fault
 abbrev pub fault_told : StepKind → Outcome (Unit {0}) → World → Option EngineFault
 fault_told kind Fault world = fault_if_any kind world
 fault_told kind outcome world = None
@@ -166,13 +167,13 @@ Steps kind outcome a b told =
     (Stepped kind (framed outcome a.machine.world.adapter) (fault_told kind outcome (after_step kind outcome a).machine.world) ∷ [])
     (after_step kind outcome a) a b told
 
--- the outcome of a step that puts, with this room on the wire
+-- the outcome of a step `TxPut`, by whether the wire has room, and by the frames that the adapter can put
 abbrev pub expected : (wire_free : Bool) → List Queued → FrameOutcome
 expected wire_free [] = Nothing
 expected true (queued ∷ later) = Put queued.frame
 expected false (queued ∷ later) = WireFull
 
--- A step of this kind is played, and is counted if it does something.
+-- A step of this kind is played, and counted if it does something.
 pub record Plays (kind : StepKind) (a b : PlayedAdapter × ℕ) (told : List Told) : Type 0 where
   -- the outcome of the step
   pub outcome : Outcome (Unit {0})
@@ -183,7 +184,7 @@ pub record Plays (kind : StepKind) (a b : PlayedAdapter × ℕ) (told : List Tol
 
 -- The wire.
 
--- the oldest of these frames; no bytes if there is none
+-- the first of these frames, or no bytes if there is no frame
 abbrev pub front_of : List (List ℕ) → List ℕ
 front_of [] = []
 front_of (frame ∷ later) = frame
@@ -192,9 +193,10 @@ front_of (frame ∷ later) = frame
 abbrev pub without_front : PlayedAdapter → PlayedAdapter
 without_front a = record a { wire = record a.wire { frames = drop 1 a.wire.frames } }
 
--- The oldest frame is taken off the wire into a buffer, if it fits. `old` and `new` are the bytes of the buffer before and after.
+-- The oldest frame is taken off the wire into a buffer, if it fits. `old` and `new` are the bytes of the buffer before and after. If there
+-- is no frame, nothing changes.
 pub record AnswersTaking (old new : List ℕ) (answer : ℕ) (a b : PlayedAdapter) : Type 0 where
-  -- the length of the oldest frame, 0 if there is none
+  -- the answer is the length of the oldest frame, or 0 if there is no frame
   pub length_is : answer ≡ length (front_of a.wire.frames)
   -- if the frame fits, it is at the beginning of the buffer
   pub bytes : answer ≤ length old → new ≡ front_of a.wire.frames ++ drop answer old
@@ -207,15 +209,15 @@ pub record AnswersTaking (old new : List ℕ) (answer : ℕ) (a b : PlayedAdapte
 
 -- Cycles.
 
--- the kinds of a cycle, each once
+-- the kinds of steps in a cycle, each once, in order
 abbrev pub cycle : List StepKind
 cycle = TxTake ∷ TxPut ∷ RxData ∷ RxDone ∷ EepromTick ∷ PhyTick ∷ []
 
--- Steps of these kinds are played, in order, and this many do something.
+-- Steps of these kinds are played, in order, and `moved` of them do something.
 abbrev pub PlaysAll : List StepKind → (moved : ℕ) → PlayedAdapter → PlayedAdapter → List Told → Type 0
 PlaysAll kinds moved a b told = InOrder Plays kinds (a, 0) (b, moved) told
 
--- A cycle of steps is played, and this many do something.
+-- A cycle is played, and `moved` of its steps do something.
 abbrev pub Cycle : (moved : ℕ) → PlayedAdapter → PlayedAdapter → List Told → Type 0
 Cycle moved a b told = PlaysAll cycle moved a b told
 
@@ -223,12 +225,12 @@ Cycle moved a b told = PlaysAll cycle moved a b told
 abbrev pub most_cycles : ℕ
 most_cycles = 131072
 
--- for each cycle, the number of its steps that do something: the busy cycles, and one more cycle that does nothing, unless the maximum
--- is reached before
+-- for each cycle, the number of its steps that do something: the busy cycles, and then a cycle that does nothing, if fewer than the maximum
+-- are busy
 abbrev pub with_last : (most : ℕ) → (busy : List ℕ) → List ℕ
 with_last most busy = if nat_lt (length busy) most then busy ++ 0 ∷ [] else busy
 
--- Cycles are played until one does nothing, up to a maximum. This many steps do something.
+-- Cycles are played until one does nothing, up to `most` cycles. `moved` of their steps do something.
 pub record Settles (most moved : ℕ) (a b : PlayedAdapter) (told : List Told) : Type 0 where
   -- for each cycle that does something, the number of its steps that do something
   pub busy : List ℕ
@@ -251,7 +253,7 @@ both_ticks = EepromTick ∷ PhyTick ∷ []
 abbrev pub Ticks : PlayedAdapter → PlayedAdapter → List Told → Type 0
 Ticks a b told = (moved : ℕ) × PlaysAll (if a.ticks then both_ticks else []) moved a b told
 
--- the steps at the front of a schedule that are due before an access: the numbers of their accesses aren't greater
+-- the steps that are due before an access: those at the front of a schedule whose number `access` is at most the access's number
 abbrev pub due : (access : ℕ) → List ScheduledStep → List ScheduledStep
 due access [] = []
 due access (step ∷ later) = if nat_le step.access access then step ∷ due access later else []
@@ -264,7 +266,7 @@ due_in a = due a.accesses a.scheduled.items
 abbrev pub without_next : PlayedAdapter → PlayedAdapter
 without_next a = record a { scheduled = record a.scheduled { items = drop 1 a.scheduled.items } }
 
--- A step of the schedule is played, and no longer waits.
+-- The first step of the schedule is removed and played.
 abbrev pub PlaysScheduled : ScheduledStep → PlayedAdapter → PlayedAdapter → List Told → Type 0
 PlaysScheduled step a b told = (outcome : Outcome (Unit {0})) × Steps step.kind outcome (without_next a) b told
 
@@ -272,14 +274,14 @@ PlaysScheduled step a b told = (outcome : Outcome (Unit {0})) × Steps step.kind
 pub record AnswersSchedule (access : ℕ) (kind : StepKind) (answer : Bool) (a b : PlayedAdapter) : Type 0 where
   -- whether the schedule has room
   pub range : answer ≡ nat_lt (length a.scheduled.items) a.scheduled.capacity
-  -- if the schedule has room, the step is its last one
+  -- if the schedule has room, the step is added at its end
   pub taken : answer ≡ true → b ≡ record a {
     scheduled = record a.scheduled { items = a.scheduled.items ++ record { access = access; kind = kind } ∷ [] };
   }
   -- if the schedule has no room, nothing changes
   pub refused : answer ≡ false → b ≡ a
 
--- the list with an action that is noted, if something was done
+-- the list that consists of this noted action if `did` is true, else an empty list
 abbrev pub noted : (did : Bool) → Action → List Told
 noted true action = Noted action ∷ []
 noted false action = []
@@ -295,7 +297,7 @@ pub record StepChosen (kind : StepKind) (a b : PlayedAdapter) (told : List Told)
   -- the step is noted if it did something
   pub told_is : told ≡ first ++ noted (did outcome) (step_action kind)
 
--- The oldest offered frame arrives, and is noted, if there is one.
+-- If a frame is offered, the oldest one arrives, and the arrival is noted.
 pub record ArrivalChosen (a b : PlayedAdapter) (told : List Told) : Type 0 where
   -- what is told of the arrival
   pub first : List Told
@@ -309,15 +311,15 @@ abbrev pub Chosen : Choice → PlayedAdapter → PlayedAdapter → List Told →
 Chosen (Step kind) a b told = StepChosen kind a b told
 Chosen Arrival a b told = ArrivalChosen a b told
 
--- the adapter after the generator's next word chose
+-- the adapter after the generator drew a choice
 abbrev pub drawn_from : PlayedAdapter → PlayedAdapter
 drawn_from a = record a { generator = (drawn a.offered a.generator).1 }
 
--- The choice of the generator's next word is played.
+-- The choice that the generator draws is played.
 abbrev pub DrawsChoice : PlayedAdapter → PlayedAdapter → List Told → Type 0
 DrawsChoice a b told = Chosen (drawn a.offered a.generator).0 (drawn_from a) b told
 
--- The generator chooses a number, and then this many choices. They are played.
+-- The generator draws a number, and then this number of choices, each of which is played before the next is drawn.
 abbrev pub Interleaves : PlayedAdapter → PlayedAdapter → List Told → Type 0
 Interleaves a b told =
     Times DrawsChoice (drawn_count a.most_steps a.generator).0 (record a { generator = (drawn_count a.most_steps a.generator).1 }) b told
@@ -326,11 +328,11 @@ Interleaves a b told =
 abbrev pub counted : PlayedAdapter → PlayedAdapter
 counted a = record a { accesses = min (a.accesses + 1) most_accesses }
 
--- The generator's choices are played, and the access is counted.
+-- What the generator draws is played, and the access is counted.
 abbrev pub Draws : PlayedAdapter → PlayedAdapter → List Told → Type 0
 Draws a b told = (drawn : PlayedAdapter) × Interleaves a drawn told × (b ≡ counted drawn)
 
--- The ticks are played, if they are on, then the steps of the schedule that are due, and then what the generator chooses. The access is
+-- The ticks are played if they are on, then the steps of the schedule that are due, and then what the generator draws. The access is
 -- counted.
 abbrev pub Prepares : PlayedAdapter → PlayedAdapter → List Told → Type 0
 Prepares a b told =
@@ -342,17 +344,17 @@ Makes (Tick kind) a b told = (outcome : Outcome (Unit {0})) × Steps kind outcom
 Makes (Hold action) a b told = (b ≡ a) × (told ≡ Noted action ∷ [])
 Makes (Play choice) a b told = Chosen choice a b told
 
--- Moves are played, and then what the generator chooses.
+-- Moves are played, and then what the generator draws.
 abbrev pub ComesBefore : List Move → PlayedAdapter → PlayedAdapter → List Told → Type 0
 ComesBefore moves a b told = Joins (InOrder Makes moves a) (λ middle rest. Interleaves middle b rest) told
 
--- Cycles are played until one does nothing, up to the maximum that was set.
+-- Cycles are played until one does nothing, up to the maximum `pace`.
 abbrev pub Paced : PlayedAdapter → PlayedAdapter → List Told → Type 0
 Paced a b told = (moved : ℕ) × Settles a.pace moved a b told
 
 -- Accesses.
 
--- The access happens, and is told.
+-- Only the access happens. It is told, and then a change of the interrupt line, if there is one.
 abbrev pub HappensAlone : Access → PlayedAdapter → PlayedAdapter → List Told → Type 0
 HappensAlone access a b told =
     Happens (event.Accesses access) (tell.Accessed access ∷ []) (after (event.Accesses access) a) a b told
@@ -361,31 +363,31 @@ HappensAlone access a b told =
 abbrev pub Accessed : Access → PlayedAdapter → PlayedAdapter → List Told → Type 0
 Accessed access a b told = Joins (Prepares a) (λ middle rest. HappensAlone access middle b rest) told
 
--- whether memory contains this many bytes from an address on
+-- whether memory contains all of the `count` bytes from an address on
 abbrev pub has_bytes : PlayedAdapter → (address count : ℕ) → Bool
 has_bytes a address count = nat_le (address + count) (length a.machine.world.memory)
 
 -- Bytes are loaded into a buffer, if memory contains them. `old` and `new` are the bytes of the buffer before and after.
 pub record AnswersLoad (address : ℕ) (old new : List ℕ) (answer : Bool) (a b : PlayedAdapter) (told : List Told) : Type 0 where
-  -- whether memory contains the bytes
+  -- the answer is whether memory contains all bytes
   pub range : answer ≡ has_bytes a address (length old)
   -- if memory contains them, the access happens
   pub accessed : answer ≡ true → Accessed (Loads address (length old)) a b told
-  -- if memory contains them, the buffer then has the bytes
+  -- if memory contains them, the buffer contains the bytes afterwards
   pub loaded : answer ≡ true → new ≡ bytes_at b.machine.world.memory address (length old)
   -- if memory doesn't contain all of them, nothing happens
   pub refused : answer ≡ false → (new ≡ old) × (b ≡ a) × (told ≡ [])
 
--- Bytes are stored, if memory contains their places.
+-- Bytes are stored in memory, if memory contains all their places.
 pub record AnswersStore (address : ℕ) (bytes : List ℕ) (answer : Bool) (a b : PlayedAdapter) (told : List Told) : Type 0 where
-  -- whether memory contains their places
+  -- the answer is whether memory contains all their places
   pub range : answer ≡ has_bytes a address (length bytes)
   -- if memory contains them, the access happens
   pub accessed : answer ≡ true → Accessed (Stores address bytes) a b told
   -- if memory doesn't contain all of them, nothing happens
   pub refused : answer ≡ false → (b ≡ a) × (told ≡ [])
 
--- If no steps are played before accesses, an access happens without steps: only it is told, and the change of the line that it makes.
+-- If ticks are off, no steps are drawn and no scheduled step is due, the access is counted, and nothing but the access happens.
 abbrev pub QuietAccessesAreExact : Type 0
 QuietAccessesAreExact =
     (access : Access) (a b : PlayedAdapter) (told : List Told) → a.ticks ≡ false → a.most_steps ≡ 0 → due_in a ≡ []

@@ -3,15 +3,15 @@ use Rattle.std.specs.Prelude.{ℕ, Bool, List, Option}
 use Rattle.adapter.specs.Outcomes.{FrameOutcome}
 use Rattle.adapter.specs.declared.step.StepKind.{StepKind}
 use Rattle.bus.specs.declared.event.Access.{Access}
-use Rattle.engine_faults.specs.declared.engine_fault.EngineFault.{EngineFault}
+use Rattle.access_names.specs.declared.engine_fault.EngineFault.{EngineFault}
 use Rattle.rx_engine.specs.declared.arrival.Fate.{Fate}
 use Rattle.step_schedules.specs.declared.deviation.Action.{Action}
 
 -- one thing that an observer is told
 pub data Told : Type 0 where
-  -- a step, its outcome, and its fault, if the step was one
+  -- a step, its outcome with the frame that it put, and its fault, if the outcome is a fault
   Stepped : StepKind → FrameOutcome → Option EngineFault → Told
-  -- a frame that arrived, and its fate
+  -- a frame that arrived without being offered, and its fate
   Arrived : (frame : List ℕ) → Fate → Told
   -- an offered frame that arrived, and its fate
   Offered : (frame : List ℕ) → Fate → Told

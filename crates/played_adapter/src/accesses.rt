@@ -1,4 +1,4 @@
-// Accesses of a driver, each after the steps that are played before it.
+// Accesses of a driver, and the steps that are played before each.
 
 ghost use Rattle.std.specs.Prelude.{◌≡◌, ◌+◌, ◌≤◌, [], false, length, true};
 ghost use Rattle.bus.specs.declared.event.Access.TheVariants.{Loads, Reads, Stores, Writes};
@@ -11,7 +11,7 @@ use crate::observer::Observer;
 use crate::player::PlayedAdapter;
 use adapter::StepKind;
 
-/// The ticks before an access.
+/// The ticks that are played before an access.
 const TICKS: [StepKind; 2] = [StepKind::EepromTick, StepKind::PhyTick];
 
 impl PlayedAdapter {
@@ -32,7 +32,8 @@ impl PlayedAdapter {
         self.accesses = self.accesses.saturating_add(1);
     }
 
-    /// Whether no step is played before the next access: ticks are off, no steps are drawn, and none is scheduled.
+    /// Whether ticks are off, no steps are drawn, and the schedule is empty. Then no step is played before the next
+    /// access.
     #[inline(always)]
     fn is_quiet(&self) -> bool
         ensures { result ≡ true →
@@ -53,7 +54,7 @@ impl PlayedAdapter {
         self.prepare_steps(observer);
     }
 
-    /// As [`prepare`](PlayedAdapter::prepare), if steps may come before the access.
+    /// As [`prepare`](PlayedAdapter::prepare), without the test whether there are steps to play.
     #[inline(never)]
     fn prepare_steps<O: Observer>(&mut self, observer: &mut O)
         ensures { Tells O.heard observer.old observer.new (Prepares self.old self.new) }
@@ -64,7 +65,7 @@ impl PlayedAdapter {
         self.count();
     }
 
-    /// Reads a register, and reports a change of the line.
+    /// Reads a register, and reports the read and then a change of the interrupt line.
     #[inline(always)]
     pub(crate) fn read_now<O: Observer>(&mut self, offset: u32, observer: &mut O) -> u32
         ensures { Tells O.heard observer.old observer.new (HappensAlone (Reads offset result) self.old self.new) }
@@ -75,7 +76,7 @@ impl PlayedAdapter {
         value
     }
 
-    /// Writes a register, and reports a change of the line.
+    /// Writes a register, and reports the write and then a change of the interrupt line.
     #[inline(always)]
     pub(crate) fn write_now<O: Observer>(&mut self, offset: u32, value: u32, observer: &mut O)
         ensures { Tells O.heard observer.old observer.new (HappensAlone (Writes offset value) self.old self.new) }
@@ -85,7 +86,7 @@ impl PlayedAdapter {
         self.report(observer);
     }
 
-    /// Loads bytes of memory, and reports a change of the line.
+    /// Loads bytes from memory, and reports the load and then a change of the interrupt line.
     pub(crate) fn load_now<O: Observer>(&mut self, address: u64, into: &mut [u8], observer: &mut O)
         requires { address + length into.old ≤ length self.old.machine.world.memory }
         ensures tells { Tells O.heard observer.old observer.new
@@ -97,7 +98,7 @@ impl PlayedAdapter {
         self.report(observer);
     }
 
-    /// Stores bytes in memory, and reports a change of the line.
+    /// Stores bytes in memory, and reports the store and then a change of the interrupt line.
     pub(crate) fn store_now<O: Observer>(&mut self, address: u64, bytes: &[u8], observer: &mut O)
         requires { address + length bytes.now ≤ length self.old.machine.world.memory }
         ensures { Tells O.heard observer.old observer.new (HappensAlone (Stores address bytes.now) self.old self.new) }
@@ -107,7 +108,7 @@ impl PlayedAdapter {
         self.report(observer);
     }
 
-    /// Reads the register at an offset in bytes. At an offset without a register it returns 0.
+    /// Reads the register at an offset in bytes. Returns 0 at an offset without a register.
     #[inline(always)]
     pub fn read<O: Observer>(&mut self, offset: u32, observer: &mut O) -> u32
         ensures { Tells O.heard observer.old observer.new (Accessed (Reads offset result) self.old self.new) }
@@ -119,7 +120,7 @@ impl PlayedAdapter {
         self.read_after_steps(offset, observer)
     }
 
-    /// As [`read`](PlayedAdapter::read), if steps may come before the access.
+    /// As [`read`](PlayedAdapter::read), without the test whether there are steps to play.
     #[inline(never)]
     fn read_after_steps<O: Observer>(&mut self, offset: u32, observer: &mut O) -> u32
         ensures { Tells O.heard observer.old observer.new (Accessed (Reads offset result) self.old self.new) }
@@ -128,7 +129,7 @@ impl PlayedAdapter {
         self.read_now(offset, observer)
     }
 
-    /// Writes the register at an offset in bytes. At an offset without a register nothing is written.
+    /// Writes the register at an offset in bytes. The write does nothing at an offset without a register.
     #[inline(always)]
     pub fn write<O: Observer>(&mut self, offset: u32, value: u32, observer: &mut O)
         ensures { Tells O.heard observer.old observer.new (Accessed (Writes offset value) self.old self.new) }
@@ -141,7 +142,7 @@ impl PlayedAdapter {
         self.write_after_steps(offset, value, observer);
     }
 
-    /// As [`write`](PlayedAdapter::write), if steps may come before the access.
+    /// As [`write`](PlayedAdapter::write), without the test whether there are steps to play.
     #[inline(never)]
     fn write_after_steps<O: Observer>(&mut self, offset: u32, value: u32, observer: &mut O)
         ensures { Tells O.heard observer.old observer.new (Accessed (Writes offset value) self.old self.new) }
@@ -150,7 +151,7 @@ impl PlayedAdapter {
         self.write_now(offset, value, observer);
     }
 
-    /// Whether memory contains `count` bytes from an address on.
+    /// Whether memory contains all of the `count` bytes from an address on.
     pub fn has_bytes(&self, address: u64, count: u64) -> bool
         ensures { result ≡ has_bytes self.now address count }
     {
@@ -160,7 +161,7 @@ impl PlayedAdapter {
 
     /// Loads the bytes from an address on into the whole of `into`.
     ///
-    /// If some of them are outside memory, returns `false`, and nothing happens.
+    /// If some of these bytes are outside memory, returns `false`, and nothing happens.
     pub fn load<O: Observer>(&mut self, address: u64, into: &mut [u8], observer: &mut O) -> bool
         ensures { Tells O.heard observer.old observer.new
             (AnswersLoad address into.old into.new result self.old self.new) }
@@ -173,9 +174,9 @@ impl PlayedAdapter {
         true
     }
 
-    /// Stores bytes from an address on.
+    /// Stores bytes in memory from an address on.
     ///
-    /// If some of their places are outside memory, returns `false`, and nothing happens.
+    /// If some bytes would be outside memory, returns `false`, and nothing happens.
     pub fn store<O: Observer>(&mut self, address: u64, bytes: &[u8], observer: &mut O) -> bool
         ensures { Tells O.heard observer.old observer.new (AnswersStore address bytes.now result self.old self.new) }
     {

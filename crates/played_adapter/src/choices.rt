@@ -15,7 +15,7 @@ use adapter::StepKind;
 use rand_core::utils::NextWord;
 use step_schedules::Action;
 
-/// The number of choices while a frame waits: a step of each kind, and an arrival.
+/// The number of choices while a frame is offered: a step of each kind, and an arrival.
 const CHOICES: u32 = KINDS + 1;
 
 /// A step or an arrival that may be chosen.
@@ -38,7 +38,7 @@ pub enum Move {
     Play(Choice),
 }
 
-/// The choice with this number, below 7.
+/// Returns the choice with this number, from 0 to 6.
 fn choice_numbered(number: u32) -> Choice
     ensures { result ≡ spec.choice_numbered number }
 {
@@ -49,7 +49,7 @@ fn choice_numbered(number: u32) -> Choice
     }
 }
 
-/// The action of a step.
+/// Returns the action that plays a step of this kind.
 fn step_action(kind: StepKind) -> Action
     ensures { result ≡ spec.step_action kind }
 {
@@ -64,7 +64,7 @@ fn step_action(kind: StepKind) -> Action
 }
 
 impl PlayedAdapter {
-    /// Reports an action to the observer, if something was done.
+    /// Reports an action to the observer if `did` is true.
     pub(crate) fn note<O: Observer>(&self, did: bool, action: Action, observer: &mut O)
         ensures { O.heard observer.old observer.new (noted did action) }
     {
@@ -73,7 +73,8 @@ impl PlayedAdapter {
         }
     }
 
-    /// Returns the choice of the generator's next word: a step, or, while an offered frame waits, also its arrival.
+    /// Draws a choice with the generator's next word: a step, or, while frames are offered, also the arrival of the
+    /// oldest one.
     pub(crate) fn draw(&mut self) -> Choice
         ensures choice { result ≡ (drawn self.old.offered self.old.generator).0 }
         ensures state { self.new ≡ drawn_from self.old }
@@ -108,7 +109,7 @@ impl PlayedAdapter {
         }
     }
 
-    /// Plays a step. It is noted if it does something.
+    /// Plays a step, and notes the step if it did something.
     fn choose_step<O: Observer>(&mut self, kind: StepKind, observer: &mut O)
         ensures { Tells O.heard observer.old observer.new (StepChosen kind self.old self.new) }
     {
@@ -116,7 +117,7 @@ impl PlayedAdapter {
         self.note(did(outcome), step_action(kind), observer);
     }
 
-    /// Delivers the oldest offered frame, if there is one. It is noted.
+    /// Delivers the oldest offered frame and notes the arrival, if there is an offered frame.
     fn choose_arrival<O: Observer>(&mut self, observer: &mut O)
         ensures { Tells O.heard observer.old observer.new (ArrivalChosen self.old self.new) }
     {
@@ -157,7 +158,7 @@ impl PlayedAdapter {
         }
     }
 
-    /// Plays what comes before an access: moves, and what the generator chooses.
+    /// Plays what precedes an access: moves, and then what the generator draws.
     pub(crate) fn play_before<O: Observer>(&mut self, moves: &[Move], observer: &mut O)
         ensures { Tells O.heard observer.old observer.new (ComesBefore moves.now self.old self.new) }
     {

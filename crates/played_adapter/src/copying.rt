@@ -21,7 +21,7 @@ struct Queues {
     scheduled: HeapCircularBuffer<ScheduledStep>,
 }
 
-/// A copy of the adapter and its memory.
+/// Returns a copy of the adapter and its memory.
 fn copy_of_machine(machine: &Machine) -> Result<Machine, AllocError>
     ensures { IfOk result (λ copy. copy ≡ machine.now) }
 {
@@ -29,7 +29,7 @@ fn copy_of_machine(machine: &Machine) -> Result<Machine, AllocError>
 }
 
 impl PlayedAdapter {
-    /// Copies of the frames and steps that wait.
+    /// Returns copies of the frames and steps that wait.
     fn copy_queues(&self) -> Result<Queues, AllocError>
         ensures wire { IfOk result (λ queues. queues.wire ≡ self.now.wire) }
         ensures offered { IfOk result (λ queues. queues.offered ≡ self.now.offered) }
@@ -45,7 +45,8 @@ impl PlayedAdapter {
         })
     }
 
-    /// The same adapter with this machine, this generator, and these frames and steps that wait.
+    /// Returns the same adapter with this machine, this generator, and these frames and steps that wait. The level of
+    /// the interrupt line counts as reported.
     fn with_copies(&self, machine: Machine, queues: Queues, generator: Lcg64Xsh32) -> PlayedAdapter
         ensures { result ≡ record self.now {
           machine = record machine { reported = is_asserted machine.world.adapter };
@@ -74,7 +75,9 @@ impl PlayedAdapter {
         }
     }
 
-    /// A copy of the adapter with everything that its calls depend on. Its memory has an address of its own.
+    /// Returns a copy of the adapter with everything that its calls depend on.
+    ///
+    /// The copy's memory is at another address, and the level of its interrupt line counts as reported.
     ///
     /// # Errors
     ///

@@ -1,4 +1,4 @@
-// The steps and arrivals before an access that the generator draws.
+// The steps, arrivals and numbers that the generator draws.
 
 ghost use Rattle.std.specs.Prelude.{◌≡◌};
 ghost use Rattle.rand_core.specs.Pcg32Seed.{pcg32_seed};
@@ -18,7 +18,7 @@ use rand_pcg::Lcg64Xsh32;
 /// The number of kinds of steps.
 pub(crate) const KINDS: u32 = 6;
 
-/// The kind of steps with this number, below 6.
+/// Returns the kind of steps with this number, from 0 to 5.
 pub(crate) fn kind_numbered(number: u32) -> StepKind
     ensures { result ≡ kinds.kind_numbered number }
 {
@@ -34,7 +34,7 @@ pub(crate) fn kind_numbered(number: u32) -> StepKind
 
 impl PlayedAdapter {
     /// From now on, up to `most` steps and arrivals are played before each access. A generator with this seed draws
-    /// them. If `most` is 0, none is drawn.
+    /// them. If `most` is 0, nothing is drawn.
     pub fn interleave(&mut self, most: u16, seed: u64)
         ensures { self.new ≡ record self.old { generator = pcg32_of_seed (pcg32_seed 16 seed); most_steps = most } }
     {
@@ -42,7 +42,7 @@ impl PlayedAdapter {
         self.most_steps = most;
     }
 
-    /// Returns the kind of steps that the next word of the generator chooses.
+    /// Draws a kind of steps with the generator's next word.
     pub(crate) fn draw_kind(&mut self) -> StepKind
         ensures kind { result ≡ (drawn_kind self.old.generator).0 }
         ensures state { self.new ≡ record self.old { generator = (drawn_kind self.old.generator).1 } }
@@ -51,7 +51,8 @@ impl PlayedAdapter {
         kind_numbered(word % KINDS)
     }
 
-    /// Returns the number of steps that the next word of the generator chooses. Takes no word if the maximum is 0.
+    /// Draws a number of steps and arrivals, up to the maximum, with the generator's next word. If the maximum is 0,
+    /// returns 0 and takes no word.
     fn draw_count(&mut self) -> u64
         ensures count { result ≡ (drawn_count self.old.most_steps self.old.generator).0 }
         ensures state { self.new ≡
@@ -64,8 +65,8 @@ impl PlayedAdapter {
         u64::from(word) % (u64::from(self.most_steps) + 1)
     }
 
-    /// Chooses a number below `limit`: that of the generator's next word if steps are drawn. Otherwise, or if `limit`
-    /// is 0, chooses `wanted` if it is below `limit`, or else 0, and takes no word.
+    /// If steps are drawn and `limit` isn't 0, draws a number below `limit` with the generator's next word. Otherwise
+    /// takes no word, and returns `wanted` if it is below `limit`, or else 0.
     pub(crate) fn choose_below(&mut self, limit: u32, wanted: u32) -> u32
         ensures number { result ≡ (chosen_below self.old.most_steps limit wanted self.old.generator).0 }
         ensures state { self.new ≡
@@ -78,7 +79,7 @@ impl PlayedAdapter {
         word % limit
     }
 
-    /// Plays the steps and arrivals before an access that the generator chooses.
+    /// Plays the steps and arrivals that the generator draws before an access.
     pub(crate) fn interleave_steps<O: Observer>(&mut self, observer: &mut O)
         ensures { Tells O.heard observer.old observer.new (Interleaves self.old self.new) }
     {

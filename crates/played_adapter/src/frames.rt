@@ -23,7 +23,7 @@ impl Model for WaitingFrame {
 impl Clone for WaitingFrame {
     ghost is_clone = { λ frame copy. copy ≡ frame };
 
-    /// The same bytes. Fails only if memory was refused.
+    /// Returns the same bytes. Fails only if memory was refused.
     fn clone(&self) -> Result<WaitingFrame, AllocError> {
         Ok(WaitingFrame {
             bytes: self.bytes.clone()?,
@@ -32,7 +32,7 @@ impl Clone for WaitingFrame {
 }
 
 impl WaitingFrame {
-    /// A copy of these bytes.
+    /// Returns a copy of these bytes. Fails only if memory was refused.
     fn copy_of(alloc: Global, bytes: &[u8]) -> Result<WaitingFrame, AllocError>
         ensures { IfOk result (λ frame. frame ≡ bytes.now) }
     {
@@ -40,7 +40,7 @@ impl WaitingFrame {
         Ok(WaitingFrame { bytes })
     }
 
-    /// The bytes.
+    /// Returns the bytes of the frame.
     pub fn as_slice(&self) -> &[u8]
         ensures { result.now ≡ self.now }
     {
@@ -65,7 +65,7 @@ impl Model for Frames {
 impl Clone for Frames {
     ghost is_clone = { λ frames copy. copy ≡ frames };
 
-    /// The same frames, in the same order. Fails only if memory was refused.
+    /// Returns the same frames, in the same order. Fails only if memory was refused.
     fn clone(&self) -> Result<Frames, AllocError> {
         Ok(Frames {
             frames: self.frames.clone()?,
@@ -74,7 +74,7 @@ impl Clone for Frames {
 }
 
 impl Frames {
-    /// A list without a frame.
+    /// Returns a list without a frame.
     pub fn new(alloc: Global) -> Frames
         ensures { result ≡ [] }
     {
@@ -90,7 +90,7 @@ impl Frames {
         self.frames.is_empty()
     }
 
-    /// The number of frames.
+    /// Returns the number of frames.
     pub fn len(&self) -> usize
         ensures { result ≡ length self.now }
     {

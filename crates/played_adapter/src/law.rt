@@ -1,8 +1,9 @@
-// An access without steps before it.
+// The law of accesses before which no step is played.
 
 ghost use Rattle.played_adapter.specs.Playing.{QuietAccessesAreExact};
 
-/// If no steps are played before accesses, an access happens without steps.
+/// If ticks are off, no steps are drawn and no scheduled step is due, an access is counted, and nothing but the access
+/// happens.
 pub fn quiet_accesses_are_exact()
     ensures { QuietAccessesAreExact }
 {}

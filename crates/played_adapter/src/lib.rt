@@ -6,6 +6,7 @@
 #![tactic(auto)]
 
 mod accesses;
+mod agendas;
 mod choices;
 mod copying;
 mod draws;

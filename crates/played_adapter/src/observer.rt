@@ -8,16 +8,18 @@ ghost use Rattle.played_adapter.specs.Order.{Composes};
 ghost use Rattle.played_adapter.specs.Told as told;
 ghost use Rattle.played_adapter.specs.Told.{Told};
 
+use access_names::EngineFault;
 use adapter::{Fate, Outcome, StepKind};
-use engine_faults::EngineFault;
 use step_schedules::Action;
 
-/// Is told what happens to an adapter, in order. Bytes are lent to it; it must copy those that it needs later.
+/// An observer is told what happens to an adapter, in order. It borrows bytes, and must copy the bytes that it needs
+/// later.
 pub trait Observer {
-    /// Between these two of its states, it was told exactly this list, in order.
+    /// Holds between two states of the observer if the observer was told this list, in order, between them.
     ghost heard: { Self → Self → List Told → Type 0 };
 
-    /// A step had this outcome. If it put a frame, `frame` is this frame. If it is a fault, `fault` is its reason.
+    /// A step had this outcome. If the step put a frame, `frame` is this frame. If the outcome is a fault, `fault`
+    /// contains its engine, index and reason.
     fn stepped(
         &mut self,
         kind: StepKind,
@@ -44,11 +46,11 @@ pub trait Observer {
     fn written(&mut self, offset: u32, value: u32)
         ensures { heard self.old self.new (told.Accessed (Writes offset value) ∷ []) };
 
-    /// These bytes were loaded from an address on.
+    /// These bytes were loaded from memory, from an address on.
     fn loaded(&mut self, address: u64, bytes: &[u8])
         ensures { heard self.old self.new (told.Accessed (Loads address (length bytes.now)) ∷ []) };
 
-    /// These bytes were stored from an address on.
+    /// These bytes were stored in memory, from an address on.
     fn stored(&mut self, address: u64, bytes: &[u8])
         ensures { heard self.old self.new (told.Accessed (Stores address bytes.now) ∷ []) };
 
@@ -56,12 +58,12 @@ pub trait Observer {
     fn noted(&mut self, action: Action)
         ensures { heard self.old self.new (told.Noted action ∷ []) };
 
-    /// The level of the interrupt line changed to this one.
+    /// The level of the interrupt line changed to `level`: true if the line is asserted.
     fn line(&mut self, level: bool)
         ensures { heard self.old self.new (told.Line level ∷ []) };
 
-    /// From a state to itself, it was told nothing. What it was told in two consecutive intervals is what it was told
-    /// in both together.
+    /// From a state to itself, the observer was told nothing. What it was told in two consecutive intervals is, joined,
+    /// what it was told in the whole interval.
     ghost composes: { Composes heard };
 }
 

@@ -21,31 +21,31 @@ use std::ptr::from_ref;
 pub struct PlayedAdapter {
     /// The adapter and its host's memory.
     pub machine: Machine,
-    /// The address of the first byte of memory, if there is one.
+    /// The address of the first byte of memory, or `None` if memory is empty.
     pub address: Option<*const u8>,
     /// The frames that the adapter put on the wire and that nobody has taken, the oldest first.
     pub wire: FrameQueue,
-    /// Whether frames that are put wait on the wire. Otherwise only the observer gets them.
+    /// Whether frames that are put wait on the wire. If not, only the observer gets them.
     pub keeps_put: bool,
-    /// Whether the wire is free. If it isn't, it has no room.
+    /// Whether the wire is free. If not, the wire has no room for a frame.
     pub wire_free: bool,
-    /// The frames that wait for their arrival.
+    /// The offered frames, which wait for their arrival.
     pub offered: Frames,
-    /// The generator of steps that are drawn before accesses.
+    /// The generator that draws steps and arrivals before accesses, and numbers.
     pub generator: Lcg64Xsh32,
-    /// The maximum number of steps that are drawn before an access.
+    /// The maximum number of steps and arrivals that are drawn before an access.
     pub most_steps: u16,
-    /// The maximum number of cycles that the requests `serve_..` play after an access or an arrival.
+    /// The maximum number of cycles that the calls `serve_..` play after an access or an arrival.
     pub pace: u16,
-    /// The steps that wait for their accesses.
+    /// The schedule: the steps that wait for their accesses.
     pub scheduled: HeapCircularBuffer<ScheduledStep>,
-    /// The number of accesses so far, up to the greatest `u64`. Those of requests `serve_..` aren't counted.
+    /// The number of accesses so far, up to the greatest `u64`. The accesses of calls `serve_..` aren't counted.
     pub accesses: u64,
     /// Whether a step of the EEPROM and one of the PHY are played before each access that is counted.
     pub ticks: bool,
 }
 
-/// The address of the first byte of memory, if there is one.
+/// Returns the address of the first byte of memory, or `None` if memory is empty.
 pub(crate) fn address_of(memory: &HostMemory) -> Option<*const u8> {
     let Ok(bytes) = memory.view(0, 1) else {
         return None;
@@ -55,8 +55,8 @@ pub(crate) fn address_of(memory: &HostMemory) -> Option<*const u8> {
 }
 
 impl PlayedAdapter {
-    /// This adapter with this memory, with an empty wire and an empty schedule of these sizes. No frame is offered, and
-    /// no steps are played before accesses and after them.
+    /// Returns this adapter with this memory, and with an empty wire and an empty schedule with room for this many
+    /// frames and steps. No frame is offered, and no step is played before or after an access.
     #[tactic(auto, unfolding(crate::specs::Playing::new_with_room))]
     fn with_room(
         alloc: Global,
@@ -84,8 +84,9 @@ impl PlayedAdapter {
         })
     }
 
-    /// This adapter with this memory, and with an empty wire, on which frames wait. No frame is offered, and no steps
-    /// are played before accesses and after them.
+    /// Returns this adapter with this memory and an empty wire, on which frames that are put wait.
+    ///
+    /// No frame is offered, and no step is played before or after an access.
     ///
     /// # Errors
     ///
@@ -100,7 +101,8 @@ impl PlayedAdapter {
         PlayedAdapter::with_room(alloc, adapter, memory, WIRE_FRAMES, MOST_SCHEDULED)
     }
 
-    /// The same, but frames that are put don't wait, and no step can be scheduled. The generator has this seed.
+    /// As [`new`](PlayedAdapter::new), but frames that are put don't wait, and no step can be scheduled. The generator
+    /// has this seed.
     ///
     /// # Errors
     ///

@@ -1,4 +1,5 @@
-// Requests. Moves come before most of them, and cycles of steps after an access or an arrival.
+// Requests of the server. Moves precede each request except the choice of a number. Cycles follow an access or an
+// arrival.
 
 ghost use Rattle.std.specs.Prelude.{◌<◌, IsTrue, length};
 ghost use Rattle.bus.specs.declared.event.Access.TheVariants.{Reads, Stores, Writes};
@@ -15,15 +16,14 @@ use adapter::{Fate, Outcome, StepKind};
 use step_schedules::Action;
 
 impl PlayedAdapter {
-    /// Plays cycles of steps until one does nothing, up to the number of cycles that was set for accesses and
-    /// arrivals.
+    /// Plays cycles until one does nothing, up to the maximum `pace`.
     fn pace_cycles<O: Observer>(&mut self, observer: &mut O)
         ensures { Tells O.heard observer.old observer.new (Paced self.old self.new) }
     {
         let _moved = self.settle(u32::from(self.pace), observer);
     }
 
-    /// Reads the register at an offset in bytes, after moves and what the generator chooses, and plays cycles.
+    /// Plays moves and what the generator draws, reads the register at an offset in bytes, and plays cycles.
     pub fn serve_read<O: Observer>(&mut self, moves: &[Move], offset: u32, observer: &mut O) -> u32
         ensures { Tells O.heard observer.old observer.new
             (ServesAccess moves.now (Reads offset result) self.old self.new) }
@@ -34,7 +34,7 @@ impl PlayedAdapter {
         value
     }
 
-    /// Writes the register at an offset in bytes, after moves and what the generator chooses, and plays cycles.
+    /// Plays moves and what the generator draws, writes the register at an offset in bytes, and plays cycles.
     pub fn serve_write<O: Observer>(
         &mut self,
         moves: &[Move],
@@ -50,7 +50,7 @@ impl PlayedAdapter {
         self.pace_cycles(observer);
     }
 
-    /// Loads bytes of memory from an address on, after moves and what the generator chooses, and plays cycles.
+    /// Plays moves and what the generator draws, loads bytes of memory from an address on, and plays cycles.
     pub fn serve_load<O: Observer>(
         &mut self,
         moves: &[Move],
@@ -67,7 +67,7 @@ impl PlayedAdapter {
         self.pace_cycles(observer);
     }
 
-    /// Stores bytes in memory from an address on, after moves and what the generator chooses, and plays cycles.
+    /// Plays moves and what the generator draws, stores bytes in memory from an address on, and plays cycles.
     pub fn serve_store<O: Observer>(
         &mut self,
         moves: &[Move],
@@ -84,7 +84,7 @@ impl PlayedAdapter {
         self.pace_cycles(observer);
     }
 
-    /// Delivers a frame after moves, and plays cycles. Returns the frame's fate.
+    /// Plays moves, delivers a frame, and plays cycles. Returns the frame's fate.
     pub fn serve_arrival<O: Observer>(
         &mut self,
         moves: &[Move],
@@ -100,7 +100,7 @@ impl PlayedAdapter {
         fate
     }
 
-    /// Makes the adapter take a step after moves.
+    /// Plays moves, and then makes the adapter take a step. Returns the step's outcome.
     pub fn serve_step<O: Observer>(
         &mut self,
         moves: &[Move],
@@ -113,8 +113,8 @@ impl PlayedAdapter {
         self.step(kind, observer)
     }
 
-    /// Delivers all offered frames after moves, and plays cycles until one does nothing, up to [`MOST_CYCLES`]. Returns
-    /// the number of steps of these cycles that did something.
+    /// Plays moves, delivers all offered frames, and plays cycles until one does nothing, up to [`MOST_CYCLES`].
+    /// Returns the number of steps of these cycles that did something.
     pub fn serve_settle<O: Observer>(&mut self, moves: &[Move], observer: &mut O) -> u64
         ensures { Tells O.heard observer.old observer.new (ServesSettle moves.now result self.old self.new) }
     {
@@ -123,9 +123,9 @@ impl PlayedAdapter {
         self.settle(MOST_CYCLES, observer)
     }
 
-    /// Chooses a number below `limit`, or 0 if `limit` is 0. If steps are drawn before accesses, the generator's next
-    /// word chooses the number. Otherwise it is `wanted` if that is below `limit`, or else 0. The observer is told a
-    /// number above 0.
+    /// Returns a number below `limit`, or 0 if `limit` is 0. If steps are drawn before accesses, the generator's next
+    /// word determines the number. Otherwise the number is `wanted` if `wanted` is below `limit`, or else 0. The
+    /// observer is told a number above 0.
     pub fn serve_choose<O: Observer>(&mut self, limit: u32, wanted: u32, observer: &mut O) -> u32
         ensures tells { Tells O.heard observer.old observer.new
             (ServesChoice limit wanted result self.old self.new) }

@@ -1,4 +1,4 @@
-// Steps that are played before accesses with given numbers.
+// The schedule: steps that are played before accesses, by the numbers of the accesses.
 
 ghost use Rattle.std.specs.Prelude.{◌≡◌, IfSome, None, slice_get};
 ghost use Rattle.played_adapter.specs.Order.{InOrder, Tells};
@@ -8,23 +8,24 @@ use crate::observer::Observer;
 use crate::player::PlayedAdapter;
 use adapter::StepKind;
 
-/// The number of steps that may wait for their accesses (our choice).
+/// The maximum number of steps that wait for their accesses, after `new` (our choice).
 pub(crate) const MOST_SCHEDULED: usize = 4096;
 
 /// A step that waits for an access.
 #[derive(Clone, Copy)]
 pub struct ScheduledStep {
-    /// The number of the access. The first access has number 0.
+    /// The number of the first access before which the step can be played. The first access has number 0.
     pub access: u64,
     /// The kind of the step.
     pub kind: StepKind,
 }
 
 impl PlayedAdapter {
-    /// Adds a step of this kind to the end of the schedule. It is played before the access with number `access`, after
-    /// the steps that come before it in the schedule.
+    /// Adds a step of this kind to the end of the schedule.
     ///
-    /// If 4,096 steps wait, returns `false` and changes nothing.
+    /// The step is played before the next access with a number of at least `access`, but not before the steps added
+    /// earlier. If the schedule is full, returns `false` and changes nothing. The schedule of an adapter made by
+    /// `watched` is always full.
     pub fn schedule(&mut self, access: u64, kind: StepKind) -> bool
         ensures { AnswersSchedule access kind result self.old self.new }
     {
@@ -33,7 +34,8 @@ impl PlayedAdapter {
             .is_ok()
     }
 
-    /// Removes the next step of the schedule, if it is due before the next access, and returns it.
+    /// Removes and returns the first step of the schedule if the step is due before the next access, or else returns
+    /// `None`.
     fn take_due(&mut self) -> Option<ScheduledStep>
         ensures step { result ≡ slice_get (due_in self.old) 0 }
         ensures state { IfSome result (λ step. self.new ≡ without_next self.old) }

@@ -11,11 +11,11 @@ ghost use Rattle.played_adapter.specs.Told as told;
 
 use crate::observer::Observer;
 use crate::player::PlayedAdapter;
+use access_names::{EngineFault, fault_of};
 use adapter::{Fate, Outcome, StepKind};
-use engine_faults::{EngineFault, fault_of};
 
-/// The maximum number of cycles that `settle` plays (our choice). It is more than the descriptors of a ring and the
-/// ticks of a link.
+/// The maximum number of cycles that `serve_settle` plays (our choice). It is greater than the number of descriptors of
+/// a ring, and than the number of ticks until a link is up.
 pub const MOST_CYCLES: u32 = 131_072;
 
 /// The kinds of steps, each once, in the order of a cycle.
@@ -35,7 +35,7 @@ pub(crate) fn did(outcome: Outcome<()>) -> bool
     !matches!(outcome, Outcome::Nothing | Outcome::WireFull)
 }
 
-/// 1 if a step with this outcome did something, else 0.
+/// Returns 1 if a step with this outcome did something, else 0.
 pub(crate) fn moved_by(outcome: Outcome<()>) -> u64
     ensures { result ≡ outcomes.moved_by outcome }
 {
@@ -46,7 +46,7 @@ pub(crate) fn moved_by(outcome: Outcome<()>) -> u64
 }
 
 impl PlayedAdapter {
-    /// Reports a change of the interrupt line.
+    /// Reports a change of the interrupt line since the last report, if there is one.
     #[inline(always)]
     pub(crate) fn report<O: Observer>(&mut self, observer: &mut O)
         ensures { Tells O.heard observer.old observer.new (Reports self.old self.new) }
@@ -56,7 +56,7 @@ impl PlayedAdapter {
         }
     }
 
-    /// The fault of a step with this outcome, if it was a fault.
+    /// Returns the fault of the step that was just taken, or `None` if its outcome isn't a fault.
     fn fault_told(&self, kind: StepKind, outcome: Outcome<()>) -> Option<EngineFault>
         ensures { result ≡ fault_told kind outcome self.now.machine.world }
     {
@@ -66,7 +66,7 @@ impl PlayedAdapter {
         }
     }
 
-    /// Makes the adapter take a step. A frame that it puts waits on the wire.
+    /// Makes the adapter take a step. A frame that the step puts waits on the wire, if frames that are put wait.
     #[inline(always)]
     fn take_step(&mut self, kind: StepKind) -> Outcome<()>
         ensures occurs { Occurs (step_of kind result self.old) self.old.machine.world }
@@ -79,7 +79,7 @@ impl PlayedAdapter {
         self.machine.step(kind, wire_free)
     }
 
-    /// Reports the step that puts the oldest frame on the wire, before the step: the frame is lent to the observer.
+    /// Reports a step `TxPut` before it is taken, so that the observer can borrow the frame.
     #[inline(always)]
     fn tell_put<O: Observer>(&self, observer: &mut O)
         ensures { O.heard observer.old observer.new (told.Stepped TxPut
@@ -96,7 +96,7 @@ impl PlayedAdapter {
         }
     }
 
-    /// Puts the oldest frame on the wire.
+    /// Reports a step `TxPut`, and makes the adapter take this step.
     fn put<O: Observer>(&mut self, observer: &mut O) -> Outcome<()>
         ensures { Tells O.heard observer.old observer.new (Steps TxPut result self.old self.new) }
     {
@@ -106,7 +106,7 @@ impl PlayedAdapter {
         outcome
     }
 
-    /// Makes the adapter take a step.
+    /// Makes the adapter take a step. Returns the step's outcome.
     pub fn step<O: Observer>(&mut self, kind: StepKind, observer: &mut O) -> Outcome<()>
         ensures { Tells O.heard observer.old observer.new (Steps kind result self.old self.new) }
     {
@@ -143,7 +143,7 @@ impl PlayedAdapter {
         moved
     }
 
-    /// Plays a cycle of steps, one of each kind. Returns the number of steps that did something.
+    /// Plays a cycle: one step of each kind. Returns the number of steps that did something.
     fn cycle<O: Observer>(&mut self, observer: &mut O) -> u64
         ensures plays { Tells O.heard observer.old observer.new (Cycle result self.old self.new) }
         ensures few { result ≤ 6 }
@@ -151,7 +151,7 @@ impl PlayedAdapter {
         self.play(&CYCLE, observer)
     }
 
-    /// Plays cycles of steps until one does nothing, up to a maximum. Returns the number of steps that did something.
+    /// Plays cycles until one does nothing, up to `most` cycles. Returns the number of steps that did something.
     pub fn settle<O: Observer>(&mut self, most: u32, observer: &mut O) -> u64
         ensures { Tells O.heard observer.old observer.new (Settles most result self.old self.new) }
     {

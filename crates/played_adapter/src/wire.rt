@@ -1,4 +1,4 @@
-// The wire: the frames that the adapter put, and that nobody has taken.
+// The wire: the frames that the adapter put, until they are taken.
 
 ghost use Rattle.std.specs.Prelude.{◌≡◌, ◌<◌, ◌++◌, length};
 ghost use Rattle.played_adapter.specs.Playing.{AnswersTaking, has_room, next_frames};
@@ -9,7 +9,8 @@ use crate::player::PlayedAdapter;
 pub const WIRE_FRAMES: u8 = 64;
 
 impl PlayedAdapter {
-    /// Whether the wire has room for a frame: while it is free, and until 64 frames wait on it.
+    /// Whether the wire has room for a frame: the wire is free, and fewer frames wait than fit, if frames that are put
+    /// wait.
     #[inline(always)]
     pub(crate) fn has_room(&self) -> bool
         ensures { result ≡ has_room self.now }
@@ -17,7 +18,7 @@ impl PlayedAdapter {
         self.wire_free && (!self.keeps_put || self.wire.len() < self.wire.capacity())
     }
 
-    /// Copies the frame that the adapter puts next, if there is one, to the end of the wire, which has room.
+    /// Copies the frame that the adapter puts next to the end of the wire, if there is such a frame.
     pub(crate) fn put_oldest(&mut self)
         requires { length self.old.wire.frames < self.old.wire.capacity }
         ensures { self.new ≡ record self.old {
@@ -31,8 +32,10 @@ impl PlayedAdapter {
         }
     }
 
-    /// Takes the oldest frame off the wire, if it fits into `into`. Returns its length in bytes, or 0 if no frame
-    /// waits. If the length is greater than that of `into`, the frame keeps waiting, and nothing changes.
+    /// Takes the oldest frame off the wire, if it fits into `into`.
+    ///
+    /// Returns the frame's length in bytes, or 0 if no frame waits. If the frame is longer than `into`, nothing
+    /// changes.
     pub fn take_put(&mut self, into: &mut [u8]) -> usize
         ensures { AnswersTaking into.old into.new result self.old self.new }
     {

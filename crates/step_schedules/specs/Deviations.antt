@@ -1,4 +1,4 @@
--- The deviation of a line (our choice; the format is that of `tools/race_finder/README.md`, "A schedule").
+-- The deviation of a line (our choice; the format is that of `finder/README.md`, "A schedule").
 use Rattle.std.specs.Prelude.{◌==◌, ◌-◌, ◌&&◌, ◌||◌, ℕ, Bool, List, [], ◌∷◌, Option, Some, None, Result, Ok, Err}
 use Rattle.std.specs.Prelude.{false, if◌then◌else◌, codes, drop, is_some, length, nat_lt, not, string_bytes, true}
 use Rattle.std.specs.List.{after_first, before_first, position_or_len}
@@ -27,7 +27,7 @@ is_before place other =
 
 -- Actions.
 
--- the action of one word
+-- the action that one word names, if there is one
 unfoldable pub action_named : Text → Option Action
 action_named word =
     value_in (
@@ -36,7 +36,7 @@ action_named word =
     ∷ (codes "eeprom", EepromTick) ∷ (codes "phy", PhyTick) ∷ []
     ) word
 
--- the action of two words that begins with `hold`, by the second one
+-- the action that the word after `hold` names, if there is one
 unfoldable pub hold_named : Text → Option Action
 hold_named word = value_in ((codes "eeprom", HoldEeprom) ∷ (codes "phy", HoldPhy) ∷ []) word
 
@@ -46,7 +46,7 @@ is_hold word = bytes_eq word (codes "hold")
 abbrev pub is_choose : Text → Bool
 is_choose word = bytes_eq word (codes "choose")
 
--- the choice of the number that a word spells
+-- the action that chooses the number that a word spells, or no action if the word spells no number
 abbrev pub choice_in : Text → Option Action
 choice_in word = option_map Choose (digits_in word)
 
@@ -69,11 +69,11 @@ abbrev pub place_or_action : Option Place → Text → Result (Option Place) Fau
 place_or_action (Some place) word = Ok (Some place)
 place_or_action None word = if begins_action word then Ok None else Err faults.Place
 
--- the first word is a place, or an action begins with it
+-- the place that the first word spells, or no place if the word begins an action; other words are a fault
 abbrev pub place_at : Text → Result (Option Place) Fault
 place_at word = place_or_action (place_in word) word
 
--- the words after the place, if there is one
+-- the words after the place, or all words if the line has no place
 abbrev pub words_after : Option Place → List Text → List Text
 words_after None words = words
 words_after (Some place) words = drop 1 words
@@ -83,7 +83,7 @@ words_after (Some place) words = drop 1 words
 unfoldable pub kind_named : Text → Option Before
 kind_named word = value_in ((codes "read", Read) ∷ (codes "write", Write) ∷ []) word
 
--- the requests: those that begin a round, and `choose`
+-- the kind of the request that a word names: a request that begins a round, or `choose`
 unfoldable pub request_named : Text → Option Before
 request_named word =
     value_in (
@@ -97,7 +97,7 @@ is_hash byte = byte == 0x23
 abbrev pub has_hash : Text → Bool
 has_hash word = nat_lt (position_or_len is_hash word) (length word)
 
--- the part of a word before its first #, or the word without one
+-- the part of a word before its first #, or the whole word if it has no #
 abbrev pub name_in : Text → Text
 name_in word = if has_hash word then before_first is_hash word else word
 
@@ -105,11 +105,11 @@ abbrev pub some_number : Option ℕ → Result (Option ℕ) Fault
 some_number (Some number) = Ok (Some number)
 some_number None = Err faults.Access
 
--- the number after a word's first #
+-- the number after a word's first #, or no number if the word has no #; other text after the # is a fault
 abbrev pub number_after : Text → Result (Option ℕ) Fault
 number_after word = if has_hash word then some_number (digits_in (after_first is_hash word)) else Ok None
 
--- the kind of what words name: one word names a request, two words an access
+-- the kind of the request that one word names, or of the access that two words name; no kind for other words
 abbrev pub before_in : List Text → Option Before
 before_in words =
     if length words == 1 then request_named (name_in (word 0 words))
@@ -120,11 +120,11 @@ abbrev pub before_or_fault : Option Before → Result Before Fault
 before_or_fault (Some before) = Ok before
 before_or_fault None = Err faults.Access
 
--- the last word of an access or a request: a name, which may have a number
+-- the last word: a name, which may have a number after #; or an empty text if there is no word
 abbrev pub last_word : List Text → Text
 last_word words = word (length words - 1) words
 
--- the number in a word whose name isn't empty
+-- as `number_after`, but an empty name is also a fault
 abbrev pub named_number : Text → Result (Option ℕ) Fault
 named_number word = do
   number ← number_after word
@@ -132,7 +132,8 @@ named_number word = do
 
 -- Deviations.
 
--- ROUND.0 is the place of a request that begins a round, and every other place is that of an access or of a request `choose`
+-- whether an access or a request of this kind can be at a place: a request that begins a round, at ROUND.0; an access or `choose`, at
+-- every other place
 abbrev pub is_place_of : Before → Place → Bool
 is_place_of Request place = place.access == 0
 is_place_of Read place = nat_lt 0 place.access
@@ -142,7 +143,8 @@ is_place_of Choice place = nat_lt 0 place.access
 abbrev pub place_before : Place → Before → Result Site Fault
 place_before place before = if is_place_of before place then Ok (site.Place place) else Err faults.RequestPlace
 
--- which access or request a deviation is for, by the place and the number of its line
+-- the site of a deviation, from the place and the number of its line; a fault if the line has both or neither, if the number is 0, or if
+-- nothing of this kind can be at the place
 abbrev pub site_in : Option Place → Option ℕ → Before → Result Site Fault
 site_in (Some place) None before = place_before place before
 site_in (Some place) (Some number) before = Err faults.PlaceAndNumber
@@ -154,14 +156,14 @@ abbrev pub is_choice : Action → Bool
 is_choice (Choose number) = true
 is_choice _ = false
 
--- whether an action may be for an access or a request of this kind
+-- whether an action may be before an access or a request of this kind
 abbrev pub takes : Before → Action → Bool
 takes Choice action = is_choice action
 takes Request action = not (is_choice action)
 takes Read action = not (is_choice action)
 takes Write action = not (is_choice action)
 
--- which access or request a deviation is for, by the place of its line and its last word
+-- the site of a deviation, from the place and the last word of its line; an action that may not be before this kind is a fault
 abbrev pub site_at : Option Place → Action → Before → Text → Result Site Fault
 site_at place action before word = do
   number ← named_number word
@@ -169,11 +171,11 @@ site_at place action before word = do
 
 -- a deviation, with the bytes of its name
 pub record DeviationRead : Type 0 where
-  -- which access or request it is for
+  -- which access or request of the run the deviation is before
   pub site : Site
-  -- what happens
+  -- the action
   pub action : Action
-  -- whether it is for a read, a write or a request
+  -- the kind of the access or request
   pub before : Before
   -- the name of what is accessed, or the word of the request
   pub name : Text
@@ -190,14 +192,14 @@ abbrev pub action_or_fault : Option Action → Result Action Fault
 action_or_fault (Some action) = Ok action
 action_or_fault None = Err faults.Action
 
--- the deviation of a line without its name, by its place, the words after `before`, and its action
+-- the deviation of a line without its name, from its place, the words after `before`, and its action
 abbrev pub nameless_at : Option Place → (event : List Text) → Action → Result Nameless Fault
 nameless_at place event action = do
   before ← before_or_fault (before_in event)
   site ← site_at place action before (last_word event)
   Ok (record { site = site; action = action; before = before })
 
--- the deviation of a line without its name, by its place and the words before and after `before`
+-- the deviation of a line without its name, from its place and the words before and after `before`
 abbrev pub nameless_in : Option Place → (action event : List Text) → Result Nameless Fault
 nameless_in place action event = action_or_fault (action_in action) >>= nameless_at place event
 
@@ -205,12 +207,12 @@ nameless_in place action event = action_or_fault (action_in action) >>= nameless
 abbrev pub with_name : Text → Nameless → Result DeviationRead Fault
 with_name name read = Ok (record { site = read.site; action = read.action; before = read.before; name = name })
 
--- the deviation of a line, by its words after the place
+-- the deviation of a line, from its place and the words after the place
 abbrev pub deviation_after : Option Place → List Text → Result DeviationRead Fault
 deviation_after place words =
     nameless_in place (action_words words) (event_words words) >>= with_name (name_in (last_word (event_words words)))
 
--- the deviation of a line that isn't empty, by its words
+-- the deviation of a line, from its words, of which there is at least one
 abbrev pub deviation_in : List Text → Result DeviationRead Fault
 deviation_in words = do
   place ← place_at (word 0 words)

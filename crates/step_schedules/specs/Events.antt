@@ -2,6 +2,7 @@
 use Rattle.std.specs.Prelude.{◌+◌, ◌-◌, ◌^◌, ◌==◌, ◌&&◌, ℕ, Bool, true, false, [], min, string_bytes}
 use Rattle.std.specs.Str.{bytes_eq}
 use Rattle.step_schedules.specs.declared.event.Event.{Event}
+use Rattle.step_schedules.specs.declared.event.Past.{Past}
 use Rattle.step_schedules.specs.Deviations.{DeviationRead}
 use Rattle.step_schedules.specs.Words.{Text}
 use Rattle.step_schedules.specs.declared.deviation.Before.{Before}
@@ -12,25 +13,28 @@ use Rattle.step_schedules.specs.declared.deviation.Site.TheVariants as site
 
 -- an access or a request, with the bytes of its name
 pub record EventRead : Type 0 where
-  -- its round, and its number in the round
+  -- the place of the access or request in the run
   pub place : Place
-  -- whether it is a read, a write or a request
+  -- the kind of the access or request
   pub before : Before
-  -- its name
+  -- the name of what is accessed, or the word of the request
   pub name : Text
 
 abbrev pub event_read : Event → EventRead
-event_read event = record { place = event.place; before = event.before; name = string_bytes event.name }
+event_read event = record { place = event.place; before = event.before; name = event.name.now }
+
+abbrev pub past_read : Past → EventRead
+past_read past = record { place = past.place; before = past.before; name = string_bytes past.name }
 
 -- the state before the run: no access and no request has come
 abbrev pub no_event : EventRead
 no_event = record { place = record { round = 0; access = 0 }; before = Read; name = [] }
 
--- the next number, up to the largest one of 32 bits
+-- the next number, up to the greatest number of 32 bits
 abbrev pub next : ℕ → ℕ
 next number = min (number + 1) (2 ^ 32 - 1)
 
--- the place of what comes next: an access and a request `choose` are in the same round, and every other request begins a round
+-- the place of what comes next: an access or a request `choose` is in the same round, and every other request begins a round
 abbrev pub next_place : Before → Place → Place
 next_place Request place = record { round = next place.round; access = 0 }
 next_place Read place = record { round = place.round; access = next place.access }
@@ -41,7 +45,7 @@ next_place Choice place = record { round = place.round; access = next place.acce
 abbrev pub is_place : Place → Place → Bool
 is_place place other = place.round == other.round && place.access == other.access
 
--- whether a site can be that of an event; a number is not compared
+-- whether a site is the place of an event, or a number; the number isn't compared
 abbrev pub is_at : EventRead → Site → Bool
 is_at event (site.Place place) = is_place place event.place
 is_at event (site.Number number) = true
@@ -54,7 +58,8 @@ is_same Request Request = true
 is_same Choice Choice = true
 is_same _ _ = false
 
--- whether a deviation is for an event; a number is not compared
+-- whether a deviation matches an event: they have the same kind and name, and the same place if the deviation has a place; a number isn't
+-- compared
 abbrev pub is_met_by : EventRead → DeviationRead → Bool
 is_met_by event deviation =
     is_at event deviation.site && is_same deviation.before event.before && bytes_eq deviation.name event.name

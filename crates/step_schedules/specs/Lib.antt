@@ -7,3 +7,4 @@ pub mod Texts
 pub mod Events
 pub mod Waiting
 pub mod Players
+pub mod Agendas

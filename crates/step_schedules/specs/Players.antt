@@ -14,9 +14,9 @@ use Rattle.step_schedules.specs.declared.deviation.Action.TheVariants.{Choose}
 pub record PlayerState : Type 0 where
   -- whether a schedule is played
   pub is_playing : Bool
-  -- the access or the request that came last, with its place
+  -- the access or the request that came last, with its place, or `no_event` before the run
   pub event : EventRead
-  -- the deviations of the schedule
+  -- all deviations of the schedule, also those that have been due
   pub waiting : List WaitingRead
   -- the actions that were played, the oldest first
   pub played : List DeviationRead
@@ -30,7 +30,7 @@ abbrev pub playing : ScheduleRead → PlayerState
 playing schedule =
     record { is_playing = true; event = no_event; waiting = map waits schedule.deviations; played = [] }
 
--- the access or the request that comes now, with its place
+-- an access or a request of this kind, and with this name, that comes now, with its place
 abbrev pub coming : Before → Text → PlayerState → EventRead
 coming before name player = record { place = next_place before player.event.place; before = before; name = name }
 
@@ -38,7 +38,7 @@ coming before name player = record { place = next_place before player.event.plac
 abbrev pub due_actions : Before → Text → PlayerState → List Action
 due_actions before name player = due_before (coming before name player) player.waiting
 
--- the number that the first of these actions chooses; 0 if it chooses none
+-- the number that the first of these actions chooses, or 0 if the first action chooses no number
 abbrev pub chosen : List Action → ℕ
 chosen (Choose number ∷ later) = number
 chosen actions = 0
@@ -60,7 +60,7 @@ abbrev pub after_playing : Action → PlayerState → PlayerState
 after_playing action player =
     record player { played = player.played ++ deviation_before player.event action ∷ [] }
 
--- the deviations whose access or request hasn't come
+-- the deviations that haven't been due yet
 abbrev pub unmet : PlayerState → List DeviationRead
 unmet player = unmet_in player.waiting
 

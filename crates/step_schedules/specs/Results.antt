@@ -10,7 +10,7 @@ abbrev pub Fails : {A : Type 0} → Stop → Result A LineFault → Type 0
 Fails Memory read = ⊤
 Fails (Fault fault) read = read ≡ Err fault
 
--- The first result has the view of the second one's value, or the same fault; or memory was refused.
+-- The view of the first result's value is the second result's value; or both results have the same fault; or memory was refused.
 abbrev pub Gives : {A B : Type 0} → (A → B) → Result A Stop → Result B LineFault → Type 0
 Gives view (Ok value) read = read ≡ Ok (view value)
 Gives view (Err stop) read = Fails stop read
@@ -21,7 +21,7 @@ abbrev pub ◌>>=◌ : {A B : Type 0} → Result A LineFault → (A → Result B
 (Ok value) >>= next = next value
 (Err fault) >>= next = Err fault
 
--- the error of a text if this line isn't read
+-- the error of a text in which the line with this number can't be read
 abbrev pub error_at : ℕ → Stop → ScheduleError
 error_at line (Fault fault) = errors.Line line fault
 error_at line Memory = errors.Memory

@@ -1,4 +1,4 @@
--- The schedule of a text (our choice; the format is that of `tools/race_finder/README.md`, "A schedule").
+-- The schedule of a text (our choice; the format is that of `finder/README.md`, "A schedule").
 use Rattle.std.specs.Prelude.{⊤, ◌≡◌, ◌+◌, ◌++◌, ◌||◌, ◌∷◌, [], ℕ, Bool, List, Option, Some, None, Result, Ok, Err}
 use Rattle.std.specs.Prelude.{IsUtf8, String, Vec, codes, drop, if◌then◌else◌, is_some, length, map, nat_lt}
 use Rattle.std.specs.Prelude.{string_bytes}
@@ -26,7 +26,7 @@ pub record ScheduleRead : Type 0 where
   pub options : Option (List Text)
   pub deviations : List DeviationRead
 
--- the part of a schedule that was read, and the place of the last deviation that has one
+-- the part of a schedule that was read, and the place of the last deviation with a place, or 0.0
 pub record SoFar : Type 0 where
   pub schedule : ScheduleRead
   pub last : Place
@@ -49,7 +49,7 @@ nothing_read = record {
   last = record { round = 0; access = 0 };
 }
 
--- `options` must be the first line with words
+-- whether a line with words was read; then a line `options` is a fault
 abbrev pub has_begun : ScheduleRead → Bool
 has_begun schedule = is_some schedule.options || nat_lt 0 (length schedule.deviations)
 
@@ -58,7 +58,7 @@ after_options words before =
     if has_begun before.schedule then Err faults.Options
     else Ok (record before { schedule = record before.schedule { options = Some (drop 1 words) } })
 
--- the last place after a deviation; a place before the last one is rejected
+-- the last place after a deviation; a place before the last place is a fault
 abbrev pub place_after : Site → Place → Result Place Fault
 place_after (site.Place place) last = if is_before place last then Err faults.Order else Ok place
 place_after (site.Number number) last = Ok last
@@ -85,32 +85,32 @@ after_words (first ∷ rest) before =
 abbrev pub after_line : Text → SoFar → Result SoFar Fault
 after_line line before = after_words (words_of line) before
 
--- The call returned Ok, and this is what was read so far; or memory was refused.
+-- The call returned Ok, and `after` is what was read so far; or the call returned the line's fault; or memory was refused.
 abbrev pub Becomes : Result (Unit {0}) Stop → Result SoFar Fault → SoFar → Type 0
 Becomes (Ok u) read after = read ≡ Ok after
 Becomes (Err stop) read after = Fails stop read
 
--- the result of reading a line and the lines after it; if the line is faulty, its number and its fault
+-- the result of reading a line and the lines after it, or the number and the fault of the line if it is faulty
 abbrev pub then_rest : Result SoFar Fault → (number : ℕ) → (SoFar → Result SoFar (ℕ × Fault)) → Result SoFar (ℕ × Fault)
 then_rest (Ok after) number rest = rest after
 then_rest (Err fault) number rest = Err (number, fault)
 
--- what was read after lines, numbered from `number`
+-- what was read after lines, numbered from `number`, or the number and the fault of the first faulty line
 abbrev pub after_lines : List Text → (number : ℕ) → SoFar → Result SoFar (ℕ × Fault)
 after_lines [] number before = Ok before
 after_lines (line ∷ rest) number before = then_rest (after_line line before) number (after_lines rest (number + 1))
 
--- a text that is UTF-8; its lines are numbered from 1
+-- what was read after all lines of a text in UTF-8, or the number of its first faulty line, from 1, and the fault
 abbrev pub read_in : Text → Result SoFar (ℕ × Fault)
 read_in text = after_lines (lines text) 1 nothing_read
 
--- Reading ends with this error, unless memory was refused.
+-- The error is the number and the fault of the first faulty line, or is that memory was refused.
 abbrev pub Stops : {A : Type 0} → ScheduleError → Result A (ℕ × Fault) → Type 0
 Stops (Line line fault) read = read ≡ Err (line, fault)
 Stops NoText read = ⊥
 Stops Memory read = ⊤
 
--- The call returned Ok, and this is what was read so far; or reading has ended.
+-- The call returned Ok, and `after` is what was read; or the call returned the number and the fault of a line; or memory was refused.
 abbrev pub AreLinesRead : Result SoFar (ℕ × Fault) → Result (Unit {0}) ScheduleError → SoFar → Type 0
 AreLinesRead read (Ok u) after = read ≡ Ok after
 AreLinesRead read (Err error) after = Stops error read
@@ -123,11 +123,11 @@ abbrev pub schedule_of : Result SoFar (ℕ × Fault) → Result ScheduleRead (�
 schedule_of (Ok read) = Ok read.schedule
 schedule_of (Err fault) = Err fault
 
--- the schedule of a text that is UTF-8, or the number of its first faulty line and the fault
+-- the schedule of a text in UTF-8, or the number of its first faulty line and the fault
 abbrev pub schedule_in : Text → Result ScheduleRead (ℕ × Fault)
 schedule_in text = schedule_of (read_in text)
 
--- The result is the schedule of the text, if the text is UTF-8, unless memory was refused.
+-- The result is the schedule of the text, or its first faulty line, or that the text isn't UTF-8, or that memory was refused.
 abbrev pub IsRead : Text → Result Schedule ScheduleError → Type 0
 IsRead text (Ok schedule) = IsUtf8 text × (schedule_in text ≡ Ok (schedule_read schedule))
 IsRead text (Err (Line line fault)) = IsUtf8 text × (schedule_in text ≡ Err (line, fault))

@@ -6,19 +6,19 @@ use Rattle.text.specs.Numbers.{number_in}
 use Rattle.step_schedules.specs.Words.{Text}
 use Rattle.step_schedules.specs.declared.deviation.Place.{Place}
 
--- the number that a text of one to nine decimal digits spells, if the text has nothing else
+-- the number that a text of one to nine decimal digits spells, or no number if the text is anything else
 abbrev pub digits_in : Text → Option ℕ
 digits_in text = if nat_lt 9 (length text) then None else number_in 10 32 text
 
 abbrev pub is_dot : ℕ → Bool
 is_dot byte = byte == 0x2E
 
--- the place with these numbers of a round and of an access; 0.0 is no place, since no request begins round 0
+-- the place with these numbers of a round and of an access; 0.0 isn't a place, because no request begins round 0
 abbrev pub place_with : ℕ → ℕ → Option Place
 place_with round access =
     if round == 0 && access == 0 then None else Some (record { round = round; access = access })
 
--- the place that a word spells: the numbers of a round and of an access, joined by a dot
+-- the place that a word spells: the numbers of a round and of an access, joined by a dot; no place for other words
 abbrev pub place_in : Text → Option Place
 place_in word =
     if nat_lt (position_or_len is_dot word) (length word) then

@@ -1,4 +1,4 @@
--- Schedules as texts (our choice; the format is that of `tools/race_finder/README.md`, "A schedule").
+-- Schedules as texts (our choice; the format is that of `finder/README.md`, "A schedule").
 use Rattle.std.specs.Prelude.{◌++◌, [], List, Option, Some, None, codes, flat_map}
 use Rattle.std.specs.Fmt.{decimal}
 use Rattle.step_schedules.specs.Deviations.{DeviationRead}
@@ -67,6 +67,6 @@ abbrev pub options_text : Option (List Text) → Text
 options_text (Some options) = options_line options
 options_text None = []
 
--- a text with these options and deviations
+-- the text of a schedule
 abbrev pub schedule_text : ScheduleRead → Text
 schedule_text schedule = options_text schedule.options ++ deviation_lines schedule.deviations

@@ -1,5 +1,5 @@
 -- Deviations that wait to be played.
-use Rattle.std.specs.Prelude.{◌-◌, ◌==◌, ◌&&◌, ℕ, Bool, List, filter, if◌then◌else◌, map, nat_lt}
+use Rattle.std.specs.Prelude.{◌-◌, ◌==◌, ◌&&◌, ℕ, Bool, List, None, Option, Some, filter, if◌then◌else◌, map, nat_lt}
 use Rattle.step_schedules.specs.Events.{EventRead, is_met_by}
 use Rattle.step_schedules.specs.declared.waiting.Waiting.{Waiting}
 use Rattle.step_schedules.specs.Deviations.{DeviationRead, deviation_read}
@@ -7,11 +7,11 @@ use Rattle.step_schedules.specs.declared.deviation.Action.{Action}
 use Rattle.step_schedules.specs.declared.deviation.Site.{Site}
 use Rattle.step_schedules.specs.declared.deviation.Site.TheVariants as site
 
--- a deviation, and how many times its access or request must still come until the deviation is due; 0: it was due
+-- a deviation that waits, or was due
 pub record WaitingRead : Type 0 where
   -- the deviation
   pub deviation : DeviationRead
-  -- how many times its access or request must still come
+  -- the number of matching events that must still come; the deviation is due before the last of them; 0: it was due
   pub left : ℕ
 
 abbrev pub waiting_read : Waiting → WaitingRead
@@ -21,7 +21,7 @@ abbrev pub left_at : Site → ℕ
 left_at (site.Place place) = 1
 left_at (site.Number number) = number
 
--- a deviation that waits when the run begins: its access or request hasn't come yet
+-- a deviation as it waits at the start of the run
 abbrev pub waits : DeviationRead → WaitingRead
 waits deviation = record { deviation = deviation; left = left_at deviation.site }
 
@@ -29,7 +29,7 @@ waits deviation = record { deviation = deviation; left = left_at deviation.site 
 abbrev pub is_due : EventRead → WaitingRead → Bool
 is_due event waiting = waiting.left == 1 && is_met_by event waiting.deviation
 
--- a deviation after an event came; `0 - 1` is 0
+-- a deviation after an event came, which is counted if the deviation matches it; `0 - 1` is 0
 abbrev pub counted : EventRead → WaitingRead → WaitingRead
 counted event waiting =
     record waiting { left = if is_met_by event waiting.deviation then waiting.left - 1 else waiting.left }
@@ -38,11 +38,15 @@ counted event waiting =
 abbrev pub action_of : WaitingRead → Action
 action_of waiting = waiting.deviation.action
 
+-- the action of a deviation, if it is due before an event
+abbrev pub due_action : EventRead → WaitingRead → Option Action
+due_action event waiting = if is_due event waiting then Some (action_of waiting) else None
+
 -- the actions that are due before an event
 abbrev pub due_before : EventRead → List WaitingRead → List Action
 due_before event waiting = map action_of (filter (is_due event) waiting)
 
--- whether the access or the request of a deviation hasn't come
+-- whether a deviation hasn't been due yet
 abbrev pub is_unmet : WaitingRead → Bool
 is_unmet waiting = nat_lt 0 waiting.left
 

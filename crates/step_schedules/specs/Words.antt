@@ -4,7 +4,7 @@ use Rattle.std.specs.List.{take_while}
 use Rattle.text.specs.Words.{words_of as words_in_line, words_after, words_before}
 pub use Rattle.text.specs.Words.{Text, texts, word}
 
--- whether a word doesn't begin with #, 0x23, which begins a comment
+-- whether a word doesn't begin a comment: its first byte isn't #, 0x23
 abbrev pub is_said : Text → Bool
 is_said word = not (slice_index word 0 == 0x23)
 
@@ -16,6 +16,6 @@ words_of line = take_while is_said (words_in_line line)
 abbrev pub action_words : List Text → List Text
 action_words words = words_before (codes "before") words
 
--- the words after it
+-- the words after the first word `before`
 abbrev pub event_words : List Text → List Text
 event_words words = words_after (codes "before") words

@@ -15,7 +15,7 @@ pub struct Place {
 }
 
 impl Place {
-    /// Whether this place comes before another one.
+    /// Whether this place is before another place.
     pub(crate) fn is_before(self, other: Place) -> bool
         ensures { result ≡ is_before self other }
     {
@@ -23,12 +23,12 @@ impl Place {
     }
 }
 
-/// Which access or request a deviation happens before.
+/// The access or request before which a deviation happens.
 #[derive(Clone, Copy)]
 pub enum Site {
     /// The access or the request at this place.
     Place(Place),
-    /// The access or the request with this number, from 1, among those of the run with the deviation's name.
+    /// The access or the request with this number, from 1, among those of the run with the deviation's kind and name.
     Number(u32),
 }
 
@@ -57,31 +57,31 @@ pub enum Action {
     EepromTick,
     /// The PHY takes one more step.
     PhyTick,
-    /// A request `choose` is answered with this number.
+    /// A request `choose` is answered with this number, if the number is below the request's limit.
     Choose(u32),
 }
 
-/// Whether a deviation is for a read, a write or a request.
+/// The kind of access or request before which a deviation happens.
 #[derive(Clone, Copy, PartialEq)]
 pub enum Before {
     /// A read of a register or of memory.
     Read,
     /// A write of a register or of memory.
     Write,
-    /// A request that begins a round. Its name is its word: `arrive`, `offer`, `step` or `settle`.
+    /// A request that begins a round. The name is the request's first word: `arrive`, `offer`, `step` or `settle`.
     Request,
-    /// A request `choose`, which begins no round. Its name is `choose`.
+    /// A request `choose`, which begins no round. The name is `choose`.
     Choice,
 }
 
-/// An action, and the access or request before which it happens. A number that is chosen answers this request.
+/// An action, and the access or request before which it happens. The action `Choose` answers this request.
 #[derive(Drop)]
 pub struct Deviation {
-    /// Which access or request.
+    /// Which access or request of the run.
     pub site: Site,
     /// The action.
     pub action: Action,
-    /// Whether the deviation is for a read, a write or a request.
+    /// The kind of the access or request.
     pub before: Before,
     /// The name of what the access reads or writes, such as `ICR` or `rx[1]+8`; or the word of the request.
     pub name: String,
@@ -90,7 +90,7 @@ pub struct Deviation {
 impl Clone for Deviation {
     ghost is_clone = { λ deviation copy. deviation_read copy ≡ deviation_read deviation };
 
-    /// The same deviation. Fails only if memory was refused.
+    /// Returns the same deviation. Fails only if memory was refused.
     fn clone(&self) -> Result<Deviation, AllocError> {
         Ok(Deviation {
             site: self.site,

@@ -11,7 +11,7 @@ use crate::spelling::{number_of, place_of};
 use std::alloc::Global;
 use text::{split_at_word, value_of, word_at};
 
-/// The actions of one word.
+/// The actions of one word, by this word.
 const ACTIONS: [(&str, Action); 9] = [
     ("txtake", Action::TxTake),
     ("txput", Action::TxPut),
@@ -27,10 +27,10 @@ const ACTIONS: [(&str, Action); 9] = [
 /// The actions that begin with `hold`, by their second word.
 const HOLDS: [(&str, Action); 2] = [("eeprom", Action::HoldEeprom), ("phy", Action::HoldPhy)];
 
-/// The kinds of accesses.
+/// The kinds of accesses, by their word.
 const KINDS: [(&str, Before); 2] = [("read", Before::Read), ("write", Before::Write)];
 
-/// The requests: those that begin a round, and `choose`.
+/// The kinds of requests, by their word: requests that begin a round, and `choose`.
 const REQUESTS: [(&str, Before); 5] = [
     ("arrive", Before::Request),
     ("offer", Before::Request),
@@ -67,7 +67,7 @@ fn request_named(word: &str) -> Option<Before>
     value_of(&REQUESTS, word)
 }
 
-/// The choice of the number that a word spells.
+/// Returns the action that chooses the number that a word spells, or `None` if the word isn't a number.
 fn choice_of(word: &str) -> Option<Action>
     ensures { result ≡ spec.choice_in word.now }
 {
@@ -75,7 +75,7 @@ fn choice_of(word: &str) -> Option<Action>
     Some(Action::Choose(number))
 }
 
-/// The action that two words name.
+/// Returns the action that two words name, or `None` if they name no action.
 fn action_of_two(first: &str, second: &str) -> Option<Action>
     ensures { result ≡ spec.action_of_two first.now second.now }
 {
@@ -88,7 +88,7 @@ fn action_of_two(first: &str, second: &str) -> Option<Action>
     }
 }
 
-/// The action that these words name.
+/// Returns the action that these words name, or `None` if they name no action.
 fn action_of(words: &[&str]) -> Option<Action>
     ensures { result ≡ spec.action_in (texts words.now) }
 {
@@ -108,7 +108,7 @@ fn begins_action(word: &str) -> bool
     action_named(word).is_some() || word == "hold" || word == "choose"
 }
 
-/// The place in the first word of a line, if the line has one.
+/// Reads the place in the first word of a line. Returns `None` if the word begins an action, and rejects other words.
 fn place_at(word: &str) -> Result<Option<Place>, Fault>
     ensures { result ≡ spec.place_at word.now }
 {
@@ -122,7 +122,7 @@ fn place_at(word: &str) -> Result<Option<Place>, Fault>
     }
 }
 
-/// The words after the place, if there is one.
+/// Returns the words after the place, or all words if the line has no place.
 fn words_after<'a, 'b>(place: Option<Place>, words: &'b [&'a str]) -> &'b [&'a str]
     requires { 0 < length words.now }
     ensures { texts result.now ≡ spec.words_after place (texts words.entry.now) }
@@ -134,7 +134,7 @@ fn words_after<'a, 'b>(place: Option<Place>, words: &'b [&'a str]) -> &'b [&'a s
     rest
 }
 
-/// The name in a word such as `ICR#3`.
+/// Returns the part of a word such as `ICR#3` before its first `#`, or the whole word if it has no `#`.
 fn name_of(word: &str) -> &str
     ensures { result.now ≡ spec.name_in word.entry.now }
 {
@@ -144,7 +144,8 @@ fn name_of(word: &str) -> &str
     }
 }
 
-/// The number in a word such as `ICR#3`, if it has one.
+/// Reads the number after the first `#` of a word such as `ICR#3`. Returns `None` if the word has no `#`, and rejects
+/// other text after the `#`.
 fn number_after(word: &str) -> Result<Option<u32>, Fault>
     ensures { result ≡ spec.number_after word.now }
 {
@@ -157,7 +158,7 @@ fn number_after(word: &str) -> Result<Option<u32>, Fault>
     }
 }
 
-/// The kind of what these words name: one word names a request, two words an access.
+/// Returns the kind of the request that one word names, or of the access that two words name, or else `None`.
 fn before_of(words: &[&str]) -> Option<Before>
     ensures { result ≡ spec.before_in (texts words.now) }
 {
@@ -170,7 +171,7 @@ fn before_of(words: &[&str]) -> Option<Before>
     None
 }
 
-/// The number in a word such as `ICR#3`, if it has one. Rejects a word without a name.
+/// As [`number_after`], but also rejects an empty name.
 fn named_number(word: &str) -> Result<Option<u32>, Fault>
     ensures { result ≡ spec.named_number word.now }
 {
@@ -191,7 +192,7 @@ fn is_place_of(before: Before, place: Place) -> bool
     }
 }
 
-/// The site at a place. Rejects a place at which no access or request of this kind can be.
+/// Returns the site at a place. Rejects a place at which no access or request of this kind can be.
 fn place_before(place: Place, before: Before) -> Result<Site, Fault>
     ensures { result ≡ spec.place_before place before }
 {
@@ -202,7 +203,8 @@ fn place_before(place: Place, before: Before) -> Result<Site, Fault>
     }
 }
 
-/// Which access or request a deviation is for, by the place and the number of its line.
+/// Returns the site of a deviation, from the place and the number of its line. Rejects a line with both or neither,
+/// the number 0, and a place at which nothing of this kind can be.
 fn site_of(place: Option<Place>, number: Option<u32>, before: Before) -> Result<Site, Fault>
     ensures { result ≡ spec.site_in place number before }
 {
@@ -221,7 +223,7 @@ fn is_choice(action: Action) -> bool
     matches!(action, Action::Choose(_))
 }
 
-/// Whether an action may be for an access or a request of this kind.
+/// Whether an action may be before an access or a request of this kind.
 fn takes(before: Before, action: Action) -> bool
     ensures { result ≡ spec.takes before action }
 {
@@ -231,7 +233,8 @@ fn takes(before: Before, action: Action) -> bool
     }
 }
 
-/// Which access or request a deviation is for, by the place of its line and its last word.
+/// Returns the site of a deviation, from the place and the last word of its line. Rejects an action that may not be
+/// before this kind.
 fn site_at(place: Option<Place>, action: Action, before: Before, word: &str) -> Result<Site, Fault>
     ensures { result ≡ spec.site_at place action before word.now }
 {
@@ -250,7 +253,7 @@ struct Nameless {
     before: Before,
 }
 
-/// The last word, or an empty text if there is no word.
+/// Returns the last word, or an empty text if there is no word.
 fn last_word<'a>(words: &[&'a str]) -> &'a str
     ensures { result.now ≡ spec.last_word (texts words.entry.now) }
 {
@@ -260,7 +263,7 @@ fn last_word<'a>(words: &[&'a str]) -> &'a str
     word_at(words, words.len() - 1)
 }
 
-/// The deviation of a line without its name, from the place, the action, and the words after `before`.
+/// Returns the deviation of a line without its name, from the place, the action, and the words after `before`.
 fn nameless_at(place: Option<Place>, action: Action, event: &[&str]) -> Result<Nameless, Fault>
     ensures { result ≡ spec.nameless_at place (texts event.now) action }
 {
@@ -275,7 +278,7 @@ fn nameless_at(place: Option<Place>, action: Action, event: &[&str]) -> Result<N
     })
 }
 
-/// The deviation of a line without its name, from the place and the words before and after `before`.
+/// Returns the deviation of a line without its name, from the place and the words before and after `before`.
 fn nameless_of(place: Option<Place>, action: &[&str], event: &[&str]) -> Result<Nameless, Fault>
     ensures { result ≡ spec.nameless_in place (texts action.now) (texts event.now) }
 {
@@ -286,7 +289,7 @@ fn nameless_of(place: Option<Place>, action: &[&str], event: &[&str]) -> Result<
 }
 
 impl Nameless {
-    /// The deviation with a copy of this name.
+    /// Returns the deviation with a copy of this name.
     fn with_name(self, alloc: Global, name: &str) -> Result<Deviation, Stop>
         ensures { Gives spec.deviation_read result (spec.with_name name.now self) }
     {
@@ -300,7 +303,7 @@ impl Nameless {
     }
 }
 
-/// The deviation of a line, from its words after the place.
+/// Returns the deviation of a line, from its place and the words after the place.
 fn deviation_after(alloc: Global, place: Option<Place>, words: &[&str]) -> Result<Deviation, Stop>
     ensures { Gives spec.deviation_read result (spec.deviation_after place (texts words.now)) }
 {
@@ -309,7 +312,7 @@ fn deviation_after(alloc: Global, place: Option<Place>, words: &[&str]) -> Resul
     nameless.with_name(alloc, name_of(last_word(event)))
 }
 
-/// The deviation of a line that isn't empty.
+/// Returns the deviation of a line, from its words, of which there is at least one.
 pub(crate) fn deviation_of(alloc: Global, words: &[&str]) -> Result<Deviation, Stop>
     requires { 0 < length words.now }
     ensures { Gives spec.deviation_read result (spec.deviation_in (texts words.now)) }

@@ -7,19 +7,30 @@ ghost use Rattle.step_schedules.specs.Deviations.{deviation_read};
 use crate::deviation::{Before, Deviation, Place, Site};
 use std::alloc::{AllocError, Global};
 
-/// An access or a request, with its place in the run.
+/// An access or a request that comes, with its place in the run.
+#[derive(Clone, Copy)]
+pub struct Event<'a> {
+    /// The place of the access or request.
+    pub place: Place,
+    /// The kind of the access or request.
+    pub before: Before,
+    /// The bytes of the name of what is accessed, or of the word of the request.
+    pub name: &'a [u8],
+}
+
+/// The access or the request that came last, if there is one.
 #[derive(Drop)]
-pub(crate) struct Event {
+pub(crate) struct Past {
     pub(crate) place: Place,
     pub(crate) before: Before,
     pub(crate) name: String,
 }
 
-impl Clone for Event {
-    ghost is_clone = { λ event copy. spec.event_read copy ≡ spec.event_read event };
+impl Clone for Past {
+    ghost is_clone = { λ past copy. spec.past_read copy ≡ spec.past_read past };
 
-    fn clone(&self) -> Result<Event, AllocError> {
-        Ok(Event {
+    fn clone(&self) -> Result<Past, AllocError> {
+        Ok(Past {
             place: self.place,
             before: self.before,
             name: self.name.clone()?,
@@ -27,7 +38,7 @@ impl Clone for Event {
     }
 }
 
-/// The place of an access or a request of this kind that comes next after this place.
+/// Returns the place of the next access or request after this place, which is of this kind.
 pub(crate) fn next_place(place: Place, before: Before) -> Place
     ensures { result ≡ spec.next_place before place }
 {
@@ -43,12 +54,12 @@ pub(crate) fn next_place(place: Place, before: Before) -> Place
     }
 }
 
-impl Event {
-    /// The state before the run: no access and no request has come.
-    pub(crate) fn none(alloc: Global) -> Event
-        ensures { spec.event_read result ≡ spec.no_event }
+impl Past {
+    /// Returns the state before the run: no access and no request has come.
+    pub(crate) fn none(alloc: Global) -> Past
+        ensures { spec.past_read result ≡ spec.no_event }
     {
-        Event {
+        Past {
             place: Place {
                 round: 0,
                 access: 0,
@@ -58,7 +69,20 @@ impl Event {
         }
     }
 
-    /// Whether a site can be that of this event. A number is not compared.
+    /// Returns this access or request.
+    pub(crate) fn event(&self) -> Event<'_>
+        ensures { spec.event_read result ≡ spec.past_read self.now }
+    {
+        Event {
+            place: self.place,
+            before: self.before,
+            name: self.name.as_bytes(),
+        }
+    }
+}
+
+impl Event<'_> {
+    /// Whether a site is the place of this event, or a number. The number isn't compared.
     fn is_at(&self, site: Site) -> bool
         ensures { result ≡ spec.is_at (spec.event_read self.now) site }
     {
@@ -68,10 +92,13 @@ impl Event {
         }
     }
 
-    /// Whether a deviation is for this event. A number is not compared.
+    /// Whether a deviation matches this event: they have the same kind and name, and the same place if the deviation
+    /// has a place. A number isn't compared.
     pub(crate) fn is_met_by(&self, deviation: &Deviation) -> bool
         ensures { result ≡ spec.is_met_by (spec.event_read self.now) (deviation_read deviation.now) }
     {
-        self.is_at(deviation.site) && deviation.before == self.before && deviation.name == self.name
+        self.is_at(deviation.site)
+            && deviation.before == self.before
+            && deviation.name.as_bytes() == self.name
     }
 }

@@ -8,27 +8,27 @@ ghost use Rattle.step_schedules.specs.Schedules.{option_texts, schedule_read};
 ghost use Rattle.step_schedules.specs.Texts.{deviation_lines, schedule_text};
 
 use crate::deviation::{Action, Before, Deviation, Place, Site};
-use crate::event::{Event, next_place};
+use crate::event::{Past, next_place};
 use crate::schedule::Schedule;
 use crate::waiting::{Waiting, count_all, due_before, unmet_in, waiting_of};
 use std::alloc::{AllocError, Global};
 use std::marker::Model;
 
-/// Counts the accesses and requests of a run, finds the deviations that are due, and records the actions that were
-/// played.
+/// A player counts the accesses and requests of a run, finds the deviations that are due, and records the actions that
+/// were played.
 ///
 /// In contracts, the value is a `PlayerState`, plain data that `specs/Players.antt` defines.
 #[derive(Drop)]
 pub struct Player {
     is_playing: bool,
-    event: Event,
+    event: Past,
     waiting: Vec<Waiting>,
     played: Vec<Deviation>,
 }
 
 impl Model for Player {
     ghost use Rattle.std.specs.Prelude.{map};
-    ghost use Rattle.step_schedules.specs.Events.{event_read};
+    ghost use Rattle.step_schedules.specs.Events.{past_read};
     ghost use Rattle.step_schedules.specs.Players.{PlayerState};
     ghost use Rattle.step_schedules.specs.Waiting.{waiting_read};
     ghost use Rattle.step_schedules.specs.Deviations.{deviation_read};
@@ -37,7 +37,7 @@ impl Model for Player {
 
     ghost view = { λ player. record {
       is_playing = player.is_playing;
-      event = event_read player.event;
+      event = past_read player.event;
       waiting = map waiting_read player.waiting.items;
       played = map deviation_read player.played.items;
     } };
@@ -46,7 +46,7 @@ impl Model for Player {
 impl Clone for Player {
     ghost is_clone = { λ player copy. copy ≡ player };
 
-    /// The same player. Fails only if memory was refused.
+    /// Returns the same player. Fails only if memory was refused.
     #[tactic(auto, using(crate::proofs::Copies::copied_deviations, crate::proofs::Copies::copied_waiting))]
     fn clone(&self) -> Result<Player, AllocError> {
         Ok(Player {
@@ -59,25 +59,25 @@ impl Clone for Player {
 }
 
 impl Player {
-    /// A player without a schedule, before the run.
+    /// Returns a player without a schedule, before the run.
     pub fn recording(alloc: Global) -> Player
         ensures { result ≡ spec.recording }
     {
         Player {
             is_playing: false,
-            event: Event::none(alloc),
+            event: Past::none(alloc),
             waiting: Vec::new(alloc),
             played: Vec::new(alloc),
         }
     }
 
-    /// A player of a schedule, before the run. Fails only if memory was refused.
+    /// Returns a player of a schedule, before the run. Fails only if memory was refused.
     pub fn playing(alloc: Global, schedule: Schedule) -> Result<Player, AllocError>
         ensures { IfOk result (λ player. player ≡ spec.playing (schedule_read schedule)) }
     {
         Ok(Player {
             is_playing: true,
-            event: Event::none(alloc),
+            event: Past::none(alloc),
             waiting: waiting_of(alloc, schedule.deviations)?,
             played: Vec::new(alloc),
         })
@@ -91,7 +91,7 @@ impl Player {
     }
 
     /// Counts an access or a request that comes now. Returns the actions that are due before it, in the order of the
-    /// schedule. Fails only if memory was refused.
+    /// schedule. Fails only if memory was refused. Then don't use the player any more.
     pub fn meet(
         &mut self,
         alloc: Global,
@@ -102,13 +102,14 @@ impl Player {
         ensures state { OnOk result (self.new ≡ spec.after_meeting before (string_bytes name) self.old) }
     {
         let place = next_place(self.event.place, before);
-        self.event = Event {
+        self.event = Past {
             place,
             before,
             name,
         };
-        let due = due_before(alloc, self.waiting.as_slice(), &self.event)?;
-        count_all(self.waiting.as_mut_slice(), &self.event);
+        let event = self.event.event();
+        let due = due_before(alloc, self.waiting.as_slice(), &event)?;
+        count_all(self.waiting.as_mut_slice(), &event);
         Ok(due)
     }
 
@@ -127,7 +128,7 @@ impl Player {
         Ok(())
     }
 
-    /// The lines of the deviations whose access or request hasn't come, in the order of the schedule. Fails only if
+    /// Returns the lines of the deviations that haven't been due yet, in the order of the schedule. Fails only if
     /// memory was refused.
     pub fn unmet(&self, alloc: Global) -> Result<String, AllocError>
         ensures { IfOk result (λ text. string_bytes text ≡ deviation_lines (spec.unmet self.now)) }
@@ -139,8 +140,8 @@ impl Player {
         schedule.to_string(alloc)
     }
 
-    /// The text of a schedule with these options, and with the actions that were recorded. Fails only if memory was
-    /// refused.
+    /// Returns the text of a schedule with these options, and with the actions that were recorded. Fails only if memory
+    /// was refused.
     #[tactic(auto, using(crate::proofs::Copies::copied_deviations))]
     pub fn recorded(
         &self,
@@ -158,7 +159,7 @@ impl Player {
     }
 }
 
-/// The number that the first of these actions chooses, or 0 if it chooses none.
+/// Returns the number that the first of these actions chooses, or 0 if the first action chooses no number.
 pub fn chosen(actions: &[Action]) -> u32
     ensures { result ≡ spec.chosen actions.now }
 {

@@ -12,7 +12,7 @@ use crate::schedule::Schedule;
 use std::fmt;
 
 impl Action {
-    /// The words of an action in a line, without the number of a choice.
+    /// Returns the words of an action in a line, without the number of a choice.
     fn words(self) -> &'static str
         ensures { result.now ≡ action_words self }
     {
@@ -46,7 +46,7 @@ impl fmt::Display for Action {
 }
 
 impl Before {
-    /// The part of a line before the name.
+    /// Returns the part of a line from `before` to the name.
     fn words(self) -> &'static str
         ensures { result.now ≡ before_text self }
     {

@@ -17,12 +17,12 @@ use std::alloc::Global;
 pub(crate) struct Reader {
     /// The options and deviations so far.
     pub(crate) schedule: Schedule,
-    /// The place of the last deviation that has one.
+    /// The place of the last deviation with a place, or 0.0 if no deviation has one.
     pub(crate) last: Place,
 }
 
 impl Reader {
-    /// The reader before the first line.
+    /// Returns a reader before the first line.
     fn new(alloc: Global) -> Reader
         ensures { spec.so_far result ≡ spec.nothing_read }
     {
@@ -38,7 +38,7 @@ impl Reader {
         }
     }
 
-    /// Stores the options of a line `options`. Rejects a line that isn't the first one with words.
+    /// Stores the options of a line `options`. Rejects the line if it isn't the first line with words.
     fn set_options(&mut self, alloc: Global, words: &[&str]) -> Result<(), Stop>
         requires { 0 < length words.now }
         ensures { spec.Becomes result (spec.after_options (texts words.now) (spec.so_far self.old))
@@ -52,7 +52,7 @@ impl Reader {
         Ok(())
     }
 
-    /// Appends a deviation. Rejects one whose place is before the last place.
+    /// Appends a deviation. Rejects a deviation whose place is before the last place.
     fn push(&mut self, deviation: Deviation) -> Result<(), Stop>
         ensures { spec.Becomes result (spec.after_deviation (deviation_read deviation) (spec.so_far self.old))
             (spec.so_far self.new) }
@@ -99,7 +99,7 @@ impl Reader {
         self.read_words(alloc, words.as_slice())
     }
 
-    /// Reads lines, numbered from 1.
+    /// Reads lines up to the first faulty one. The lines are numbered from 1.
     fn read_lines(&mut self, alloc: Global, lines: &[&str]) -> Result<(), ScheduleError>
         ensures { spec.AreLinesRead (spec.after_lines (texts lines.now) 1 (spec.so_far self.old)) result
             (spec.so_far self.new) }
@@ -114,7 +114,7 @@ impl Reader {
         Ok(())
     }
 
-    /// Reads a text.
+    /// Reads all lines of a text.
     pub(crate) fn read(alloc: Global, text: &str) -> Result<Reader, ScheduleError>
         ensures { spec.IsTextRead text.now result }
     {

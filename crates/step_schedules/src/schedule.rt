@@ -11,7 +11,7 @@ use std::str;
 /// A list of deviations from what an adapter does by default.
 #[derive(Drop)]
 pub struct Schedule {
-    /// The options of the server, if the text has them.
+    /// The words of the server's options, if the text has them.
     pub options: Option<Vec<String>>,
     /// The deviations, in the order of the text.
     pub deviations: Vec<Deviation>,

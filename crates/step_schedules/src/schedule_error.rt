@@ -12,31 +12,32 @@ use std::fmt;
 const ACTION_TEXT: &str =
     "no deviation: use txtake, txput, rxdata, rxdone, tx, rx, arrive, eeprom, phy, hold eeprom|phy, choose K";
 
-/// The fault of a line. If a line has several, the first one in this order is reported.
+/// The fault of a line. If several apply, the first one in this order is reported.
 #[derive(Clone, Copy, Debug, PartialEq, Eq)]
 pub enum Fault {
-    /// `options` isn't in the first line, or is given twice.
+    /// The line begins with `options`, but isn't the first line with words.
     Options,
     /// The first word is neither a place nor the first word of an action.
     Place,
-    /// The words up to `before` aren't an action.
+    /// The words before `before` (after the place, if there is one) aren't an action.
     Action,
-    /// The words after `before` name neither an access, nor a request that begins a round, nor `choose`.
+    /// The words after `before` aren't an access, a request that begins a round, or `choose`. Or the last of them has
+    /// no name, or no number of one to nine digits after its `#`.
     Access,
-    /// A number is chosen before anything but `choose`, or something else happens before `choose`.
+    /// The action `choose K` is before an access or another request, or another action is before `choose`.
     Choice,
     /// The line has both a place and a number after `#`.
     PlaceAndNumber,
     /// The place is ROUND.0 before an access or `choose`, or another place before a request that begins a round.
     RequestPlace,
-    /// The line has neither a place nor a number from 1.
+    /// The line has no place, and no number of at least 1 after `#`.
     NoNumber,
-    /// The place comes before that of an earlier line.
+    /// The place is before the place of an earlier line.
     Order,
 }
 
 impl Fault {
-    /// What is wrong with the line, and what to write instead.
+    /// Returns a text that states what is wrong with the line, or what to write instead.
     fn text(self) -> &'static str {
         match self {
             Fault::Options => "'options' must be the first line, and given once",
@@ -70,12 +71,12 @@ impl fmt::Display for Fault {
 
 impl Error for Fault {}
 
-/// Why a text isn't read.
+/// Why a text can't be read as a schedule.
 #[derive(Clone, Copy, Debug, PartialEq, Eq)]
 pub enum ScheduleError {
-    /// This line, numbered from 1, is the first faulty one.
+    /// A line is faulty.
     Line {
-        /// The number of the line.
+        /// The number of the first faulty line, from 1.
         line: usize,
         /// The fault of this line.
         fault: Fault,
@@ -98,7 +99,7 @@ impl fmt::Display for ScheduleError {
 
 impl Error for ScheduleError {}
 
-/// Why a line isn't read.
+/// Why a line can't be read.
 #[derive(Clone, Copy)]
 pub(crate) enum Stop {
     /// The line is faulty.
@@ -110,7 +111,7 @@ pub(crate) enum Stop {
 impl Stop {
     ghost use Rattle.step_schedules.specs.Results.{error_at};
 
-    /// The error of a text if this line isn't read.
+    /// Returns the error of a text in which the line with this number can't be read.
     pub(crate) fn at(self, line: usize) -> ScheduleError
         ensures { result ≡ error_at line self }
     {

@@ -11,7 +11,7 @@ const MOST_DIGITS: usize = 9;
 
 const DECIMAL: u32 = 10;
 
-/// The number that one to nine decimal digits spell, if there is nothing else.
+/// Returns the number that one to nine decimal digits spell, or `None` if the text is anything else.
 pub(crate) fn number_of(text: &str) -> Option<u32>
     ensures { result ≡ spec.digits_in text.now }
 {
@@ -21,7 +21,7 @@ pub(crate) fn number_of(text: &str) -> Option<u32>
     u32::try_from(digits_of(text, DECIMAL)?).ok()
 }
 
-/// The place with these numbers. `0.0` is no place, since no request begins round 0.
+/// Returns the place with these numbers. `0.0` isn't a place, because no request begins round 0.
 fn place_with(round: u32, access: u32) -> Option<Place>
     ensures { result ≡ spec.place_with round access }
 {
@@ -31,7 +31,7 @@ fn place_with(round: u32, access: u32) -> Option<Place>
     Some(Place { round, access })
 }
 
-/// The place that a word such as `4.6` spells.
+/// Returns the place that a word such as `4.6` spells, or `None` if the word isn't a place.
 pub(crate) fn place_of(word: &str) -> Option<Place>
     ensures { result ≡ spec.place_in word.now }
 {

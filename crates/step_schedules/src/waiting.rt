@@ -9,11 +9,12 @@ use crate::deviation::{Action, Deviation, Site};
 use crate::event::Event;
 use std::alloc::{AllocError, Global};
 
-/// A deviation that waits for its access or request.
+/// A deviation that waits for its access or request, or has been due.
 #[derive(Drop)]
-pub(crate) struct Waiting {
+pub struct Waiting {
     pub(crate) deviation: Deviation,
-    /// How often the event must still come until the deviation is played. 0: it was met.
+    /// The number of matching events that must still come. The deviation is due before the last of them. 0: it has been
+    /// due.
     pub(crate) left: u32,
 }
 
@@ -29,7 +30,7 @@ impl Clone for Waiting {
 }
 
 impl Waiting {
-    /// A deviation that waits when the run begins: its access or request hasn't come yet.
+    /// Returns a deviation as it waits at the start of the run.
     pub(crate) fn new(deviation: Deviation) -> Waiting
         ensures { spec.waiting_read result ≡ spec.waits (deviation_read deviation) }
     {
@@ -41,14 +42,25 @@ impl Waiting {
     }
 
     /// Whether the deviation is due before an event that comes now.
-    fn is_due(&self, event: &Event) -> bool
+    fn is_due(&self, event: &Event<'_>) -> bool
         ensures { result ≡ spec.is_due (event_read event.now) (spec.waiting_read self.now) }
     {
         self.left == 1 && event.is_met_by(&self.deviation)
     }
 
-    /// Counts an event that comes now.
-    fn count(&mut self, event: &Event)
+    /// Returns the action of the deviation, if the deviation is due before an event that comes now.
+    pub fn due_action(&self, event: &Event<'_>) -> Option<Action>
+        ensures { result ≡ spec.due_action (event_read event.now) (spec.waiting_read self.now) }
+    {
+        if self.is_due(event) {
+            Some(self.deviation.action)
+        } else {
+            None
+        }
+    }
+
+    /// Counts an event that comes now, if the deviation matches it.
+    fn count(&mut self, event: &Event<'_>)
         ensures { spec.waiting_read self.new ≡ spec.counted (event_read event.now) (spec.waiting_read self.old) }
     {
         if event.is_met_by(&self.deviation) {
@@ -57,11 +69,11 @@ impl Waiting {
     }
 }
 
-/// The actions that are due before an event that comes now.
+/// Returns the actions that are due before an event that comes now, in the order of the deviations.
 pub(crate) fn due_before(
     alloc: Global,
     waiting: &[Waiting],
-    event: &Event,
+    event: &Event<'_>,
 ) -> Result<Vec<Action>, AllocError>
     ensures { IfOk result (λ actions. actions.items
         ≡ spec.due_before (event_read event.now) (map spec.waiting_read waiting.now)) }
@@ -75,8 +87,8 @@ pub(crate) fn due_before(
     Ok(actions)
 }
 
-/// Counts an event that comes now.
-pub(crate) fn count_all(waiting: &mut [Waiting], event: &Event)
+/// Counts an event that comes now, for each deviation that matches it.
+pub(crate) fn count_all(waiting: &mut [Waiting], event: &Event<'_>)
     ensures { map spec.waiting_read waiting.new
         ≡ map (spec.counted (event_read event.now)) (map spec.waiting_read waiting.old) }
 {
@@ -85,7 +97,7 @@ pub(crate) fn count_all(waiting: &mut [Waiting], event: &Event)
     }
 }
 
-/// The deviations of a schedule, before the run.
+/// Returns the deviations of a schedule as they wait at the start of the run.
 pub(crate) fn waiting_of(
     alloc: Global,
     deviations: Vec<Deviation>,
@@ -100,7 +112,7 @@ pub(crate) fn waiting_of(
     Ok(waiting)
 }
 
-/// The deviations whose access or request hasn't come.
+/// Returns copies of the deviations that haven't been due yet.
 pub(crate) fn unmet_in(alloc: Global, waiting: &[Waiting]) -> Result<Vec<Deviation>, AllocError>
     ensures { IfOk result (λ unmet. map deviation_read unmet.items
         ≡ spec.unmet_in (map spec.waiting_read waiting.now)) }

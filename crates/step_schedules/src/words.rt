@@ -7,14 +7,14 @@ ghost use Rattle.step_schedules.specs.Words as spec;
 
 use std::alloc::{AllocError, Global};
 
-/// The lines of a text.
+/// Returns the lines of a text.
 pub(crate) fn lines_in<'a>(alloc: Global, text: &'a str) -> Result<Vec<&'a str>, AllocError>
     ensures { IfOk result (λ found. spec.texts found.items ≡ lines text.entry.now) }
 {
     text.lines().collect(alloc)
 }
 
-/// The number of words before a comment.
+/// Returns the number of words before a comment, or of all words if there is no comment.
 fn said_count(words: &[&str]) -> usize
     ensures { result ≡ prefix_len spec.is_said (spec.texts words.now) }
 {
@@ -25,7 +25,7 @@ fn said_count(words: &[&str]) -> usize
     count
 }
 
-/// The words of a line up to a comment.
+/// Returns the words of a line, up to a comment.
 pub(crate) fn words_in<'a>(alloc: Global, line: &'a str) -> Result<Vec<&'a str>, AllocError>
     ensures { IfOk result (λ words. spec.texts words.items ≡ spec.words_of line.entry.now) }
 {
@@ -34,7 +34,7 @@ pub(crate) fn words_in<'a>(alloc: Global, line: &'a str) -> Result<Vec<&'a str>,
     Ok(words)
 }
 
-/// Copies of words.
+/// Returns copies of words.
 pub(crate) fn strings_of(alloc: Global, words: &[&str]) -> Result<Vec<String>, AllocError>
     ensures { IfOk result (λ copies. map string_bytes copies.items ≡ spec.texts words.now) }
 {

@@ -1,4 +1,4 @@
-use Rattle.std.proofs.Common.{◌&&◌, nat_lt, true}
+use Rattle.std.proofs.Common.{◌&&◌, nat_lt, refl, true}
 use Rattle.played_adapter.specs.Playing.{Arrives}
 use Rattle.nic82540em.proofs.Pacing.{followed}
 use Rattle.nic82540em.proofs.calls.arrive.Goals as goal
@@ -9,6 +9,6 @@ returns c = record {
   number_is = c.fate_number.ensures;
   arrives = followed (true && nat_lt 0 c.args.watched.now.player.pace)
       (Arrives c.args.frame.now c.arrive-fate.result)
-      c.args.watched.now.player c.arrive-fate.new.self c.follow.new.watched.player c.args.watched.now.events c.arrive-fate.new.observer
-      c.follow.new.watched.events c.arrive-fate.ensures c.follow.ensures;
+      c.args.watched.now (record c.args.watched.now { player = c.arrive-fate.new.self; events = c.arrive-fate.new.observer })
+      c.follow.new.watched c.arrive-fate.ensures refl c.follow.ensures;
 }

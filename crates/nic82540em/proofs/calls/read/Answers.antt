@@ -1,12 +1,4 @@
-use Rattle.std.proofs.Common.{◌&&◌, nat_lt, true}
-use Rattle.bus.specs.declared.event.Access.TheVariants.{Reads}
-use Rattle.played_adapter.specs.Playing.{Accessed}
-use Rattle.nic82540em.proofs.Pacing.{followed}
 use Rattle.nic82540em.proofs.calls.read.Goals as goal
 
 pub returns : goal.returns
-returns c =
-    followed (true && nat_lt 0 c.args.watched.now.player.pace)
-    (Accessed (Reads c.args.offset c.read-value.result))
-    c.args.watched.now.player c.read-value.new.self c.follow.new.watched.player c.args.watched.now.events c.read-value.new.observer
-    c.follow.new.watched.events c.read-value.ensures c.follow.ensures
+returns c = record { met = c.meet_register.new.watched; meets = c.meet_register.ensures; happens = c.read_met.ensures }

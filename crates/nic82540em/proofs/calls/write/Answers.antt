@@ -1,12 +1,4 @@
-use Rattle.std.proofs.Common.{◌&&◌, nat_lt, true}
-use Rattle.bus.specs.declared.event.Access.TheVariants.{Writes}
-use Rattle.played_adapter.specs.Playing.{Accessed}
-use Rattle.nic82540em.proofs.Pacing.{followed}
 use Rattle.nic82540em.proofs.calls.write.Goals as goal
 
 pub returns : goal.returns
-returns c =
-    followed (true && nat_lt 0 c.args.watched.now.player.pace)
-    (Accessed (Writes c.args.offset c.args.value))
-    c.args.watched.now.player c.write.new.self c.follow.new.watched.player c.args.watched.now.events c.write.new.observer
-    c.follow.new.watched.events c.write.ensures c.follow.ensures
+returns c = record { met = c.meet_register.new.watched; meets = c.meet_register.ensures; happens = c.write_met.ensures }

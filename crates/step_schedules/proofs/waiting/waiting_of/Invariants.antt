@@ -3,6 +3,6 @@ use Rattle.step_schedules.specs.Waiting.{waiting_read, waits}
 use Rattle.step_schedules.specs.Deviations.{deviation_read}
 use Rattle.step_schedules.proofs.waiting.waiting_of.Given as goal
 
--- the deviations so far wait
+-- the list consists of the deviations so far, as they wait at the start
 abbrev pub invariant-loop-deviation : goal.invariant-loop-deviation
 invariant-loop-deviation l = map waiting_read l.waiting.items ≡ map waits (map deviation_read l.yielded)

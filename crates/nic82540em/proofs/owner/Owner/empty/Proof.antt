@@ -1,4 +1,4 @@
--- `empty` owns nothing but its handle of the allocator.
+-- The result of `empty` owns only its handle of the allocator.
 use mathlib.Core.Path.{refl, sym, subst}
 use mathlib.Core.Bool.{false}
 use mathlib.Core.List.{List, [], ◌∷◌, ◌++◌}

@@ -1,4 +1,4 @@
--- `into_alloc` takes an empty owner apart, which owns nothing but its handle of the allocator.
+-- `into_alloc` splits an empty owner, which owns only its handle of the allocator.
 use mathlib.Core.Path.{◌≡◌, refl, sym, subst, ◌∙◌}
 use mathlib.Core.Bool.{Bool, false}
 use mathlib.Core.List.{List, [], ◌∷◌, ◌++◌}

@@ -1,7 +1,7 @@
 use Rattle.std.proofs.Common.{ap, sym, ◌∙◌, ◌∷◌, [], None, Option}
 use Rattle.adapter.specs.Outcomes.{FrameOutcome, framed}
 use Rattle.adapter.specs.declared.step.StepKind.TheVariants.{TxPut}
-use Rattle.engine_faults.specs.declared.engine_fault.EngineFault.{EngineFault}
+use Rattle.access_names.specs.declared.engine_fault.EngineFault.{EngineFault}
 use Rattle.played_adapter.specs.Playing.{after_step, has_room, step_of}
 use Rattle.played_adapter.specs.Told.{Stepped}
 use Rattle.played_adapter.proofs.Happening.{happened}

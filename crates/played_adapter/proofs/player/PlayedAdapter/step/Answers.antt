@@ -1,6 +1,6 @@
 use Rattle.std.proofs.Common.{ap, ◌∙◌, ◌∷◌, [], Option}
 use Rattle.adapter.specs.Outcomes.{FrameOutcome, framed}
-use Rattle.engine_faults.specs.declared.engine_fault.EngineFault.{EngineFault}
+use Rattle.access_names.specs.declared.engine_fault.EngineFault.{EngineFault}
 use Rattle.played_adapter.specs.Playing.{after_step, fault_told, has_room, step_of}
 use Rattle.played_adapter.specs.Told.{Stepped}
 use Rattle.played_adapter.specs.declared.player.PlayedAdapter.{PlayedAdapter}

@@ -3,7 +3,7 @@ use Rattle.step_schedules.specs.Schedules.{after_lines, so_far}
 use Rattle.step_schedules.specs.Words.{texts}
 use Rattle.step_schedules.proofs.reader.Reader.read_lines.Given as goal
 
--- the lines that are left lead to the result
+-- from what was read so far, the remaining lines lead to the result
 abbrev pub invariant-loop-line : goal.invariant-loop-line
 invariant-loop-line l = record {
   counted : l.number ≡ l.line-index;

@@ -1,0 +1,12 @@
+use Rattle.std.proofs.Common.{◌&&◌, nat_lt, refl, true}
+use Rattle.bus.specs.declared.event.Access.TheVariants.{Reads}
+use Rattle.played_adapter.specs.Playing.{Accessed}
+use Rattle.nic82540em.proofs.Pacing.{followed}
+use Rattle.nic82540em.proofs.calls.read_met.Goals as goal
+
+pub returns : goal.returns
+returns c =
+    followed (true && nat_lt 0 c.args.watched.now.player.pace)
+    (Accessed (Reads c.args.offset c.read-value.result))
+    c.args.watched.now (record c.args.watched.now { player = c.read-value.new.self; events = c.read-value.new.observer })
+    c.follow.new.watched c.read-value.ensures refl c.follow.ensures

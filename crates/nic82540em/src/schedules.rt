@@ -1,0 +1,160 @@
+// The schedule that an adapter plays.
+
+ghost use Rattle.std.specs.Prelude.{◌≡◌, IfSome, None, Some};
+ghost use Rattle.access_names.specs.Targets.{memory_target_in};
+ghost use Rattle.access_names.specs.declared.target.Target.TheVariants.{Register};
+ghost use Rattle.nic82540em.specs.Schedules.{AnswersPlay, AnswersRound, IsAgenda, Meets, MeetsIf, after_choice};
+ghost use Rattle.nic82540em.specs.Schedules.{error_number, request_word, wanted_number};
+ghost use Rattle.played_adapter.specs.Playing.{has_bytes};
+
+use crate::numbers::REFUSED;
+use crate::watched::WatchedAdapter;
+use access_names::{Target, memory_target};
+use std::alloc::Global;
+use step_schedules::{Agenda, Before, Schedule, ScheduleError};
+
+/// The schedule, if there is one, meets an access of this target. Plays the default steps before the access, and then
+/// the actions that are due.
+fn meet(watched: &mut WatchedAdapter, before: Before, target: Target)
+    ensures { Meets before target watched.old watched.new }
+{
+    let Some(agenda) = &mut watched.agenda else {
+        return;
+    };
+    let name = target.name();
+    watched
+        .player
+        .meet_access(agenda, before, name.as_slice(), &mut watched.events);
+}
+
+/// As [`meet`], for an access of the register at this offset. Not inlined, because a target's name takes bytes on the
+/// stack.
+#[inline(never)]
+fn meet_offset(watched: &mut WatchedAdapter, before: Before, offset: u32)
+    ensures { Meets before (Register offset) watched.old watched.new }
+{
+    meet(watched, before, Target::Register(offset));
+}
+
+/// As [`meet`], for an access of the register at this offset. The test for a schedule is inlined.
+#[inline(always)]
+pub(crate) fn meet_register(watched: &mut WatchedAdapter, before: Before, offset: u32)
+    ensures { Meets before (Register offset) watched.old watched.new }
+{
+    if watched.agenda.is_some() {
+        meet_offset(watched, before, offset);
+    }
+}
+
+/// As [`meet`], for an access of these bytes in memory. Changes nothing if memory doesn't contain all of the bytes.
+/// The test for a schedule is inlined.
+#[inline(always)]
+pub(crate) fn meet_memory(watched: &mut WatchedAdapter, before: Before, address: u64, count: u64)
+    ensures { MeetsIf (has_bytes watched.old.player address count) before
+        (memory_target_in watched.old.player.machine.world.adapter address) watched.old watched.new }
+{
+    if watched.agenda.is_some() {
+        meet_bytes(watched, before, address, count);
+    }
+}
+
+/// As [`meet_memory`]. Not inlined.
+#[inline(never)]
+fn meet_bytes(watched: &mut WatchedAdapter, before: Before, address: u64, count: u64)
+    ensures { MeetsIf (has_bytes watched.old.player address count) before
+        (memory_target_in watched.old.player.machine.world.adapter address) watched.old watched.new }
+{
+    if !watched.player.has_bytes(address, count) {
+        return;
+    }
+    let target = memory_target(&watched.player.machine, address);
+    meet(watched, before, target);
+}
+
+/// The schedule, if there is one, meets a request `choose`. Returns the number in the schedule that is due, or 0.
+pub(crate) fn meet_choice(agenda: &mut Option<Agenda>) -> u32
+    ensures number { result ≡ wanted_number agenda.old }
+    ensures met { agenda.new ≡ after_choice agenda.old }
+{
+    let Some(agenda) = agenda else {
+        return 0;
+    };
+    let event = agenda.coming(Before::Choice, b"choose");
+    let number = agenda.chosen(&event);
+    agenda.count(&event);
+    number
+}
+
+/// Returns the first word of the request with this number, or `None` if no request has the number.
+fn request_word(number: u32) -> Option<&'static str>
+    ensures some { IfSome result (λ word. request_word number ≡ Some word.now) }
+    ensures none { result ≡ None → request_word number ≡ None }
+{
+    match number {
+        0 => Some("arrive"),
+        1 => Some("offer"),
+        2 => Some("step"),
+        3 => Some("settle"),
+        _ => None,
+    }
+}
+
+/// The schedule, if there is one, meets the request with this number, which begins a round. Plays the actions that are
+/// due.
+///
+/// If no request has this number, returns `false` and changes nothing. Otherwise returns `true`.
+pub(crate) fn begin_round(watched: &mut WatchedAdapter, number: u32) -> bool
+    ensures { AnswersRound number result watched.old watched.new }
+{
+    let Some(word) = request_word(number) else {
+        return false;
+    };
+    let Some(agenda) = &mut watched.agenda else {
+        return true;
+    };
+    watched.player.meet_request(
+        agenda,
+        Before::Request,
+        word.as_bytes(),
+        &mut watched.events,
+    );
+    true
+}
+
+/// Returns the number of an error: the number of the faulty line if it is from 1 to 0xFFFFFFFE, else [`REFUSED`].
+fn error_number(error: ScheduleError) -> u32
+    ensures { result ≡ error_number error }
+{
+    let ScheduleError::Line { line, .. } = error else {
+        return REFUSED;
+    };
+    if line > 0 && line < REFUSED as usize {
+        line as u32
+    } else {
+        REFUSED
+    }
+}
+
+/// Returns the agenda of the schedule in a text, before the run.
+fn agenda_in(alloc: Global, text: &[u8]) -> Result<Agenda, ScheduleError>
+    ensures { IsAgenda text.now result }
+{
+    let schedule = Schedule::parse(alloc, text)?;
+    Ok(Agenda::new(alloc, schedule)?)
+}
+
+/// From now on, plays the schedule in a text instead of an earlier schedule, and draws no steps before accesses.
+///
+/// Returns 0. If the text isn't a schedule, or memory is refused, returns the number of the error and changes nothing.
+pub(crate) fn play(alloc: Global, watched: &mut WatchedAdapter, text: &[u8]) -> u32
+    ensures { AnswersPlay text.now result watched.old watched.new }
+{
+    match agenda_in(alloc, text) {
+        Ok(agenda) => {
+            watched.agenda = Some(agenda);
+            watched.player.most_steps = 0;
+            0
+        }
+        Err(error) => error_number(error),
+    }
+}

@@ -1,0 +1,75 @@
+-- The moves of a schedule before accesses and requests (our choice; `finder/README.md`, "A schedule").
+use Rattle.std.specs.Prelude.{◌&&◌, ◌++◌, ◌∷◌, [], Bool, List, None, Option, Some, flat_map, if◌then◌else◌, not, true}
+use Rattle.adapter.specs.declared.step.StepKind.{StepKind}
+use Rattle.adapter.specs.declared.step.StepKind.TheVariants as kinds
+use Rattle.eeprom.specs.Eerd.{is_pending}
+use Rattle.mdic_phy.specs.Mdic.{has_work}
+use Rattle.step_schedules.specs.Agendas.{AgendaState, after_event, coming, held_by}
+use Rattle.step_schedules.specs.Waiting.{due_before}
+use Rattle.step_schedules.specs.Words.{Text}
+use Rattle.step_schedules.specs.declared.agenda.Held.{Held}
+use Rattle.step_schedules.specs.declared.deviation.Action.{Action}
+use Rattle.step_schedules.specs.declared.deviation.Action.TheVariants.{TxTake, TxPut, RxData, RxDone, Tx, Rx, Arrive}
+use Rattle.step_schedules.specs.declared.deviation.Action.TheVariants.{Choose, EepromTick, HoldEeprom, HoldPhy, PhyTick}
+use Rattle.step_schedules.specs.declared.deviation.Before.{Before}
+use Rattle.played_adapter.specs.declared.choices.Choice.TheVariants.{Step, Arrival}
+use Rattle.played_adapter.specs.declared.choices.Move.{Move}
+use Rattle.played_adapter.specs.declared.choices.Move.TheVariants.{Hold, Play, Tick}
+use Rattle.played_adapter.specs.declared.player.PlayedAdapter.{PlayedAdapter}
+
+-- the move that plays a step of this kind
+abbrev pub play_step : StepKind → Move
+play_step kind = Play (Step kind)
+
+-- the moves of an action; a hold and a chosen number have no moves
+abbrev pub moves_of : Action → List Move
+moves_of TxTake = play_step kinds.TxTake ∷ []
+moves_of TxPut = play_step kinds.TxPut ∷ []
+moves_of RxData = play_step kinds.RxData ∷ []
+moves_of RxDone = play_step kinds.RxDone ∷ []
+moves_of EepromTick = play_step kinds.EepromTick ∷ []
+moves_of PhyTick = play_step kinds.PhyTick ∷ []
+moves_of Tx = play_step kinds.TxTake ∷ play_step kinds.TxPut ∷ []
+moves_of Rx = play_step kinds.RxData ∷ play_step kinds.RxDone ∷ []
+moves_of Arrive = Play Arrival ∷ []
+moves_of HoldEeprom = []
+moves_of HoldPhy = []
+moves_of (Choose number) = []
+
+-- the moves of the action, or no moves if there is no action
+abbrev pub moves_of_next : Option Action → List Move
+moves_of_next None = []
+moves_of_next (Some action) = moves_of action
+
+-- a list of the move, or an empty list if there is no move
+abbrev pub listed : Option Move → List Move
+listed None = []
+listed (Some next) = next ∷ []
+
+-- the moves of a default step: no move if the step has no work; else the step, if `plays` is true and the step isn't held; else the hold
+abbrev pub default_moves : (has_work plays is_held : Bool) → StepKind → Action → List Move
+default_moves has_work plays is_held kind hold = if has_work then (if plays && not is_held then Tick kind else Hold hold) ∷ [] else []
+
+-- the moves of the default steps before an access, of which these are held
+abbrev pub tick_moves : Held → PlayedAdapter → List Move
+tick_moves held a =
+    let adapter = a.machine.world.adapter in
+    default_moves (is_pending adapter.eerd) true held.eeprom kinds.EepromTick HoldEeprom
+    ++ default_moves (has_work adapter.mdic adapter.phy) true held.phy kinds.PhyTick HoldPhy
+
+-- the actions that are due before an access or a request that comes now
+abbrev pub due_in_agenda : Before → (name : Text) → AgendaState → List Action
+due_in_agenda before name agenda = due_before (coming before name agenda) agenda.waiting
+
+-- the moves of an agenda before an access: of the default steps, and then of the actions that are due
+abbrev pub access_moves : Before → (name : Text) → AgendaState → PlayedAdapter → List Move
+access_moves before name agenda a =
+    let due = due_in_agenda before name agenda in tick_moves (held_by due) a ++ flat_map moves_of due
+
+-- the moves of an agenda before a request
+abbrev pub request_moves : Before → (name : Text) → AgendaState → List Move
+request_moves before name agenda = flat_map moves_of (due_in_agenda before name agenda)
+
+-- the agenda after an access or a request came
+abbrev pub met : Before → (name : Text) → AgendaState → AgendaState
+met before name agenda = after_event (coming before name agenda) agenda

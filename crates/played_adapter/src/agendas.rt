@@ -1,0 +1,155 @@
+// What a schedule plays before accesses and requests.
+
+ghost use Rattle.std.specs.Prelude.{◌≡◌, ◌++◌, flat_map, map, true};
+ghost use Rattle.played_adapter.specs.Moves as spec;
+ghost use Rattle.played_adapter.specs.Order.{InOrder, Tells};
+ghost use Rattle.played_adapter.specs.Playing.{Makes};
+ghost use Rattle.step_schedules.specs.Events.{event_read};
+ghost use Rattle.step_schedules.specs.Waiting.{due_before, waiting_read};
+
+use crate::choices::{Choice, Move};
+use crate::observer::Observer;
+use crate::player::PlayedAdapter;
+use adapter::StepKind;
+use step_schedules::{Action, Agenda, Before, Event, Held, Waiting};
+
+/// Returns the moves of an action, at most two. A hold and a chosen number have no moves.
+fn moves_of(action: Action) -> (Option<Move>, Option<Move>)
+    ensures { spec.listed result.0 ++ spec.listed result.1 ≡ spec.moves_of action }
+{
+    match action {
+        Action::TxTake => (Some(Move::Play(Choice::Step(StepKind::TxTake))), None),
+        Action::TxPut => (Some(Move::Play(Choice::Step(StepKind::TxPut))), None),
+        Action::RxData => (Some(Move::Play(Choice::Step(StepKind::RxData))), None),
+        Action::RxDone => (Some(Move::Play(Choice::Step(StepKind::RxDone))), None),
+        Action::EepromTick => (Some(Move::Play(Choice::Step(StepKind::EepromTick))), None),
+        Action::PhyTick => (Some(Move::Play(Choice::Step(StepKind::PhyTick))), None),
+        Action::Tx => (
+            Some(Move::Play(Choice::Step(StepKind::TxTake))),
+            Some(Move::Play(Choice::Step(StepKind::TxPut))),
+        ),
+        Action::Rx => (
+            Some(Move::Play(Choice::Step(StepKind::RxData))),
+            Some(Move::Play(Choice::Step(StepKind::RxDone))),
+        ),
+        Action::Arrive => (Some(Move::Play(Choice::Arrival)), None),
+        Action::HoldEeprom | Action::HoldPhy | Action::Choose(_) => (None, None),
+    }
+}
+
+/// Returns the move of the default step of the EEPROM or of the PHY: the hold if the step is held, else the step.
+/// Returns `None` if the step has no work.
+fn default_move(has_work: bool, is_held: bool, kind: StepKind, hold: Action) -> Option<Move>
+    ensures { spec.listed result ≡ spec.default_moves has_work true is_held kind hold }
+{
+    if !has_work {
+        None
+    } else if is_held {
+        Some(Move::Hold(hold))
+    } else {
+        Some(Move::Tick(kind))
+    }
+}
+
+impl PlayedAdapter {
+    /// Plays a move, if there is one.
+    fn make_next<O: Observer>(&mut self, next: Option<Move>, observer: &mut O)
+        ensures { Tells O.heard observer.old observer.new (InOrder Makes (spec.listed next) self.old self.new) }
+    {
+        if let Some(next) = next {
+            self.make_all(&[next], observer);
+        }
+    }
+
+    /// Plays each of two moves, if there is one.
+    fn make_both<O: Observer>(
+        &mut self,
+        first: Option<Move>,
+        second: Option<Move>,
+        observer: &mut O,
+    )
+        ensures { Tells O.heard observer.old observer.new
+            (InOrder Makes (spec.listed first ++ spec.listed second) self.old self.new) }
+    {
+        self.make_next(first, observer);
+        self.make_next(second, observer);
+    }
+
+    /// Plays the moves of an action, if there is an action.
+    fn make_action<O: Observer>(&mut self, action: Option<Action>, observer: &mut O)
+        ensures { Tells O.heard observer.old observer.new
+            (InOrder Makes (spec.moves_of_next action) self.old self.new) }
+    {
+        if let Some(action) = action {
+            let (first, second) = moves_of(action);
+            self.make_both(first, second, observer);
+        }
+    }
+
+    /// Plays the moves of the default steps: a held step's hold, else the step. A step without work has no move.
+    fn make_ticks<O: Observer>(&mut self, held: Held, observer: &mut O)
+        ensures { Tells O.heard observer.old observer.new
+            (InOrder Makes (spec.tick_moves held self.old) self.old self.new) }
+    {
+        let eeprom = default_move(
+            self.machine.eeprom_has_work(),
+            held.eeprom,
+            StepKind::EepromTick,
+            Action::HoldEeprom,
+        );
+        let phy = default_move(
+            self.machine.phy_has_work(),
+            held.phy,
+            StepKind::PhyTick,
+            Action::HoldPhy,
+        );
+        self.make_both(eeprom, phy, observer);
+    }
+
+    /// Plays the actions that are due before an access or a request that comes now, in the order of the schedule.
+    fn make_due<O: Observer>(&mut self, waiting: &[Waiting], event: &Event<'_>, observer: &mut O)
+        ensures { Tells O.heard observer.old observer.new (InOrder Makes
+            (flat_map spec.moves_of (due_before (event_read event.now) (map waiting_read waiting.now)))
+            self.old self.new) }
+    {
+        for one in waiting {
+            self.make_action(one.due_action(event), observer);
+        }
+    }
+
+    /// Plays the moves of the default steps, and then of the due actions, before an access with this name, and counts
+    /// the access.
+    pub fn meet_access<O: Observer>(
+        &mut self,
+        agenda: &mut Agenda,
+        before: Before,
+        name: &[u8],
+        observer: &mut O,
+    )
+        ensures plays { Tells O.heard observer.old observer.new
+            (InOrder Makes (spec.access_moves before name.now agenda.old self.old) self.old self.new) }
+        ensures met { agenda.new ≡ spec.met before name.now agenda.old }
+    {
+        let event = agenda.coming(before, name);
+        self.make_ticks(agenda.held(&event), observer);
+        self.make_due(agenda.waiting(), &event, observer);
+        agenda.count(&event);
+    }
+
+    /// Plays the moves of the actions that are due before a request with this name, and counts the request.
+    pub fn meet_request<O: Observer>(
+        &mut self,
+        agenda: &mut Agenda,
+        before: Before,
+        name: &[u8],
+        observer: &mut O,
+    )
+        ensures plays { Tells O.heard observer.old observer.new
+            (InOrder Makes (spec.request_moves before name.now agenda.old) self.old self.new) }
+        ensures met { agenda.new ≡ spec.met before name.now agenda.old }
+    {
+        let event = agenda.coming(before, name);
+        self.make_due(agenda.waiting(), &event, observer);
+        agenda.count(&event);
+    }
+}

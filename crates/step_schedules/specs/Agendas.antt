@@ -1,0 +1,50 @@
+-- The deviations of a schedule in a run.
+use Rattle.std.specs.Prelude.{◌||◌, Bool, List, None, Option, Some, false, map, true}
+use Rattle.std.specs.List.{list_any}
+use Rattle.step_schedules.specs.Events.{EventRead, next_place}
+use Rattle.step_schedules.specs.Schedules.{ScheduleRead}
+use Rattle.step_schedules.specs.Waiting.{WaitingRead, counted, waits}
+use Rattle.step_schedules.specs.Words.{Text}
+use Rattle.step_schedules.specs.declared.agenda.Held.{Held}
+use Rattle.step_schedules.specs.declared.deviation.Action.{Action}
+use Rattle.step_schedules.specs.declared.deviation.Action.TheVariants.{HoldEeprom, HoldPhy}
+use Rattle.step_schedules.specs.declared.deviation.Before.{Before}
+use Rattle.step_schedules.specs.declared.deviation.Place.{Place}
+
+-- the state of an agenda
+pub record AgendaState : Type 0 where
+  -- the place of the access or the request that came last, or 0.0 before the run
+  pub last : Place
+  -- all deviations of the schedule, also those that have been due
+  pub waiting : List WaitingRead
+
+-- the agenda of a schedule, before the run
+abbrev pub agenda_of : ScheduleRead → AgendaState
+agenda_of schedule = record { last = record { round = 0; access = 0 }; waiting = map waits schedule.deviations }
+
+-- an access or a request of this kind, and with this name, that comes now, with its place
+abbrev pub coming : Before → Text → AgendaState → EventRead
+coming before name agenda = record { place = next_place before agenda.last; before = before; name = name }
+
+-- the agenda after an access or a request came
+abbrev pub after_event : EventRead → AgendaState → AgendaState
+after_event event agenda = record { last = event.place; waiting = map (counted event) agenda.waiting }
+
+-- whether an action leaves out the default step of the EEPROM
+abbrev pub holds_eeprom : Action → Bool
+holds_eeprom HoldEeprom = true
+holds_eeprom _ = false
+
+-- whether an action leaves out the default step of the PHY
+abbrev pub holds_phy : Action → Bool
+holds_phy HoldPhy = true
+holds_phy _ = false
+
+-- which default steps these actions leave out
+abbrev pub held_by : List Action → Held
+held_by actions = record { eeprom = list_any holds_eeprom actions; phy = list_any holds_phy actions }
+
+-- the default steps of `held`, and the default step that the action leaves out, if there is such an action
+abbrev pub held_after : Held → Option Action → Held
+held_after held None = held
+held_after held (Some action) = record { eeprom = held.eeprom || holds_eeprom action; phy = held.phy || holds_phy action }

@@ -1,0 +1,160 @@
+// The deviations of a schedule in a run, without allocation for an access or a request.
+
+ghost use Rattle.std.specs.Prelude.{◌≡◌, ◌∷◌, IfOk, List, map};
+ghost use Rattle.step_schedules.specs.Agendas as spec;
+ghost use Rattle.step_schedules.specs.Events.{event_read};
+ghost use Rattle.step_schedules.specs.Players.{chosen};
+ghost use Rattle.step_schedules.specs.Schedules.{schedule_read};
+ghost use Rattle.step_schedules.specs.Waiting.{due_before, waiting_read};
+
+use crate::deviation::{Action, Before, Place};
+use crate::event::{Event, next_place};
+use crate::schedule::Schedule;
+use crate::waiting::{Waiting, count_all, waiting_of};
+use std::alloc::{AllocError, Global};
+use std::marker::Model;
+
+/// Which default steps are omitted before an access.
+#[derive(Clone, Copy)]
+pub struct Held {
+    /// Whether the default step of the EEPROM is omitted.
+    pub eeprom: bool,
+    /// Whether the default step of the PHY is omitted.
+    pub phy: bool,
+}
+
+/// Counts the accesses and requests of a run, and finds the deviations that are due, as a [`Player`](crate::Player)
+/// does. An agenda records nothing. Only `new` and `clone` allocate.
+///
+/// In contracts, the value is an `AgendaState`, plain data that `specs/Agendas.antt` defines.
+#[derive(Drop)]
+pub struct Agenda {
+    last: Place,
+    waiting: Vec<Waiting>,
+}
+
+impl Model for Agenda {
+    ghost use Rattle.std.specs.Prelude.{map};
+    ghost use Rattle.step_schedules.specs.Agendas.{AgendaState};
+    ghost use Rattle.step_schedules.specs.Waiting.{waiting_read};
+
+    ghost Value = { AgendaState };
+
+    ghost view = { λ agenda. record { last = agenda.last; waiting = map waiting_read agenda.waiting.items } };
+}
+
+impl Clone for Agenda {
+    ghost is_clone = { λ agenda copy. copy ≡ agenda };
+
+    /// Returns the same agenda. Fails only if memory was refused.
+    #[tactic(auto, using(crate::proofs::Copies::copied_waiting))]
+    fn clone(&self) -> Result<Agenda, AllocError> {
+        Ok(Agenda {
+            last: self.last,
+            waiting: self.waiting.clone()?,
+        })
+    }
+}
+
+impl Held {
+    /// Returns these default steps, and the default step of this action if the action is a hold.
+    fn and(self, action: Option<Action>) -> Held
+        ensures { result ≡ spec.held_after self action }
+    {
+        Held {
+            eeprom: self.eeprom || matches!(action, Some(Action::HoldEeprom)),
+            phy: self.phy || matches!(action, Some(Action::HoldPhy)),
+        }
+    }
+}
+
+/// Returns the number that an action chooses, or 0 if the action chooses no number.
+fn chosen_by(action: Action) -> u32
+    ensures { (later : List Action) → result ≡ chosen (action ∷ later) }
+{
+    match action {
+        Action::Choose(number) => number,
+        _ => 0,
+    }
+}
+
+/// Returns which default steps the actions that are due before an event leave out.
+fn held_in(waiting: &[Waiting], event: &Event<'_>) -> Held
+    ensures { result ≡ spec.held_by (due_before (event_read event.now) (map waiting_read waiting.now)) }
+{
+    let mut held = Held {
+        eeprom: false,
+        phy: false,
+    };
+    for one in waiting {
+        held = held.and(one.due_action(event));
+    }
+    held
+}
+
+/// Returns the number that the first due action chooses, or 0 if no action is due or it chooses no number.
+fn chosen_in(waiting: &[Waiting], event: &Event<'_>) -> u32
+    ensures { result ≡ chosen (due_before (event_read event.now) (map waiting_read waiting.now)) }
+{
+    for one in waiting {
+        if let Some(action) = one.due_action(event) {
+            return chosen_by(action);
+        }
+    }
+    0
+}
+
+impl Agenda {
+    /// Returns the agenda of a schedule, before the run. Fails only if memory was refused.
+    pub fn new(alloc: Global, schedule: Schedule) -> Result<Agenda, AllocError>
+        ensures { IfOk result (λ agenda. agenda ≡ spec.agenda_of (schedule_read schedule)) }
+    {
+        Ok(Agenda {
+            last: Place {
+                round: 0,
+                access: 0,
+            },
+            waiting: waiting_of(alloc, schedule.deviations)?,
+        })
+    }
+
+    /// Returns an access or a request of this kind, and with this name, that comes now, with its place.
+    pub fn coming<'a>(&self, before: Before, name: &'a [u8]) -> Event<'a>
+        ensures { event_read result ≡ spec.coming before name.entry.now self.now }
+    {
+        Event {
+            place: next_place(self.last, before),
+            before,
+            name,
+        }
+    }
+
+    /// Returns all deviations of the schedule, also those that have been due.
+    pub fn waiting(&self) -> &[Waiting]
+        ensures { map waiting_read result.now ≡ self.now.waiting }
+    {
+        self.waiting.as_slice()
+    }
+
+    /// Returns which default steps the actions that are due before an event leave out.
+    pub fn held(&self, event: &Event<'_>) -> Held
+        ensures { result ≡ spec.held_by (due_before (event_read event.now) self.now.waiting) }
+    {
+        held_in(self.waiting.as_slice(), event)
+    }
+
+    /// Returns the number that the first due action chooses, or 0 if no action is due or it chooses no number.
+    pub fn chosen(&self, event: &Event<'_>) -> u32
+        ensures { result ≡ chosen (due_before (event_read event.now) self.now.waiting) }
+    {
+        chosen_in(self.waiting.as_slice(), event)
+    }
+
+    /// Counts an access or a request that comes now.
+    pub fn count(&mut self, event: &Event<'_>)
+        ensures { self.new ≡ spec.after_event (event_read event.now) self.old }
+    {
+        self.last = event.place;
+        count_all(self.waiting.as_mut_slice(), event);
+    }
+}
