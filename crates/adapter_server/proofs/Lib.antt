@@ -1,10 +1,10 @@
 pub mod FromNew
-pub mod Offering
+pub mod Holds
 pub mod Places
 pub mod Printing
 pub mod ReadRequests
 pub mod Requests
 pub mod ServedLines
 pub mod ServedParts
-pub mod Slices
+pub mod Tasks
 mod Enabled

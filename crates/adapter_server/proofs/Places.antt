@@ -1,14 +1,10 @@
 -- Which bytes are in memory.
-use Rattle.std.proofs.Common.{◌≡◌, ◌-◌, ℕ, Bool, List, Option, Some, None, Ok, Err, true, false, ap, arith, if◌then◌else◌, length, refl}
+use Rattle.std.proofs.Common.{◌≡◌, ◌-◌, ℕ, Bool, List, Option, Some, None, Ok, Err, true, false, arith, if◌then◌else◌, length, refl}
 use Rattle.std.proofs.lemmas.Bool.Decides.{nat_tests}
-use Rattle.access_names.specs.Names.{target_text}
-use Rattle.access_names.specs.declared.target.Target.{Target}
 use Rattle.pci_function.specs.ConfigSpace.{registers_of}
 use Rattle.played_adapter.specs.Playing.{has_bytes}
 use Rattle.server_requests.specs.declared.refusal.Refusal.TheVariants as refusals
-use Rattle.step_schedules.specs.declared.deviation.Before.TheVariants.{Write}
-use Rattle.adapter_server.specs.Sessions.{Takes, access_moves, is_register, meeting, meets_registers, met_before, moves_before, place_in}
-use Rattle.adapter_server.specs.Sessions.{place_with, target_at, write_to}
+use Rattle.adapter_server.specs.Sessions.{Takes, is_register, meets_registers, place_in, place_with}
 use Rattle.adapter_server.specs.declared.session.Place.{Place}
 use Rattle.adapter_server.specs.declared.session.Place.TheVariants.{Memory, Register}
 use Rattle.adapter_server.specs.declared.session.Session.{Session}
@@ -45,28 +41,17 @@ four_bytes (Some registers) memory address count offset place =
 four_bytes None true address count offset place = absurd (cc)
 four_bytes None false address count offset place = absurd (cc)
 
--- An access of memory accesses bytes that are in it.
+-- An access with the place `Memory` accesses only bytes in memory.
 pub memory_place : (a : Session) (address count : ℕ) → place_in a address count ≡ Ok Memory → has_bytes a.device address count ≡ true
 memory_place a address count place = in_memory (registers_of a.function) (has_bytes a.device address count) address count place
 
--- An access of a register has four bytes.
+-- An access with the place of a register has four bytes.
 pub register_place : (a : Session) (address count offset : ℕ) → place_in a address count ≡ Ok (Register offset) → count ≡ 4
 register_place a address count offset place =
     four_bytes (registers_of a.function) (has_bytes a.device address count) address count offset place
 
--- A place that was found for bytes takes them.
+-- Bytes can be written at the place that was found for them.
 pub place_takes : (place : Place) (a : Session) (address : ℕ) (bytes : List ℕ) → place_in a address (length bytes) ≡ Ok place
     → Takes place address bytes a.device
 place_takes (Register offset) a address bytes at = register_place a address (length bytes) offset at
 place_takes Memory a address bytes at = memory_place a address (length bytes) at
-
--- What a player does before a write, by its place.
-pub write_moves : (place : Place) (address : ℕ) (bytes : List ℕ) (a : Session) (target : Target) → target ≡ target_at place address a
-    → access_moves Write (target_text target) a ≡ moves_before (write_to place address bytes) a
-write_moves (Register offset) address bytes a target at = ap (λ (t : Target). access_moves Write (target_text t) a) at
-write_moves Memory address bytes a target at = ap (λ (t : Target). access_moves Write (target_text t) a) at
-
-pub write_met : (place : Place) (address : ℕ) (bytes : List ℕ) (a : Session) (target : Target) → target ≡ target_at place address a
-    → meeting Write (target_text target) a ≡ met_before (write_to place address bytes) a
-write_met (Register offset) address bytes a target at = ap (λ (t : Target). meeting Write (target_text t) a) at
-write_met Memory address bytes a target at = ap (λ (t : Target). meeting Write (target_text t) a) at

@@ -1,4 +1,4 @@
--- Requests to the adapter that is served.
+-- Requests that a session answers.
 use Rattle.std.proofs.Common.{◌≡◌, ◌≢◌, ◌⊎◌, [], inl, inr, refl, subst, sym}
 use Rattle.adapter_server.specs.Answers.{Does, OnSession, SessionDoes, request_said}
 use Rattle.server_output.specs.Texts.{Text}
@@ -7,7 +7,7 @@ use Rattle.server_requests.specs.declared.request.Request.TheVariants as request
 use Rattle.adapter_server.specs.declared.snapshot.Server.{Server}
 use Rattle.adapter_server.specs.declared.session.Session.{Session}
 
--- What the session does at a request other than `save` and `restore`, the server does.
+-- The server answers a request other than `save` and `restore` as its session does.
 pub does_on : (request : Request) (said : Text) (a : Server) → request ≢ requests.Save → request ≢ requests.Restore
     → (b : Server) (text : Text) → OnSession (SessionDoes request (request_said request said a.session)) a b text
     → Does request said a b text
@@ -26,8 +26,8 @@ does_on (requests.Choose limit) said a not_save not_restore b text does = does
 does_on requests.Save said a not_save not_restore b text does = absurd (not_save refl)
 does_on requests.Restore said a not_save not_restore b text does = absurd (not_restore refl)
 
--- At `save` and `restore` the session does nothing.
+-- At `save` and `restore`, a session does nothing.
 pub does_nothing : (request : Request) (said : Text) (a : Session) → (request ≡ requests.Save) ⊎ (request ≡ requests.Restore)
-    → SessionDoes request said a a []
-does_nothing request said a (inl same) = subst (λ (r : Request). SessionDoes r said a a []) (sym same) (refl, refl)
-does_nothing request said a (inr same) = subst (λ (r : Request). SessionDoes r said a a []) (sym same) (refl, refl)
+    → SessionDoes request (request_said request said a) a a []
+does_nothing request said a (inl same) = subst (λ (r : Request). SessionDoes r (request_said r said a) a a []) (sym same) (refl, refl)
+does_nothing request said a (inr same) = subst (λ (r : Request). SessionDoes r (request_said r said a) a a []) (sym same) (refl, refl)

@@ -23,7 +23,7 @@ use Rattle.server_requests.proofs.ReadingLines.{known_same, known_then, lines_so
 use Rattle.server_output.proofs.Writing.{appends_kept, appends_none, appends_then, tells_so}
 use Rattle.played_adapter.proofs.Telling.{in_order_more}
 
--- The lines that were read up to here are served by this text.
+-- This text consists of the answers to the lines read so far.
 pub record Served (begin now : Server) (text : Text) (old new : List ℕ) : Type 0 where
   pub front : List Text
   pub lines : lines_of old ≡ front ++ lines_of new
@@ -41,7 +41,7 @@ serves_none bytes begin before = record {
   goes = known_same bytes (Served begin begin []) (λ some. record { front = []; lines = refl; serves = (refl, refl) });
 }
 
--- one more line
+-- One more line is answered.
 more_served : (begin now next : Server) (text first : Text) (old new later : List ℕ) → Served begin now text old new → new ≢ []
     → later ≡ behind_line new → Turns (first_line new) now next first → Served begin next (text ++ first) old later
 more_served begin now next text first old new later on some later_is turn = record {
@@ -140,7 +140,7 @@ serves_lines (Some old) (Some new) (Some later) begin now before after on ends =
       written = on.written;
     }
 
--- The player at the end is that of the last server.
+-- All lines are answered, so the player at the end is the player of the last server.
 pub serves_to : (bytes : Option (List ℕ)) (begin last : Server) (before after : Option (List ℕ))
     → IfSome bytes (λ all. Tells before after (ServesWhole all begin last))
     → IfSome bytes (λ all. Tells before after (ServesTo all begin last.session.kept.player))
@@ -165,7 +165,7 @@ serves_front (Some old) (Some new) begin now before after on = record {
   written = on.written;
 }
 
--- A written text stays if nothing more is written.
+-- If nothing was written after a text, the text is all that was written.
 pub tells_sent : (before after sent : Option (List ℕ)) (Holds : Text → Type 0) → Tells before after Holds → Keeps after sent
     → Tells before sent Holds
 tells_sent before after sent Holds told kept = record {
@@ -174,12 +174,12 @@ tells_sent before after sent Holds told kept = record {
   written = appends_kept before after sent told.text told.written kept;
 }
 
--- Answering a line reads nothing.
+-- An error of an answer is never the error `Read`.
 pub never_read : (cause : AnswerError) → ended_by cause ≡ errors.Read → ⊥
 never_read causes.Memory same = cc
 never_read causes.Write same = cc
 
--- what holds holds at any error
+-- A fact also holds if there is an error.
 pub whatever_error : {T E : Type 0} (result : Result T E) (Q : E → Type 0) (P : Type 0) → P → IfErr result (λ error. Q error → P)
 whatever_error (Ok value) Q P holds = tt
 whatever_error (Err error) Q P holds = λ q. holds

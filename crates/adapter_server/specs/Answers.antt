@@ -13,9 +13,9 @@ use Rattle.bus.specs.Digests.{digest_of}
 use Rattle.bus.specs.Machines.{is_asserted}
 use Rattle.bus.specs.declared.event.Access.{Access}
 use Rattle.bus.specs.declared.event.Access.TheVariants.{Loads, Reads}
-use Rattle.engine_faults.specs.Rings.{ring_from, ring_of_engine}
-use Rattle.engine_faults.specs.declared.engine_fault.Engine.TheVariants.{Receive, Transmit}
-use Rattle.engine_faults.specs.declared.ring_words.RingWords.{RingWords}
+use Rattle.access_names.specs.Rings.{ring_from, ring_of_engine}
+use Rattle.access_names.specs.declared.engine_fault.Engine.TheVariants.{Receive, Transmit}
+use Rattle.access_names.specs.declared.ring_words.RingWords.{RingWords}
 use Rattle.pci_function.specs.Ports.{after_write, answer_at}
 use Rattle.pci_function.specs.declared.port_width.PortWidth.{PortWidth}
 use Rattle.played_adapter.specs.Order.{InOrder}
@@ -59,15 +59,13 @@ use Rattle.adapter_server.specs.Sessions.{
   meeting,
   met_before,
   moves_before,
+  moves_at,
   place_in,
-  request_moves,
   target_at,
   wanted_number,
   with_setting,
 }
 use Rattle.adapter_server.specs.Sessions.{write_to}
-use Rattle.adapter_server.specs.declared.answering.Round.{Round}
-use Rattle.adapter_server.specs.declared.answering.Round.TheVariants as rounds
 use Rattle.adapter_server.specs.declared.session.Place.{Place}
 use Rattle.adapter_server.specs.declared.session.Place.TheVariants.{Register, Memory}
 use Rattle.adapter_server.specs.declared.session.Session.{Session}
@@ -75,20 +73,20 @@ use Rattle.adapter_server.specs.declared.snapshot.Server.{Server}
 
 -- Answers of any kind.
 
--- The text about what happens is written, and then the line of the answer.
+-- The text consists of what is told about something that happens, and then the line of the answer.
 pub record Answered (Happens : Text → Type 0) (line : Text) (text : Text) : Type 0 where
   -- the text about what happened
   pub told : Text
-  -- it happened
+  -- something happened, about which this text is told
   pub happens : Happens told
   -- the line of the answer comes last
   pub text_is : text ≡ told ++ line
 
--- A line is answered, and the state is this one afterwards.
+-- The answer is only this line, and the state afterwards is `b'`.
 pub record Replies {S : Type 0} (line : Text) (b' b : S) (text : Text) : Type 0 where
   -- the state afterwards
   pub after : b ≡ b'
-  -- nothing but the line was written
+  -- only the line was written
   pub text_is : text ≡ line
 
 -- A request is refused, and changes nothing.
@@ -99,45 +97,46 @@ Refuses refusal a b text = Replies (refusal_line refusal) a b text
 abbrev pub Reaches : {S : Type 0} → (Answers : S → Text → Type 0) → Text → Type 0
 Reaches {S} Answers text = (text ≡ []) ⊎ ((b : S) × Answers b text)
 
--- The answer was written. At an error, a beginning of it was written, which may be empty.
+-- The answer was written. At an error, a beginning of a complete answer was written, or nothing.
 abbrev pub TellsAnswer : {T E S : Type 0} → Result T E → (before after : Option (List ℕ)) → (Answers : S → Text → Type 0) → S → Type 0
 TellsAnswer (Ok value) before after Answers b = Tells before after (Answers b)
 TellsAnswer (Err error) before after Answers b = TellsPart before after (Reaches Answers)
 
 -- Answers about the adapter and its memory.
 
--- Something happens to the adapter and its memory. It is told to the observer `Lines`, and nothing else changes.
+-- Something happens to the adapter and its memory, and the observer `Lines` is told about it. Only the adapter, its memory, and what the
+-- server keeps change.
 pub record Played (Happens : PlayedAdapter → PlayedAdapter → List Told → Type 0) (said : Text) (a b : Session) (text : Text) : Type 0 where
   -- what the observer is told
   pub told : List Told
-  -- it happens
+  -- something happens, about which the observer is told this
   pub happens : Happens a.device b.device told
-  -- only the adapter, its memory, and what is kept have changed
+  -- only the adapter, its memory, and what the server keeps have changed
   pub after : b ≡ record a { device = b.device; kept = kept_after told a.kept }
   -- the text about what was told is written
   pub text_is : text ≡ text_of a.kept said told
 
--- The player meets an access. What comes before the access is played, the access happens, and cycles are played.
+-- The player meets an access. The player's moves and random steps are played, the access happens, and cycles are played.
 abbrev pub Accessed : Access → (said : Text) → Session → Session → Text → Type 0
 Accessed access said a b text = Played (ServesAccess (moves_before access a) access) said (met_before access a) b text
 
--- The same for bytes that are loaded from memory.
+-- As `Accessed`, for an access that loads these bytes from memory.
 abbrev pub Loaded : (address size : ℕ) → (bytes : List ℕ) → (said : Text) → Session → Session → Text → Type 0
 Loaded address size bytes said a b text =
     let access = Loads address size in
     Played (ServesLoad (moves_before access a) address size bytes) said (met_before access a) b text
 
--- A register is read, and its bytes are the answer, the lowest byte first.
+-- A register is read, and the bytes of its value are the answer, the lowest byte first.
 abbrev pub ReadsRegister : (offset : ℕ) → Wanted → (said : Text) → Session → Session → Text → Type 0
 ReadsRegister offset wanted said a b text =
     (value : ℕ) × Answered (Accessed (Reads offset value) said a b) (answer_line wanted (to_le_bytes w32 value)) text
 
--- Bytes in memory are read, and they are the answer.
+-- Bytes in memory are read, and these bytes are the answer.
 abbrev pub ReadsMemory : (address : ℕ) → Wanted → (said : Text) → Session → Session → Text → Type 0
 ReadsMemory address wanted said a b text =
     (bytes : List ℕ) × Answered (Loaded address (size_of wanted) bytes said a b) (answer_line wanted bytes) text
 
--- Four bytes at a register are one access of the register. Other bytes are read from memory.
+-- A register or bytes in memory are read, by the place of the access. Without a place, the request is refused.
 abbrev pub ReadsAt : Result Place Refusal → Wanted → (address : ℕ) → (said : Text) → Session → Session → Text → Type 0
 ReadsAt (Ok (Register offset)) wanted address said a b text = ReadsRegister offset wanted said a b text
 ReadsAt (Ok Memory) wanted address said a b text = ReadsMemory address wanted said a b text
@@ -148,12 +147,12 @@ abbrev pub WritesAt : Result Place Refusal → (address : ℕ) → List ℕ → 
 WritesAt (Ok place) address bytes said a b text = Answered (Accessed (write_to place address bytes) said a b) ok_line text
 WritesAt (Err refusal) address bytes said a b text = Refuses refusal a b text
 
--- The player meets a request that begins a round. What happens depends on the moves of the player.
+-- The player meets a request that begins a round, and then something happens that depends on the player's moves.
 abbrev pub BeginsRound : (word : Text) → (Happens : List Move → PlayedAdapter → PlayedAdapter → List Told → Type 0) → (said : Text)
     → Session → Session → Text → Type 0
-BeginsRound word Happens said a b text = Played (Happens (request_moves word a)) said (meeting AnyRequest word a) b text
+BeginsRound word Happens said a b text = Played (Happens (moves_at AnyRequest word a)) said (meeting AnyRequest word a) b text
 
--- A round is played. `Plays` is what it does, with the line of its answer.
+-- A round is played. `Plays` relates the line of the answer to what the round does.
 abbrev pub AnswersRound : (word : Text)
     → (Plays : (line : Text) → List Move → PlayedAdapter → PlayedAdapter → List Told → Type 0) → (said : Text)
     → Session → Session → Text → Type 0
@@ -169,36 +168,14 @@ abbrev pub PlaysArrival : (frame : List ℕ) → (line : Text) → List Move →
 PlaysArrival frame line moves a b told =
     (fate : Fate) × (line ≡ word_line (fate_word fate)) × ServesArrival moves frame fate a b told
 
--- A settle answers the number of steps that did something.
+-- A settle is played, and the number of its cycles' steps that did something is the answer.
 abbrev pub PlaysSettle : (line : Text) → List Move → PlayedAdapter → PlayedAdapter → List Told → Type 0
 PlaysSettle line moves a b told = (moved : ℕ) × (line ≡ number_line moved) × ServesSettle moves moved a b told
-
--- what a round does, with the line of its answer
-abbrev pub PlaysRound : Round → (line : Text) → List Move → PlayedAdapter → PlayedAdapter → List Told → Type 0
-PlaysRound (rounds.Step kind) line moves a b told = PlaysStep kind line moves a b told
-PlaysRound (rounds.Arrive frame) line moves a b told = PlaysArrival frame.now line moves a b told
-PlaysRound rounds.Settle line moves a b told = PlaysSettle line moves a b told
-
--- the first word of the request
-abbrev pub round_word : Round → Text
-round_word (rounds.Step kind) = codes "step"
-round_word (rounds.Arrive frame) = codes "arrive"
-round_word rounds.Settle = codes "settle"
 
 -- The player meets a request for a number below a limit. The number is the answer.
 abbrev pub AnswersChoice : (limit : ℕ) → (said : Text) → Session → Session → Text → Type 0
 AnswersChoice limit said a b text = (number : ℕ)
     × Answered (Played (ServesChoice limit (wanted_number a) number) said (meeting Choice (codes "choose") a) b) (number_line number) text
-
--- A frame arrives, and its fate is the answer.
-abbrev pub AnswersArrival : (frame : List ℕ) → (said : Text) → Session → Session → Text → Type 0
-AnswersArrival frame said a b text = (fate : Fate)
-    × Answered (BeginsRound (codes "arrive") (λ moves. ServesArrival moves frame fate) said a b) (word_line (fate_word fate)) text
-
--- A settle answers the number of steps that did something.
-abbrev pub AnswersSettle : (said : Text) → Session → Session → Text → Type 0
-AnswersSettle said a b text = (moved : ℕ)
-    × Answered (BeginsRound (codes "settle") (λ moves. ServesSettle moves moved) said a b) (number_line moved) text
 
 -- the session with one more frame that waits for its arrival
 abbrev pub with_offered : List ℕ → Session → Session
@@ -210,14 +187,14 @@ pub record Offers (frame : List ℕ) (said : Text) (a b : Session) (text : Text)
   pub moved : Session
   -- the moves are played
   pub plays : BeginsRound (codes "offer") (λ moves. InOrder Makes moves) said a moved text
-  -- then the frame waits, too
+  -- after them, one more frame waits
   pub after : b ≡ with_offered frame moved
 
 -- 1 if the interrupt line is asserted, else 0
 abbrev pub line_number : PlayedAdapter → ℕ
 line_number device = if is_asserted device.machine.world.adapter then 1 else 0
 
--- The session changes in this way, and the answer is `OK`.
+-- The session becomes `change` of the session, and the answer is `OK`.
 abbrev pub Changes : (change : Session → Session) → Session → Session → Text → Type 0
 Changes change a b text = Replies ok_line (change a) b text
 
@@ -234,7 +211,7 @@ abbrev pub AnswersPort : PortWidth → (port : ℕ) → Session → Session → 
 AnswersPort width port a b text =
     Replies (number_line (answer_at port width (is_asserted a.device.machine.world.adapter) a.function)) a b text
 
--- the kinds of steps that would do something, if a step of each other kind has the outcome `Nothing`; a full wire stops `txput`
+-- the kinds of steps that `enabled` reports: those for which `works` is true, but `txput` only if the wire is free
 abbrev pub enabled_with : (works : StepKind → Bool) → (wire_free : Bool) → EnabledSteps
 enabled_with works wire_free = record {
   tx_take = works kinds.TxTake;
@@ -251,7 +228,7 @@ pub record AnswersEnabled (a b : Session) (text : Text) : Type 0 where
   pub works : StepKind → Bool
   -- `works` is right for each kind
   pub each : (kind : StepKind) → TellsWork kind (works kind) a.device.machine.world.adapter
-  -- the line of these kinds
+  -- the line of these kinds is the answer
   pub replies : Replies (enabled_line (enabled_with works a.device.wire_free)) a b text
 
 -- The name of this place is the answer. Without a place, the request is refused.
@@ -265,40 +242,40 @@ pub record AnswersRings (a b : Session) (text : Text) : Type 0 where
   pub receive : RingWords
   -- the registers of the transmit ring
   pub transmit : RingWords
-  -- they make the receive ring of the adapter
+  -- the receive ring with these registers is that of the adapter
   pub receive_is : ring_from receive ≡ ring_of_engine Receive a.device.machine.world
-  -- they make the transmit ring of the adapter
+  -- the transmit ring with these registers is that of the adapter
   pub transmit_is : ring_from transmit ≡ ring_of_engine Transmit a.device.machine.world
-  -- the line of both rings
+  -- the line of both rings is the answer
   pub replies : Replies (rings_line receive transmit) a b text
 
--- The frames that are kept are the answer. After it, no frame is kept.
+-- The frames that the server keeps are the answer. Afterwards the server keeps no frame.
 abbrev pub AnswersFrames : Session → Session → Text → Type 0
 AnswersFrames a b text = Replies (frames_line a.kept.put) (record a { kept = record a.kept { put = [] } }) b text
 
--- The faults that are kept are the answer. After it, no fault is kept.
+-- The faults that the server keeps are the answer. Afterwards the server keeps no fault.
 abbrev pub AnswersFaults : Session → Session → Text → Type 0
 AnswersFaults a b text = Replies (faults_line a.kept.faults) (record a { kept = record a.kept { faults = [] } }) b text
 
--- The clock (QEMU, docs/devel/testing/qtest: clock_step, clock_set; that the adapter settles is our choice).
+-- The clock (QEMU, docs/devel/testing/qtest: clock_step, clock_set; to settle before the clock is set is our choice).
 
--- All offered frames arrive, cycles are played, and then the clock is set to this time.
+-- The adapter settles: all offered frames arrive, and cycles are played. Then the clock is set to this time.
 pub record SettlesUntil (time : ℕ) (said : Text) (a b : Session) (text : Text) : Type 0 where
   -- the number of steps that did something
   pub moved : ℕ
   -- the session before the clock is set
   pub settled : Session
-  -- what happened, without moves of the player
+  -- the adapter settles, without moves of the player
   pub settles : Played (ServesSettle [] moved) said a settled text
   -- after that, only the clock changes
   pub after : b ≡ record settled { clock = time }
 
--- The clock is set to this time, and the time is the answer. Without a time, the request is refused.
+-- The adapter settles, the clock is set to this time, and the time is the answer. Without a time, the request is refused.
 abbrev pub MovesClock : (time : Option ℕ) → (said : Text) → Session → Session → Text → Type 0
 MovesClock (Some time) said a b text = Answered (SettlesUntil time said a b) (decimal_line time) text
 MovesClock None said a b text = Refuses refusals.Value a b text
 
--- the time after this number of nanoseconds, if the clock can show it
+-- the clock's value plus this number of nanoseconds, or `None` if the sum is 2^64 or more
 abbrev pub time_after : (clock nanoseconds : ℕ) → Option ℕ
 time_after clock nanoseconds = if nat_lt (clock + nanoseconds) (2 ^ 64) then Some (clock + nanoseconds) else None
 
@@ -311,7 +288,7 @@ pub record OnSession (Answers : Session → Session → Text → Type 0) (a b : 
   -- nothing changes but the session
   pub after : b ≡ record a { session = b.session }
 
--- the line of the interrupt line if it differs between two sessions
+-- the line that reports a change of the interrupt line from one session to another, or no text if its level is equal in both
 abbrev pub line_between : Session → Session → Text
 line_between was is = line_moved (is_asserted was.device.machine.world.adapter) (is_asserted is.device.machine.world.adapter)
 
@@ -338,7 +315,7 @@ Looks looks.Enabled a b text = AnswersEnabled a b text
 Looks (looks.Target address count) a b text = AnswersTarget (place_in a address count) address a b text
 Looks looks.Rings a b text = AnswersRings a b text
 
--- A request is answered by the adapter that is served. At `save` and `restore`, which the server answers, nothing happens.
+-- A session answers a request. At `save` and `restore`, which the server answers, nothing happens.
 abbrev pub SessionDoes : Request → (said : Text) → Session → Session → Text → Type 0
 SessionDoes (requests.Read wanted address) said a b text = ReadsAt (place_in a address (size_of wanted)) wanted address said a b text
 SessionDoes (requests.Write address bytes) said a b text = WritesAt (place_in a address (length bytes)) address bytes said a b text
@@ -355,20 +332,20 @@ SessionDoes (requests.Choose limit) said a b text = AnswersChoice limit said a b
 SessionDoes requests.Save said a b text = (b ≡ a) × (text ≡ [])
 SessionDoes requests.Restore said a b text = (b ≡ a) × (text ≡ [])
 
--- a line, and the name of what is accessed at this place, if there is one
+-- a line, and after it the name of the target at this place; without a place, only the line
 abbrev pub said_at : Result Place Refusal → (address : ℕ) → (said : Text) → Session → Text
 said_at (Ok place) address said session = concat (said ∷ codes " -> " ∷ target_text (target_at place address session) ∷ [])
 said_at (Err refusal) address said session = said
 
--- the line of a request, for an access with the name of what is accessed
-abbrev pub named_said : Request → (said : Text) → Session → Text
-named_said (requests.Read wanted address) said session = said_at (place_in session address (size_of wanted)) address said session
-named_said (requests.Write address bytes) said session = said_at (place_in session address (length bytes)) address said session
-named_said request said session = said
+-- what the log prints for an access at this place: its line, and after `log targets` also the name of the access's target
+abbrev pub access_said : Result Place Refusal → (address : ℕ) → (said : Text) → Session → Text
+access_said place address said session = if session.targets then said_at place address said session else said
 
--- what the log prints of a request: its line, with the name of what is accessed if the log has these names
+-- what the log prints for a request: its line, and for an access after `log targets` also the name of the access's target
 abbrev pub request_said : Request → (said : Text) → Session → Text
-request_said request said session = if session.targets then named_said request said session else said
+request_said (requests.Read wanted address) said session = access_said (place_in session address (size_of wanted)) address said session
+request_said (requests.Write address bytes) said session = access_said (place_in session address (length bytes)) address said session
+request_said request said session = said
 
 -- A request is answered.
 abbrev pub Does : Request → (said : Text) → Server → Server → Text → Type 0
@@ -381,9 +358,9 @@ abbrev pub AnswersTo : Result Request Refusal → (said : Text) → Server → S
 AnswersTo (Ok request) said a b text = Does request said a b text
 AnswersTo (Err refusal) said a b text = Refuses refusal a b text
 
--- A line's request is answered; a line that isn't UTF-8 is refused.
+-- The request of a line in UTF-8 is answered, or the line is refused. A line that isn't UTF-8 is refused.
 pub record AnswersLine (line : Text) (a b : Server) (text : Text) : Type 0 where
-  -- a line in UTF-8 is read, and its request answered
+  -- a line in UTF-8 is read as a request, which is answered; or the line is refused
   pub asked : IsUtf8 line → AnswersTo (request_in (words_of line)) line a b text
-  -- another line is refused
+  -- a line that isn't UTF-8 is refused
   pub other : (¬ (IsUtf8 line)) → Refuses refusals.Text a b text

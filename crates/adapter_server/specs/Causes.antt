@@ -1,4 +1,4 @@
--- The error of a server that stops while it answers a line (our choice).
+-- The error that `serve` returns, by the error of an answer (our choice).
 use Rattle.server_output.specs.declared.answer_error.AnswerError.{AnswerError}
 use Rattle.server_output.specs.declared.answer_error.AnswerError.TheVariants as causes
 use Rattle.adapter_server.specs.declared.serve_error.ServeError.{ServeError}

@@ -5,3 +5,4 @@ pub mod Sessions
 pub mod NewSessions
 pub mod Answers
 pub mod Serving
+pub mod Tasks

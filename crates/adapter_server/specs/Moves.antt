@@ -1,4 +1,4 @@
--- The moves of a player before accesses and requests (our choice; `tools/race_finder/README.md`, "A schedule").
+-- The moves of a player before accesses and requests (our choice; `finder/README.md`, "A schedule").
 use Rattle.std.specs.Prelude.{◌&&◌, ◌∷◌, [], Bool, List, false, if◌then◌else◌, not, true}
 use Rattle.adapter.specs.declared.step.StepKind.{StepKind}
 use Rattle.adapter.specs.declared.step.StepKind.TheVariants as kinds
@@ -13,7 +13,7 @@ use Rattle.step_schedules.specs.declared.deviation.Action.TheVariants.{Choose, E
 abbrev pub play_step : StepKind → Move
 play_step kind = Play (Step kind)
 
--- the moves of an action; a hold and a chosen number have none
+-- the moves of an action; a hold and a chosen number have no moves
 abbrev pub moves_of : Action → List Move
 moves_of TxTake = play_step kinds.TxTake ∷ []
 moves_of TxPut = play_step kinds.TxPut ∷ []
@@ -28,16 +28,13 @@ moves_of HoldEeprom = []
 moves_of HoldPhy = []
 moves_of (Choose number) = []
 
--- whether an action omits the default step of the EEPROM
-abbrev pub holds_eeprom : Action → Bool
-holds_eeprom HoldEeprom = true
-holds_eeprom _ = false
+-- whether an action omits the default step of this kind
+abbrev pub holds : StepKind → Action → Bool
+holds kinds.EepromTick HoldEeprom = true
+holds kinds.PhyTick HoldPhy = true
+holds _ _ = false
 
--- whether an action omits the default step of the PHY
-abbrev pub holds_phy : Action → Bool
-holds_phy HoldPhy = true
-holds_phy _ = false
-
--- no move if a default step has no work; else the step, if a schedule is played and no hold is due; else the hold
+-- no move if a default step has no work; otherwise the step if a schedule is played and no hold is due, or else the hold
 abbrev pub default_moves : (has_work plays is_held : Bool) → StepKind → Action → List Move
-default_moves has_work plays is_held kind hold = if has_work then (if plays && not is_held then Tick kind else Hold hold) ∷ [] else []
+default_moves has_work plays is_held kind hold =
+    if has_work then (if plays && not is_held then Tick kind ∷ [] else Hold hold ∷ []) else []

@@ -20,15 +20,15 @@ pba = 0x1000
 abbrev pub with_missed : ℕ → AdapterState → AdapterState
 with_missed count adapter = record adapter { missed_packets = count }
 
--- a new adapter, whose PBA was written once, and whose MPC begins with a count
+-- a new adapter, whose PBA was written once, and whose MPC has the count of the options
 abbrev pub first_adapter : ServeOptions → AdapterState
 first_adapter options = with_missed options.missed (after_write pba options.receive_kilobytes (new_adapter options.image options.link))
 
--- the new adapter, with memory of zeros at this address, and no offered frame
+-- the new adapter with memory of zeros at this address; no frame is offered, and no step is played before or after an access
 abbrev pub new_device : ServeOptions → (address : Option Ptr) → PlayedAdapter
 new_device options address = new_watched (replicate options.memory 0) (first_adapter options) options.seed address
 
--- the state before the first request: the new adapter, and this player
+-- the state before the first request: the new adapter, this player, log and events off, and a clock at 0
 abbrev pub new_session : ServeOptions → Option PlayerState → (address : Option Ptr) → Session
 new_session options player address = record {
   device = new_device options address;

@@ -14,25 +14,25 @@ use Rattle.adapter_server.specs.declared.options.ServeOptions.{ServeOptions}
 use Rattle.server_requests.specs.declared.refusal.Refusal.TheVariants as refusals
 use Rattle.adapter_server.specs.declared.snapshot.Server.{Server}
 
--- a server before the first request
+-- a server before the first request: nothing is saved
 abbrev pub new_server : ServeOptions → Option PlayerState → (address : Option Ptr) → Server
 new_server options player address = record { session = new_session options player address; saved = None }
 
--- `Holds` is true for a server before the first request, whose memory has some address.
+-- `Holds` is true for a server before the first request, for some address of its memory.
 abbrev pub FromNew : ServeOptions → Option PlayerState → (Holds : Server → Type 0) → Type 0
 FromNew options player Holds = (address : Option Ptr) × Holds (new_server options player address)
 
--- A line is answered, and one that is too long is refused. At the end of the input nothing happens.
+-- A line is answered, or refused if it is too long. At the end of the input nothing happens.
 abbrev pub AnswersNext : NextLine → Text → Server → Server → Text → Type 0
 AnswersNext End line a b text = (b ≡ a) × (text ≡ [])
 AnswersNext Whole line a b text = AnswersLine line a b text
 AnswersNext Long line a b text = Refuses refusals.Long a b text
 
--- A line is answered; one that is too long is refused.
+-- A line is answered, or refused if it is too long.
 abbrev pub Turns : Text → Server → Server → Text → Type 0
 Turns line a b text = MatchBool (nat_lt most_line_bytes (length line)) (Refuses refusals.Long a b text) (AnswersLine line a b text)
 
--- Lines are answered in order, each in the state after those before it.
+-- Lines are answered in order, each in the state after the lines before it.
 abbrev pub Serves : List Text → Server → Server → Text → Type 0
 Serves lines a b text = InOrder Turns lines a b text
 
@@ -40,7 +40,7 @@ Serves lines a b text = InOrder Turns lines a b text
 abbrev pub ServesWhole : (bytes : List ℕ) → (begin last : Server) → Text → Type 0
 ServesWhole bytes begin last text = Serves (lines_of bytes) begin last text
 
--- The first lines of these bytes are answered, each in full, in order, and nothing else is written.
+-- The first n lines of these bytes are answered, each in full, in order, for some n, and nothing else is written.
 pub record ServesFront (bytes : List ℕ) (begin : Server) (text : Text) : Type 0 where
   -- the lines that are answered
   pub answered : List Text
@@ -48,17 +48,18 @@ pub record ServesFront (bytes : List ℕ) (begin : Server) (text : Text) : Type 
   pub left : List Text
   -- both together are all lines
   pub lines : lines_of bytes ≡ answered ++ left
-  -- the server after them
+  -- the server after the answered lines
   pub last : Server
-  -- their answers, one after the other
+  -- the text consists of the answers, one after the other
   pub serves : Serves answered begin last text
 
--- a beginning of the answer to the first of these lines
+-- a beginning of the answer to the first of these lines, or nothing
 abbrev pub BeginsNext : List Text → Server → Text → Type 0
 BeginsNext [] a text = text ≡ []
 BeginsNext (line ∷ later) a text = Begins (Reaches (Turns line a)) text
 
--- The first lines of these bytes are answered, each in full, in order. Then at most a part of the next answer is written.
+-- The first n lines of these bytes are answered, each in full, in order, for some n. Then a beginning of the next answer is written, or
+-- nothing.
 pub record ServesBegun (bytes : List ℕ) (begin : Server) (text : Text) : Type 0 where
   -- the lines that are answered in full
   pub answered : List Text
@@ -72,32 +73,32 @@ pub record ServesBegun (bytes : List ℕ) (begin : Server) (text : Text) : Type 
   pub front : Text
   -- what was written of the next answer
   pub part : Text
-  -- the full answers, one after the other
+  -- the full answers follow each other
   pub serves : Serves answered begin last front
   -- the part is a beginning of the next answer
   pub begun : BeginsNext left last part
   -- nothing else was written
   pub text_is : text ≡ front ++ part
 
--- All lines are answered, in order, and this is the player after them.
+-- All lines are answered, in order, and `left` is the player after them.
 pub record ServesTo (bytes : List ℕ) (begin : Server) (left : Option PlayerState) (text : Text) : Type 0 where
   -- the server after all lines
   pub last : Server
-  -- the answers, one after the other
+  -- the text consists of the answers, one after the other
   pub serves : ServesWhole bytes begin last text
   -- the player of this server is the result
   pub player : left ≡ last.session.kept.player
 
--- From a new server with this player on, all lines are answered, and this is the player after them.
+-- A new server with this player answers all lines, and `left` is the player after them.
 abbrev pub ServesAll : ServeOptions → Option PlayerState → (bytes : List ℕ) → (left : Option PlayerState)
     → (before after : Option (List ℕ)) → Type 0
 ServesAll options player bytes left before after =
     FromNew options player (λ begin. Tells before after (ServesTo bytes begin left))
 
--- From a new server with this player on, the first lines are answered.
+-- A new server with this player answers the first n lines, for some n.
 abbrev pub ServesSome : ServeOptions → Option PlayerState → (bytes : List ℕ) → (before after : Option (List ℕ)) → Type 0
 ServesSome options player bytes before after = FromNew options player (λ begin. Tells before after (ServesFront bytes begin))
 
--- From a new server with this player on, the first lines are answered, and at most a part of the next answer is written.
+-- A new server with this player answers the first n lines, for some n. Then a beginning of the next answer is written, or nothing.
 abbrev pub ServesPart : ServeOptions → Option PlayerState → (bytes : List ℕ) → (before after : Option (List ℕ)) → Type 0
 ServesPart options player bytes before after = FromNew options player (λ begin. Tells before after (ServesBegun bytes begin))

@@ -9,6 +9,7 @@ use Rattle.access_names.specs.Names.{target_text}
 use Rattle.access_names.specs.Targets.{memory_target_in}
 use Rattle.access_names.specs.declared.target.Target.{Target}
 use Rattle.access_names.specs.declared.target.Target.TheVariants as targets
+use Rattle.adapter.specs.State.{AdapterState}
 use Rattle.adapter.specs.declared.step.StepKind.TheVariants.{EepromTick, PhyTick}
 use Rattle.bus.specs.declared.event.Access.{Access}
 use Rattle.bus.specs.declared.event.Access.TheVariants.{Loads, Reads, Stores, Writes}
@@ -28,27 +29,27 @@ use Rattle.step_schedules.specs.declared.deviation.Action.{Action}
 use Rattle.step_schedules.specs.declared.deviation.Action.TheVariants.{HoldEeprom, HoldPhy}
 use Rattle.step_schedules.specs.declared.deviation.Before.{Before}
 use Rattle.step_schedules.specs.declared.deviation.Before.TheVariants.{Choice, Read, Request, Write}
-use Rattle.adapter_server.specs.Moves.{default_moves, holds_eeprom, holds_phy, moves_of}
+use Rattle.adapter_server.specs.Moves.{default_moves, holds, moves_of}
 use Rattle.adapter_server.specs.declared.session.Place.{Place}
 use Rattle.adapter_server.specs.declared.session.Place.TheVariants.{Memory, Register}
 use Rattle.adapter_server.specs.declared.session.Session.{Session}
 
--- a copy of a session: its memory has an address of its own, and the level of its interrupt line counts as reported
+-- a copy of a session, whose memory has this address; the level of the copy's interrupt line counts as reported
 abbrev pub copied : (address : Option Ptr) → Session → Session
 copied address session = record session { device = record (reported session.device) { address = address } }
 
--- A session is a copy of another one.
+-- A session is a copy of another session.
 pub record IsCopied (a copy : Session) : Type 0 where
-  -- the address of its memory
+  -- the address of the copy's memory
   pub address : Option Ptr
-  -- the copy is the one with this address
+  -- the session `copy` is a copy with this address
   pub same : copy ≡ copied address a
 
--- Whether a schedule is played.
+-- whether a schedule is played
 abbrev pub plays_schedule : Session → Bool
 plays_schedule session = option_map_or (λ (player : PlayerState). player.is_playing) session.kept.player false
 
--- the session after a setting; while a schedule is played, the generator chooses no steps
+-- the session after a setting; while a schedule is played, `interleave` turns random steps off
 abbrev pub with_setting : Setting → Session → Session
 with_setting (settings.Interleave count) session =
     record session { device = record session.device { most_steps = if plays_schedule session then 0 else count } }
@@ -59,22 +60,22 @@ with_setting (settings.Wire free) session = record session { device = record ses
 
 -- The target of an access.
 
--- the number of bytes of registers (13.4 "Main Register Descriptions")
+-- the size of all registers together, in bytes (13.4 "Main Register Descriptions")
 abbrev pub register_bytes : ℕ
 register_bytes = 0x20000
 
--- whether an access of this many bytes at an address is one of four bytes, at an aligned address among the registers
+-- whether an access of `count` bytes at an address has four bytes at an aligned address among the registers
 abbrev pub is_register : (registers address count : ℕ) → Bool
 is_register registers address count =
     (count == 4) && nat_le registers address && nat_lt (address - registers) register_bytes && ((address - registers) % 4 == 0)
 
--- whether some of this many bytes from an address on are bytes of registers
+-- whether some of the `count` bytes from an address on are bytes of registers
 abbrev pub meets_registers : (registers address count : ℕ) → Bool
 meets_registers registers address count =
     nat_lt 0 count && nat_lt address (registers + register_bytes) && nat_lt registers (address + count)
 
--- the target of an access of this many bytes at an address, or its refusal; `in_memory` is whether memory contains all of these
--- bytes; without an address of the first register, there are no registers
+-- the target of an access of `count` bytes at an address, or why it is refused; `in_memory` is whether memory contains all of these bytes;
+-- without an address of the first register, no address reaches registers
 abbrev pub place_with : Option ℕ → (in_memory : Bool) → (address count : ℕ) → Result Place Refusal
 place_with (Some registers) in_memory address count =
     if is_register registers address count then Ok (Register (address - registers))
@@ -83,7 +84,7 @@ place_with (Some registers) in_memory address count =
     else Err refusals.Address
 place_with None in_memory address count = if in_memory then Ok Memory else Err refusals.Address
 
--- the target of an access of these bytes, or its refusal
+-- the target of an access of `count` bytes at an address, or why it is refused
 abbrev pub place_in : Session → (address count : ℕ) → Result Place Refusal
 place_in session address count = place_with (registers_of session.function) (has_bytes session.device address count) address count
 
@@ -92,43 +93,44 @@ abbrev pub write_to : Place → (address : ℕ) → List ℕ → Access
 write_to (Register offset) address bytes = Writes offset (from_le_bytes w32 bytes)
 write_to Memory address bytes = Stores address bytes
 
--- These bytes can be written at this place: a register has four bytes, and memory must contain all of them.
+-- These bytes can be written at this place: there are four bytes for a register, or memory contains all of the bytes.
 abbrev pub Takes : Place → (address : ℕ) → List ℕ → PlayedAdapter → Type 0
 Takes (Register offset) address bytes device = length bytes ≡ 4
 Takes Memory address bytes device = has_bytes device address (length bytes) ≡ true
 
 -- The moves of a player.
 
--- the session after its player, if there is one, has met an access or a request with this name
+-- the session after its player, if there is one, has met an access of a target with this name, or a request with this first word
 abbrev pub meeting : Before → (name : Text) → Session → Session
 meeting before name session =
     record session { kept = record session.kept { player = option_map (after_meeting before name) session.kept.player } }
 
--- the moves of the default steps before an access for which these actions are due
+-- the moves of the default steps before an access at which these actions are due
 abbrev pub tick_moves : (due : List Action) → Session → List Move
 tick_moves due session =
     let adapter = session.device.machine.world.adapter in
     let plays = plays_schedule session in
-    default_moves (is_pending adapter.eerd) plays (list_any holds_eeprom due) EepromTick HoldEeprom
-    ++ default_moves (has_work adapter.mdic adapter.phy) plays (list_any holds_phy due) PhyTick HoldPhy
+    default_moves (is_pending adapter.eerd) plays (list_any (holds EepromTick) due) EepromTick HoldEeprom
+    ++ default_moves (has_work adapter.mdic adapter.phy) plays (list_any (holds PhyTick) due) PhyTick HoldPhy
 
--- the moves of the player before an access: of the default steps, and then of the actions that are due
-abbrev pub access_moves : Before → (name : Text) → Session → List Move
-access_moves before name session =
-    option_map_or (λ (player : PlayerState).
-    let due = due_actions before name player in tick_moves due session ++ flat_map moves_of due) session.kept.player []
+-- the moves before an access or a request at which these actions are due; before an access, the moves of default steps come first
+abbrev pub due_moves : Before → (due : List Action) → Session → List Move
+due_moves Read due session = tick_moves due session ++ flat_map moves_of due
+due_moves Write due session = tick_moves due session ++ flat_map moves_of due
+due_moves Request due session = flat_map moves_of due
+due_moves Choice due session = flat_map moves_of due
 
--- the moves of the player before a request that begins a round
-abbrev pub request_moves : (name : Text) → Session → List Move
-request_moves name session =
-    option_map_or (λ (player : PlayerState). flat_map moves_of (due_actions Request name player)) session.kept.player []
+-- the moves of the player, if there is one, before an access of a target with this name, or a request with this first word
+abbrev pub moves_at : Before → (name : Text) → Session → List Move
+moves_at before name session =
+    option_map_or (λ (player : PlayerState). due_moves before (due_actions before name player) session) session.kept.player []
 
--- the number that the schedule has for a request for a number, or 0
+-- the number in the schedule that is due at a request for a number, or 0
 abbrev pub wanted_number : Session → ℕ
 wanted_number session =
     option_map_or (λ (player : PlayerState). chosen (due_actions Choice (codes "choose") player)) session.kept.player 0
 
--- whether an access reads or writes
+-- before a read or before a write, by the kind of the access
 abbrev pub before_of : Access → Before
 before_of (Reads offset value) = Read
 before_of (Writes offset value) = Write
@@ -142,14 +144,18 @@ target_of (Writes offset value) session = targets.Register offset
 target_of (Loads address size) session = memory_target_in session.device.machine.world.adapter address
 target_of (Stores address bytes) session = memory_target_in session.device.machine.world.adapter address
 
--- the target at this place
+-- the target of an access at this place; the address matters only for a place in memory
+abbrev pub target_in : Place → (address : ℕ) → AdapterState → Target
+target_in (Register offset) address adapter = targets.Register offset
+target_in Memory address adapter = memory_target_in adapter address
+
+-- the target of an access at this place of the session's adapter and memory
 abbrev pub target_at : Place → (address : ℕ) → Session → Target
-target_at (Register offset) address session = targets.Register offset
-target_at Memory address session = memory_target_in session.device.machine.world.adapter address
+target_at place address session = target_in place address session.device.machine.world.adapter
 
 -- the moves before this access
 abbrev pub moves_before : Access → Session → List Move
-moves_before access session = access_moves (before_of access) (target_text (target_of access session)) session
+moves_before access session = moves_at (before_of access) (target_text (target_of access session)) session
 
 -- the session after its player has met this access
 abbrev pub met_before : Access → Session → Session

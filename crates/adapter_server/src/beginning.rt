@@ -1,10 +1,12 @@
 // The state before the first request.
 
 ghost use Rattle.std.specs.Prelude.{◌≡◌, IfOk};
-ghost use Rattle.adapter_server.specs.NewSessions.{first_adapter, new_device, new_session};
+ghost use Rattle.adapter_server.specs.NewSessions.{first_adapter, new_device};
+ghost use Rattle.adapter_server.specs.Serving.{new_server};
 
 use crate::options::ServeOptions;
 use crate::session::Session;
+use crate::snapshot::Server;
 use adapter::Adapter;
 use adapter::offsets::PBA;
 use dma_memory::HostMemory;
@@ -14,7 +16,7 @@ use server_output::{AnswerError, Faults, Kept};
 use std::alloc::{AllocError, Global};
 use step_schedules::Player;
 
-/// A new adapter, whose PBA is written once and whose MPC is set.
+/// Returns a new adapter, whose PBA was written once, and whose MPC has the count of the options.
 fn adapter_of(alloc: Global, options: &ServeOptions) -> Result<Adapter, AllocError>
     ensures { IfOk result (λ adapter. adapter ≡ first_adapter options.now) }
 {
@@ -24,7 +26,7 @@ fn adapter_of(alloc: Global, options: &ServeOptions) -> Result<Adapter, AllocErr
     Ok(adapter)
 }
 
-/// The new adapter, with memory of zeros. Nothing is offered, and no step is played before or after an access.
+/// Returns a new adapter with memory of zeros. No frame is offered, and no step is played before or after an access.
 fn new_device(alloc: Global, options: &ServeOptions) -> Result<PlayedAdapter, AllocError>
     ensures { IfOk result (λ device. device ≡ new_device options.now device.address) }
 {
@@ -33,18 +35,17 @@ fn new_device(alloc: Global, options: &ServeOptions) -> Result<PlayedAdapter, Al
     PlayedAdapter::watched(alloc, adapter, memory, options.seed)
 }
 
-/// The state before the first request: a new adapter, whose PBA is written once and whose MPC is set, memory of
-/// zeros, and this player.
-pub(crate) fn new_session(
+/// Returns a server before the first request: a new adapter with memory of zeros, this player, log and events off, a
+/// clock at 0, and no saved copy.
+pub(crate) fn new_server(
     alloc: Global,
     options: &ServeOptions,
     player: Option<Player>,
-) -> Result<Session, AnswerError>
-    ensures { IfOk result (λ session. session ≡ new_session options.now player session.device.address) }
+) -> Result<Server, AnswerError>
+    ensures { IfOk result (λ server. server ≡ new_server options.now player server.session.device.address) }
 {
-    let device = new_device(alloc, options)?;
-    Ok(Session {
-        device,
+    let session = Session {
+        device: new_device(alloc, options)?,
         function: PciFunction::new(options.registers),
         clock: 0,
         kept: Kept {
@@ -55,5 +56,9 @@ pub(crate) fn new_session(
             player,
         },
         targets: false,
+    };
+    Ok(Server {
+        session,
+        saved: None,
     })
 }

@@ -1,13 +1,13 @@
-// Answers that report the state.
+// Answers that report state.
 
-ghost use Rattle.adapter_server.specs.Answers.{AnswersEnabled, AnswersFaults, AnswersLevel, AnswersPort, AnswersRings};
+ghost use Rattle.adapter_server.specs.Answers.{AnswersEnabled, AnswersFaults};
 ghost use Rattle.adapter_server.specs.Answers.{AnswersTarget, Looks, TellsAnswer};
 ghost use Rattle.adapter_server.specs.Sessions.{place_in};
 
 use crate::session::Session;
+use crate::task::target_at;
+use access_names::{Engine, RingWords};
 use adapter::StepKind;
-use engine_faults::{Engine, RingWords};
-use pci_function::PortWidth;
 use server_output::{
     AnswerError, EnabledSteps, Faults, refuse, say, say_enabled, say_faults, say_frames,
     say_number, say_rings, say_word,
@@ -38,7 +38,8 @@ fn say_enabled_steps<W: Write>(
     say_enabled(alloc, out, enabled)
 }
 
-/// Answers `target` with the name of what an access of these bytes reads or writes.
+/// Answers `target` with the name of what an access of these bytes would read or write. Refuses if the access would be
+/// refused.
 fn say_target<W: Write>(
     session: &Session,
     alloc: Global,
@@ -51,45 +52,15 @@ fn say_target<W: Write>(
 {
     match session.place_of(address, count) {
         Ok(place) => {
-            let name = session.target_at(place, address).to_string(alloc)?;
+            let target = target_at(&session.device.machine, place, address);
+            let name = target.to_string(alloc)?;
             say_word(alloc, out, name.as_bytes())
         }
         Err(refusal) => refuse(out, refusal),
     }
 }
 
-/// Answers `rings` with the registers of the receive ring and of the transmit ring.
-fn say_both_rings<W: Write>(
-    session: &Session,
-    alloc: Global,
-    out: &mut W,
-) -> Result<(), AnswerError>
-    ensures { TellsAnswer result (W.contents out.old) (W.contents out.new)
-        (AnswersRings session.now) session.now }
-{
-    let receive = RingWords::of(&session.device.machine, Engine::Receive);
-    let transmit = RingWords::of(&session.device.machine, Engine::Transmit);
-    say_rings(alloc, out, receive, transmit)
-}
-
-/// Answers `inb`, `inw` and `inl`: reads an I/O port.
-fn read_port<W: Write>(
-    session: &Session,
-    out: &mut W,
-    width: PortWidth,
-    port: u16,
-) -> Result<(), AnswerError>
-    ensures { TellsAnswer result (W.contents out.old) (W.contents out.new)
-        (AnswersPort width port session.now) session.now }
-{
-    let asserted = session.device.machine.line();
-    say_number(
-        out,
-        u64::from(session.function.read_port(port, width, asserted)),
-    )
-}
-
-/// Answers `faults` with the faults that weren't printed.
+/// Answers `faults` with the faults that the server keeps, and forgets them.
 fn fetch_faults<W: Write>(
     session: &mut Session,
     alloc: Global,
@@ -102,14 +73,6 @@ fn fetch_faults<W: Write>(
     say_faults(alloc, out, &faults)
 }
 
-/// Answers `line` with the level of the interrupt line.
-fn say_level<W: Write>(session: &mut Session, out: &mut W) -> Result<(), AnswerError>
-    ensures { TellsAnswer result (W.contents out.old) (W.contents out.new)
-        (AnswersLevel session.old) session.new }
-{
-    say_number(out, u64::from(session.device.machine.line()))
-}
-
 /// Answers a request for a report.
 pub(crate) fn look<W: Write>(
     session: &mut Session,
@@ -120,15 +83,23 @@ pub(crate) fn look<W: Write>(
     ensures { TellsAnswer result (W.contents out.old) (W.contents out.new) (Looks look session.old) session.new }
 {
     match look {
-        Look::Port(width, port) => read_port(session, out, width, port),
+        Look::Port(width, port) => {
+            let asserted = session.device.machine.line();
+            let value = session.function.read_port(port, width, asserted);
+            say_number(out, u64::from(value))
+        }
         Look::Endianness => say_word(alloc, out, b"little"),
-        Look::Line => say_level(session, out),
+        Look::Line => say_number(out, u64::from(session.device.machine.line())),
         Look::Digest => say_number(out, session.device.machine.digest()),
         Look::Frames => say_frames(alloc, out, &mut session.kept.put),
         Look::Faults => fetch_faults(session, alloc, out),
         Look::Intercept => say(out, b"OK\n"),
         Look::Enabled => say_enabled_steps(session, alloc, out),
         Look::Target(address, count) => say_target(session, alloc, out, address, count),
-        Look::Rings => say_both_rings(session, alloc, out),
+        Look::Rings => {
+            let receive = RingWords::of(&session.device.machine, Engine::Receive);
+            let transmit = RingWords::of(&session.device.machine, Engine::Transmit);
+            say_rings(alloc, out, receive, transmit)
+        }
     }
 }

@@ -9,26 +9,26 @@ use mdic_phy::Link;
 /// The options of a served adapter.
 #[derive(Clone, Copy)]
 pub struct ServeOptions {
-    /// The number of bytes of memory, from address 0 on.
+    /// The size of memory in bytes. Memory begins at address 0.
     pub memory: u64,
-    /// The address of the first of the 131,072 bytes of registers.
+    /// The initial address of the registers, which occupy 131,072 bytes.
     pub registers: u64,
     /// The contents of the EEPROM. A wrong checksum isn't corrected.
     pub image: Image,
     /// The setting of the link: the number of ticks until it is up, or never.
     pub link: Link,
-    /// PBA.RXA, the receive part of the packet buffer in kilobytes: an even number from 2 to 48. With any other value,
-    /// PBA is as after power-on.
+    /// The value written once to PBA. Its field RXA is the receive part of the packet buffer in kilobytes: an even
+    /// number from 2 to 48. With any other value, PBA is as after power-on.
     pub receive_kilobytes: u8,
-    /// The seed of interleaved steps.
+    /// The seed of the generator that draws random steps and numbers.
     pub seed: u64,
     /// MPC, the count of missed packets, at the start.
     pub missed: u32,
 }
 
 impl ServeOptions {
-    /// The defaults: 1 MiB of memory, registers from 0xFEB00000 on, an image of the address 02:00:00:00:00:01, a link
-    /// that is up after one tick of the PHY, 48 kilobytes, seed 0, and no missed packet.
+    /// Returns the defaults: 1 MiB of memory, registers from 0xFEB00000 on, an EEPROM with the address
+    /// 02:00:00:00:00:01, a link that is up after one tick of the PHY, 48 kilobytes, seed 0, and no missed packet.
     pub fn new() -> ServeOptions
         ensures { result ≡ default_options }
     {

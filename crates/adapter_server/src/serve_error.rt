@@ -7,19 +7,15 @@ ghost use Rattle.adapter_server.specs.Causes.{ended_by};
 use server_output::AnswerError;
 use server_requests::ReadFailed;
 use std::alloc::AllocError;
-use thiserror::Error;
 
 /// Why a server ended before the end of its input.
-#[derive(Clone, Copy, Debug, PartialEq, Eq, Error)]
+#[derive(Clone, Copy, PartialEq)]
 pub enum ServeError {
     /// Memory was refused.
-    #[error("out of memory")]
     Memory,
     /// Reading from the input failed.
-    #[error("the input failed")]
     Read,
     /// Writing to the output failed.
-    #[error("the output failed")]
     Write,
 }
 

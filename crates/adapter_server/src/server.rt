@@ -1,4 +1,4 @@
-// The server.
+// Answers all lines of an input.
 
 ghost use Rattle.std.specs.Prelude.{◌≡◌, IfErr, IfOk, IfSome, OnErr, OnOk};
 ghost use Rattle.adapter_server.specs.Answers.{TellsAnswer};
@@ -7,6 +7,7 @@ ghost use Rattle.adapter_server.specs.Serving.{AnswersNext, ServesAll, ServesBeg
 ghost use Rattle.adapter_server.specs.Serving.{ServesSome, ServesWhole};
 ghost use Rattle.adapter_server.specs.declared.serve_error.ServeError.TheVariants as errors;
 
+use crate::beginning::new_server;
 use crate::options::ServeOptions;
 use crate::serve_error::ServeError;
 use crate::snapshot::Server;
@@ -16,7 +17,7 @@ use std::alloc::Global;
 use std::io::{BufRead, Write};
 use step_schedules::Player;
 
-/// Answers a line, and flushes the answer.
+/// Writes the answer to a line, and flushes the output. At the end of the input, only flushes the output.
 fn answer_and_send<W: Write>(
     server: &mut Server,
     alloc: Global,
@@ -31,7 +32,7 @@ fn answer_and_send<W: Write>(
     send(output)
 }
 
-/// Reads the input line by line, and answers each line before it reads the next.
+/// Answers each line of the input before reading the next line.
 #[tactic(auto, using(crate::proofs::ServedLines::never_read))]
 fn serve_lines<R: BufRead, W: Write>(
     server: &mut Server,
@@ -57,25 +58,27 @@ fn serve_lines<R: BufRead, W: Write>(
     Err(ServeError::Read)
 }
 
-/// Serves an adapter: reads requests from `input`, one a line, and answers each on `output`. Flushes `output` after
-/// each answer, before it reads more. Returns at the end of the input.
+/// Serves an adapter: reads requests from `input`, one per line, and writes their answers to `output`.
 ///
-/// Pass a writer with a buffer: each answer is flushed as a whole.
+/// Answers each line, and flushes `output` after each answer, before it reads more bytes. Refuses a line that isn't a
+/// request, and a line of more than 131,200 bytes. At the end of the input, returns the player after the last line.
 ///
-/// Each line is answered. A line that isn't a request is refused. So is a line of more than 131,200 bytes, which is
-/// skipped to its end.
+/// Pass a buffered writer: `serve` writes an answer in pieces.
 ///
-/// While no frame is offered, nothing is saved and there is no player, memory use is bounded: the memory of the
-/// options, the adapter (its packet buffers, the same for all input), and 721,039 bytes. Of these a line takes 131,200;
-/// the answer to a `read` of 65,536 bytes takes the others, for the bytes, their digits and its text. A saved state
-/// takes as much as the state, and while `save` or `restore` is answered, there is one copy more. Only memory limits
-/// the number of offered frames. A player keeps its schedule, and what was played.
+/// Memory use is bounded while no frame is offered, no frame or fault waits, nothing is saved and there is no player.
+/// The bound is the host's memory, the adapter with its packet buffers, and 721,039 bytes. Of these bytes, 131,200 are
+/// for a line, and the others for the answer to a `read` of 65,536 bytes: the bytes, their digits and the text.
+///
+/// Only memory limits the number of offered frames, and of frames and faults that wait. A saved session needs as much
+/// memory as the session. While `save` or `restore` is answered, there is one more copy. A player keeps its schedule
+/// and a record of what was played.
 ///
 /// # Errors
 ///
-/// `Memory` if memory was refused, `Read` if reading failed or the input has 2^64 bytes, `Write` if writing failed. At
-/// each error a number of first lines was answered in full, in order. After `Read` nothing else was written. After
-/// `Memory` and `Write` a beginning of the next answer may follow.
+/// `Memory` if memory was refused. `Read` if reading failed, or after 2^64 - 1 lines or reads of one line. `Write` if
+/// writing failed, if the writer took no byte, or after 2^64 - 1 writes of one text. At each error, the first n lines
+/// were answered in full, in order, for some n. After `Read`, nothing else was written. After `Memory` or `Write`, a
+/// beginning of the next answer may have been written.
 #[tactic(auto, using(crate::proofs::ServedLines::never_read))]
 pub fn serve<R: BufRead + Drop, W: Write>(
     alloc: Global,
@@ -91,7 +94,7 @@ pub fn serve<R: BufRead + Drop, W: Write>(
     ensures begun { OnErr result (IfSome (R.remaining input)
         (λ bytes. ServesPart options.now player bytes (W.contents output.old) (W.contents output.new))) }
 {
-    let mut server = Server::new(alloc, options, player)?;
+    let mut server = new_server(alloc, options, player)?;
     let served = serve_lines(&mut server, alloc, &mut input, output);
     let left = server.into_player();
     served?;

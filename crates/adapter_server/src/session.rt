@@ -3,16 +3,17 @@
 ghost use Rattle.std.specs.Prelude.{◌≡◌, ◌-◌, None, Some, if◌then◌else◌};
 ghost use Rattle.adapter_server.specs.Sessions.{is_register, meets_registers, place_with};
 
+use crate::task::Task;
 use pci_function::PciFunction;
 use played_adapter::PlayedAdapter;
 use server_output::{Kept, joined};
-use server_requests::{Refusal, Request, Setting};
+use server_requests::{Refusal, Setting};
 use std::alloc::{AllocError, Global};
 
-/// The number of bytes of registers (13.4 "Main Register Descriptions").
+/// The size of all registers together, in bytes (13.4 "Main Register Descriptions").
 const REGISTER_BYTES: u64 = 0x2_0000;
 
-/// The number of bytes of a register.
+/// The size of a register, in bytes.
 const WORD_BYTES: u64 = 4;
 
 /// An adapter that is served, between two requests.
@@ -20,13 +21,13 @@ const WORD_BYTES: u64 = 4;
 pub struct Session {
     /// The adapter, its memory, and what is played before and after an access.
     pub device: PlayedAdapter,
-    /// The PCI function. It determines the address of the registers.
+    /// The PCI function, which determines the address of the registers.
     pub function: PciFunction,
-    /// The time of the clock, in nanoseconds.
+    /// The value of the clock, in nanoseconds.
     pub clock: u64,
-    /// The past events that the server keeps, and which events it writes.
+    /// The past events that the server keeps, the player, and which events the server writes.
     pub kept: Kept,
-    /// Whether the log contains the names of the targets of accesses.
+    /// Whether the log, when it is on, contains the names of the targets of accesses.
     pub targets: bool,
 }
 
@@ -39,7 +40,7 @@ pub enum Place {
     Memory,
 }
 
-/// Whether some of `count` bytes from an address on are those of registers.
+/// Whether some of the `count` bytes from an address on are bytes of registers.
 fn meets_registers(registers: u64, address: u64, count: u64) -> bool
     ensures { result ≡ meets_registers registers address count }
 {
@@ -49,7 +50,7 @@ fn meets_registers(registers: u64, address: u64, count: u64) -> bool
     count > 0 && address < registers + u128::from(REGISTER_BYTES) && registers < end
 }
 
-/// The register at an address, for an access of `count` bytes: an aligned word of 32 bits.
+/// Returns the register's offset for an access of four bytes at an aligned address among the registers, else `None`.
 fn register_at(registers: u64, address: u64, count: u64) -> Option<u32>
     ensures { result ≡ (if is_register registers address count then Some (address - registers) else None) }
 {
@@ -64,8 +65,10 @@ fn register_at(registers: u64, address: u64, count: u64) -> Option<u32>
     }
 }
 
-/// The target of an access of `count` bytes at an address, or its refusal. `registers` is the address of the first
-/// register, and `in_memory` is set if memory contains all bytes of the access.
+/// Returns the target of an access of `count` bytes at an address, or why the access is refused.
+///
+/// `registers` is the address of the first register, or `None` if no address reaches registers. `in_memory` is true if
+/// memory contains all bytes of the access.
 fn place_with(
     registers: Option<u64>,
     in_memory: bool,
@@ -90,11 +93,12 @@ fn place_with(
 }
 
 impl Session {
-    ghost use Rattle.std.specs.Prelude.{IfNone, IfOk, IfSome};
-    ghost use Rattle.adapter_server.specs.Answers.{request_said, said_at};
+    ghost use Rattle.std.specs.Prelude.{IfOk};
     ghost use Rattle.adapter_server.specs.Sessions.{IsCopied, place_in, plays_schedule, with_setting};
+    ghost use Rattle.adapter_server.specs.Tasks.{named_line};
 
-    /// A copy of the session, with its own memory. The level of its interrupt line counts as reported.
+    /// Returns a copy that shares no memory with the session. The level of the copy's interrupt line counts as
+    /// reported.
     pub(crate) fn copy(&self) -> Result<Session, AllocError>
         ensures { IfOk result (λ copy. IsCopied self.now copy) }
     {
@@ -117,7 +121,7 @@ impl Session {
         }
     }
 
-    /// Sets how later requests are answered.
+    /// Sets how later requests are answered. While a schedule is played, `Interleave` turns random steps off.
     pub(crate) fn set(&mut self, setting: Setting)
         ensures { self.new ≡ with_setting setting self.old }
     {
@@ -135,51 +139,22 @@ impl Session {
         }
     }
 
-    /// The line of an access of `count` bytes at an address, with the name of its target, if there is one.
-    fn named_line(
+    /// Returns the text that the log prints for an access after `log targets`: the access's line, and the name of its
+    /// target.
+    pub(crate) fn named_line(
         &self,
         alloc: Global,
         said: &[u8],
-        address: u64,
-        count: u64,
-    ) -> Result<Option<Vec<u8>>, AllocError>
-        ensures named { IfOk result (λ line. IfSome line
-            (λ text. text.items ≡ said_at (place_in self.now address count) address said.now self.now)) }
-        ensures plain { IfOk result (λ line. IfNone line
-            (said_at (place_in self.now address count) address said.now self.now ≡ said.now)) }
+        task: Task<'_>,
+    ) -> Result<Vec<u8>, AllocError>
+        ensures { IfOk result (λ line. line.items ≡ named_line said.now task.entry self.now) }
     {
-        let Ok(place) = self.place_of(address, count) else {
-            return Ok(None);
-        };
-        let name = self.target_at(place, address).to_string(alloc)?;
+        let name = task.name(alloc, &self.device.machine)?;
         let parts: [&[u8]; 3] = [said, b" -> ", name.as_bytes()];
-        Ok(Some(joined(alloc, &parts)?))
+        joined(alloc, &parts)
     }
 
-    /// The text that the log prints for a request, if this isn't only the line of the request.
-    pub(crate) fn request_line(
-        &self,
-        alloc: Global,
-        said: &[u8],
-        request: &Request,
-    ) -> Result<Option<Vec<u8>>, AllocError>
-        ensures named { IfOk result (λ line. IfSome line
-            (λ text. text.items ≡ request_said request.now said.now self.now)) }
-        ensures plain { IfOk result (λ line. IfNone line (request_said request.now said.now self.now ≡ said.now)) }
-    {
-        if !self.targets {
-            return Ok(None);
-        }
-        match request {
-            Request::Read(wanted, address) => self.named_line(alloc, said, *address, wanted.size()),
-            Request::Write(address, bytes) => {
-                self.named_line(alloc, said, *address, bytes.as_slice().len() as u64)
-            }
-            _ => Ok(None),
-        }
-    }
-
-    /// The target of an access of `count` bytes at an address, or its refusal.
+    /// Returns the target of an access of `count` bytes at an address, or why the access is refused.
     pub(crate) fn place_of(&self, address: u64, count: u64) -> Result<Place, Refusal>
         ensures { result ≡ place_in self.now address count }
     {

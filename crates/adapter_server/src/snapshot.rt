@@ -1,9 +1,7 @@
-// A server: an adapter that is served, and the copy that `save` made.
+// A server: an adapter that is served, and the copy that `save` made last.
 
-ghost use Rattle.std.specs.Prelude.{◌≡◌, IfOk};
+ghost use Rattle.std.specs.Prelude.{◌≡◌};
 
-use crate::beginning::new_session;
-use crate::options::ServeOptions;
 use crate::session::Session;
 use server_output::{AnswerError, refuse, restored_text, say};
 use server_requests::Refusal;
@@ -20,7 +18,7 @@ pub struct Server {
     pub saved: Option<Session>,
 }
 
-/// Replaces a value, which is dropped.
+/// Stores a value at a place, and drops the value that was there.
 fn put_in_place<T: Drop>(place: &mut T, value: T)
     ensures { place.new ≡ value }
 {
@@ -29,23 +27,8 @@ fn put_in_place<T: Drop>(place: &mut T, value: T)
 
 impl Server {
     ghost use Rattle.adapter_server.specs.Answers.{Restores, Saves, TellsAnswer};
-    ghost use Rattle.adapter_server.specs.Serving.{new_server};
 
-    /// The state before the first request, with this player. Nothing is saved.
-    pub(crate) fn new(
-        alloc: Global,
-        options: &ServeOptions,
-        player: Option<Player>,
-    ) -> Result<Server, AnswerError>
-        ensures { IfOk result (λ server. server ≡ new_server options.now player server.session.device.address) }
-    {
-        Ok(Server {
-            session: new_session(alloc, options, player)?,
-            saved: None,
-        })
-    }
-
-    /// The player after the last request.
+    /// Returns the player, and drops everything else.
     pub(crate) fn into_player(mut self) -> Option<Player>
         ensures { result ≡ self.session.kept.player }
     {
@@ -54,7 +37,7 @@ impl Server {
         player
     }
 
-    /// Answers `save`: copies the session.
+    /// Answers `save`: replaces the saved copy by a copy of the session.
     pub(crate) fn save<W: Write>(&mut self, out: &mut W) -> Result<(), AnswerError>
         ensures { TellsAnswer result (W.contents out.old) (W.contents out.new) (Saves self.old) self.new }
     {
@@ -63,7 +46,7 @@ impl Server {
         say(out, b"OK\n")
     }
 
-    /// Answers `restore`: the copy that was saved becomes the session.
+    /// Answers `restore`: replaces the session by a copy of the saved one. Refuses if nothing was saved.
     pub(crate) fn restore<W: Write>(&mut self, out: &mut W) -> Result<(), AnswerError>
         ensures { TellsAnswer result (W.contents out.old) (W.contents out.new)
             (Restores self.old.saved self.old) self.new }

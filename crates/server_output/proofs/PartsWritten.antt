@@ -1,4 +1,4 @@
--- Beginnings of texts, where the server stops.
+-- Beginnings of texts that were written before the server stopped.
 use Rattle.std.proofs.Common.{◌≡◌, ◌++◌, ◌+◌, ◌≤◌, ◌∙◌, ℕ, List, [], Option, Some, None}
 use Rattle.std.proofs.Common.{append_assoc, ap, drop, length, refl, subst, sym, take}
 use Rattle.std.proofs.lemmas.List.{append-nil, drop-drop, take-append-drop}
@@ -16,7 +16,7 @@ part_whole Holds before after tells =
     tells_so Holds (Begins Holds) before after
     (λ text holds. record { text = text; rest = []; holds = holds; text_is = sym (append-nil text) }) tells
 
--- Nothing was written, of this text.
+-- If nothing was written, a beginning of this text was written: the empty one.
 pub part_of : (Holds : Text → Type 0) (text : Text) (before after : Option (List ℕ)) → Holds text → Keeps before after
     → TellsPart before after Holds
 part_of Holds text before after holds kept = record {
@@ -28,7 +28,7 @@ part_of Holds text before after holds kept = record {
 pub part_none : (Holds : Text → Type 0) (text : Text) (before : Option (List ℕ)) → Holds text → TellsPart before before Holds
 part_none Holds text before holds = part_of Holds text before before holds (keeps_same before)
 
--- The same part, of whose whole more is known.
+-- A beginning of a text with one property is a beginning of a text with another property that follows.
 pub part_so : (P Q : Text → Type 0) (before after : Option (List ℕ)) → ((text : Text) → P text → Q text) → TellsPart before after P
     → TellsPart before after Q
 part_so P Q before after so tells =
@@ -40,7 +40,7 @@ part_so P Q before after so tells =
       text_is = begins.text_is;
     }) tells
 
--- A text is written piece by piece: the pieces so far, and what is left of it.
+-- A text is written piece by piece: the pieces so far, and the rest of the text.
 
 pub said_none : (text : Text) (before : Option (List ℕ)) → Tells before before (λ part. text ≡ part ++ text)
 said_none text before = record { text = []; holds = refl; written = appends_none before }
@@ -76,13 +76,13 @@ said_part text rest before now after said kept = record {
 pub nothing_said : (whole : Text) (before : Option (List ℕ)) → TellsPart before before (λ text. text ≡ whole)
 nothing_said whole before = part_none (λ (text : Text). text ≡ whole) whole before refl
 
--- A call stopped, and so its caller stops.
+-- If a call failed after a beginning of the text, its caller fails after the same beginning.
 pub says_stop : {T E : Type 0} (result : Result T E) (text : Text) (before after : Option (List ℕ)) → IsErr result
     → WritesPart before after text → Says result before after text
 says_stop (Ok value) text before after is part = absurd (cc)
 says_stop (Err error) text before after is part = part
 
--- what holds holds at any error
+-- A fact also holds if there is an error.
 pub whatever_err : {T E : Type 0} (result : Result T E) (P : Type 0) → P → OnErr result P
 whatever_err (Ok value) P holds = tt
 whatever_err (Err error) P holds = holds

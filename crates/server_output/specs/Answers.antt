@@ -12,7 +12,7 @@ use Rattle.server_requests.specs.declared.request.Wanted.TheVariants.{Base64, By
 unfoldable pub number_spelled : List ℕ → ℕ
 number_spelled bytes = from_le_bytes w64 (bytes ++ replicate (8 - length bytes) 0)
 
--- the line that answers a read of these bytes
+-- the line that answers a read with these bytes, in the form that the request asks for
 abbrev pub answer_line : Wanted → List ℕ → Text
 answer_line (Number width) bytes = number_line (number_spelled bytes)
 answer_line (Bytes size) bytes = bytes_line bytes
@@ -26,7 +26,7 @@ line_of (answers.Number number) = number_line number
 line_of (answers.Decimal number) = decimal_line number
 line_of (answers.Bytes wanted bytes) = answer_line wanted bytes.now
 
--- The answer contains the number of bytes that the read asks for.
+-- An answer with bytes that were read contains the number of bytes that the request asks for.
 abbrev pub IsSized : Answer → Type 0
 IsSized (answers.Bytes wanted bytes) = length bytes.now ≡ size_of wanted
 IsSized answer = ⊤

@@ -3,7 +3,7 @@ use Rattle.std.specs.Prelude.{◌≡◌, ◌++◌, ℕ, List, Option, Result, Ok
 use Rattle.std.specs.Io.KnownBytes.{Appends}
 use Rattle.server_output.specs.Texts.{Text}
 
--- A text with this property was written.
+-- A text with the property `Holds` was written.
 pub record Tells (before after : Option (List ℕ)) (Holds : Text → Type 0) : Type 0 where
   -- the text that was written
   pub text : Text
@@ -12,7 +12,7 @@ pub record Tells (before after : Option (List ℕ)) (Holds : Text → Type 0) : 
   -- the text was written after the earlier text
   pub written : Appends before after text
 
--- A beginning of a text with this property.
+-- `part` is a beginning of a text with the property `Holds`.
 pub record Begins (Holds : Text → Type 0) (part : Text) : Type 0 where
   -- the whole text
   pub text : Text
@@ -20,10 +20,10 @@ pub record Begins (Holds : Text → Type 0) (part : Text) : Type 0 where
   pub rest : Text
   -- the whole text has the property
   pub holds : Holds text
-  -- the part is its beginning
+  -- the part is a beginning of the whole text
   pub text_is : text ≡ part ++ rest
 
--- A beginning of a text with this property was written.
+-- A beginning of a text with the property `Holds` was written.
 abbrev pub TellsPart : (before after : Option (List ℕ)) → (Text → Type 0) → Type 0
 TellsPart before after Holds = Tells before after (Begins Holds)
 
@@ -31,7 +31,7 @@ TellsPart before after Holds = Tells before after (Begins Holds)
 abbrev pub WritesPart : (before after : Option (List ℕ)) → Text → Type 0
 WritesPart before after whole = TellsPart before after (λ text. text ≡ whole)
 
--- A text was written, or at an error a beginning of it.
+-- A text was written, or at an error a beginning of the text.
 abbrev pub Says : {T E : Type 0} → Result T E → (before after : Option (List ℕ)) → Text → Type 0
 Says (Ok value) before after text = Appends before after text
 Says (Err error) before after text = WritesPart before after text

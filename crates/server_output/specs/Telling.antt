@@ -1,32 +1,32 @@
 -- The lines that a server writes about events at an adapter, and what it keeps (our choice).
-use Rattle.std.specs.Prelude.{◌≡◌, ◌++◌, ℕ, Bool, List, [], ◌∷◌, Option, Some, None, Result, Ok, Err, IsErr}
+use Rattle.std.specs.Prelude.{◌≡◌, ◌++◌, ℕ, Bool, List, [], ◌∷◌, Option, Some, None, Result, Err}
 use Rattle.std.specs.Prelude.{flat_map, if◌then◌else◌}
 use Rattle.std.specs.Io.KnownBytes.{Appends, Keeps}
 use Rattle.std.specs.Option.{option_map}
 use Rattle.adapter.specs.Outcomes.{FrameOutcome, put_by, with_frame}
-use Rattle.engine_faults.specs.declared.engine_fault.EngineFault.{EngineFault}
+use Rattle.access_names.specs.declared.engine_fault.EngineFault.{EngineFault}
 use Rattle.played_adapter.specs.Told.{Accessed, Arrived, Line, Noted, Offered, Stepped, Told}
 use Rattle.server_output.specs.Order.{Says, WritesPart}
-use Rattle.server_output.specs.Texts.{Text, arrive_said, arrived_line, fault_line, frame_line, line_told, ok_line, said_log, step_said}
+use Rattle.server_output.specs.Texts.{Text, arrive_said, arrived_line, fault_line, frame_line, line_told, said_log, step_said}
 use Rattle.server_output.specs.declared.answer_error.AnswerError.{AnswerError}
 use Rattle.server_output.specs.declared.kept.Kept.{Kept}
 use Rattle.step_schedules.specs.Players.{after_playing}
 
--- the list of a value, if there is one
+-- the list of one value, or an empty list if there is no value
 abbrev pub listed : {T : Type 0} → Option T → List T
 listed (Some one) = one ∷ []
 listed None = []
 
 -- The values that are kept.
 
--- what is kept after a step with this outcome and this fault: if events aren't written, also the frame that it put and the fault
+-- what is kept after a step with this outcome and this fault: if events aren't written, also the frame that the step put and the fault
 abbrev pub kept_with : FrameOutcome → Option EngineFault → Kept → Kept
 kept_with outcome fault kept = record kept {
   put = if kept.events then kept.put else kept.put ++ put_by outcome;
   faults = if kept.events then kept.faults else kept.faults ++ listed fault;
 }
 
--- what is kept after this was told; the player, if there is one, notes an action
+-- what is kept after one thing was told; the player, if there is one, notes an action
 abbrev pub kept_one : Told → Kept → Kept
 kept_one (Stepped kind outcome fault) kept = kept_with outcome fault kept
 kept_one (Arrived frame fate) kept = kept
@@ -35,7 +35,7 @@ kept_one (Accessed access) kept = kept
 kept_one (Line level) kept = kept
 kept_one (Noted action) kept = record kept { player = option_map (after_playing action) kept.player }
 
--- what is kept after all this was told, in order
+-- what is kept after this list was told, in order
 abbrev pub kept_after : List Told → Kept → Kept
 kept_after [] kept = kept
 kept_after (one ∷ later) kept = kept_after later (kept_one one kept)
@@ -57,11 +57,11 @@ told_text log events said (Accessed access) = said_log log said
 told_text log events said (Line level) = line_told (Some level)
 told_text log events said (Noted action) = []
 
--- the text about all that is told, in order
+-- the text about a list that is told, in order
 abbrev pub text_of : Kept → (said : Text) → List Told → Text
 text_of kept said told = flat_map (told_text kept.log kept.events said) told
 
--- A text was written, or a beginning of the text if writing stopped in it. If writing stopped before, nothing is written.
+-- A text was written, or a beginning of the text if writing stopped in it. If writing had stopped before, nothing was written.
 abbrev pub WroteText : (was is : Option AnswerError) → (before after : Option (List ℕ)) → Text → Type 0
 WroteText (Some error) is before after text = (is ≡ Some error) × Keeps before after
 WroteText None None before after text = Appends before after text
@@ -71,24 +71,18 @@ WroteText None (Some error) before after text = WritesPart before after text
 abbrev pub Writes : (is : Option AnswerError) → (before after : Option (List ℕ)) → Text → Type 0
 Writes is before after text = WroteText None is before after text
 
--- The line of an answer was written, or its beginning at an error. If writing stopped before, nothing was written.
+-- The line of an answer was written, or at an error a beginning of the line. If writing had stopped before, nothing was written.
 abbrev pub Ends : {T : Type 0} → (was : Option AnswerError) → Result T AnswerError → (before after : Option (List ℕ)) → Text → Type 0
 Ends None result before after line = Says result before after line
 Ends (Some error) result before after line = (result ≡ Err error) × Keeps before after
 
--- If something succeeded, `OK` was written. If not, there is an error, and nothing was written.
-abbrev pub EndsIf : {T U E : Type 0} → (done : Result U E) → (was : Option AnswerError) → Result T AnswerError
-    → (before after : Option (List ℕ)) → Type 0
-EndsIf (Ok value) was result before after = Ends was result before after ok_line
-EndsIf (Err error) was result before after = IsErr result × Keeps before after
-
--- This was told between two states. A state is the line of the request, what is kept, the error that stopped writing, and what was
--- written.
+-- The list `told` was told between two states. A state is the line of the request, what is kept, the error that stopped writing, and what
+-- was written.
 pub record Heard (said said' : Text) (kept kept' : Kept) (was is : Option AnswerError) (before after : Option (List ℕ)) (told : List Told)
     : Type 0 where
   -- the line of the request is the same
   pub said_is : said' ≡ said
-  -- the text about it was written, or its beginning up to the error
+  -- the text about the list was written, or a beginning of this text if writing stopped in it
   pub wrote : WroteText was is before after (text_of kept said told)
-  -- unless writing stopped, what is told is kept
+  -- if writing hasn't stopped, what was told is kept
   pub kept_is : is ≡ None → kept' ≡ kept_after told kept

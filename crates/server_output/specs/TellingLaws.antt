@@ -1,4 +1,4 @@
--- The records of an observer over two consecutive intervals are joined.
+-- What the observer wrote and kept in two consecutive intervals is what it wrote and kept in the whole interval.
 use Rattle.std.proofs.Common.{◌≡◌, ◌++◌, ◌∙◌, ℕ, Bool, List, [], ◌∷◌, Option, Some, None, append_assoc, ap, refl, subst, sym}
 use Rattle.std.proofs.lemmas.Grind.{flat_map-append}
 use Rattle.std.specs.List.{flat_map}
@@ -65,7 +65,7 @@ kept_then : (first later : List Told) (kept : Kept) → kept_after later (kept_a
 kept_then [] later kept = refl
 kept_then (one ∷ first) later kept = kept_then first later (kept_one one kept)
 
--- The settings that determine the later text are those from the start.
+-- The settings that determine the later text are the same as at the start.
 later_text : (first later : List Told) (said : Text) (kept kept' : Kept) → kept' ≡ kept_after first kept
     → text_of kept' said later ≡ text_of kept said later
 later_text first later said kept kept' is =

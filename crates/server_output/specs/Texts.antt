@@ -12,12 +12,12 @@ use Rattle.adapter.specs.declared.outcome.Outcome.{Outcome}
 use Rattle.adapter.specs.declared.outcome.Outcome.TheVariants.{Took, Put, WireFull, Part, Moved, Done, Delivered, Ticked, Nothing, Fault}
 use Rattle.rx_engine.specs.declared.arrival.Fate.{Fate}
 use Rattle.rx_engine.specs.declared.arrival.Fate.TheVariants.{Off, Illegal, Filtered, Missed, Stored}
-use Rattle.engine_faults.specs.declared.engine_fault.Engine.{Engine}
-use Rattle.engine_faults.specs.declared.engine_fault.Engine.TheVariants as engines
-use Rattle.engine_faults.specs.declared.engine_fault.EngineFault.{EngineFault}
-use Rattle.engine_faults.specs.declared.engine_fault.Reason.{Reason}
-use Rattle.engine_faults.specs.declared.ring_words.RingWords.{RingWords}
-use Rattle.engine_faults.specs.declared.engine_fault.Reason.TheVariants as reasons
+use Rattle.access_names.specs.declared.engine_fault.Engine.{Engine}
+use Rattle.access_names.specs.declared.engine_fault.Engine.TheVariants as engines
+use Rattle.access_names.specs.declared.engine_fault.EngineFault.{EngineFault}
+use Rattle.access_names.specs.declared.engine_fault.Reason.{Reason}
+use Rattle.access_names.specs.declared.ring_words.RingWords.{RingWords}
+use Rattle.access_names.specs.declared.engine_fault.Reason.TheVariants as reasons
 use Rattle.server_output.specs.declared.looking.EnabledSteps.{EnabledSteps}
 pub use Rattle.server_requests.specs.Texts.{Text}
 
@@ -57,22 +57,22 @@ fate_word Stored = codes "stored"
 
 -- The log: lines that begin with #.
 
--- a line of the log, if the log is on
+-- a line of the log, or no text if the log is off
 abbrev pub said_log : Bool → Text → Text
 said_log true said = codes "# " ++ said ++ codes "\n"
 said_log false said = []
 
--- what the log prints of a step
+-- what the log prints about a step
 abbrev pub step_said : StepKind → Outcome (Unit {0}) → Text
 step_said kind outcome = concat (codes "step " ∷ kind_word kind ∷ codes " -> " ∷ outcome_word outcome ∷ [])
 
--- what the log prints of the arrival of an offered frame
+-- what the log prints about the arrival of an offered frame
 abbrev pub arrive_said : List ℕ → Text
 arrive_said frame = concat (codes "arrive " ∷ encode_lower frame ∷ [])
 
 -- Frames and the interrupt line.
 
--- the line of these digits of a frame
+-- the line of a frame that was put onto the wire, from the frame's digits
 abbrev pub digits_line : Text → Text
 digits_line digits = codes "frame " ++ digits ++ codes "\n"
 
@@ -80,7 +80,7 @@ digits_line digits = codes "frame " ++ digits ++ codes "\n"
 abbrev pub frame_line : List ℕ → Text
 frame_line frame = digits_line (encode_lower frame)
 
--- the line of an offered frame that arrived, from the word of its fate and its digits
+-- the line of an offered frame that arrived, from the word of the frame's fate and the frame's digits
 unfoldable pub digits_arrived : (fate digits : Text) → Text
 digits_arrived fate digits = codes "arrived " ++ fate ++ codes " " ++ digits ++ codes "\n"
 
@@ -88,13 +88,13 @@ digits_arrived fate digits = codes "arrived " ++ fate ++ codes " " ++ digits ++ 
 abbrev pub arrived_line : Fate → List ℕ → Text
 arrived_line fate frame = digits_arrived (fate_word fate) (encode_lower frame)
 
--- the line of the level of the interrupt line, if one is printed
+-- the line that reports a new level of the interrupt line, or no text if there is no new level
 abbrev pub line_told : Option Bool → Text
 line_told (Some true) = codes "IRQ raise 0\n"
 line_told (Some false) = codes "IRQ lower 0\n"
 line_told None = []
 
--- the line of a change of the interrupt line, if it is one
+-- the line that reports a change of the interrupt line, or no text if the levels are equal
 abbrev pub line_moved : (was is : Bool) → Text
 line_moved false true = line_told (Some true)
 line_moved true false = line_told (Some false)
@@ -125,7 +125,7 @@ base64_line bytes = word_line (encode_of standard bytes)
 
 -- Kinds of steps.
 
--- a space and the word of a kind of step, if it is enabled
+-- a space and the word of a kind of step, or no text if the kind isn't enabled
 abbrev pub enabled_word : StepKind → Bool → Text
 enabled_word kind is_enabled = if is_enabled then codes " " ++ kind_word kind else []
 
@@ -137,11 +137,11 @@ enabled_line enabled = concat (codes "OK" ∷ enabled_word TxTake enabled.tx_tak
 
 -- Rings.
 
--- a space, and a number in 16 hexadecimal digits
+-- a space, 0x, and a number in 16 hexadecimal digits
 abbrev pub number_word : ℕ → Text
 number_word number = codes " 0x" ++ encode_lower (to_be_bytes w64 number)
 
--- the words of a ring: its base, its length in bytes, its head and its tail
+-- the words of a ring, each after a space: its base, its length in bytes, its head and its tail
 abbrev pub ring_words : RingWords → Text
 ring_words ring =
     concat (number_word ring.base ∷ number_word ring.bytes ∷ number_word ring.head ∷ number_word ring.tail ∷ [])
@@ -167,7 +167,7 @@ reason_word reasons.Length = codes "length"
 reason_word reasons.Buffer = codes "buffer"
 reason_word reasons.Bsex = codes "bsex"
 
--- the words of a fault: the engine, the index of the descriptor, and the reason
+-- the words of a fault, each after a space: the engine, the index of the descriptor, and the reason
 abbrev pub fault_words : EngineFault → Text
 fault_words fault =
     codes " " ++ engine_word fault.engine ++ codes " " ++ decimal fault.index ++ codes " " ++ reason_word fault.reason
@@ -184,7 +184,7 @@ faults_line faults = codes "OK" ++ flat_map fault_words faults ++ codes "\n"
 abbrev pub decimal_line : ℕ → Text
 decimal_line number = word_line (decimal number)
 
--- the word for a frame: a space, 0x and its digits
+-- the word for a frame: a space, 0x and the frame's digits
 abbrev pub frame_word : List ℕ → Text
 frame_word frame = codes " 0x" ++ encode_lower frame
 

@@ -26,7 +26,7 @@ pub keeps_same : (bytes : Option (List ℕ)) → Keeps bytes bytes
 keeps_same None = tt
 keeps_same (Some bytes) = refl
 
--- A text, and then a part of another, are a part of what the two make.
+-- A text, and then a beginning of another text, are together a beginning of both texts joined.
 pub part_then : (P Q R : Text → Type 0) (before now after : Option (List ℕ))
     → ((first later : Text) → P first → Q later → R (first ++ later)) → Tells before now P → TellsPart now after Q
     → TellsPart before after R

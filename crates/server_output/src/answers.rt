@@ -10,13 +10,13 @@ use server_requests::Wanted;
 use std::alloc::Global;
 use std::io::Write;
 
-/// The maximum number of bytes of a number.
+/// The maximum number of bytes of a number in an answer.
 const MOST_NUMBER_BYTES: usize = 8;
 
-/// The answer to a request, unless it is a refusal, or a list of frames or faults.
+/// An answer without a value, or with a word, a number or bytes.
 #[derive(Clone, Copy)]
 pub enum Answer<'a> {
-    /// `OK`.
+    /// No value: only `OK`.
     Done,
     /// A word.
     Word(&'a [u8]),
@@ -24,11 +24,11 @@ pub enum Answer<'a> {
     Number(u64),
     /// A number, in decimal digits.
     Decimal(u64),
-    /// The bytes that were read, in the form that the read asks for.
+    /// Bytes that were read, in the form that the request asks for.
     Bytes(Wanted, &'a [u8]),
 }
 
-/// The number with these bytes, the lowest first.
+/// Returns the number with these bytes, the lowest first. Missing bytes are 0.
 #[tactic(auto, unfolding(crate::specs::Answers::number_spelled))]
 fn number_of(bytes: &[u8]) -> u64
     requires { length bytes.now ≤ 8 }

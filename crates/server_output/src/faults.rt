@@ -4,7 +4,7 @@ ghost use Rattle.std.specs.Prelude.{◌≡◌, ◌++◌, ◌∷◌, [], IfOk, On
 ghost use Rattle.server_output.specs.Texts.{fault_words};
 
 use crate::lines::push_fault;
-use engine_faults::EngineFault;
+use access_names::EngineFault;
 use std::alloc::{AllocError, Global};
 use std::marker::Model;
 
@@ -15,7 +15,7 @@ pub struct Faults {
 }
 
 impl Model for Faults {
-    ghost use Rattle.engine_faults.specs.declared.engine_fault.EngineFault.{EngineFault};
+    ghost use Rattle.access_names.specs.declared.engine_fault.EngineFault.{EngineFault};
     ghost use Rattle.std.specs.Prelude.{List};
 
     ghost Value = { List EngineFault };
@@ -26,7 +26,7 @@ impl Model for Faults {
 impl Clone for Faults {
     ghost is_clone = { λ faults copy. copy ≡ faults };
 
-    /// The same faults, in the same order. Fails only if memory was refused.
+    /// Returns the same faults, in the same order. Fails only if memory was refused.
     fn clone(&self) -> Result<Faults, AllocError> {
         Ok(Faults {
             faults: self.faults.clone()?,
@@ -35,7 +35,7 @@ impl Clone for Faults {
 }
 
 impl Faults {
-    /// A list without a fault.
+    /// Returns a list without a fault.
     pub fn new(alloc: Global) -> Faults
         ensures { result ≡ [] }
     {
@@ -44,7 +44,7 @@ impl Faults {
         }
     }
 
-    /// Adds a fault after all others.
+    /// Adds a fault after all others. Fails only if memory was refused.
     pub fn push(&mut self, fault: EngineFault) -> Result<(), AllocError>
         ensures { OnOk result (self.new ≡ self.old ++ fault ∷ []) }
     {
@@ -52,7 +52,7 @@ impl Faults {
         Ok(())
     }
 
-    /// The words of all faults, the oldest first.
+    /// Returns the words of all faults, each word after a space, the oldest fault first.
     pub(crate) fn words(&self, alloc: Global) -> Result<Vec<u8>, AllocError>
         ensures { IfOk result (λ text. text.items ≡ flat_map fault_words self.now) }
     {

@@ -7,13 +7,13 @@ ghost use Rattle.server_output.specs.Telling.{listed};
 ghost use Rattle.step_schedules.specs.Players.{after_playing};
 
 use crate::faults::Faults;
+use access_names::EngineFault;
 use adapter::Outcome;
-use engine_faults::EngineFault;
 use played_adapter::Frames;
 use std::alloc::{AllocError, Global};
 use step_schedules::{Action, Player};
 
-/// The past events that a server keeps, and which events it writes.
+/// The past events that a server keeps, which events it writes, and the player.
 #[derive(Drop)]
 pub struct Kept {
     /// Whether steps, accesses and arrivals are written.
@@ -31,7 +31,7 @@ pub struct Kept {
 impl Clone for Kept {
     ghost is_clone = { λ kept copy. copy ≡ kept };
 
-    /// The same, with memory of its own. Fails only if memory was refused.
+    /// Returns a copy with its own memory. Fails only if memory was refused.
     fn clone(&self) -> Result<Kept, AllocError> {
         Ok(Kept {
             put: self.put.clone()?,
@@ -44,7 +44,7 @@ impl Clone for Kept {
 }
 
 impl Kept {
-    /// Keeps a frame that a step put, if events aren't written.
+    /// Keeps the frame that a step put, if it put one and events aren't written.
     pub(crate) fn keep_put(
         &mut self,
         alloc: Global,
@@ -64,7 +64,7 @@ impl Kept {
         }
     }
 
-    /// Keeps the fault of a step, if it is one and events aren't written.
+    /// Keeps the fault of a step, if there is one and events aren't written.
     pub(crate) fn keep_fault(&mut self, fault: Option<EngineFault>) -> Result<(), AllocError>
         ensures { OnOk result (self.new ≡ record self.old {
           faults = if self.old.events then self.old.faults else self.old.faults ++ listed fault;

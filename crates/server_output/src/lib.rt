@@ -1,7 +1,7 @@
 //! The lines that the server writes, and the calls that write them.
 //!
-//! Answers are those of QEMU's `qtest`, with words of our own for events. [`Lines`] writes what happens to an adapter
-//! that is played. [`say`] writes a text; the other calls write the line of one kind of answer, or make a text.
+//! Answers have the form of QEMU's `qtest`. The words for events are our choice. [`Lines`] writes what happens to an
+//! adapter that is played. [`say`] writes a text. The other calls write the line of one kind of answer, or make a text.
 #![tactic(auto)]
 
 mod answer_error;

@@ -4,14 +4,14 @@ ghost use Rattle.std.specs.Prelude.{◌≡◌, ◌++◌, ◌-◌, [], IfOk, OnOk
 ghost use Rattle.server_output.specs.Texts as texts;
 
 use crate::faults::Faults;
+use access_names::{Engine, EngineFault, Reason};
 use adapter::{Fate, Outcome, StepKind};
 use base64::engine::general_purpose::STANDARD;
-use engine_faults::{Engine, EngineFault, Reason};
 use itoa::Buffer;
 use played_adapter::Frames;
 use std::alloc::{AllocError, Global};
 
-/// The word of a kind of step.
+/// Returns the word of a kind of step.
 pub(crate) fn kind_word(kind: StepKind) -> &'static [u8]
     ensures { result.now ≡ texts.kind_word kind }
 {
@@ -25,7 +25,7 @@ pub(crate) fn kind_word(kind: StepKind) -> &'static [u8]
     }
 }
 
-/// The word of the outcome of a step. No step delivers a frame.
+/// Returns the word of the outcome of a step. `delivered` is never written, because no step delivers a frame.
 pub fn outcome_word(outcome: Outcome<()>) -> &'static [u8]
     ensures { result.now ≡ texts.outcome_word outcome }
 {
@@ -43,7 +43,7 @@ pub fn outcome_word(outcome: Outcome<()>) -> &'static [u8]
     }
 }
 
-/// The word of the fate of a frame that arrived.
+/// Returns the word of the fate of a frame that arrived.
 pub fn fate_word(fate: Fate) -> &'static [u8]
     ensures { result.now ≡ texts.fate_word fate }
 {
@@ -66,7 +66,7 @@ fn push_parts(text: &mut Vec<u8>, parts: &[&[u8]]) -> Result<(), AllocError>
     Ok(())
 }
 
-/// Parts of a text, joined.
+/// Returns the parts of a text, joined.
 pub fn joined(alloc: Global, parts: &[&[u8]]) -> Result<Vec<u8>, AllocError>
     ensures { IfOk result (λ text. text.items ≡ texts.joined parts.now) }
 {
@@ -79,7 +79,7 @@ pub fn joined(alloc: Global, parts: &[&[u8]]) -> Result<Vec<u8>, AllocError>
     Ok(text)
 }
 
-/// Appends what the log prints, in parts, if the log is on.
+/// Appends the line of the log that consists of these parts, if the log is on.
 fn push_said(text: &mut Vec<u8>, log: bool, said: &[&[u8]]) -> Result<(), AllocError>
     ensures { OnOk result (text.new.items ≡ text.old.items ++ texts.said_log log (texts.joined said.now)) }
 {
@@ -91,7 +91,7 @@ fn push_said(text: &mut Vec<u8>, log: bool, said: &[&[u8]]) -> Result<(), AllocE
     text.extend_from_slice(b"\n")
 }
 
-/// The text about an event: its line of the log, if the log is on, and then `shown`.
+/// Returns the text about an event: its line of the log, if the log is on, and then `shown`.
 pub(crate) fn event_text(
     alloc: Global,
     log: bool,
@@ -106,14 +106,14 @@ pub(crate) fn event_text(
     Ok(text)
 }
 
-/// The line of a frame that was put onto the wire, from its digits.
+/// Returns the line of a frame that was put onto the wire, from the frame's digits.
 pub(crate) fn frame_line(alloc: Global, digits: &[u8]) -> Result<Vec<u8>, AllocError>
     ensures { IfOk result (λ text. text.items ≡ texts.digits_line digits.now) }
 {
     joined(alloc, &[b"frame ", digits, b"\n"])
 }
 
-/// The line of an offered frame that arrived, from the word of its fate and its digits.
+/// Returns the line of an offered frame that arrived, from the word of the frame's fate and the frame's digits.
 #[tactic(auto, unfolding(crate::specs::Texts::digits_arrived))]
 pub(crate) fn arrived_line<'a>(
     alloc: Global,
@@ -125,7 +125,7 @@ pub(crate) fn arrived_line<'a>(
     joined(alloc, &[b"arrived ", fate, b" ", digits, b"\n"])
 }
 
-/// What `restore` prints: a change of the interrupt line, and `OK`.
+/// Returns what `restore` prints: a change of the interrupt line, if there is one, and `OK`.
 pub fn restored_text(was: bool, is: bool) -> &'static [u8]
     ensures { result.now ≡ texts.line_moved was is ++ texts.ok_line }
 {
@@ -136,7 +136,7 @@ pub fn restored_text(was: bool, is: bool) -> &'static [u8]
     }
 }
 
-/// The line of an answer with bytes.
+/// Returns the line of an answer with bytes, in hexadecimal digits.
 #[tactic(auto, unfolding(crate::specs::Texts::bytes_line))]
 pub(crate) fn bytes_line(alloc: Global, bytes: &[u8]) -> Result<Vec<u8>, AllocError>
     ensures { IfOk result (λ text. text.items ≡ texts.bytes_line bytes.now) }
@@ -145,7 +145,7 @@ pub(crate) fn bytes_line(alloc: Global, bytes: &[u8]) -> Result<Vec<u8>, AllocEr
     joined(alloc, &[b"OK 0x", digits.as_bytes(), b"\n"])
 }
 
-/// The line of an answer with a number. It takes no memory.
+/// Returns the line of an answer with a number, in 16 hexadecimal digits. Allocates nothing.
 #[tactic(auto, unfolding(crate::specs::Texts::bytes_line, crate::specs::Texts::number_line))]
 pub(crate) fn number_line(number: u64) -> [u8; 22]
     ensures { result ≡ texts.number_line number }
@@ -155,7 +155,7 @@ pub(crate) fn number_line(number: u64) -> [u8; 22]
     line
 }
 
-/// The line of an answer with a word.
+/// Returns the line of an answer with a word.
 #[tactic(auto, unfolding(crate::specs::Texts::word_line))]
 pub(crate) fn word_line(alloc: Global, word: &[u8]) -> Result<Vec<u8>, AllocError>
     ensures { IfOk result (λ text. text.items ≡ texts.word_line word.now) }
@@ -163,7 +163,7 @@ pub(crate) fn word_line(alloc: Global, word: &[u8]) -> Result<Vec<u8>, AllocErro
     joined(alloc, &[b"OK ", word, b"\n"])
 }
 
-/// The line of an answer with bytes in base64.
+/// Returns the line of an answer with bytes in base64.
 pub(crate) fn base64_line(alloc: Global, bytes: &[u8]) -> Result<Vec<u8>, AllocError>
     ensures { IfOk result (λ text. text.items ≡ texts.base64_line bytes.now) }
 {
@@ -171,7 +171,7 @@ pub(crate) fn base64_line(alloc: Global, bytes: &[u8]) -> Result<Vec<u8>, AllocE
     word_line(alloc, word.as_bytes())
 }
 
-/// The line of an answer with a number in decimal digits.
+/// Returns the line of an answer with a number in decimal digits.
 pub(crate) fn decimal_line(alloc: Global, number: u64) -> Result<Vec<u8>, AllocError>
     ensures { IfOk result (λ text. text.items ≡ texts.decimal_line number) }
 {
@@ -179,7 +179,7 @@ pub(crate) fn decimal_line(alloc: Global, number: u64) -> Result<Vec<u8>, AllocE
     word_line(alloc, digits.format(number).as_bytes())
 }
 
-/// Appends the word of the oldest frame, and removes the frame.
+/// Appends the word of the oldest frame, and removes the frame, if there is one.
 fn push_frame(alloc: Global, text: &mut Vec<u8>, frames: &mut Frames) -> Result<(), AllocError>
     ensures same { OnOk result (text.new.items ++ flat_map texts.frame_word frames.new
         ≡ text.old.items ++ flat_map texts.frame_word frames.old) }
@@ -193,7 +193,7 @@ fn push_frame(alloc: Global, text: &mut Vec<u8>, frames: &mut Frames) -> Result<
     text.extend_from_slice(digits.as_bytes())
 }
 
-/// The line of an answer with frames, the oldest first. Removes them.
+/// Returns the line of an answer with frames, the oldest first, and removes the frames.
 pub(crate) fn frames_line(alloc: Global, frames: &mut Frames) -> Result<Vec<u8>, AllocError>
     ensures text { IfOk result (λ text. text.items ≡ texts.frames_line frames.old) }
     ensures none { OnOk result (frames.new ≡ []) }
@@ -207,7 +207,7 @@ pub(crate) fn frames_line(alloc: Global, frames: &mut Frames) -> Result<Vec<u8>,
     Ok(text)
 }
 
-/// The word of an engine.
+/// Returns the word of an engine.
 fn engine_word(engine: Engine) -> &'static [u8]
     ensures { result.now ≡ texts.engine_word engine }
 {
@@ -217,7 +217,7 @@ fn engine_word(engine: Engine) -> &'static [u8]
     }
 }
 
-/// The word of the reason of a fault.
+/// Returns the word of the reason of a fault.
 fn reason_word(reason: Reason) -> &'static [u8]
     ensures { result.now ≡ texts.reason_word reason }
 {
@@ -232,7 +232,7 @@ fn reason_word(reason: Reason) -> &'static [u8]
     }
 }
 
-/// Appends the words of a fault.
+/// Appends the words of a fault, each after a space: its engine, the index of its descriptor, and its reason.
 pub(crate) fn push_fault(text: &mut Vec<u8>, fault: EngineFault) -> Result<(), AllocError>
     ensures { OnOk result (text.new.items ≡ text.old.items ++ texts.fault_words fault) }
 {
@@ -254,7 +254,7 @@ pub(crate) fn push_fault_line(text: &mut Vec<u8>, fault: EngineFault) -> Result<
     text.extend_from_slice(b"\n")
 }
 
-/// The line of an answer with faults, the oldest first.
+/// Returns the line of an answer with faults, the oldest first.
 pub(crate) fn faults_line(alloc: Global, faults: &Faults) -> Result<Vec<u8>, AllocError>
     ensures { IfOk result (λ text. text.items ≡ texts.faults_line faults.now) }
 {

@@ -7,12 +7,12 @@ ghost use Rattle.server_output.specs.Texts as texts;
 use crate::answer_error::AnswerError;
 use crate::lines::joined;
 use crate::output::say;
+use access_names::RingWords;
 use adapter::StepKind;
-use engine_faults::RingWords;
 use std::alloc::{AllocError, Global};
 use std::io::Write;
 
-/// For each kind of step, whether it is in an answer.
+/// The kinds of steps in an answer to `enabled`: for each kind, whether the answer contains it.
 #[derive(Clone, Copy)]
 pub struct EnabledSteps {
     /// `txtake`.
@@ -29,7 +29,7 @@ pub struct EnabledSteps {
     pub phy: bool,
 }
 
-/// A space and the word of a kind of step, if the kind is enabled.
+/// Returns a space and the word of a kind of step, or an empty text if the kind isn't enabled.
 fn enabled_word(kind: StepKind, is_enabled: bool) -> &'static [u8]
     ensures { result.now ≡ texts.enabled_word kind is_enabled }
 {
@@ -46,7 +46,7 @@ fn enabled_word(kind: StepKind, is_enabled: bool) -> &'static [u8]
     }
 }
 
-/// The line of an answer with the kinds of steps that are enabled, in the order of a cycle.
+/// Returns the line of an answer with the kinds of steps that are enabled, in the order of a cycle.
 #[tactic(auto, unfolding(crate::specs::Texts::enabled_line))]
 fn enabled_line(alloc: Global, enabled: EnabledSteps) -> Result<Vec<u8>, AllocError>
     ensures { IfOk result (λ text. text.items ≡ texts.enabled_line enabled) }
@@ -72,7 +72,7 @@ pub fn say_enabled<W: Write>(
     say(out, line.as_slice())
 }
 
-/// A space, and a number in 16 hexadecimal digits.
+/// Returns a space, `0x`, and a number in 16 hexadecimal digits.
 fn number_word(number: u64) -> [u8; 19]
     ensures { result ≡ texts.number_word number }
 {
@@ -81,7 +81,7 @@ fn number_word(number: u64) -> [u8; 19]
     word
 }
 
-/// The words of a ring: its base, its length in bytes, its head and its tail.
+/// Returns the words of a ring, each after a space: its base, its length in bytes, its head and its tail.
 fn ring_words(alloc: Global, ring: RingWords) -> Result<Vec<u8>, AllocError>
     ensures { IfOk result (λ text. text.items ≡ texts.ring_words ring) }
 {
@@ -92,7 +92,7 @@ fn ring_words(alloc: Global, ring: RingWords) -> Result<Vec<u8>, AllocError>
     joined(alloc, &[&base, &bytes, &head, &tail])
 }
 
-/// The line of an answer with the receive ring and the transmit ring.
+/// Returns the line of an answer with the receive ring and the transmit ring.
 fn rings_line(alloc: Global, receive: RingWords, transmit: RingWords) -> Result<Vec<u8>, AllocError>
     ensures { IfOk result (λ text. text.items ≡ texts.rings_line receive transmit) }
 {

@@ -16,8 +16,8 @@ use server_requests::Refusal;
 use std::alloc::Global;
 use std::io::{ErrorKind, Write};
 
-/// Writes a first part of a text, with one call of the writer. Returns the number of its bytes, 0 if the call was
-/// interrupted. A writer that takes no byte fails.
+/// Writes a beginning of a text, with one call of the writer. Returns the number of bytes written, or 0 if the call was
+/// interrupted. Fails if the writer takes no byte, or has another error.
 fn write_some<W: Write>(out: &mut W, text: &[u8]) -> Result<usize, AnswerError>
     ensures ok { IfOk result (λ count. Appends (W.contents out.old) (W.contents out.new) (take count text.now)) }
     ensures few { IfOk result (λ count. count ≤ length text.now) }
@@ -34,7 +34,7 @@ fn write_some<W: Write>(out: &mut W, text: &[u8]) -> Result<usize, AnswerError>
     }
 }
 
-/// Writes all of a text. If it fails, it has written a beginning of the text.
+/// Writes all of a text. At an error, a beginning of the text was written, or nothing.
 pub fn say<W: Write>(out: &mut W, text: &[u8]) -> Result<(), AnswerError>
     ensures { Says result (W.contents out.old) (W.contents out.new) text.now }
 {
@@ -55,7 +55,7 @@ pub fn refuse<W: Write>(out: &mut W, refusal: Refusal) -> Result<(), AnswerError
     say(out, refusal.text())
 }
 
-/// Writes the line of an answer with bytes.
+/// Writes the line of an answer with bytes, in hexadecimal digits.
 pub(crate) fn say_bytes<W: Write>(
     alloc: Global,
     out: &mut W,
@@ -67,7 +67,7 @@ pub(crate) fn say_bytes<W: Write>(
     say(out, line.as_slice())
 }
 
-/// Writes the line of an answer with a number.
+/// Writes the line of an answer with a number, in 16 hexadecimal digits.
 pub fn say_number<W: Write>(out: &mut W, number: u64) -> Result<(), AnswerError>
     ensures { Says result (W.contents out.old) (W.contents out.new) (texts.number_line number) }
 {
@@ -106,7 +106,7 @@ pub(crate) fn say_decimal<W: Write>(
     say(out, line.as_slice())
 }
 
-/// Writes the line of an answer with frames. If it was written, none of them is left.
+/// Writes the line of an answer with frames. If this succeeds, no frame is left in the list.
 pub fn say_frames<W: Write>(
     alloc: Global,
     out: &mut W,

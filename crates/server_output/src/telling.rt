@@ -4,7 +4,7 @@ ghost use Rattle.std.specs.Prelude.{◌≡◌, ◌++◌, [], IfOk, None, OnOk, S
 ghost use Rattle.adapter.specs.Outcomes.{put_by, with_frame};
 ghost use Rattle.played_adapter.specs.Told as told;
 ghost use Rattle.server_output.specs.Answers.{IsSized, line_of};
-ghost use Rattle.server_output.specs.Telling.{Ends, EndsIf, Writes, kept_with, listed, told_text};
+ghost use Rattle.server_output.specs.Telling.{Ends, Writes, kept_with, listed, told_text};
 ghost use Rattle.server_output.specs.Texts.{fault_line, frame_line, line_told, said_log};
 
 use crate::answer_error::AnswerError;
@@ -14,30 +14,31 @@ use crate::lines::{
     arrived_line, event_text, fate_word, frame_line, kind_word, outcome_word, push_fault_line,
 };
 use crate::output::say;
+use access_names::EngineFault;
 use adapter::{Fate, Outcome, StepKind};
-use engine_faults::EngineFault;
 use played_adapter::Observer;
 use std::alloc::{AllocError, Global};
 use std::io::Write;
 use step_schedules::Action;
 
-/// Writes the lines about what it is told, and keeps frames, faults and actions in `kept`. After an error it writes
-/// nothing, and keeps the error.
+/// The observer that writes lines about what it is told, and keeps frames, faults and actions in `kept`.
+///
+/// After an error, the observer writes and keeps nothing more, except the error.
 #[derive(Drop)]
 pub struct Lines<'a, W: Write> {
-    /// The writer of its lines.
+    /// The writer of the lines.
     pub out: &'a mut W,
-    /// Where frames, faults and actions are kept.
+    /// The frames, faults and actions that are kept, and which lines are written.
     pub kept: &'a mut Kept,
-    /// The line of the request. The log prints it for an access and for an arrival.
+    /// The line of the request, which the log prints for the request's access or arrival.
     pub said: &'a [u8],
     /// The allocator of texts.
     pub alloc: Global,
-    /// The error after which it writes nothing, if there was one.
+    /// The error that stopped writing, or `None` if writing hasn't stopped.
     pub stopped: Option<AnswerError>,
 }
 
-/// The line of a level of the interrupt line.
+/// Returns the line that reports this new level of the interrupt line.
 fn level_text(level: bool) -> &'static [u8]
     ensures { result.now ≡ line_told (Some level) }
 {
@@ -49,7 +50,8 @@ fn level_text(level: bool) -> &'static [u8]
 }
 
 impl<'a, W: Write> Lines<'a, W> {
-    /// The line of a frame that a step put, if events are written.
+    /// Returns the line of the frame that a step put, or an empty text if the step put no frame or events aren't
+    /// written.
     fn put_text(&self, outcome: Outcome<()>, frame: &[u8]) -> Result<Vec<u8>, AllocError>
         ensures { IfOk result (λ text. text.items
             ≡ (if self.now.kept.now.events then flat_map frame_line (put_by (with_frame frame.now outcome)) else [])) }
@@ -64,7 +66,7 @@ impl<'a, W: Write> Lines<'a, W> {
         frame_line(self.alloc, digits.as_bytes())
     }
 
-    /// Appends the line of a fault, if events are written.
+    /// Appends the line of a fault, if there is a fault and events are written.
     fn push_fault(&self, text: &mut Vec<u8>, fault: Option<EngineFault>) -> Result<(), AllocError>
         ensures { OnOk result (text.new.items ≡ text.old.items
             ++ (if self.now.kept.now.events then flat_map fault_line (listed fault) else [])) }
@@ -78,7 +80,7 @@ impl<'a, W: Write> Lines<'a, W> {
         }
     }
 
-    /// The text about a step.
+    /// Returns the text about a step.
     fn step_text(
         &self,
         kind: StepKind,
@@ -95,7 +97,7 @@ impl<'a, W: Write> Lines<'a, W> {
         event_text(self.alloc, self.kept.log, &said, shown.as_slice())
     }
 
-    /// The text about the arrival of an offered frame.
+    /// Returns the text about the arrival of an offered frame.
     fn arrival_text(&self, frame: &[u8], fate: Fate) -> Result<Vec<u8>, AllocError>
         ensures { IfOk result (λ text. text.items ≡ told_text self.now.kept.now.log self.now.kept.now.events
             self.now.said.now (told.Offered frame.now fate)) }
@@ -110,7 +112,7 @@ impl<'a, W: Write> Lines<'a, W> {
         event_text(self.alloc, self.kept.log, &said, shown.as_slice())
     }
 
-    /// Writes a text. If this fails, keeps the error.
+    /// Writes a text. Stores the error if this fails.
     fn write(&mut self, text: &[u8])
         requires { self.old.stopped ≡ None }
         ensures state { self.new ≡ record self.old { out = self.new.out; stopped = self.new.stopped } }
@@ -122,7 +124,7 @@ impl<'a, W: Write> Lines<'a, W> {
         }
     }
 
-    /// Writes the line of an answer. If writing stopped before, writes nothing, and returns the error.
+    /// Writes the line of an answer. If writing has stopped, writes nothing, and returns the error that stopped it.
     pub fn end(&mut self, answer: Answer<'_>) -> Result<(), AnswerError>
         requires { IsSized answer }
         ensures state { self.new ≡ record self.old { out = self.new.out } }
@@ -136,21 +138,7 @@ impl<'a, W: Write> Lines<'a, W> {
         }
     }
 
-    /// Writes the answer `OK`, unless `done` is an error. If writing stopped before, writes nothing, and returns the
-    /// error.
-    pub fn end_if(&mut self, done: Result<(), AllocError>) -> Result<(), AnswerError>
-        ensures state { self.new ≡ record self.old { out = self.new.out } }
-        ensures lent { self.new.out.ghost_name ≡ self.old.out.ghost_name }
-        ensures ends { EndsIf done self.old.stopped result (W.contents self.old.out.now)
-            (W.contents self.new.out.now) }
-    {
-        match done {
-            Ok(()) => self.end(Answer::Done),
-            Err(_) => Err(AnswerError::Memory),
-        }
-    }
-
-    /// Writes the line of the log about an access or an arrival, if the log is on. If this fails, keeps the error.
+    /// Writes the line of the log about an access or an arrival, if the log is on. Stores the error if this fails.
     fn say_request(&mut self)
         requires { self.old.stopped ≡ None }
         ensures state { self.new ≡ record self.old { out = self.new.out; stopped = self.new.stopped } }
@@ -167,7 +155,7 @@ impl<'a, W: Write> Lines<'a, W> {
         }
     }
 
-    /// Keeps the frame that a step put, and its fault. If this fails, keeps the error.
+    /// Keeps the frame that a step put and the step's fault, if events aren't written. Stores the error if this fails.
     fn keep_step(&mut self, outcome: Outcome<()>, frame: &[u8], fault: Option<EngineFault>)
         requires { self.old.stopped ≡ None }
         ensures state { self.new ≡ record self.old { kept = self.new.kept; stopped = self.new.stopped } }

@@ -10,7 +10,7 @@ use Rattle.std.specs.Str.{IsCharBoundary}
 use Rattle.text.specs.Words.{Text, is_space, is_tab, is_word, words_of}
 use Rattle.server_requests.specs.Words.{is_blank}
 
--- A line that is cut at spaces, and its parts at tabs, is cut at both.
+-- A line that is split at spaces, and whose parts are split at tabs, is split at both.
 
 onto-append : (x : ℕ) (parts more : List Text) → 0 < length parts → onto_first x parts ++ more ≡ onto_first x (parts ++ more)
 onto-append x [] more some = absurd (omega arith)

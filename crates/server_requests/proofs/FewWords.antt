@@ -1,4 +1,4 @@
--- Five words of a line have the request of all, since no request has more than four.
+-- The first five words of a line have the same request as all its words, because no request has more than four words.
 use Rattle.std.proofs.Common.{◌≡◌, ◌∙◌, ◌<◌, ◌≤◌, ℕ, Bool, false, List, [], ◌∷◌, Option, Some, None, ap, arith, cond}
 use Rattle.std.proofs.Common.{inl, inr, length, refl, sym, take, ◌⊎◌}
 use Rattle.std.proofs.lemmas.Bool.Decides.{nat_tests}

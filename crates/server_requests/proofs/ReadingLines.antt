@@ -14,7 +14,7 @@ use Rattle.server_requests.specs.Texts.{Text}
 use Rattle.server_requests.specs.declared.line_reader.NextLine.TheVariants.{End}
 use Rattle.server_requests.specs.declared.line_reader.Part.TheVariants as parts
 
--- These bytes of a line were read; the line keeps the first of them, and is long if it has no room for all.
+-- Bytes of a line were read. `line` keeps the first of them, as far as there is room, and `is_long` is whether there wasn't room for all.
 pub record Reads (line : Text) (is_long : Bool) (old new : List ℕ) : Type 0 where
   pub got : List ℕ
   pub kept : line ≡ take most_line_bytes got
@@ -37,7 +37,7 @@ pub reads_none : (before : Option (List ℕ)) → BothKnown before before (Reads
 reads_none before = known_same before (Reads [] false)
     (λ bytes. record { got = []; kept = refl; long = refl; goes = record { all = refl; first = refl; behind = refl } })
 
--- what is read after reads that returned nothing
+-- what was read doesn't change if nothing is read
 pub reads_kept : (line : Text) (is_long : Bool) (before now after : Option (List ℕ)) → BothKnown before now (Reads line is_long)
     → Keeps now after → BothKnown before after (Reads line is_long)
 reads_kept line is_long None now after reads keeps = tt
@@ -45,7 +45,7 @@ reads_kept line is_long (Some a) None after reads keeps = absurd reads
 reads_kept line is_long (Some a) (Some b) None reads keeps = absurd keeps
 reads_kept line is_long (Some a) (Some b) (Some c) reads keeps = subst (Reads line is_long a) (sym keeps) reads
 
--- Bytes without an LF go on with a line, and an LF ends it.
+-- Bytes without an LF continue a line, and an LF ends the line.
 
 no_feed : (byte : ℕ) → byte ≢ 10 → is_feed byte ≡ false
 no_feed byte other = grind (arith, nat_tests)
@@ -123,7 +123,7 @@ longer true false most all kept added both long is_more is_kept is_both = grind 
 longer false true most all kept added both long is_more is_kept is_both = grind (arith, nat_tests)
 longer false false most all kept added both long is_more is_kept is_both = grind (arith, nat_tests)
 
--- Both parts together are kept as one.
+-- Keeping two parts, one after the other, is the same as keeping both joined.
 pub keeps_both : (line line' : Text) (is_long more : Bool) (got bytes : List ℕ) → line ≡ take most_line_bytes got
     → is_long ≡ nat_lt most_line_bytes (length got) → Adds more bytes line line'
     → (line' ≡ take most_line_bytes (got ++ bytes)) × ((is_long || more) ≡ nat_lt most_line_bytes (length (got ++ bytes)))
@@ -142,7 +142,7 @@ reads_more line line' is_long more before now after reads takes =
     let both = keeps_both line line' is_long more one.got two.0 one.kept one.long two.2 in
     record { got = one.got ++ two.0; kept = both.0; long = both.1; goes = goes_then one.got two.0 a b c one.goes two.1 }) reads takes
 
--- what a reader showed of a line, and the bytes of it that were read
+-- bytes from a reader's buffer without an LF are a part of a line that continues
 pub part_more : (a b : Option (List ℕ)) (line line' : Text) (is_long : Bool) (bytes : List ℕ) → All (λ byte. byte ≢ 10) bytes
     → Consumes a b bytes → Adds is_long bytes line line' → BothKnown a b (TakesPart (parts.More is_long) line line')
 part_more None b line line' is_long bytes all consumes adds = tt
@@ -229,7 +229,7 @@ some_front : (most : ℕ) (line got a b : List ℕ) → 0 < length line → line
 some_front most line [] a b some kept all none = absurd (omega (arith, ap length (kept ∙ taken_none most)))
 some_front most line (x ∷ got) a b some kept all none = cc
 
--- The input is at its end after the bytes of a last line,
+-- If the input ends after bytes of a line, these bytes are the last line.
 pub reads_rest : (line line' : Text) (is_long : Bool) (before now after : Option (List ℕ)) → 0 < length line'
     → BothKnown before now (Reads line is_long) → BothKnown now after (TakesPart parts.None line line')
     → IsNextLine (kept_as is_long) line' before after
@@ -247,7 +247,7 @@ reads_rest line line' is_long before now after some reads takes =
       };
     }) reads takes)
 
--- or after none.
+-- If the input ends and no byte of a line was read, there is no further line.
 pub reads_end : (line line' : Text) (is_long : Bool) (before now after : Option (List ℕ)) → length line' ≡ 0
     → BothKnown before now (Reads line is_long) → BothKnown now after (TakesPart parts.None line line')
     → IsNextLine End line' before after

@@ -1,4 +1,4 @@
--- The results of reading lines (our choice). They state nothing about a reader whose bytes contracts don't know.
+-- The results of reading lines (our choice). Nothing is stated about a reader whose bytes aren't visible to contracts.
 use Rattle.std.specs.Prelude.{⊤, ◌≡◌, ◌≢◌, ◌+◌, ◌++◌, ◌<◌, ◌≤◌, ℕ, List, [], Bool, Option, Some, None, if◌then◌else◌, length, nat_lt, take}
 use Rattle.server_requests.specs.Lines.{behind_line, first_line, most_line_bytes}
 use Rattle.server_requests.specs.Texts.{Text}
@@ -7,13 +7,13 @@ use Rattle.server_requests.specs.declared.line_reader.NextLine.TheVariants.{End,
 use Rattle.server_requests.specs.declared.line_reader.Part.{Part}
 use Rattle.server_requests.specs.declared.line_reader.Part.TheVariants as parts
 
--- `Holds` relates the bytes that were left before and those that are left now, if both are known.
+-- If the bytes that were left before are known, the bytes that are left now are also known, and `Holds` relates both.
 abbrev pub BothKnown : Option (List ℕ) → Option (List ℕ) → (List ℕ → List ℕ → Type 0) → Type 0
 BothKnown None after Holds = ⊤
 BothKnown (Some old) None Holds = ⊥
 BothKnown (Some old) (Some new) Holds = Holds old new
 
--- No byte was left, and none is left.
+-- No byte was left, and no byte is left.
 pub record AtEnd (old new : List ℕ) : Type 0 where
   pub none : old ≡ []
   pub still : new ≡ []
@@ -31,7 +31,7 @@ pub record GoesOn (bytes old new : List ℕ) : Type 0 where
   -- The bytes after the line are the same before and after.
   pub behind : behind_line old ≡ behind_line new
 
--- These bytes were read, and they are a whole line.
+-- These bytes were read, and they are the rest of a line. The line's LF was also read, if the line has an LF.
 pub record Ends (bytes old new : List ℕ) : Type 0 where
   -- There was a line.
   pub some : old ≢ []
@@ -40,27 +40,27 @@ pub record Ends (bytes old new : List ℕ) : Type 0 where
   -- The bytes after it are left.
   pub rest : new ≡ behind_line old
 
--- Bytes were appended to a line, as far as there was room; `is_long` is whether they didn't all fit.
+-- Bytes were appended to a line, as far as there was room. `is_long` is true if there wasn't room for all of them.
 pub record Adds (is_long : Bool) (bytes : List ℕ) (line line' : Text) : Type 0 where
   -- The line keeps the first bytes, as far as there is room.
   pub kept : line' ≡ take most_line_bytes (line ++ bytes)
-  -- whether the line has no room for all bytes
+  -- whether the line had no room for all bytes
   pub long : is_long ≡ nat_lt most_line_bytes (length line + length bytes)
 
--- A part of a line was read and appended.
+-- A part of a line was read and appended; or, for `None`, no byte was left, and the line doesn't change.
 abbrev pub TakesPart : Part → Text → Text → List ℕ → List ℕ → Type 0
 TakesPart parts.None line line' old new = AtEnd old new × (line' ≡ line)
 TakesPart (parts.More is_long) line line' old new = (bytes : List ℕ) × GoesOn bytes old new × Adds is_long bytes line line'
 TakesPart (parts.Last is_long) line line' old new = (bytes : List ℕ) × Ends bytes old new × Adds is_long bytes line line'
 
--- The first line of what was left was read, and isn't too long. The bytes after it are left.
+-- The first line of what was left was read, and isn't too long. The bytes after this line are left.
 pub record IsWhole (line : Text) (old new : List ℕ) : Type 0 where
   pub some : old ≢ []
   pub short : length (first_line old) ≤ most_line_bytes
   pub line_is : line ≡ first_line old
   pub rest : new ≡ behind_line old
 
--- The first line of what was left is too long. The bytes after it are left.
+-- The first line of what was left is too long. The bytes after this line are left.
 pub record IsLong (old new : List ℕ) : Type 0 where
   pub some : old ≢ []
   pub long : most_line_bytes < length (first_line old)

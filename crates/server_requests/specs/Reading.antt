@@ -25,15 +25,15 @@ use Rattle.server_requests.specs.declared.verb.Verb.TheVariants.{Endianness, Int
 use Rattle.server_requests.specs.declared.verb.Verb.TheVariants.{Line, Interleave, Log, Wire, Offer, Events, Frames, Faults, Pace}
 use Rattle.server_requests.specs.declared.verb.Verb.TheVariants.{Choose, Digest, Enabled, Rings, Target, Save, Restore}
 
--- the maximum number of steps before an access, or of cycles after it, that a request may set
+-- the maximum COUNT of `interleave` and of `pace`
 abbrev pub most_count : ℕ
 most_count = 65535
 
--- the request to write bytes, if their number is the size
+-- the request to write bytes, or a refusal if their number isn't the size
 abbrev pub sized : ℕ → ℕ → List ℕ → Result Request Refusal
 sized address size bytes = if length bytes == size then Ok (requests.Write address bytes) else Err refusals.Value
 
--- the request of `write ADDR SIZE HEX`
+-- the request of `write ADDR SIZE 0xHEX`
 abbrev pub write_in : List Text → Result Request Refusal
 write_in words = do
   address ← number_below greatest_number (word 1 words)
@@ -57,7 +57,7 @@ memset_in words = do
   value ← number_below 0xFF (word 3 words)
   Ok (requests.Write address (replicate size value))
 
--- whether a word is the first of two words; a word that is neither is refused
+-- whether a word is the first of two words; a word that is neither of them is refused
 abbrev pub is_first : (first second word : Text) → Result Bool Refusal
 is_first first second word =
     if bytes_eq word first then Ok true else if bytes_eq word second then Ok false else Err refusals.Value
@@ -76,7 +76,7 @@ wire_in word = is_first (codes "free") (codes "full") word >>= λ free. Ok (requ
 abbrev pub events_in : Text → Result Request Refusal
 events_in word = is_first (codes "on") (codes "off") word >>= λ on. Ok (requests.Set (settings.Events on))
 
--- a step of this kind; a word that names none is refused
+-- the request for a step of this kind; a word that names no kind is refused
 abbrev pub step_or_refusal : Option StepKind → Result Request Refusal
 step_or_refusal (Some kind) = Ok (requests.Step kind)
 step_or_refusal None = Err refusals.Value
@@ -85,13 +85,13 @@ step_or_refusal None = Err refusals.Value
 abbrev pub step_in : Text → Result Request Refusal
 step_in word = step_or_refusal (kind_named word)
 
--- a read of a number of this width
+-- the request to read a number of this width
 abbrev pub read_number_in : Width → List Text → Result Request Refusal
 read_number_in width words = do
   address ← number_below greatest_number (word 1 words)
   Ok (requests.Read (wanted.Number width) address)
 
--- a write of a number of this width
+-- the request to write a number of this width
 abbrev pub write_number_in : Width → List Text → Result Request Refusal
 write_number_in width words = do
   address ← number_below greatest_number (word 1 words)
@@ -116,11 +116,11 @@ read_base64_in words = do
 abbrev pub most_port : ℕ
 most_port = 0xFFFF
 
--- a read of a port of this width
+-- the request to read an I/O port with this width
 abbrev pub read_port_in : PortWidth → Text → Result Request Refusal
 read_port_in width word = number_below most_port word >>= λ port. Ok (requests.Look (looks.Port width port))
 
--- a write of a port of this width
+-- the request to write an I/O port with this width
 abbrev pub write_port_in : PortWidth → List Text → Result Request Refusal
 write_port_in width words = do
   port ← number_below most_port (word 1 words)
@@ -135,11 +135,11 @@ arrive_in word = bytes_in word >>= λ bytes. Ok (requests.Arrive bytes)
 abbrev pub offer_in : Text → Result Request Refusal
 offer_in word = bytes_in word >>= λ bytes. Ok (requests.Offer bytes)
 
--- the request of `interleave N`
+-- the request of `interleave COUNT`
 abbrev pub interleave_in : Text → Result Request Refusal
 interleave_in word = number_below most_count word >>= λ count. Ok (requests.Set (settings.Interleave count))
 
--- the request of `pace N`
+-- the request of `pace COUNT`
 abbrev pub pace_in : Text → Result Request Refusal
 pace_in word = number_below most_count word >>= λ count. Ok (requests.Set (settings.Pace count))
 
@@ -149,7 +149,7 @@ clock_step_in words =
     if length words == 1 then Ok (requests.ClockStep 0)
     else number_below greatest_number (word 1 words) >>= λ time. Ok (requests.ClockStep time)
 
--- the request of `clock_set TIME`
+-- the request of `clock_set NS`
 abbrev pub clock_set_in : Text → Result Request Refusal
 clock_set_in word = number_below greatest_number word >>= λ time. Ok (requests.ClockSet time)
 
@@ -157,7 +157,7 @@ clock_set_in word = number_below greatest_number word >>= λ time. Ok (requests.
 abbrev pub most_limit : ℕ
 most_limit = 1000000000
 
--- the request for a number below a limit, which isn't 0
+-- the request for a number below a limit; the limit 0 is refused
 abbrev pub choose_below : ℕ → Result Request Refusal
 choose_below limit = if limit == 0 then Err refusals.Value else Ok (requests.Choose limit)
 
@@ -172,7 +172,7 @@ target_in words = do
   size ← size_in (word 2 words)
   Ok (requests.Look (looks.Target address size))
 
--- the request of a line with the right number of words
+-- the request of a line with this kind of request and an allowed number of words
 abbrev pub request_with : Verb → List Text → Result Request Refusal
 request_with (ReadNumber width) words = read_number_in width words
 request_with (WriteNumber width) words = write_number_in width words
@@ -207,7 +207,7 @@ request_with Rings words = Ok (requests.Look looks.Rings)
 request_with Save words = Ok requests.Save
 request_with Restore words = Ok requests.Restore
 
--- the request of a verb and its words; an unknown verb, or a wrong number of words, is refused
+-- the request of a line with this kind of request; an unknown kind, or a number of words that isn't allowed, is refused
 abbrev pub request_if : Option Verb → List Text → Result Request Refusal
 request_if (Some verb) words = if takes_words verb (length words) then request_with verb words else Err refusals.Count
 request_if None words = Err refusals.Unknown
@@ -217,7 +217,8 @@ abbrev pub request_in : List Text → Result Request Refusal
 request_in [] = Err refusals.Unknown
 request_in (first ∷ rest) = request_if (verb_named first) (first ∷ rest)
 
--- The result is the request of the line's words if the line is UTF-8; otherwise it is the refusal `text`. Or memory was refused.
+-- If the line is UTF-8, the result is the request or the refusal of its words. Otherwise the result is the refusal `text`. Or memory was
+-- refused.
 pub record IsRead (line : Text) (result : Result Request Stop) : Type 0 where
   pub text : IsUtf8 line → Gives result (request_in (words_of line))
   pub other : (¬ (IsUtf8 line)) → Gives {A = Request} result (Err refusals.Text)

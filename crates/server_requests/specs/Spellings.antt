@@ -10,7 +10,7 @@ use Rattle.server_requests.specs.declared.refusal.Refusal.TheVariants as refusal
 use Rattle.server_requests.specs.declared.refusal.Stop.{Stop}
 use Rattle.server_requests.specs.declared.refusal.Stop.TheVariants.{Memory, Refused}
 
--- A reading function returns this result, or memory was refused.
+-- A function that reads failed with the refusal of `read`, or memory was refused.
 abbrev pub Fails : {A : Type 0} → Stop → Result A Refusal → Type 0
 Fails Memory read = ⊤
 Fails (Refused refusal) read = read ≡ Err refusal
@@ -19,18 +19,18 @@ abbrev pub Gives : {A : Type 0} → Result A Stop → Result A Refusal → Type 
 Gives (Ok value) read = read ≡ Ok value
 Gives (Err stop) read = Fails stop read
 
--- the result of `next` for the value of the first result, or the refusal of the first
+-- the result of `next` for the value of the first result, or the refusal of the first result
 infixl 10 ◌>>=◌
 abbrev pub ◌>>=◌ : {A B : Type 0} → Result A Refusal → (A → Result B Refusal) → Result B Refusal
 (Ok value) >>= next = next value
 (Err refusal) >>= next = Err refusal
 
--- the number, if there is one and it isn't greater than `most`
+-- the number if there is one and it is at most `most`, or else a refusal
 abbrev pub at_most : ℕ → Option ℕ → Result ℕ Refusal
 at_most most (Some number) = if nat_le number most then Ok number else Err refusals.Value
 at_most most None = Err refusals.Value
 
--- the number that a word spells, if it isn't greater than `most`
+-- the number that a word spells if it is at most `most`, or else a refusal
 abbrev pub number_below : (most : ℕ) → Text → Result ℕ Refusal
 number_below most word = at_most most (number_spelled word)
 
@@ -42,11 +42,11 @@ greatest_number = 0xFFFFFFFFFFFFFFFF
 abbrev pub most_bytes : ℕ
 most_bytes = 65536
 
--- the size, if it isn't too large
+-- the size if it is at most `most_bytes`, or else a refusal
 abbrev pub size_of_number : ℕ → Result ℕ Refusal
 size_of_number size = if nat_lt most_bytes size then Err refusals.Size else Ok size
 
--- the size that a word spells
+-- the size in bytes that a word spells, or a refusal
 abbrev pub size_in : Text → Result ℕ Refusal
 size_in word = number_below greatest_number word >>= size_of_number
 
@@ -55,14 +55,14 @@ abbrev pub bytes_or_refusal : {E : Type 0} → Result (List ℕ) E → Result (L
 bytes_or_refusal (Ok bytes) = Ok bytes
 bytes_or_refusal (Err fault) = Err refusals.Value
 
--- the bytes that hexadecimal digits spell, two digits a byte
+-- the bytes that hexadecimal digits spell, two digits per byte, or a refusal
 abbrev pub bytes_in : Text → Result (List ℕ) Refusal
 bytes_in word = bytes_or_refusal (hex.decode_of word)
 
--- the bytes that a text in base64 encodes (RFC 4648, section 4)
+-- the bytes that a text in base64 encodes (RFC 4648, section 4), or a refusal
 abbrev pub base64_in : Text → Result (List ℕ) Refusal
 base64_in word = bytes_or_refusal (decode_of standard word)
 
--- the bytes that the digits after 0x spell
+-- the bytes that the digits after 0x spell, or a refusal
 abbrev pub payload_in : Text → Result (List ℕ) Refusal
 payload_in word = if has_x word then (if begins_0x word then bytes_in (behind_0x word) else Err refusals.Value) else Err refusals.Value

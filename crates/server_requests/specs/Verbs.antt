@@ -1,4 +1,4 @@
--- The request of a line, by its first word (QEMU, docs/devel/testing/qtest, up to clock_set; from step on our choice).
+-- The kinds of requests, by their first words (QEMU, docs/devel/testing/qtest, up to clock_set; from step on our choice).
 use Rattle.std.specs.Prelude.{◌==◌, ◌||◌, ℕ, Bool, List, [], ◌∷◌, Option, codes}
 use Rattle.adapter.specs.declared.step.StepKind.{StepKind}
 use Rattle.adapter.specs.declared.step.StepKind.TheVariants as kinds
@@ -61,11 +61,11 @@ verbs =
     ∷ (codes "rings", Rings)
     ∷ []
 
--- the kind of a request with this first word
+-- the kind of a request with this first word, if there is one
 unfoldable pub verb_named : Text → Option Verb
 verb_named word = value_in verbs word
 
--- whether a line with this first word may have this number of words
+-- whether a line with this kind of request may have this number of words
 abbrev pub takes_words : Verb → (count : ℕ) → Bool
 takes_words (ReadNumber width) count = count == 2
 takes_words (WriteNumber width) count = count == 3
@@ -111,6 +111,6 @@ step_kinds =
     ∷ (codes "phy", kinds.PhyTick)
     ∷ []
 
--- the kind of steps with this name
+-- the kind of steps with this name, if there is one
 unfoldable pub kind_named : Text → Option StepKind
 kind_named word = value_in step_kinds word

@@ -8,7 +8,7 @@ use Rattle.server_requests.specs.declared.request.Wanted.TheVariants.{Base64, By
 use Rattle.server_requests.specs.declared.request.Width.{Width}
 use Rattle.server_requests.specs.declared.request.Width.TheVariants.{Byte, Word, Long, Quad}
 
--- the number of bytes of a number of this width
+-- the size of a number of this width, in bytes
 abbrev pub bytes_of : Width → ℕ
 bytes_of Byte = 1
 bytes_of Word = 2
@@ -28,12 +28,12 @@ greatest Word = 0xFFFF
 greatest Long = 0xFFFFFFFF
 greatest Quad = 0xFFFFFFFFFFFFFFFF
 
--- the greatest number that an access of an I/O port writes
+-- the greatest number that an access of this width can write to an I/O port
 abbrev pub greatest_at_port : PortWidth → ℕ
 greatest_at_port port.Byte = 0xFF
 greatest_at_port port.Word = 0xFFFF
 greatest_at_port port.Long = 0xFFFFFFFF
 
--- the bytes of a number of this width
+-- the bytes of a number of this width, the lowest first
 unfoldable pub bytes_spelling : Width → ℕ → List ℕ
 bytes_spelling width number = take (bytes_of width) (to_le_bytes w64 number)

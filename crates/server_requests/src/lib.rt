@@ -1,7 +1,7 @@
-//! The requests of the server's line protocol: reads lines from an input, and the request of a line from its words.
+//! Reads the requests of the server's line protocol: lines from an input, and the request of a line from its words.
 //!
-//! The protocol is that of QEMU's `qtest`, with words for the adapter's own steps. [`next_line`] reads a line, and
-//! [`read_line`] reads its request.
+//! The protocol is QEMU's `qtest` with additional requests, such as for the adapter's steps. [`next_line`] reads a
+//! line, and [`read_line`] returns the request of a line.
 #![tactic(auto)]
 
 mod line_reader;

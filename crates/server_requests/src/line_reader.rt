@@ -23,13 +23,13 @@ pub struct ReadFailed;
 pub enum NextLine {
     /// The input is at its end.
     End,
-    /// A line.
+    /// A line of at most [`MOST_LINE_BYTES`] bytes.
     Whole,
-    /// A line that is too long. Only its beginning is kept.
+    /// A line of more than [`MOST_LINE_BYTES`] bytes. Only the beginning of the line is kept.
     Long,
 }
 
-/// The result for a line, which is too long if `is_long` is set.
+/// Returns the result for a line, which is too long if `is_long` is true.
 fn kept_as(is_long: bool) -> NextLine
     ensures { result ≡ kept_as is_long }
 {
@@ -45,13 +45,13 @@ fn kept_as(is_long: bool) -> NextLine
 enum Part {
     /// The input is at its end.
     None,
-    /// Bytes that don't end the line. `is_long` is set if they didn't all fit.
+    /// Bytes that don't end the line. `is_long` is true if the line had no room for all of them.
     More { is_long: bool },
-    /// The last bytes of the line. `is_long` is set if they didn't all fit.
+    /// The last bytes of the line. `is_long` is true if the line had no room for all of them.
     Last { is_long: bool },
 }
 
-/// Appends bytes to a line, as far as there is room. Returns whether there wasn't room for all.
+/// Appends bytes to a line, as far as there is room. Returns `true` if there wasn't room for all bytes.
 fn push_bytes(line: &mut Vec<u8>, bytes: &[u8]) -> bool
     requires room { MOST_LINE_BYTES ≤ vec_capacity line.old }
     requires fits { length line.old.items ≤ MOST_LINE_BYTES }
@@ -66,7 +66,7 @@ fn push_bytes(line: &mut Vec<u8>, bytes: &[u8]) -> bool
     is_long
 }
 
-/// The number of bytes before the first line feed, or of all bytes if there is none.
+/// Returns the number of bytes before the first line feed, or of all bytes if there is no line feed.
 fn length_before_feed(bytes: &[u8]) -> usize
     ensures bound { result ≤ length bytes.now }
     ensures before { All (λ byte. byte ≢ LINE_FEED) (take result bytes.now) }
@@ -82,7 +82,7 @@ fn length_before_feed(bytes: &[u8]) -> usize
     count
 }
 
-/// Reads a part of a line from the reader's buffer, and appends it as far as there is room. Skips the line feed.
+/// Reads a part of a line from the reader's buffer, and appends the part as far as there is room. Skips the line feed.
 fn take_part<R: BufRead>(reader: &mut R, line: &mut Vec<u8>) -> io::Result<Part>
     requires room { MOST_LINE_BYTES ≤ vec_capacity line.old }
     requires fits { length line.old.items ≤ MOST_LINE_BYTES }
@@ -110,12 +110,14 @@ fn take_part<R: BufRead>(reader: &mut R, line: &mut Vec<u8>) -> io::Result<Part>
     Ok(Part::Last { is_long })
 }
 
-/// Replaces `line` by the next line, without its end. Keeps the beginning of one that is too long, and skips the rest.
-/// `line` needs room for [`MOST_LINE_BYTES`], and keeps it.
+/// Replaces `line` by the next line, without its line feed.
+///
+/// Keeps the first [`MOST_LINE_BYTES`] bytes of a longer line, and skips the rest. `line` must have room for
+/// [`MOST_LINE_BYTES`] bytes; then no memory is allocated.
 ///
 /// # Errors
 ///
-/// A read failed and wasn't interrupted, or 2^64 - 1 reads didn't reach the end of the line.
+/// A read failed, except by an interruption, or 2^64 - 1 reads didn't reach the end of the line.
 pub fn next_line<R: BufRead>(reader: &mut R, line: &mut Vec<u8>) -> Result<NextLine, ReadFailed>
     requires { MOST_LINE_BYTES ≤ vec_capacity line.old }
     ensures next { IfOk result

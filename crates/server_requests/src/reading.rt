@@ -18,7 +18,7 @@ use std::alloc::Global;
 use std::str;
 use text::word_at;
 
-/// The maximum number of steps before an access, or of cycles after it, that a request may set (our choice).
+/// The maximum COUNT of `interleave` and of `pace` (our choice).
 const MOST_COUNT: u64 = 65_535;
 
 /// The maximum limit of `choose` (our choice): the numbers of a schedule have at most nine digits.
@@ -27,7 +27,7 @@ const MOST_LIMIT: u64 = 1_000_000_000;
 /// The maximum number of an I/O port.
 const MOST_PORT: u64 = 0xFFFF;
 
-/// The request to write bytes, if their number is the size.
+/// Returns the request to write bytes, or refuses if their number isn't the size.
 fn sized(address: u64, size: u64, payload: Payload) -> Result<Request, Stop>
     ensures { Gives result (reading.sized address size payload) }
 {
@@ -37,7 +37,7 @@ fn sized(address: u64, size: u64, payload: Payload) -> Result<Request, Stop>
     Ok(Request::Write(address, payload))
 }
 
-/// `write ADDR SIZE 0xHEX`.
+/// Reads `write ADDR SIZE 0xHEX`.
 fn write_of(alloc: Global, words: &[&str]) -> Result<Request, Stop>
     requires { length words.now ≡ 4 }
     ensures { Gives result (reading.write_in (texts words.now)) }
@@ -48,7 +48,7 @@ fn write_of(alloc: Global, words: &[&str]) -> Result<Request, Stop>
     sized(address, size, payload)
 }
 
-/// `b64write ADDR SIZE BASE64`.
+/// Reads `b64write ADDR SIZE BASE64`.
 fn write_base64_of(alloc: Global, words: &[&str]) -> Result<Request, Stop>
     requires { length words.now ≡ 4 }
     ensures { Gives result (reading.write_base64_in (texts words.now)) }
@@ -59,7 +59,7 @@ fn write_base64_of(alloc: Global, words: &[&str]) -> Result<Request, Stop>
     sized(address, size, payload)
 }
 
-/// `memset ADDR SIZE VALUE`.
+/// Reads `memset ADDR SIZE VALUE`.
 fn memset_of(alloc: Global, words: &[&str]) -> Result<Request, Stop>
     requires { length words.now ≡ 4 }
     ensures { Gives result (reading.memset_in (texts words.now)) }
@@ -71,7 +71,7 @@ fn memset_of(alloc: Global, words: &[&str]) -> Result<Request, Stop>
     Ok(Request::Write(address, Payload { bytes }))
 }
 
-/// `readb ADDR`, `readw`, `readl`, `readq`.
+/// Reads `readb ADDR`, `readw ADDR`, `readl ADDR` or `readq ADDR`.
 fn read_number_of(width: Width, words: &[&str]) -> Result<Request, Stop>
     requires { length words.now ≡ 2 }
     ensures { Gives result (reading.read_number_in width (texts words.now)) }
@@ -80,7 +80,7 @@ fn read_number_of(width: Width, words: &[&str]) -> Result<Request, Stop>
     Ok(Request::Read(Wanted::Number(width), address))
 }
 
-/// `writeb ADDR VALUE`, `writew`, `writel`, `writeq`.
+/// Reads `writeb ADDR VALUE`, `writew ADDR VALUE`, `writel ADDR VALUE` or `writeq ADDR VALUE`.
 fn write_number_of(alloc: Global, width: Width, words: &[&str]) -> Result<Request, Stop>
     requires { length words.now ≡ 3 }
     ensures { Gives result (reading.write_number_in width (texts words.now)) }
@@ -91,7 +91,7 @@ fn write_number_of(alloc: Global, width: Width, words: &[&str]) -> Result<Reques
     Ok(Request::Write(address, Payload { bytes }))
 }
 
-/// `read ADDR SIZE`.
+/// Reads `read ADDR SIZE`.
 fn read_of(words: &[&str]) -> Result<Request, Stop>
     requires { length words.now ≡ 3 }
     ensures { Gives result (reading.read_in (texts words.now)) }
@@ -101,7 +101,7 @@ fn read_of(words: &[&str]) -> Result<Request, Stop>
     Ok(Request::Read(Wanted::Bytes(size), address))
 }
 
-/// `b64read ADDR SIZE`.
+/// Reads `b64read ADDR SIZE`.
 fn read_base64_of(words: &[&str]) -> Result<Request, Stop>
     requires { length words.now ≡ 3 }
     ensures { Gives result (reading.read_base64_in (texts words.now)) }
@@ -111,7 +111,7 @@ fn read_base64_of(words: &[&str]) -> Result<Request, Stop>
     Ok(Request::Read(Wanted::Base64(size), address))
 }
 
-/// The number of an I/O port that a word spells.
+/// Returns the number of an I/O port that a word spells, or refuses the word.
 fn port_at(word: &str) -> Result<u16, Refusal>
     ensures { result ≡ number_below reading.most_port word.now }
 {
@@ -119,7 +119,7 @@ fn port_at(word: &str) -> Result<u16, Refusal>
     Ok(port as u16)
 }
 
-/// `inb PORT`, `inw`, `inl`.
+/// Reads `inb PORT`, `inw PORT` or `inl PORT`.
 fn read_port_of(width: PortWidth, word: &str) -> Result<Request, Stop>
     ensures { Gives result (reading.read_port_in width word.now) }
 {
@@ -127,7 +127,7 @@ fn read_port_of(width: PortWidth, word: &str) -> Result<Request, Stop>
     Ok(Request::Look(Look::Port(width, port)))
 }
 
-/// `outb PORT VALUE`, `outw`, `outl`.
+/// Reads `outb PORT VALUE`, `outw PORT VALUE` or `outl PORT VALUE`.
 fn write_port_of(width: PortWidth, words: &[&str]) -> Result<Request, Stop>
     requires { length words.now ≡ 3 }
     ensures { Gives result (reading.write_port_in width (texts words.now)) }
@@ -137,7 +137,7 @@ fn write_port_of(width: PortWidth, words: &[&str]) -> Result<Request, Stop>
     Ok(Request::WritePort(width, port, value as u32))
 }
 
-/// `arrive HEX`.
+/// Reads `arrive HEX`.
 fn arrive_of(alloc: Global, word: &str) -> Result<Request, Stop>
     ensures { Gives result (reading.arrive_in word.now) }
 {
@@ -145,7 +145,7 @@ fn arrive_of(alloc: Global, word: &str) -> Result<Request, Stop>
     Ok(Request::Arrive(frame))
 }
 
-/// `offer HEX`.
+/// Reads `offer HEX`.
 fn offer_of(alloc: Global, word: &str) -> Result<Request, Stop>
     ensures { Gives result (reading.offer_in word.now) }
 {
@@ -153,7 +153,7 @@ fn offer_of(alloc: Global, word: &str) -> Result<Request, Stop>
     Ok(Request::Offer(frame))
 }
 
-/// `interleave COUNT`.
+/// Reads `interleave COUNT`.
 fn interleave_of(word: &str) -> Result<Request, Stop>
     ensures { Gives result (reading.interleave_in word.now) }
 {
@@ -161,7 +161,7 @@ fn interleave_of(word: &str) -> Result<Request, Stop>
     Ok(Request::Set(Setting::Interleave(count as u16)))
 }
 
-/// Whether a word is the first of two words. A word that is neither is refused.
+/// Whether a word is the first of two words. Refuses a word that is neither of them.
 fn is_first(word: &str, first: &str, second: &str) -> Result<bool, Refusal>
     ensures { result ≡ reading.is_first first.now second.now word.now }
 {
@@ -174,7 +174,7 @@ fn is_first(word: &str, first: &str, second: &str) -> Result<bool, Refusal>
     Err(Refusal::Value)
 }
 
-/// `log on`, `log off`, `log targets`.
+/// Reads `log on`, `log off` or `log targets`.
 fn log_of(word: &str) -> Result<Request, Stop>
     ensures { Gives result (reading.log_in word.now) }
 {
@@ -188,7 +188,7 @@ fn log_of(word: &str) -> Result<Request, Stop>
     Ok(Request::Set(Setting::Log { on, targets: false }))
 }
 
-/// `wire free`, `wire full`.
+/// Reads `wire free` or `wire full`.
 fn wire_of(word: &str) -> Result<Request, Stop>
     ensures { Gives result (reading.wire_in word.now) }
 {
@@ -196,7 +196,7 @@ fn wire_of(word: &str) -> Result<Request, Stop>
     Ok(Request::Set(Setting::Wire(free)))
 }
 
-/// `events on`, `events off`.
+/// Reads `events on` or `events off`.
 fn events_of(word: &str) -> Result<Request, Stop>
     ensures { Gives result (reading.events_in word.now) }
 {
@@ -204,7 +204,7 @@ fn events_of(word: &str) -> Result<Request, Stop>
     Ok(Request::Set(Setting::Events(on)))
 }
 
-/// `pace COUNT`.
+/// Reads `pace COUNT`.
 fn pace_of(word: &str) -> Result<Request, Stop>
     ensures { Gives result (reading.pace_in word.now) }
 {
@@ -212,7 +212,7 @@ fn pace_of(word: &str) -> Result<Request, Stop>
     Ok(Request::Set(Setting::Pace(count as u16)))
 }
 
-/// `clock_step`, `clock_step NS`.
+/// Reads `clock_step` or `clock_step NS`.
 fn clock_step_of(words: &[&str]) -> Result<Request, Stop>
     requires { 1 ≤ length words.now }
     ensures { Gives result (reading.clock_step_in (texts words.now)) }
@@ -224,7 +224,7 @@ fn clock_step_of(words: &[&str]) -> Result<Request, Stop>
     Ok(Request::ClockStep(time))
 }
 
-/// `clock_set NS`.
+/// Reads `clock_set NS`.
 fn clock_set_of(word: &str) -> Result<Request, Stop>
     ensures { Gives result (reading.clock_set_in word.now) }
 {
@@ -232,7 +232,7 @@ fn clock_set_of(word: &str) -> Result<Request, Stop>
     Ok(Request::ClockSet(time))
 }
 
-/// `step KIND`.
+/// Reads `step KIND`.
 fn step_of(word: &str) -> Result<Request, Stop>
     ensures { Gives result (reading.step_in word.now) }
 {
@@ -242,7 +242,7 @@ fn step_of(word: &str) -> Result<Request, Stop>
     }
 }
 
-/// `choose LIMIT`.
+/// Reads `choose LIMIT`.
 fn choose_of(word: &str) -> Result<Request, Stop>
     ensures { Gives result (reading.choose_in word.now) }
 {
@@ -253,7 +253,7 @@ fn choose_of(word: &str) -> Result<Request, Stop>
     Ok(Request::Choose(limit as u32))
 }
 
-/// `target ADDR SIZE`.
+/// Reads `target ADDR SIZE`.
 fn target_of(words: &[&str]) -> Result<Request, Stop>
     requires { length words.now ≡ 3 }
     ensures { Gives result (reading.target_in (texts words.now)) }
@@ -263,7 +263,7 @@ fn target_of(words: &[&str]) -> Result<Request, Stop>
     Ok(Request::Look(Look::Target(address, size)))
 }
 
-/// The request of a line with the right number of words.
+/// Returns the request of a line with this kind of request and an allowed number of words.
 fn request_with(alloc: Global, verb: Verb, words: &[&str]) -> Result<Request, Stop>
     requires { IsTrue (takes_words verb (length words.now)) }
     ensures { Gives result (reading.request_with verb (texts words.now)) }
@@ -304,7 +304,7 @@ fn request_with(alloc: Global, verb: Verb, words: &[&str]) -> Result<Request, St
     }
 }
 
-/// The request of the words of a line.
+/// Returns the request of the words of a line.
 fn request_of(alloc: Global, words: &[&str]) -> Result<Request, Stop>
     ensures { Gives result (reading.request_in (texts words.now)) }
 {
@@ -320,12 +320,12 @@ fn request_of(alloc: Global, words: &[&str]) -> Result<Request, Stop>
     request_with(alloc, verb, words)
 }
 
-/// The request of a line. A line that isn't a request is refused.
+/// Returns the request of a line. Refuses a line that isn't a request.
 ///
 /// # Errors
 ///
 /// The line is refused, for the first reason that applies: `text`, `unknown`, `count`; then, for the words from left to
-/// right, `value` or `size`; then `value` if a payload hasn't the size that the line names. Or memory was refused.
+/// right, `value` or `size`; then `value` if the number of bytes in a payload isn't SIZE. Or memory was refused.
 pub fn read_line(alloc: Global, line: &[u8]) -> Result<Request, Stop>
     ensures { reading.IsRead line.now result }
 {

@@ -9,29 +9,30 @@ use std::alloc::AllocError;
 /// Why a line is refused. A refused line changes nothing.
 #[derive(Clone, Copy)]
 pub enum Refusal {
-    /// `FAIL unknown`: its first word isn't known, or it has none.
+    /// `FAIL unknown`: the line's first word isn't that of a request, or the line has no word.
     Unknown,
-    /// `ERR count`: it has too few or too many words.
+    /// `ERR count`: the line has too few or too many words.
     Count,
-    /// `ERR value`: a word has an invalid form, is out of range, or has another number of bytes than SIZE; or the clock
-    /// would be 2^64 or more.
+    /// `ERR value`: a word has an invalid form, is out of range, or contains another number of bytes than SIZE; or the
+    /// clock would be 2^64 or more.
     Value,
-    /// `ERR size`: it reads or writes more than 65,536 bytes.
+    /// `ERR size`: SIZE is above 65,536 bytes.
     Size,
-    /// `ERR address`: its bytes are neither in memory nor a register.
+    /// `ERR address`: memory doesn't contain all bytes of the access, and none of them is a byte of a register; or SIZE
+    /// is 0, and ADDR is above the size of memory.
     Address,
-    /// `ERR register`: some of its bytes are those of registers and some aren't in memory, and it isn't an access of
-    /// four bytes at an aligned address.
+    /// `ERR register`: memory doesn't contain all bytes of the access, some of them are bytes of registers, and the
+    /// access isn't of four bytes at an aligned address.
     Register,
-    /// `ERR saved`: it restores a state, and none was saved.
+    /// `ERR saved`: the line is `restore`, and no state was saved.
     Saved,
-    /// `ERR text`: it isn't UTF-8.
+    /// `ERR text`: the line isn't UTF-8.
     Text,
-    /// `ERR long`: it has more than 131,200 bytes.
+    /// `ERR long`: the line has more than 131,200 bytes.
     Long,
 }
 
-/// Why a line wasn't read.
+/// Why reading the request of a line failed.
 #[derive(Clone, Copy)]
 pub enum Stop {
     /// The line is refused.
@@ -57,7 +58,7 @@ impl From<AllocError> for Stop {
 }
 
 impl Refusal {
-    /// The line that is written for a refusal.
+    /// Returns the line that is written for a refusal.
     pub fn text(self) -> &'static [u8]
         ensures { result.now ≡ refusal_line self }
     {

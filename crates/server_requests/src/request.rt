@@ -22,7 +22,7 @@ pub enum Width {
 /// The number of bytes that a read returns, and the form of its answer.
 #[derive(Clone, Copy)]
 pub enum Wanted {
-    /// `readb`, `readw`, `readl`, `readq`: a number, whose lowest byte is at the address.
+    /// `readb`, `readw`, `readl`, `readq`: a number of this width, whose lowest byte is at the address.
     Number(Width),
     /// `read`: this number of bytes, from the address on.
     Bytes(u64),
@@ -45,7 +45,7 @@ impl Model for Payload {
 }
 
 impl Payload {
-    /// The bytes.
+    /// Returns the bytes.
     pub fn as_slice(&self) -> &[u8]
         ensures { result.now ≡ self.now }
     {
@@ -56,25 +56,25 @@ impl Payload {
 /// How later requests are answered.
 #[derive(Clone, Copy)]
 pub enum Setting {
-    /// `interleave`: up to this number of steps is played before each access.
+    /// `interleave`: up to this number of random steps are played before each access.
     Interleave(u16),
-    /// `pace`: up to this number of cycles is played after each access and each arrival.
+    /// `pace`: up to this number of cycles are played after each access and each `arrive`.
     Pace(u16),
-    /// `log`: whether steps, accesses and arrivals are printed, and whether the line of an access has the name of its
-    /// target.
+    /// `log`: whether steps, accesses and arrivals are printed, and whether the line of an access contains the name of
+    /// its target.
     Log { on: bool, targets: bool },
     /// `events`: whether frames on the wire, faults, and arrivals of offered frames are printed.
     Events(bool),
-    /// `wire`: whether the wire has room for a frame.
+    /// `wire`: whether the wire is free. If not, the wire has no room for a frame.
     Wire(bool),
 }
 
-/// A report about the adapter or the server. A report plays nothing.
+/// A request that returns state of the adapter or the server, and plays nothing.
 #[derive(Clone, Copy)]
 pub enum Look {
     /// `inb`, `inw`, `inl`: the value at this I/O port.
     Port(PortWidth, u16),
-    /// `endianness`: the order of the bytes of a number.
+    /// `endianness`: the order of the bytes of a number in memory.
     Endianness,
     /// `line`: the level of the interrupt line.
     Line,
@@ -84,11 +84,11 @@ pub enum Look {
     Frames,
     /// `faults`: the faults that stopped an engine while events weren't printed, and weren't returned yet.
     Faults,
-    /// `irq_intercept_in`, `irq_intercept_out`: changes of the interrupt line are always printed.
+    /// `irq_intercept_in`, `irq_intercept_out`: nothing, because changes of the interrupt line are always printed.
     Intercept,
     /// `enabled`: the kinds of steps that would do something.
     Enabled,
-    /// `target`: the name of what an access reads or writes at this address, of this number of bytes.
+    /// `target`: the name of what an access at this address, of this number of bytes, would read or write.
     Target(u64, u64),
     /// `rings`: the bases, the lengths, the heads and the tails of both rings.
     Rings,
@@ -101,28 +101,28 @@ pub enum Request {
     Read(Wanted, u64),
     /// `writeb`, `writew`, `writel`, `writeq`, `write`, `b64write`, `memset`: writes these bytes from an address on.
     Write(u64, Payload),
-    /// Returns this report.
+    /// Returns state, and plays nothing.
     Look(Look),
     /// `outb`, `outw`, `outl`: writes this value to this I/O port.
     WritePort(PortWidth, u16, u32),
-    /// `interleave`, `pace`, `log`, `events`, `wire`: sets this for later requests.
+    /// `interleave`, `pace`, `log`, `events`, `wire`: changes this setting for later requests.
     Set(Setting),
     /// `step`: the adapter takes a step of this kind.
     Step(StepKind),
     /// `arrive`: a frame is delivered to the adapter.
     Arrive(Payload),
-    /// `settle`: offered frames arrive, and cycles of steps are played until a cycle does nothing.
+    /// `settle`: all offered frames arrive, and then cycles are played until one does nothing, up to a maximum number.
     Settle,
     /// `offer`: a frame waits for its arrival.
     Offer(Payload),
-    /// `choose`: a number below this limit, which isn't 0.
+    /// `choose`: returns a number below this limit, which isn't 0.
     Choose(u32),
     /// `clock_step`: settles, and then advances the clock by this number of nanoseconds.
     ClockStep(u64),
-    /// `clock_set`: settles, and then sets the clock to this time, if the clock is earlier.
+    /// `clock_set`: settles, and then sets the clock to this time in nanoseconds, unless the clock is already later.
     ClockSet(u64),
-    /// `save`: the state is kept.
+    /// `save`: keeps a copy of the state.
     Save,
-    /// `restore`: the state that was kept last is the state again.
+    /// `restore`: replaces the state by a copy of the state that was saved last.
     Restore,
 }

@@ -15,7 +15,7 @@ use text::number_of;
 /// The maximum number of bytes that a request reads or writes (our choice).
 pub(crate) const MOST_BYTES: u64 = 65_536;
 
-/// The number, at most `most`, that a word spells.
+/// Returns the number that a word spells. Refuses a word that isn't a number, or spells one above `most`.
 pub(crate) fn number_at(text: &str, most: u64) -> Result<u64, Refusal>
     ensures { result ≡ number_below most text.now }
 {
@@ -25,7 +25,7 @@ pub(crate) fn number_at(text: &str, most: u64) -> Result<u64, Refusal>
     }
 }
 
-/// The number of bytes that a word spells.
+/// Returns the SIZE that a word spells, in bytes. Refuses a word that isn't a number, or spells one above 65,536.
 pub(crate) fn size_at(text: &str) -> Result<u64, Refusal>
     ensures { result ≡ size_in text.now }
 {
@@ -36,7 +36,7 @@ pub(crate) fn size_at(text: &str) -> Result<u64, Refusal>
     Ok(size)
 }
 
-/// The bytes that pairs of hexadecimal digits spell.
+/// Returns the bytes that pairs of hexadecimal digits spell, or refuses the word.
 pub(crate) fn bytes_at(alloc: Global, text: &str) -> Result<Payload, Stop>
     ensures { Gives result (bytes_in text.now) }
 {
@@ -47,7 +47,7 @@ pub(crate) fn bytes_at(alloc: Global, text: &str) -> Result<Payload, Stop>
     }
 }
 
-/// The bytes that a text in base64 encodes (RFC 4648, section 4).
+/// Returns the bytes that a text in base64 encodes (RFC 4648, section 4), or refuses the text.
 pub(crate) fn base64_at(alloc: Global, text: &str) -> Result<Payload, Stop>
     ensures { Gives result (base64_in text.now) }
 {
@@ -58,7 +58,7 @@ pub(crate) fn base64_at(alloc: Global, text: &str) -> Result<Payload, Stop>
     }
 }
 
-/// The bytes that pairs of hexadecimal digits after `0x` spell.
+/// Returns the bytes that pairs of hexadecimal digits after `0x` spell, or refuses the word.
 pub(crate) fn payload_at(alloc: Global, text: &str) -> Result<Payload, Stop>
     ensures { Gives result (payload_in text.now) }
 {

@@ -23,7 +23,7 @@ pub(crate) enum Verb {
     ReadBase64,
     /// `b64write`: writes bytes in base64.
     WriteBase64,
-    /// `memset`: writes one byte many times.
+    /// `memset`: writes bytes of the same value.
     Memset,
     /// `inb`, `inw`, `inl`: reads an I/O port.
     ReadPort(PortWidth),
@@ -78,7 +78,7 @@ pub(crate) enum Verb {
 }
 
 impl Verb {
-    /// Whether a line with this first word may have this number of words.
+    /// Whether a line with this kind of request may have this number of words.
     pub(crate) fn takes_words(self, count: usize) -> bool
         ensures { result ≡ takes_words self count }
     {
@@ -145,7 +145,7 @@ const VERBS: [(&str, Verb); 43] = [
     ("rings", Verb::Rings),
 ];
 
-/// The kind of the request of a line with this first word.
+/// Returns the kind of request with this first word, or `None` if the word isn't that of a request.
 #[tactic(auto, unfolding(crate::specs::Verbs::verb_named))]
 pub(crate) fn verb_of(word: &str) -> Option<Verb>
     ensures { result ≡ verb_named word.now }
@@ -163,7 +163,7 @@ const STEP_KINDS: [(&str, StepKind); 6] = [
     ("phy", StepKind::PhyTick),
 ];
 
-/// The kind of steps with this name.
+/// Returns the kind of steps with this name, or `None` if no kind has this name.
 #[tactic(auto, unfolding(crate::specs::Verbs::kind_named))]
 pub(crate) fn kind_of(word: &str) -> Option<StepKind>
     ensures { result ≡ kind_named word.now }

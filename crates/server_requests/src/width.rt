@@ -8,7 +8,7 @@ use pci_function::PortWidth;
 use std::alloc::{AllocError, Global};
 
 impl Width {
-    /// The greatest number of this width.
+    /// Returns the greatest number of this width.
     pub(crate) fn greatest(self) -> u64
         ensures { result ≡ greatest self }
     {
@@ -20,7 +20,7 @@ impl Width {
         }
     }
 
-    /// The number of bytes of a number of this width.
+    /// Returns the size of a number of this width, in bytes.
     pub fn bytes(self) -> usize
         ensures { result ≡ bytes_of self }
     {
@@ -32,7 +32,7 @@ impl Width {
         }
     }
 
-    /// The bytes of a number of this width, the lowest first.
+    /// Returns the bytes of a number of this width, the lowest first.
     #[tactic(auto, unfolding(crate::specs::Widths::bytes_spelling))]
     pub fn bytes_spelling(self, alloc: Global, number: u64) -> Result<Vec<u8>, AllocError>
         ensures { IfOk result (λ bytes. bytes.items ≡ bytes_spelling self number) }
@@ -41,7 +41,7 @@ impl Width {
     }
 }
 
-/// The greatest number that an access of this width writes to an I/O port.
+/// Returns the greatest number that an access of this width can write to an I/O port.
 pub(crate) fn greatest_at_port(width: PortWidth) -> u64
     ensures { result ≡ greatest_at_port width }
 {
@@ -53,7 +53,7 @@ pub(crate) fn greatest_at_port(width: PortWidth) -> u64
 }
 
 impl Wanted {
-    /// The number of bytes that are read.
+    /// Returns the number of bytes that are read.
     pub fn size(self) -> u64
         ensures { result ≡ size_of self }
     {

@@ -8,7 +8,8 @@ ghost use Rattle.server_requests.specs.Words.{is_blank, parts_after, texts, word
 
 use arrayvec::ArrayVec;
 
-/// The number of words that are read of a line. A request has at most four, so the fifth shows that there are too many.
+/// The number of words that are read from a line. A request has at most four words, so a fifth shows that there are too
+/// many.
 const READ_WORDS: usize = 5;
 
 /// Whether a byte is a space or a tab, which separate words.
@@ -18,14 +19,15 @@ fn is_blank(byte: u8) -> bool
     byte == b' ' || byte == b'\t'
 }
 
-/// The place of the first space or tab, if there is one.
+/// Returns the position of the first space or tab, or `None` if there is neither.
 fn first_blank(line: &[u8]) -> Option<usize>
     ensures { result ≡ position is_blank line.now }
 {
     line.iter().position(|byte| is_blank(*byte))
 }
 
-/// The text before the first space or tab, and the text after it, if there is one.
+/// Returns the text before the first space or tab, and the text after this byte. Returns the whole line and `None` if
+/// there is neither.
 fn cut(line: &str) -> (&str, Option<&str>)
     ensures parts { slice_split is_blank line.entry.now ≡ result.0.now ∷ parts_after result.1 }
     ensures shorter { IfSome result.1 (λ later. length later.now < length line.entry.now) }
@@ -46,7 +48,7 @@ fn push_part<'a>(words: &mut ArrayVec<&'a str, READ_WORDS>, part: &'a str)
     }
 }
 
-/// The first five words of a line, or all if it has fewer. Spaces and tabs separate words.
+/// Returns the first five words of a line, or all words if it has fewer. Spaces and tabs separate words.
 pub(crate) fn words_in(line: &str) -> ArrayVec<&str, READ_WORDS>
     ensures words { texts result.items ≡ take READ_WORDS (words_of line.entry.now) }
     ensures asked { request_in (texts result.items) ≡ request_in (words_of line.entry.now) }

@@ -1,5 +1,5 @@
 use Rattle.std.proofs.Common.{◌≡◌, ◌∙◌, [], List, subst, sym}
-use Rattle.engine_faults.specs.declared.engine_fault.EngineFault.{EngineFault}
+use Rattle.access_names.specs.declared.engine_fault.EngineFault.{EngineFault}
 use Rattle.adapter_server.specs.Answers.{AnswersFaults, TellsAnswer}
 use Rattle.server_output.specs.Texts.{faults_line}
 use Rattle.adapter_server.specs.declared.session.Session.{Session}

@@ -1,11 +1,19 @@
-use Rattle.std.proofs.Common.{codes}
+use Rattle.std.proofs.Common.{◌≡◌, ◌∙◌, ap, codes, rules}
 use Rattle.std.specs.Prelude.{List, ℕ}
-use Rattle.server_output.specs.Texts.{ok_line, word_line}
-use Rattle.adapter_server.proofs.Printing.{fetched, replied}
+use Rattle.server_output.specs.Texts.{ok_line, rings_line, word_line}
+use Rattle.pci_function.specs.Ports.{answer_at}
+use Rattle.adapter_server.specs.Answers.{AnswersRings, Replies, line_number}
+use Rattle.adapter_server.specs.declared.session.Session.{Session}
+use Rattle.adapter_server.proofs.Printing.{answer_so, fetched, replied}
 use Rattle.adapter_server.proofs.looking.look.Goals as goal
 
 pub returns-in-Port : goal.returns-in-Port
-returns-in-Port g c = rw c.in-Port.is c.read_port.ensures
+returns-in-Port g c =
+    let a = c.args.session.now in
+    rw c.in-Port.is
+    (replied c.say_number.result _ a _ _
+    (rw (c.from.ensures ∙ c.read_port-value.ensures
+    ∙ ap (λ asserted. answer_at c.in-Port.port c.in-Port.width asserted a.function) c.line-asserted.ensures.line) at c.say_number.ensures))
 
 pub returns-in-Endianness : goal.returns-in-Endianness
 returns-in-Endianness g c =
@@ -13,12 +21,14 @@ returns-in-Endianness g c =
 
 pub returns-in-Line : goal.returns-in-Line
 returns-in-Line g c =
-    rw c.in-Line.is c.say_level.ensures
+    let level : c.from-in-Line.result ≡ line_number c.args.session.now.device = search rules in
+    rw c.in-Line.is
+    (replied c.say_number-in-Line.result _ c.args.session.now _ _ (rw level at c.say_number-in-Line.ensures))
 
 pub returns-in-Digest : goal.returns-in-Digest
 returns-in-Digest g c =
-    rw c.in-Digest.is (replied c.say_number.result _ c.args.session.now _ _
-    (rw c.digest.ensures at c.say_number.ensures))
+    rw c.in-Digest.is (replied c.say_number-in-Digest.result _ c.args.session.now _ _
+    (rw c.digest.ensures at c.say_number-in-Digest.ensures))
 
 pub returns-in-Frames : goal.returns-in-Frames
 returns-in-Frames g c =
@@ -40,4 +50,15 @@ pub returns-in-Target : goal.returns-in-Target
 returns-in-Target g c = rw c.in-Target.is c.say_target.ensures
 
 pub returns-in-Rings : goal.returns-in-Rings
-returns-in-Rings g c = rw c.in-Rings.is c.say_both_rings.ensures
+returns-in-Rings g c =
+    let a = c.args.session.now in
+    let line = rings_line c.of-receive.result c.of-transmit.result in
+    rw c.in-Rings.is
+    (answer_so c.say_rings.result (Replies line a) (AnswersRings a) (λ (b : Session). b) a _ _
+    (λ b text replies. record {
+      receive = c.of-receive.result;
+      transmit = c.of-transmit.result;
+      receive_is = c.of-receive.ensures.ring;
+      transmit_is = c.of-transmit.ensures.ring;
+      replies = replies;
+    }) (replied c.say_rings.result line a _ _ c.say_rings.ensures))

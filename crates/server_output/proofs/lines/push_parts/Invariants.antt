@@ -2,6 +2,6 @@ use Rattle.std.proofs.Common.{◌≡◌, ◌++◌, drop}
 use Rattle.server_output.specs.Texts.{joined}
 use Rattle.server_output.proofs.lines.push_parts.Given as goal
 
--- the text with the parts that are left is the text with all parts
+-- the text so far and the remaining parts are together the text with all parts
 abbrev pub invariant-loop-part : goal.invariant-loop-part
 invariant-loop-part l = l.text.items ++ joined (drop l.part-index l.parts) ≡ l.initial.text.items ++ joined l.parts

@@ -1,4 +1,4 @@
-use Rattle.adapter_server.proofs.access.write_to.Goals as goal
+use Rattle.adapter_server.proofs.task.write_to.Goals as goal
 
 pub returns-in-Register : goal.returns-in-Register
 returns-in-Register g c = rw (c.in-Register.is, ← c.register_value.ensures) c.serve_write.ensures

@@ -1,0 +1,87 @@
+use Rattle.std.proofs.Common.{◌++◌, ◌∷◌, [], List, ap, refl, subst}
+use Rattle.std.specs.Prelude.{ℕ}
+use Rattle.server_output.specs.Texts.{number_line, ok_line, word_line}
+use Rattle.adapter_server.specs.Tasks.{ReadsFrom}
+use Rattle.adapter_server.proofs.task.Task.play.Goals as goal
+
+pub read_from-requires : goal.read_from-requires
+read_from-requires g c = (rw c.in-Read.is at c.requires).1
+
+pub write_to-requires : goal.write_to-requires
+write_to-requires g c = rw c.in-Write.is at c.requires
+
+pub returns-in-Read-clause-plays : goal.returns-in-Read-clause-plays
+returns-in-Read-clause-plays g c =
+    let tells = c.read_from.ensures in
+    let fits = rw c.in-Read.is at c.requires in
+    rw c.in-Read.is (record {
+      told = tells.told;
+      holds = (
+        c.read_from.new.into,
+        refl,
+        subst (λ (size : ℕ). ReadsFrom c.in-Read.place c.in-Read.address size c.read_from.new.into c.args.moves.now c.args.device.now
+            c.read_from.new.device tells.told) fits.0 tells.holds,
+      );
+      hears = tells.hears;
+    })
+
+pub returns-in-Write-clause-plays : goal.returns-in-Write-clause-plays
+returns-in-Write-clause-plays g c =
+    let tells = c.write_to.ensures in
+    rw c.in-Write.is (record { told = tells.told; holds = (refl, tells.holds); hears = tells.hears })
+
+pub returns-in-Step-clause-plays : goal.returns-in-Step-clause-plays
+returns-in-Step-clause-plays g c =
+    let tells = c.serve_step-outcome.ensures in
+    rw c.in-Step.is
+    (record {
+      told = tells.told;
+      holds = (c.serve_step-outcome.result, ap word_line c.outcome_word.ensures, tells.holds);
+      hears = tells.hears;
+    })
+
+pub returns-in-Arrive-clause-plays : goal.returns-in-Arrive-clause-plays
+returns-in-Arrive-clause-plays g c =
+    let tells = c.serve_arrival-fate.ensures in
+    rw c.in-Arrive.is
+    (record {
+      told = tells.told;
+      holds = (c.serve_arrival-fate.result, ap word_line c.fate_word.ensures, tells.holds);
+      hears = tells.hears;
+    })
+
+pub returns-in-Settle-clause-plays : goal.returns-in-Settle-clause-plays
+returns-in-Settle-clause-plays g c =
+    let tells = c.serve_settle.ensures in
+    rw c.in-Settle.is (record { told = tells.told; holds = (c.serve_settle.result, refl, tells.holds); hears = tells.hears })
+
+pub returns-in-Ok-clause-plays : goal.returns-in-Ok-clause-plays
+returns-in-Ok-clause-plays g c =
+    let tells = c.make_all.ensures in
+    let moved = c.make_all.new.self in
+    rw c.in-Offer.is (record {
+      told = tells.told;
+      holds = (refl, moved, ap (λ (offered : List (List ℕ)). record moved { offered = offered }) c.in-Ok.ensures, tells.holds);
+      hears = tells.hears;
+    })
+
+pub returns-in-Err-clause-plays : goal.returns-in-Err-clause-plays
+returns-in-Err-clause-plays g c =
+    let tells = c.make_all.ensures in
+    let moved = c.make_all.new.self in
+    rw c.in-Offer.is (record {
+      told = tells.told;
+      holds = (ok_line, record moved { offered = moved.offered ++ c.in-Offer.frame.now ∷ [] }, (refl, moved, refl, tells.holds));
+      hears = tells.hears;
+    })
+
+pub returns-in-Choose-clause-plays : goal.returns-in-Choose-clause-plays
+returns-in-Choose-clause-plays g c =
+    let tells = c.serve_choose-number.ensures.tells in
+    rw c.in-Choose.is
+    (record { told = tells.told; holds = (c.serve_choose-number.result, ap number_line c.from.ensures, tells.holds); hears = tells.hears })
+
+pub returns-in-SetClock-clause-plays : goal.returns-in-SetClock-clause-plays
+returns-in-SetClock-clause-plays g c =
+    let tells = c.serve_settle-moved.ensures in
+    rw c.in-SetClock.is (record { told = tells.told; holds = (c.serve_settle-moved.result, refl, tells.holds); hears = tells.hears })

@@ -1,0 +1,201 @@
+// What the adapter does for a request.
+
+ghost use Rattle.std.specs.Prelude.{◌≡◌, IfOk, length, string_bytes};
+ghost use Rattle.std.specs.Int.{from_le_bytes, w32};
+ghost use Rattle.adapter_server.specs.Sessions.{Takes, target_in, write_to};
+ghost use Rattle.adapter_server.specs.Tasks.{ReadsFrom};
+ghost use Rattle.played_adapter.specs.Order.{Tells};
+ghost use Rattle.played_adapter.specs.Requests.{ServesAccess};
+
+use crate::session::Place;
+use access_names::{Target, memory_target};
+use adapter::StepKind;
+use bus::Machine;
+use played_adapter::{Move, Observer, PlayedAdapter};
+use server_output::{Answer, fate_word, outcome_word};
+use server_requests::Wanted;
+use std::alloc::{AllocError, Global};
+use step_schedules::Before;
+
+/// The size of a register, in bytes.
+pub(crate) const REGISTER_WIDTH: usize = 4;
+
+/// What the adapter does for a request, after the moves of a player.
+#[derive(Clone, Copy)]
+pub enum Task<'a> {
+    /// Bytes at this place are read, and the answer has this form. In memory, the first byte is at this address.
+    Read(Place, u64, Wanted),
+    /// These bytes are written at this place. In memory, the first byte is at this address.
+    Write(Place, u64, &'a [u8]),
+    /// `step`: a step of this kind is played.
+    Step(StepKind),
+    /// `arrive`: this frame is delivered.
+    Arrive(&'a [u8]),
+    /// `settle`: offered frames arrive, and then cycles are played until one does nothing, up to a maximum number.
+    Settle,
+    /// `offer`: this frame waits for its arrival.
+    Offer(&'a [u8]),
+    /// `choose`: a number below this limit is chosen, or 0 if the limit is 0.
+    Choose(u32),
+    /// `clock_step`, `clock_set`: as `Settle`, but no move of a player is played. The answer is this time.
+    SetClock(u64),
+}
+
+/// Returns the target of an access at a place. The address matters only for a place in memory.
+pub(crate) fn target_at(machine: &Machine, place: Place, address: u64) -> Target
+    ensures { result ≡ target_in place address machine.now.world.adapter }
+{
+    match place {
+        Place::Register(offset) => Target::Register(offset),
+        Place::Memory => memory_target(machine, address),
+    }
+}
+
+/// Returns the value of these four bytes, the lowest first.
+fn register_value(bytes: &[u8]) -> u32
+    requires { length bytes.now ≡ 4 }
+    ensures { result ≡ from_le_bytes w32 bytes.now }
+{
+    let mut all = [0; REGISTER_WIDTH];
+    all.copy_from_slice(bytes);
+    u32::from_le_bytes(all)
+}
+
+/// Serves a read of bytes at a place, after moves. Stores the bytes in `into`.
+fn read_from<O: Observer>(
+    device: &mut PlayedAdapter,
+    moves: &[Move],
+    place: Place,
+    address: u64,
+    into: &mut [u8],
+    observer: &mut O,
+)
+    requires { Takes place address into.old device.old }
+    ensures { Tells O.heard observer.old observer.new
+        (ReadsFrom place address (length into.old) into.new moves.now device.old device.new) }
+{
+    match place {
+        Place::Register(offset) => {
+            let value = device.serve_read(moves, offset, observer);
+            into.copy_from_slice(&value.to_le_bytes());
+        }
+        Place::Memory => device.serve_load(moves, address, into, observer),
+    }
+}
+
+/// Serves a write of bytes at a place, after moves.
+fn write_to<O: Observer>(
+    device: &mut PlayedAdapter,
+    moves: &[Move],
+    place: Place,
+    address: u64,
+    bytes: &[u8],
+    observer: &mut O,
+)
+    requires { Takes place address bytes.now device.old }
+    ensures { Tells O.heard observer.old observer.new
+        (ServesAccess moves.now (write_to place address bytes.now) device.old device.new) }
+{
+    match place {
+        Place::Register(offset) => {
+            device.serve_write(moves, offset, register_value(bytes), observer);
+        }
+        Place::Memory => device.serve_store(moves, address, bytes, observer),
+    }
+}
+
+impl<'a> Task<'a> {
+    ghost use Rattle.adapter_server.specs.Tasks.{Fits, PlaysTo, task_before, task_name, task_word};
+    ghost use Rattle.server_output.specs.Answers.{IsSized};
+
+    /// Returns what a player meets at the task, or `None` if the task sets the clock.
+    pub(crate) fn before(self) -> Option<Before>
+        ensures { result ≡ task_before self.entry }
+    {
+        match self {
+            Task::Read(..) => Some(Before::Read),
+            Task::Write(..) => Some(Before::Write),
+            Task::Choose(_) => Some(Before::Choice),
+            Task::SetClock(_) => None,
+            _ => Some(Before::Request),
+        }
+    }
+
+    /// Returns the first word of the task's request, or an empty text if the task is an access or sets the clock.
+    fn word(self) -> &'static str
+        ensures { result.now ≡ task_word self.entry }
+    {
+        match self {
+            Task::Step(_) => "step",
+            Task::Arrive(_) => "arrive",
+            Task::Settle => "settle",
+            Task::Offer(_) => "offer",
+            Task::Choose(_) => "choose",
+            _ => "",
+        }
+    }
+
+    /// Returns the name that a player meets: the name of an access's target, or the first word of another request.
+    pub(crate) fn name(self, alloc: Global, machine: &Machine) -> Result<String, AllocError>
+        ensures { IfOk result (λ name. string_bytes name ≡ task_name self.entry machine.now.world.adapter) }
+    {
+        match self {
+            Task::Read(place, address, _) => target_at(machine, place, address).to_string(alloc),
+            Task::Write(place, address, _) => target_at(machine, place, address).to_string(alloc),
+            _ => String::from_str(alloc, self.word()),
+        }
+    }
+
+    /// Plays a task after moves, and returns the answer.
+    ///
+    /// The bytes of a read are stored in `into`. `wanted` is the number that is due at `choose` in a schedule, or 0.
+    pub(crate) fn play<'b, O: Observer>(
+        self,
+        alloc: Global,
+        device: &mut PlayedAdapter,
+        moves: &[Move],
+        wanted: u32,
+        into: &'b mut [u8],
+        observer: &mut O,
+    ) -> Result<Answer<'b>, AllocError>
+        requires { Fits self into.old device.old }
+        ensures plays { Tells O.heard observer.old observer.new
+            (PlaysTo self.entry result moves.now wanted device.old device.new) }
+        ensures sized { IfOk result (λ answer. IsSized answer) }
+    {
+        match self {
+            Task::Read(place, address, form) => {
+                read_from(device, moves, place, address, into, observer);
+                Ok(Answer::Bytes(form, into))
+            }
+            Task::Write(place, address, bytes) => {
+                write_to(device, moves, place, address, bytes, observer);
+                Ok(Answer::Done)
+            }
+            Task::Step(kind) => {
+                let outcome = device.serve_step(moves, kind, observer);
+                Ok(Answer::Word(outcome_word(outcome)))
+            }
+            Task::Arrive(frame) => {
+                let fate = device.serve_arrival(moves, frame, observer);
+                Ok(Answer::Word(fate_word(fate)))
+            }
+            Task::Settle => Ok(Answer::Number(device.serve_settle(moves, observer))),
+            Task::Offer(frame) => {
+                device.make_all(moves, observer);
+                match device.offered.push(alloc, frame) {
+                    Ok(()) => Ok(Answer::Done),
+                    Err(error) => Err(error),
+                }
+            }
+            Task::Choose(limit) => {
+                let number = device.serve_choose(limit, wanted, observer);
+                Ok(Answer::Number(u64::from(number)))
+            }
+            Task::SetClock(time) => {
+                let _moved = device.serve_settle(&[], observer);
+                Ok(Answer::Decimal(time))
+            }
+        }
+    }
+}
