@@ -1,4 +1,4 @@
--- If clap accepts the words, the subcommand is one of the program's five, and has its files.
+-- If clap accepts the words, the subcommand is one of the program's five, and its required paths are given.
 use Rattle.std.specs.List.{find, list_all, slice_index_or}
 use Rattle.std.specs.Option.{option_map, option_map_or}
 use Rattle.std.specs.Prelude.{Result, Ok, Err, IfErr, IsErrAnd, codes, is_some}
@@ -273,7 +273,7 @@ drive_taken words name rows it =
     (level_checks built_drive drive_gives [] words false [] it.faultless) in
     inr (inr (inr (inr (it.named ∙ drive_is_named, subst HasTraces (sym it.rows_are) traces))))
 
--- if clap accepts the words, the subcommand is one of the program's, with its files
+-- if clap accepts the words, the subcommand is one of the program's, and its required paths are given
 pub taken : (words : List Text) (name : Text) (rows : List Row) → refusals words ≡ [] → found_in words ≡ Some (name, rows)
     → IsSubcommand name rows
 unfolding refusals found_in
@@ -309,7 +309,7 @@ pub found_is : (a : App) (words : List Text) → a ≡ program_app → subcomman
 unfolding found_in
 found_is a words e = ap (λ (x : App). subcommand_of x words) e
 
--- the error made of clap's error states the same of the words
+-- the error made from clap's error is one of the same kinds
 pub refused_by : (kinds : Kinds) (error : Error) (made : LineError) → HasKind kinds error → IsMadeOf error made → IsRefusedBy kinds made
 refused_by kinds error Memory h m = tt
 refused_by kinds error (Value value) h m = absurd m

@@ -70,7 +70,7 @@ without_keeps id rows h = at_row_keeps id (λ _. []) [] rows (λ r has. tt) tt h
 
 -- ---- a use of an argument
 
--- a use with this action and at least n values, or with these if it has none, has a value, or asks for help or the version
+-- a use with this action and n values (with `missing` if n is 0) has a value, or asks for help or the version
 abbrev pub gives_by : ArgAction → ℕ → (missing : List Text) → Bool
 gives_by Set n missing = nat_lt 0 n
 gives_by SetTrue n missing = nat_lt 0 (length missing)
@@ -89,7 +89,7 @@ gives_of_either : (b : Bool) (x y : Option Rule) → Gives x → Gives y → Giv
 gives_of_either true x y h k = h
 gives_of_either false x y h k = k
 
--- a property of each argument is one of the argument that is found
+-- if `gives` is true for each argument, it is true for the argument that `find` returns, if there is one
 pub found_gives : (p : Rule → Bool) (rules : List Rule) → list_all gives rules ≡ true → Gives (find p rules)
 found_gives p [] e = tt
 found_gives p (a ∷ rest) e =

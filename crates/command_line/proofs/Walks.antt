@@ -21,7 +21,7 @@ use Rattle.clap.specs.declared.error.kind.ErrorKind.TheVariants as kind
 use Rattle.command_line.proofs.Uses.{EachHasValue, Gives, defaults_keep, first_none, found_gives, gives, react_keeps, second_none}
 use Rattle.command_line.proofs.Uses.{settle_keeps, some_kind}
 
--- the texts of `help`
+-- the name isn't `help`, unless `help` is disabled
 abbrev pub IsOther : Bool → Text → Type 0
 IsOther disabled name = disabled ≡ false → bytes_eq name (codes "help") ≡ false
 
@@ -221,7 +221,7 @@ module _ (s : Shape) (each : list_all gives s.rules ≡ true) where
 
   -- ---- a level
 
-  -- if a level has no fault, its walk, the subcommand, the argument that waits at the end, and the last checks have none
+  -- if a level has no fault, its walk, the subcommand, the argument that waits at the end, and the last checks have no fault
   pub level_walk : (names : Names) (words : List Text) (has : Bool) (below : Kinds) → level_fault s names nothing_held words has below ≡ []
       → IsGood (walk s.rules names nothing_held words)
   level_walk names words has below f =

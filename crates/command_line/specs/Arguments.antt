@@ -1,9 +1,7 @@
--- The subcommands and arguments that the code passes to clap, as clap's contracts define them (our choice).
+-- The rule of clap's contracts for each argument that the code adds, and the command for each subcommand (our choice).
 use Rattle.std.specs.Prelude.{Bool, List, [], ◌∷◌, codes, false, map, true}
 use Rattle.clap.specs.Simple.{on_top}
 use Rattle.clap.specs.Words.{App, Rule, Text, new_app, with_rule, with_subcommand}
-use Rattle.clap.specs.declared.builder.action.ArgAction.{ArgAction}
-use Rattle.clap.specs.declared.builder.ArgAction.TheVariants as action
 use Rattle.command_line.specs.Shape.{file_rule, flag_rule, option_rule, required_rule}
 use Rattle.command_line.specs.declared.command.Argument.{Argument}
 use Rattle.command_line.specs.declared.command.Form.{Form}
@@ -15,12 +13,6 @@ is_required_form (Value value) = false
 is_required_form (Required value) = true
 is_required_form Flag = false
 is_required_form File = true
-
-abbrev pub action_of_form : Form → ArgAction
-action_of_form (Value value) = action.Set
-action_of_form (Required value) = action.Set
-action_of_form Flag = action.SetTrue
-action_of_form File = action.Set
 
 abbrev pub rule_of_form : Form → Text → Rule
 rule_of_form (Value value) name = option_rule name
@@ -36,9 +28,9 @@ abbrev pub with_rules : App → List Rule → App
 with_rules app [] = app
 with_rules app (rule ∷ others) = with_rules (with_rule app rule) others
 
--- the command of a subcommand
+-- clap's command for a subcommand, with a rule for each argument
 abbrev pub app_for : Subcommand → App
-app_for subcommand = with_rules (new_app subcommand.name.now) (map rule_for subcommand.arguments.now)
+app_for subcommand = with_rules (new_app subcommand.0.now) (map rule_for subcommand.3.now)
 
 -- a program with these additional subcommands, in this order
 abbrev pub with_subcommands : App → List App → App

@@ -9,7 +9,7 @@ use Rattle.command_line.specs.declared.error.InvalidValue.{InvalidValue}
 use Rattle.command_line.specs.declared.error.LineError.{LineError}
 use Rattle.command_line.specs.declared.error.LineError.TheVariants.{Words, Value, NotUnicode, Memory}
 
--- the error of a command line that is made of an error of clap
+-- the error of a command line that is made from an error of clap
 abbrev pub IsMadeOf : Error → LineError → Type 0
 IsMadeOf error Memory = kind_of error ≡ OutOfMemory
 IsMadeOf error (Words same) = (same ≡ error) × (kind_of error ≢ OutOfMemory)
@@ -26,7 +26,7 @@ abbrev pub IfValue : LineError → (InvalidValue → Type 0) → Type 0
 IfValue (Value value) P = P value
 IfValue _ P = ⊤
 
--- The kind of the error is one of those with which clap refuses the words.
+-- the kind of clap's error is one of those that clap may return for the words
 abbrev pub IsRefusalOf : List Text → Error → Type 0
 IsRefusalOf words error = IsAmong (kind_of error) (refusals words)
 

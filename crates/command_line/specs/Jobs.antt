@@ -1,9 +1,10 @@
--- The job that the words ask for, or the value for which they are refused, by the values that clap finds in them (our choice).
+-- The job that the words ask for, or the value for which they are refused, by clap's matches for the words (our choice).
 use Rattle.std.specs.Prelude.{◌≡◌, ◌≤◌, ◌⊎◌, ◌↔◌, IfSome, IsTrue, ℕ, Bool, List, [], ◌∷◌, IsSomeAnd, Option, Some, None}
 use Rattle.std.specs.Borrow.{Bor}
 use Rattle.std.specs.Prelude.{⊤, ◌||◌, IsNone, IsSome, codes, option_map, true}
 use Rattle.std.specs.Str.{bytes_eq}
-use Rattle.clap.specs.Words.{Row, Text, first_of}
+use Rattle.clap.specs.Words.{Row, Text, first_of, found_of, rows_of}
+use Rattle.clap.specs.declared.parser.matches.ArgMatches.{ArgMatches}
 use Rattle.command_line.specs.Shape.{found_in, refusals}
 use Rattle.text.specs.Addresses.{SpellsAddress}
 use Rattle.command_line.specs.Spelling.{IsGroup, IsKilobytes, IsLink, SpellsCount, SpellsDecimal, SpellsGroup}
@@ -24,6 +25,10 @@ use Rattle.command_line.specs.declared.job.ShowJob.{ShowJob}
 use Rattle.command_line.specs.declared.job.ValueOption.{ValueOption}
 use Rattle.command_line.specs.declared.job.ValueOption.TheVariants as options
 
+-- the first text that clap's matches have for the option, flag or path of this name, if there is a text
+abbrev pub text_in : ArgMatches → Text → Option Text
+text_in matches name = first_of name (rows_of (found_of matches))
+
 -- the value that an option's text spells; there is none if and only if the option isn't given
 abbrev pub IsValueOf : {V : Type 0} → (Text → V → Type 0) → Option Text → Option V → Type 0
 IsValueOf spells None None = ⊤
@@ -39,7 +44,7 @@ IsValueOr spells default (Some text) value = spells text value
 abbrev pub IsTextOf : Option Text → Option (Bor Text) → Type 0
 IsTextOf text value = text ≡ option_map (λ value. value.now) value
 
--- clap's text for a flag is "true" if and only if the flag is in the words
+-- the flag's value is true if and only if clap's text for the flag is "true"
 abbrev pub IsFlagOf : Option Text → Bool → Type 0
 IsFlagOf text flag = IsTrue flag ↔ (text ≡ Some (codes "true"))
 
@@ -64,7 +69,7 @@ pub record IsRunJobOf (rows : List Row) (job : RunJob) : Type 0 where
 abbrev pub IsShowJobOf : List Row → ShowJob → Type 0
 IsShowJobOf rows job = first_of (codes "TRACE") rows ≡ Some job.trace.now
 
--- the file of `--image`, if there is no `--address`; else an image of the address that is given, or of the default
+-- the file of `--image` if `--image` is given without `--address`; without `--image`, an image of the given or default address
 abbrev pub IsImageOf : List Row → ServeImage → Type 0
 IsImageOf rows (images.File path) =
     (first_of (codes "image") rows ≡ Some path.now) × IsNone (first_of (codes "address") rows)
@@ -84,7 +89,7 @@ pub record IsServeJobOf (rows : List Row) (job : ServeJob) : Type 0 where
   pub schedule : IsTextOf (first_of (codes "schedule") rows) job.schedule
   pub «record» : IsTextOf (first_of (codes "record") rows) job.«record»
 
--- each option of a `drive` has the value of its text, or its default, and both traces are there
+-- each option of a `drive` has the value of its text, or its default, and the paths of both traces are given
 pub record IsDriveJobOf (rows : List Row) (job : DriveJob) : Type 0 where
   pub registers : IsValueOr SpellsWord 0xFEB00000 (first_of (codes "registers") rows) job.registers
   pub memory : IsValueOr SpellsWord 0x100000 (first_of (codes "memory") rows) job.memory
@@ -104,11 +109,11 @@ IsJobOf found (Show job) = (found.0 ≡ codes "show") × IsShowJobOf found.1 job
 IsJobOf found (Serve job) = (found.0 ≡ codes "serve") × IsServeJobOf found.1 job
 IsJobOf found (Drive job) = (found.0 ≡ codes "drive") × IsDriveJobOf found.1 job
 
--- bounds of a filter, whatever the words are: a group has its group bit, and a VLAN identifier has 12 bits
+-- bounds of a filter, whatever the words are: the group bit of a group is 1, and a VLAN identifier is at most 4095
 abbrev pub IsWithinBounds : PassFilter → Type 0
 IsWithinBounds filter = IfSome filter.group IsGroup × IfSome filter.vlan (λ n. n ≤ 4095)
 
--- bounds of a `serve`, whatever the words are: the packet buffer has an allowed size, and the link needs at least one tick
+-- bounds of a `serve` for any words: the packet buffer has an allowed size, and the link needs at least one tick or is never up
 abbrev pub IsServable : ServeJob → Type 0
 IsServable job = IsKilobytes job.receive_kilobytes × IsLink job.link
 
@@ -119,23 +124,23 @@ HasBounds (Show job) = ⊤
 HasBounds (Serve job) = IsServable job
 HasBounds (Drive job) = ⊤
 
--- both files of a `pass` are there
+-- the paths of both files of a `pass` are given
 abbrev pub HasFiles : List Row → Type 0
 HasFiles rows = IsSome (first_of (codes "IN") rows) × IsSome (first_of (codes "OUT") rows)
 
--- the file and the folder of a `run` are there
+-- the paths of the file and the folder of a `run` are given
 abbrev pub HasScenario : List Row → Type 0
 HasScenario rows = IsSome (first_of (codes "SCENARIO") rows) × IsSome (first_of (codes "OUTDIR") rows)
 
--- the file of a `show` is there
+-- the path of the file of a `show` is given
 abbrev pub HasTrace : List Row → Type 0
 HasTrace rows = IsSome (first_of (codes "TRACE") rows)
 
--- both traces of a `drive` are there
+-- the paths of both traces of a `drive` are given
 abbrev pub HasTraces : List Row → Type 0
 HasTraces rows = IsSome (first_of (codes "send") rows) × IsSome (first_of (codes "receive") rows)
 
--- the subcommand is one of the program's, with its files and its folder
+-- the subcommand is one of the program's, and the paths that it requires are given
 abbrev pub IsSubcommand : Text → List Row → Type 0
 IsSubcommand name rows =
     ((name ≡ codes "pass") × HasFiles rows) ⊎ (((name ≡ codes "run") × HasScenario rows)
@@ -158,7 +163,7 @@ name_of options.Buffers = codes "buffers"
 name_of options.Expect = codes "expect"
 name_of options.Idle = codes "idle"
 
--- the subcommand of this name has the option
+-- whether the subcommand with this name has the option
 abbrev pub has_option : Text → ValueOption → Bool
 has_option name options.Address = bytes_eq name (codes "pass") || bytes_eq name (codes "serve")
 has_option name options.Group = bytes_eq name (codes "pass")
@@ -176,7 +181,7 @@ has_option name options.Buffers = bytes_eq name (codes "drive")
 has_option name options.Expect = bytes_eq name (codes "drive")
 has_option name options.Idle = bytes_eq name (codes "drive")
 
--- the text has the option's form; if there is no `--address`, `--image` takes any text
+-- the text has the option's form; `--image` takes any text, but only if `--address` isn't given
 abbrev pub IsSpelled : List Row → ValueOption → Text → Type 0
 IsSpelled rows options.Address text = (address : List ℕ) × SpellsAddress text address
 IsSpelled rows options.Group text = (address : List ℕ) × SpellsGroup text address
@@ -194,27 +199,30 @@ IsSpelled rows options.Buffers text = (n : ℕ) × SpellsRingSize text n
 IsSpelled rows options.Expect text = (n : ℕ) × SpellsDecimal text n
 IsSpelled rows options.Idle text = (n : ℕ) × SpellsDecimal text n
 
--- The option is given with this text, and the text doesn't have the option's form, or the option excludes another one
--- that is given.
+-- The option is given with this text, and the text doesn't have the option's form, or the option excludes another option that is given.
 pub record IsInvalidIn (rows : List Row) (value : InvalidValue) : Type 0 where
   pub given : first_of (name_of value.option) rows ≡ Some value.text.now
   pub unspelled : ¬ IsSpelled rows value.option value.text.now
 
--- the option is given, and its text doesn't have its form
+-- the option is given, and its text doesn't have the option's form
 pub record IsMisspelled (rows : List Row) (option : ValueOption) : Type 0 where
   pub text : Text
   pub given : first_of (name_of option) rows ≡ Some text
   pub unspelled : ¬ IsSpelled rows option text
 
--- The option is one of the subcommand of this name, and its text doesn't have its form.
+-- the refused option is `option`, which is given, and its text doesn't have the option's form
+abbrev pub IsMisspelledAs : ValueOption → List Row → ValueOption → Type 0
+IsMisspelledAs option rows refused = (refused ≡ option) × IsMisspelled rows refused
+
+-- the option is one of the subcommand with this name, and its text doesn't have the option's form
 abbrev pub IsMisspelledOf : Text → List Row → ValueOption → Type 0
 IsMisspelledOf name rows option = (has_option name option ≡ true) × IsMisspelled rows option
 
--- clap takes the words, and the job is that of the subcommand that it finds in them
+-- clap accepts the words, and the job is that of the subcommand that clap finds in the words
 abbrev pub IsAskedBy : List Text → Job → Type 0
 IsAskedBy words job = (refusals words ≡ []) × IsSomeAnd (found_in words) (λ found. IsJobOf found job)
 
--- clap takes the words, and this value that it finds in them doesn't have its option's form, which the subcommand has
+-- clap accepts the words. The subcommand that clap finds in the words has the value's option, and the value is invalid.
 abbrev pub IsRefusedIn : List Text → InvalidValue → Type 0
 IsRefusedIn words value =
     (refusals words ≡ [])

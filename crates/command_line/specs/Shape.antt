@@ -1,4 +1,4 @@
--- The program's command line, as clap's contracts see it (our choice). It contains no help texts.
+-- The program's command line without its help texts, as clap's contracts describe it (our choice).
 use Rattle.std.specs.Prelude.{List, Option, Some, codes, true}
 use Rattle.clap.specs.Words.{App, Row, Rule, Text, fault_of, new_app, new_rule, subcommand_of, with_rule, with_subcommand}
 use Rattle.clap.specs.Kinds.{Kinds}
@@ -17,7 +17,7 @@ flag_rule name = record (new_rule name) { long = Some name; action = Some action
 abbrev pub required_rule : Text → Rule
 required_rule name = record (option_rule name) { required = true }
 
--- a file, which must be there
+-- the path of a file or a folder, which must be given
 abbrev pub file_rule : Text → Rule
 file_rule name = record (new_rule name) { required = true; action = Some action.Set }
 
@@ -56,7 +56,7 @@ drive_app =
     (option_rule (codes "buffers"))) (option_rule (codes "expect"))) (option_rule (codes "idle")))
     (required_rule (codes "send"))) (required_rule (codes "receive"))
 
--- the program, which has a version and a subcommand, and shows its help if there are no words
+-- the program, which has a version and requires a subcommand, and shows its help if there are no words
 unfoldable pub program_app : App
 unfolding pass_app run_app show_app serve_app drive_app
 program_app =
@@ -65,10 +65,10 @@ program_app =
     (new_app (codes "nicbench")))
     pass_app.top) run_app.top) show_app.top) serve_app.top) drive_app.top
 
--- the kinds of error that clap may return for the words; none if it takes the words
+-- the kinds of error that clap may return for the words; an empty list if clap accepts the words
 unfoldable pub refusals : List Text → Kinds
 refusals words = fault_of program_app words
 
--- the subcommand that clap finds in the words, with its options and files and the texts of each
+-- the subcommand that clap finds in the words, and for each of its options and paths the texts
 unfoldable pub found_in : List Text → Option (Text × List Row)
 found_in words = subcommand_of program_app words

@@ -6,6 +6,8 @@ use Rattle.text.specs.Numbers.{number_in, number_spelled}
 use Rattle.text.specs.Words.{Text}
 use Rattle.command_line.specs.declared.job.ServeLink.{ServeLink}
 use Rattle.command_line.specs.declared.job.ServeLink.TheVariants.{After, Never}
+use Rattle.command_line.specs.declared.job.ValueOption.{ValueOption}
+use Rattle.command_line.specs.declared.job.ValueOption.TheVariants as options
 
 -- a group address has the lowest bit of its first byte set (IEEE 802.3 3.2.3)
 abbrev pub IsGroup : List ℕ → Type 0
@@ -49,3 +51,26 @@ IsLink Never = ⊤
 abbrev pub SpellsLink : Text → ServeLink → Type 0
 SpellsLink text (After ticks) = SpellsDecimal text ticks × IsLink (After ticks)
 SpellsLink text Never = text ≡ codes "never"
+
+-- the text spells this address as a value of the option: a group if the option is `--group`, any address for another option
+abbrev pub SpellsAddressOf : ValueOption → Text → List ℕ → Type 0
+SpellsAddressOf options.Group text address = SpellsGroup text address
+SpellsAddressOf _ text address = SpellsAddress text address
+
+-- the text spells this number as a value of the option; no text does if the option's value isn't a number
+abbrev pub SpellsNumber : ValueOption → Text → ℕ → Type 0
+SpellsNumber options.Vlan text n = SpellsVlan text n
+SpellsNumber options.Memory text n = SpellsWord text n
+SpellsNumber options.Registers text n = SpellsWord text n
+SpellsNumber options.Rxa text n = SpellsKilobytes text n
+SpellsNumber options.Seed text n = SpellsDecimal text n
+SpellsNumber options.Missed text n = SpellsCount text n
+SpellsNumber options.Rx text n = SpellsRingSize text n
+SpellsNumber options.Tx text n = SpellsRingSize text n
+SpellsNumber options.Buffers text n = SpellsRingSize text n
+SpellsNumber options.Expect text n = SpellsDecimal text n
+SpellsNumber options.Idle text n = SpellsDecimal text n
+SpellsNumber options.Address text n = ⊥
+SpellsNumber options.Group text n = ⊥
+SpellsNumber options.Image text n = ⊥
+SpellsNumber options.Link text n = ⊥

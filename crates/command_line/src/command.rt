@@ -2,8 +2,7 @@
 ghost use Rattle.std.specs.Prelude.{◌≡◌, IfOk, false, map};
 ghost use Rattle.clap.specs.Words.{app_of, rule_of};
 ghost use Rattle.clap.specs.declared.builder.command.Command.TheViews.{out-Command as fields_of};
-ghost use Rattle.command_line.specs.Arguments.{action_of_form, app_for, bare_app, is_required_form, rule_for};
-ghost use Rattle.command_line.specs.Arguments.{with_subcommands};
+ghost use Rattle.command_line.specs.Arguments.{app_for, bare_app, is_required_form, rule_for, with_subcommands};
 ghost use Rattle.command_line.specs.Shape.{program_app};
 
 use crate::help::*;
@@ -13,13 +12,13 @@ use std::alloc::{AllocError, Global};
 /// The form of an argument.
 #[derive(Clone, Copy)]
 enum Form<'a> {
-    /// As an option `--NAME VALUE`, at most once. Help has this name for the value.
+    /// An option `--NAME VALUE`, used at most once. The string is the name of the value in help.
     Value(&'a str),
-    /// As an option `--NAME VALUE`, exactly once. Help has this name for the value.
+    /// An option `--NAME VALUE`, used exactly once. The string is the name of the value in help.
     Required(&'a str),
-    /// As an option `--NAME` without a value, at most once.
+    /// An option `--NAME` without a value, used at most once.
     Flag,
-    /// As a file, which is required.
+    /// The path of a file or a folder, without an option name. It is required.
     File,
 }
 
@@ -27,82 +26,46 @@ enum Form<'a> {
 #[derive(Clone, Copy)]
 struct Argument<'a>(&'a str, Form<'a>, &'a str);
 
-/// A subcommand of the program.
+/// The program or a subcommand: its name, the first line of its help, the text of its help after the options, and its
+/// arguments.
 #[derive(Clone, Copy)]
-struct Subcommand<'a> {
-    name: &'a str,
-    /// The first line of its help.
-    about: &'a str,
-    /// The text of its help after the options.
-    note: &'a str,
-    arguments: &'a [Argument<'a>],
-}
+struct Subcommand<'a>(&'a str, &'a str, &'a str, &'a [Argument<'a>]);
 
-/// Whether an argument of this form must be there.
+/// Returns whether an argument of this form is required.
 fn is_required(form: Form<'_>) -> bool
     ensures { result ≡ is_required_form form.entry }
 {
     matches!(form, Form::Required(_) | Form::File)
 }
 
-/// The action of clap at an argument of this form.
-fn action_of(form: Form<'_>) -> ArgAction
-    ensures { result ≡ action_of_form form.entry }
-{
-    match form {
-        Form::Flag => ArgAction::SetTrue,
-        Form::Value(_) | Form::Required(_) | Form::File => ArgAction::Set,
-    }
-}
-
-/// An argument as clap takes it.
+/// Returns an argument in clap's form.
 fn clap_argument<'a>(alloc: Global, argument: &Argument<'a>) -> Arg<'a>
     ensures rule { rule_of result ≡ rule_for argument.now }
     ensures local { result.global ≡ false }
 {
     let Argument(name, form, help) = *argument;
-    let arg = Arg::new(alloc, name)
-        .help(help)
-        .required(is_required(form))
-        .action(action_of(form));
+    let arg = Arg::new(alloc, name).help(help).required(is_required(form));
     match form {
-        Form::Value(value) | Form::Required(value) => arg.long(name).value_name(value),
-        Form::Flag => arg.long(name),
-        Form::File => arg,
+        Form::Value(value) | Form::Required(value) => arg
+            .action(ArgAction::Set)
+            .long(name)
+            .value_name(value),
+        Form::Flag => arg.action(ArgAction::SetTrue).long(name),
+        Form::File => arg.action(ArgAction::Set),
     }
 }
 
-/// A subcommand as clap takes it.
+/// Returns a subcommand in clap's form.
 fn clap_command<'a>(alloc: Global, subcommand: &Subcommand<'a>) -> Result<Command<'a>, AllocError>
     ensures app { IfOk result (λ command. app_of command ≡ app_for subcommand.now) }
     ensures local { IfOk result (λ command. (fields_of command).has_globals ≡ false) }
 {
-    let mut command = Command::new(alloc, subcommand.name)
-        .about(subcommand.about)
-        .after_help(subcommand.note);
-    for argument in subcommand.arguments {
+    let Subcommand(name, about, note, arguments) = *subcommand;
+    let mut command = Command::new(alloc, name).about(about).after_help(note);
+    for argument in arguments {
         command = command.arg(clap_argument(alloc, argument))?;
     }
     Ok(command)
-}
-
-/// Adds subcommands to a program.
-fn add_commands<'a>(
-    alloc: Global,
-    program: Command<'a>,
-    subcommands: &[Subcommand<'a>],
-) -> Result<Command<'a>, AllocError>
-    requires { (fields_of program).has_globals ≡ false }
-    ensures app { IfOk result (λ command. app_of command
-        ≡ with_subcommands (app_of program.entry) (map app_for subcommands.now)) }
-    ensures local { IfOk result (λ command. (fields_of command).has_globals ≡ false) }
-{
-    let mut program = program;
-    for subcommand in subcommands {
-        let command = clap_command(alloc, subcommand)?;
-        program = program.subcommand(command)?;
-    }
-    Ok(program)
 }
 
 const PASS_ARGUMENTS: [Argument<'static>; 6] = [
@@ -110,39 +73,19 @@ const PASS_ARGUMENTS: [Argument<'static>; 6] = [
     Argument("group", Form::Value("G"), GROUP_HELP),
     Argument("vlan", Form::Value("N"), VLAN_HELP),
     Argument("nanos", Form::Flag, NANOS_HELP),
-    Argument(
-        "IN",
-        Form::File,
-        "The trace to read, a pcap file, or - for standard input",
-    ),
-    Argument(
-        "OUT",
-        Form::File,
-        "The trace to write, a pcap file, or - for standard output",
-    ),
+    Argument("IN", Form::File, READ_HELP),
+    Argument("OUT", Form::File, WRITTEN_HELP),
 ];
 
 const RUN_ARGUMENTS: [Argument<'static>; 5] = [
     Argument("wires", Form::Flag, WIRES_HELP),
     Argument("nanos", Form::Flag, NANOS_HELP),
     Argument("events", Form::Value("FILE"), EVENTS_HELP),
-    Argument(
-        "SCENARIO",
-        Form::File,
-        "The scenario to run, a text file, or - for standard input",
-    ),
-    Argument(
-        "OUTDIR",
-        Form::File,
-        "The folder to write traces into; it must exist",
-    ),
+    Argument("SCENARIO", Form::File, SCENARIO_HELP),
+    Argument("OUTDIR", Form::File, FOLDER_HELP),
 ];
 
-const SHOW_ARGUMENTS: [Argument<'static>; 1] = [Argument(
-    "TRACE",
-    Form::File,
-    "The trace to read, a pcap file, or - for standard input",
-)];
+const SHOW_ARGUMENTS: [Argument<'static>; 1] = [Argument("TRACE", Form::File, READ_HELP)];
 
 const SERVE_ARGUMENTS: [Argument<'static>; 10] = [
     Argument("memory", Form::Value("BYTES"), MEMORY_HELP),
@@ -165,69 +108,56 @@ const DRIVE_ARGUMENTS: [Argument<'static>; 9] = [
     Argument("buffers", Form::Value("N"), BUFFERS_HELP),
     Argument("expect", Form::Value("N"), EXPECT_HELP),
     Argument("idle", Form::Value("N"), IDLE_HELP),
-    Argument(
-        "send",
-        Form::Required("IN"),
-        "The trace whose frames are sent, a pcap file",
-    ),
-    Argument(
-        "receive",
-        Form::Required("OUT"),
-        "The trace to write received frames into, a pcap file",
-    ),
+    Argument("send", Form::Required("IN"), SEND_HELP),
+    Argument("receive", Form::Required("OUT"), RECEIVE_HELP),
 ];
+
+const PROGRAM: Subcommand<'static> = Subcommand("nicbench", PROGRAM_ABOUT, PROGRAM_NOTE, &[]);
 
 /// The commands, and the arguments of each, in the order of help.
 const SUBCOMMANDS: [Subcommand<'static>; 5] = [
-    Subcommand {
-        name: "pass",
-        about: PASS_ABOUT,
-        note: PASS_NOTE,
-        arguments: &PASS_ARGUMENTS,
-    },
-    Subcommand {
-        name: "run",
-        about: RUN_ABOUT,
-        note: RUN_NOTE,
-        arguments: &RUN_ARGUMENTS,
-    },
-    Subcommand {
-        name: "show",
-        about: SHOW_ABOUT,
-        note: SHOW_NOTE,
-        arguments: &SHOW_ARGUMENTS,
-    },
-    Subcommand {
-        name: "serve",
-        about: SERVE_ABOUT,
-        note: SERVE_NOTE,
-        arguments: &SERVE_ARGUMENTS,
-    },
-    Subcommand {
-        name: "drive",
-        about: DRIVE_ABOUT,
-        note: DRIVE_NOTE,
-        arguments: &DRIVE_ARGUMENTS,
-    },
+    Subcommand("pass", PASS_ABOUT, PASS_NOTE, &PASS_ARGUMENTS),
+    Subcommand("run", RUN_ABOUT, RUN_NOTE, &RUN_ARGUMENTS),
+    Subcommand("show", SHOW_ABOUT, SHOW_NOTE, &SHOW_ARGUMENTS),
+    Subcommand("serve", SERVE_ABOUT, SERVE_NOTE, &SERVE_ARGUMENTS),
+    Subcommand("drive", DRIVE_ABOUT, DRIVE_NOTE, &DRIVE_ARGUMENTS),
 ];
 
-/// The program without its subcommands.
-fn bare_program<'a>(alloc: Global) -> Command<'a>
-    ensures app { app_of result ≡ bare_app }
-    ensures local { (fields_of result).has_globals ≡ false }
+/// Returns the program without its subcommands.
+fn bare_program<'a>(alloc: Global) -> Result<Command<'a>, AllocError>
+    ensures app { IfOk result (λ command. app_of command ≡ bare_app) }
+    ensures local { IfOk result (λ command. (fields_of command).has_globals ≡ false) }
 {
-    Command::new(alloc, "nicbench")
-        .about("A bench for a driver of the Intel 82540EM and a model of that adapter")
-        .after_help(PROGRAM_NOTE)
-        .version(VERSION)
-        .subcommand_required(true)
-        .arg_required_else_help(true)
+    let command = clap_command(alloc, &PROGRAM)?;
+    Ok(
+        command
+            .version(VERSION)
+            .subcommand_required(true)
+            .arg_required_else_help(true),
+    )
 }
 
-/// The command line of the program.
+/// Returns the program with these subcommands.
+fn program_with<'a>(
+    alloc: Global,
+    subcommands: &[Subcommand<'a>],
+) -> Result<Command<'a>, AllocError>
+    ensures app { IfOk result (λ command. app_of command
+        ≡ with_subcommands bare_app (map app_for subcommands.now)) }
+    ensures local { IfOk result (λ command. (fields_of command).has_globals ≡ false) }
+{
+    let mut program = bare_program(alloc)?;
+    for subcommand in subcommands {
+        let command = clap_command(alloc, subcommand)?;
+        program = program.subcommand(command)?;
+    }
+    Ok(program)
+}
+
+/// Returns the program with its subcommands.
 pub(crate) fn program<'a>(alloc: Global) -> Result<Command<'a>, AllocError>
     ensures app { IfOk result (λ command. app_of command ≡ program_app) }
     ensures local { IfOk result (λ command. (fields_of command).has_globals ≡ false) }
 {
-    add_commands(alloc, bare_program(alloc), &SUBCOMMANDS)
+    program_with(alloc, &SUBCOMMANDS)
 }

@@ -8,25 +8,20 @@ use crate::values::name_of;
 use clap::error::ErrorKind;
 use std::alloc::AllocError;
 use std::fmt;
-use thiserror::Error;
 
 /// Why words were refused. The text of each variant but `Memory` is the text for standard error, with its last line
 /// feed.
-#[derive(Debug, Drop, Error)]
+#[derive(Drop)]
 pub enum LineError<'a> {
     /// clap refused the words, or the words ask for help or the version. The text is clap's.
-    #[error("{0}")]
     Words(clap::Error),
-    /// clap took the words, and the value of an option doesn't have the option's form, or can't be used with another
-    /// option.
-    #[error("{0}")]
+    /// clap accepted the words, but the value of an option doesn't have the option's form, or can't be used with
+    /// another option.
     Value(InvalidValue<'a>),
     /// A word isn't UTF-8. Only the caller that takes the words from the system returns this, never
     /// [`line`](crate::line).
-    #[error("{NOT_UNICODE}")]
     NotUnicode,
     /// Memory was refused.
-    #[error("out of memory")]
     Memory,
 }
 
@@ -38,7 +33,7 @@ For more information, try '--help'.
 ";
 
 /// A value that doesn't have its option's form, or can't be used with another option.
-#[derive(Clone, Copy, Debug)]
+#[derive(Clone, Copy)]
 pub struct InvalidValue<'a> {
     /// The option that the value was given for.
     pub option: ValueOption,
@@ -65,54 +60,51 @@ impl<'a> From<AllocError> for LineError<'a> {
     }
 }
 
+impl fmt::Display for LineError<'_> {
+    fn fmt<W: fmt::Write>(&self, f: &mut fmt::Formatter<W>) -> fmt::Result {
+        match self {
+            LineError::Words(error) => error.fmt(f),
+            LineError::Value(value) => value.fmt(f),
+            LineError::NotUnicode => f.write_str(NOT_UNICODE),
+            LineError::Memory => f.write_str("out of memory"),
+        }
+    }
+}
+
 impl fmt::Display for InvalidValue<'_> {
     fn fmt<W: fmt::Write>(&self, f: &mut fmt::Formatter<W>) -> fmt::Result {
         let name = name_of(self.option);
-        let value = value_name(self.option);
         let form = form_of(self.option);
         let text = self.text;
-        writeln!(
-            f,
-            "error: invalid value '{text}' for '--{name} <{value}>': {form}"
-        )?;
+        writeln!(f, "error: invalid value '{text}' for '--{name} {form}")?;
         f.write_str("\nFor more information, try '--help'.\n")
     }
 }
 
-/// The name of an option's value in help.
-fn value_name(option: ValueOption) -> &'static str {
-    match option {
-        ValueOption::Address => "A",
-        ValueOption::Group => "G",
-        ValueOption::Memory => "BYTES",
-        ValueOption::Registers => "ADDRESS",
-        ValueOption::Image => "FILE",
-        ValueOption::Link => "N|never",
-        _ => "N",
-    }
-}
-
-/// The form of an option's values.
+/// Returns the end of an error's first line, after the option's name: the name of the option's value in help, and
+/// which values are valid.
 fn form_of(option: ValueOption) -> &'static str {
     match option {
         ValueOption::Address =>
-            "an address is six pairs of hexadecimal digits joined by colons, such as 02:00:00:00:00:01",
+            "<A>': an address is six pairs of hexadecimal digits joined by colons, such as 02:00:00:00:00:01",
         ValueOption::Group =>
-            "a group is an address whose first byte is odd, such as 01:00:5e:00:00:01",
-        ValueOption::Vlan => "a VLAN is a decimal number from 0 to 4095, such as 5",
+            "<G>': a group is an address whose first byte is odd, such as 01:00:5e:00:00:01",
+        ValueOption::Vlan => "<N>': a VLAN is a decimal number from 0 to 4095, such as 5",
         ValueOption::Memory =>
-            "bytes are a decimal number below 2^64, or a hexadecimal one after 0x, such as 0x100000",
+            "<BYTES>': bytes are a decimal number below 2^64, or a hexadecimal one after 0x, such as 0x100000",
         ValueOption::Registers =>
-            "an address is a decimal number below 2^64, or a hexadecimal one after 0x, such as 0xFEB00000",
-        ValueOption::Image => "the file contains the address, so --address can't be used with it",
-        ValueOption::Link => "ticks are a decimal number from 1 to 65535, such as 1, or 'never'",
-        ValueOption::Rxa => "kilobytes are an even decimal number from 2 to 48, such as 48",
-        ValueOption::Seed => "a seed is a decimal number below 2^64, such as 7",
-        ValueOption::Missed => "a count is a decimal number below 2^32, such as 4294967294",
+            "<ADDRESS>': an address is a decimal number below 2^64, or a hexadecimal one after 0x, such as 0xFEB00000",
+        ValueOption::Image =>
+            "<FILE>': the file contains the address, so --address can't be used with it",
+        ValueOption::Link =>
+            "<N|never>': ticks are a decimal number from 1 to 65535, such as 1, or 'never'",
+        ValueOption::Rxa => "<N>': kilobytes are an even decimal number from 2 to 48, such as 48",
+        ValueOption::Seed => "<N>': a seed is a decimal number below 2^64, such as 7",
+        ValueOption::Missed => "<N>': a count is a decimal number below 2^32, such as 4294967294",
         ValueOption::Rx | ValueOption::Tx =>
-            "descriptors are a decimal number below 65536, such as 64",
-        ValueOption::Buffers => "buffers are a decimal number below 65536, such as 512",
-        ValueOption::Expect => "frames are a decimal number below 2^64, such as 100",
-        ValueOption::Idle => "calls are a decimal number below 2^64, such as 1000",
+            "<N>': descriptors are a decimal number below 65536, such as 64",
+        ValueOption::Buffers => "<N>': buffers are a decimal number below 65536, such as 512",
+        ValueOption::Expect => "<N>': frames are a decimal number below 2^64, such as 100",
+        ValueOption::Idle => "<N>': calls are a decimal number below 2^64, such as 1000",
     }
 }

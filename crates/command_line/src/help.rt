@@ -1,7 +1,22 @@
 //! The texts of the program's help, and its version.
 
-/// The version of the program, as `--version` prints it. CHANGELOG.md has a heading for each that was released.
+/// The version of the program, as `--version` prints it. CHANGELOG.md has a heading for each released version.
 pub(crate) const VERSION: &str = "0.2.0";
+
+pub(crate) const PROGRAM_ABOUT: &str =
+    "A bench for a driver of the Intel 82540EM and a model of that adapter";
+
+pub(crate) const READ_HELP: &str = "The trace to read, a pcap file, or - for standard input";
+
+pub(crate) const WRITTEN_HELP: &str = "The trace to write, a pcap file, or - for standard output";
+
+pub(crate) const SCENARIO_HELP: &str = "The scenario to run, a text file, or - for standard input";
+
+pub(crate) const FOLDER_HELP: &str = "The folder to write traces into; it must exist";
+
+pub(crate) const SEND_HELP: &str = "The trace whose frames are sent, a pcap file";
+
+pub(crate) const RECEIVE_HELP: &str = "The trace to write received frames into, a pcap file";
 
 pub(crate) const PASS_ABOUT: &str =
     "Send the frames of a trace through a receive filter and a ring";
@@ -341,7 +356,7 @@ If drive fails, it prints 'nicbench: CODE NAME' on standard error. After E46 the
 such as E15 Config: the size of a ring isn't allowed, or --memory is too small. What each code
 means, and what to do: nicbench --help";
 
-/// An example; the meaning of each exit status and each code on standard error, and the user's remedy.
+/// An example, the meaning of each exit status, and the meaning and remedy of the codes from E57 on.
 pub(crate) const PROGRAM_NOTE: &str =
     "In this example one host sends a frame to another, step by step, and the received frame is listed.
 Run it from the top of the repository:

@@ -5,7 +5,8 @@
 pub enum Job<'a> {
     /// `pass`: the frames of a trace go through a receive filter and a ring to another trace.
     Pass(PassJob<'a>),
-    /// `run`: runs a scenario, and writes the frames of its sockets to traces, on request also those on its wires.
+    /// `run`: runs a scenario, and writes the frames that its sockets returned to traces, on request also the frames on
+    /// its wires.
     Run(RunJob<'a>),
     /// `show`: the frames of a trace are listed.
     Show(ShowJob<'a>),
@@ -39,7 +40,7 @@ pub struct RunJob<'a> {
     pub wires: bool,
     /// Whether times are written in nanoseconds (`--nanos`).
     pub nanos: bool,
-    /// The path of the file that gets a line for each event (`--events`, none).
+    /// The path of the file that gets a line for each event and drain (`--events`, none).
     pub events: Option<&'a str>,
 }
 
@@ -50,7 +51,7 @@ pub struct ShowJob<'a> {
     pub trace: &'a str,
 }
 
-/// The options of `pass`, each `None` if it isn't given. The default has none of them.
+/// The filter of `pass`. An option that isn't given is `None`. By default no option is given.
 #[derive(Clone, Copy, Default)]
 pub struct PassFilter {
     /// The adapter's own address (`--address`), the first byte first.
@@ -103,11 +104,12 @@ pub struct DriveJob<'a> {
     pub receive: &'a str,
     /// The number of received frames after which the run ends (`--expect`).
     pub expect: Option<u64>,
-    /// The number of calls of the handler in a row without a received frame after which the run ends (`--idle`).
+    /// The run ends after this number of calls of the handler in a row in which no frame was received or passed to the
+    /// driver (`--idle`).
     pub idle: Option<u64>,
 }
 
-/// The contents of the EEPROM of an adapter that is served.
+/// The contents of a served adapter's EEPROM.
 #[derive(Clone, Copy, PartialEq, Eq)]
 pub enum ServeImage<'a> {
     /// An image of this Ethernet address, the first byte first (`--address`).
@@ -125,8 +127,8 @@ pub enum ServeLink {
     Never,
 }
 
-/// An option with a value. The name of the option is that of the variant: `Address` is `--address`.
-#[derive(Clone, Copy, Debug)]
+/// An option whose value can be refused. The name of the option is that of the variant: `Address` is `--address`.
+#[derive(Clone, Copy)]
 pub enum ValueOption {
     Address,
     Group,

@@ -1,4 +1,4 @@
-//! The reading of the program's words.
+//! Reads the program's words.
 ghost use Rattle.std.specs.Prelude.{◌≡◌, ◌≢◌, IfErr, IfOk, OnOk, [], map, true};
 ghost use Rattle.clap.specs.Words.{found_of, has_subcommand, rows_of, subcommand_rows_of};
 ghost use Rattle.command_line.specs.Errors.{IfValue, IfWords, IsRefusalOf, IsRefusedBy};
@@ -16,7 +16,7 @@ use clap::ArgMatches;
 use std::alloc::Global;
 use std::convert::AsStr;
 
-/// The job of a command with these matches.
+/// Returns the job of a command with these matches.
 fn job_of<'a>(name: &str, matches: &ArgMatches<'a>) -> Result<Job<'a>, ValueOption>
     requires { IsSubcommand name.now (rows_of (found_of matches.now)) }
     ensures bounds { IfOk result HasBounds }
@@ -24,16 +24,16 @@ fn job_of<'a>(name: &str, matches: &ArgMatches<'a>) -> Result<Job<'a>, ValueOpti
     ensures refused { IfErr result (IsMisspelledOf name.now (rows_of (found_of matches.now))) }
 {
     match name {
-        "pass" => Ok(Job::Pass(pass_job(matches)?)),
+        "pass" => pass_job(matches),
         "run" => Ok(Job::Run(run_job(matches))),
         "show" => Ok(Job::Show(show_job(matches))),
-        "serve" => Ok(Job::Serve(serve_job(matches)?)),
-        "drive" => Ok(Job::Drive(drive_job(matches)?)),
+        "serve" => serve_job(matches),
+        "drive" => drive_job(matches),
         _ => unreachable!(),
     }
 }
 
-/// The matches that clap finds in the words, which have a subcommand.
+/// Returns the matches that clap finds in the words. They contain a subcommand.
 fn matches_of<'a, S: AsStr>(alloc: Global, words: &'a [S]) -> Result<ArgMatches<'a>, LineError<'a>>
     ensures taken { OnOk result (refusals (map S.text words.entry.now) ≡ []) }
     ensures found { IfOk result (λ matches. has_subcommand matches ≡ true
@@ -50,7 +50,8 @@ fn matches_of<'a, S: AsStr>(alloc: Global, words: &'a [S]) -> Result<ArgMatches<
 /// # Errors
 ///
 /// `Words` if clap refuses the words, or they ask for help or the version; `Value` if the value of an option doesn't
-/// have its form, or `--image` and `--address` are both given; `Memory` if memory was refused. Never `NotUnicode`.
+/// have the option's form, or `--image` and `--address` are both given; `Memory` if memory was refused. Never
+/// `NotUnicode`.
 pub fn line<'a, S: AsStr>(alloc: Global, words: &'a [S]) -> Result<Job<'a>, LineError<'a>>
     ensures job { IfOk result (IsAskedBy (map S.text words.entry.now)) }
     ensures bounds { IfOk result HasBounds }

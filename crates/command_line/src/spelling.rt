@@ -1,12 +1,9 @@
-//! The texts of groups, VLANs, numbers and links, as options write them.
-ghost use Rattle.std.specs.Prelude.{◌≡◌, ℕ, List, IfSome, IfNone};
-ghost use Rattle.command_line.specs.Spelling.{SpellsCount, SpellsGroup, SpellsKilobytes, SpellsLink, SpellsRingSize};
-ghost use Rattle.command_line.specs.Spelling.{SpellsVlan};
+//! The texts of groups, numbers and links in options.
+ghost use Rattle.std.specs.Prelude.{◌≡◌, ◌≤◌, ℕ, List, IfSome, IfNone};
+ghost use Rattle.command_line.specs.Spelling.{SpellsDecimal, SpellsGroup, SpellsKilobytes, SpellsLink, SpellsNumber};
 ghost use Rattle.command_line.specs.declared.job.ServeLink.{ServeLink};
-ghost use Rattle.text.specs.Addresses.{SpellsAddress};
-ghost use Rattle.text.specs.Numbers.{number_in, number_spelled};
 
-use crate::ServeLink;
+use crate::{ServeLink, ValueOption};
 use text::digits_of;
 
 const DECIMAL: u32 = 10;
@@ -22,87 +19,69 @@ const LEAST_KILOBYTES: u64 = 2;
 
 const MOST_KILOBYTES: u64 = 48;
 
-/// The address that a text spells.
-pub(crate) fn address_of(text: &str) -> Option<[u8; 6]>
-    ensures spelled { IfSome result (SpellsAddress text.now) }
-    ensures refused { IfNone result ((address : List ℕ) → ¬ SpellsAddress text.now address) }
-{
-    text::address_of(text)
-}
-
-/// The group address that a text spells: an address whose first byte is odd, as `01:00:5e:00:00:01`. `None` for any
-/// other text, such as an individual address.
+/// Returns the group address that a text spells: an address whose first byte is odd, such as `01:00:5e:00:00:01`.
+/// `None` for any other text, such as an individual address.
 pub(crate) fn group_of(text: &str) -> Option<[u8; 6]>
     ensures spelled { IfSome result (SpellsGroup text.now) }
     ensures refused { IfNone result ((address : List ℕ) → ¬ SpellsGroup text.now address) }
 {
-    let address = address_of(text)?;
+    let address = text::address_of(text)?;
     if address[0] & GROUP_BIT == 0 {
         return None;
     }
     Some(address)
 }
 
-/// The VLAN identifier that a text spells: only decimal digits, up to 4095, with or without leading zeros. `None` for
+/// Returns the number up to `most` that a text spells: only decimal digits, with or without leading zeros. `None` for
 /// any other text, such as one with a sign.
-pub(crate) fn vlan_of(text: &str) -> Option<u16>
-    ensures spelled { IfSome result (SpellsVlan text.now) }
-    ensures refused { IfNone result ((vlan : ℕ) → ¬ SpellsVlan text.now vlan) }
+fn decimal_of(text: &str, most: u64) -> Option<u64>
+    ensures spelled { IfSome result (λ n. SpellsDecimal text.now n × (n ≤ most)) }
+    ensures refused { IfNone result ((n : ℕ) → SpellsDecimal text.now n → ¬ (n ≤ most)) }
 {
-    let vlan = decimal_of(text)?;
-    if vlan > HIGHEST_VLAN {
+    let number = digits_of(text, DECIMAL)?;
+    if number > most {
         return None;
     }
-    Some(vlan as u16)
+    Some(number)
 }
 
-/// The number below 2^64 that a text spells in decimal digits, with or without leading zeros. `None` for any other
-/// text, such as one with a sign.
-pub(crate) fn decimal_of(text: &str) -> Option<u64>
-    ensures { result ≡ number_in 10 64 text.now }
-{
-    digits_of(text, DECIMAL)
-}
-
-/// The number below 2^64 that a text spells, decimal, or hexadecimal after `0x`.
-pub(crate) fn word_of(text: &str) -> Option<u64>
-    ensures { result ≡ number_spelled text.now }
-{
-    text::number_of(text)
-}
-
-/// The count that a text spells in decimal digits, below 2^32. `None` for any other text.
-pub(crate) fn count_of(text: &str) -> Option<u32>
-    ensures spelled { IfSome result (SpellsCount text.now) }
-    ensures refused { IfNone result ((n : ℕ) → ¬ SpellsCount text.now n) }
-{
-    u32::try_from(decimal_of(text)?).ok()
-}
-
-/// The number of descriptors or of buffers, below 2^16, that a text spells: only decimal digits. `None` for any other
-/// text.
-pub(crate) fn ring_size_of(text: &str) -> Option<u16>
-    ensures spelled { IfSome result (SpellsRingSize text.now) }
-    ensures refused { IfNone result ((n : ℕ) → ¬ SpellsRingSize text.now n) }
-{
-    u16::try_from(decimal_of(text)?).ok()
-}
-
-/// The kilobytes of a receive packet buffer that a text spells: an even number from 2 to 48, only decimal digits.
-/// `None` for any other text.
-pub(crate) fn kilobytes_of(text: &str) -> Option<u8>
+/// Returns the kilobytes of a receive packet buffer that a text spells: an even number from 2 to 48, only decimal
+/// digits. `None` for any other text.
+fn kilobytes_of(text: &str) -> Option<u64>
     ensures spelled { IfSome result (SpellsKilobytes text.now) }
     ensures refused { IfNone result ((kilobytes : ℕ) → ¬ SpellsKilobytes text.now kilobytes) }
 {
-    let kilobytes = decimal_of(text)?;
+    let kilobytes = digits_of(text, DECIMAL)?;
     if kilobytes < LEAST_KILOBYTES || kilobytes > MOST_KILOBYTES || kilobytes % 2 != 0 {
         return None;
     }
-    Some(kilobytes as u8)
+    Some(kilobytes)
 }
 
-/// The time at which a link is up, as a text spells it: `never`, or ticks from 1 to 65,535 in decimal digits. `None`
-/// for any other text.
+/// Returns the number that a text spells as a value of this option. `None` if the text isn't valid for the option, or
+/// if the option's value isn't a number.
+///
+/// The numbers of `--memory` and `--registers` are decimal, or hexadecimal after `0x`; other numbers are decimal.
+pub(crate) fn number_of(text: &str, option: ValueOption) -> Option<u64>
+    ensures spelled { IfSome result (SpellsNumber option text.now) }
+    ensures refused { IfNone result ((n : ℕ) → ¬ SpellsNumber option text.now n) }
+{
+    match option {
+        ValueOption::Memory | ValueOption::Registers => text::number_of(text),
+        ValueOption::Vlan => decimal_of(text, HIGHEST_VLAN),
+        ValueOption::Rxa => kilobytes_of(text),
+        ValueOption::Seed | ValueOption::Expect | ValueOption::Idle => digits_of(text, DECIMAL),
+        ValueOption::Missed => decimal_of(text, u32::MAX as u64),
+        ValueOption::Rx | ValueOption::Tx | ValueOption::Buffers => decimal_of(
+            text,
+            u16::MAX as u64,
+        ),
+        ValueOption::Address | ValueOption::Group | ValueOption::Image | ValueOption::Link => None,
+    }
+}
+
+/// Returns the time at which a link is up, as a text spells it: `never`, or ticks from 1 to 65,535 in decimal digits.
+/// `None` for any other text.
 pub(crate) fn link_of(text: &str) -> Option<ServeLink>
     ensures spelled { IfSome result (SpellsLink text.now) }
     ensures refused { IfNone result ((link : ServeLink) → ¬ SpellsLink text.now link) }
@@ -110,9 +89,9 @@ pub(crate) fn link_of(text: &str) -> Option<ServeLink>
     if text == "never" {
         return Some(ServeLink::Never);
     }
-    let ticks = u16::try_from(decimal_of(text)?).ok()?;
+    let ticks = decimal_of(text, u16::MAX as u64)?;
     if ticks == 0 {
         return None;
     }
-    Some(ServeLink::After(ticks))
+    Some(ServeLink::After(ticks as u16))
 }

@@ -1,13 +1,16 @@
-//! The values of options, from what clap holds for them.
-ghost use Rattle.std.specs.Prelude.{◌≡◌, IfErr, IfOk, List, None, Some, option_map};
-ghost use Rattle.std.specs.Fn.{FnOnceReturnsAt};
-ghost use Rattle.clap.specs.Words.{Row, Text, first_of, found_of, rows_of};
-ghost use Rattle.command_line.specs.Jobs.{IsInvalidIn, IsMisspelled, IsSpelled, IsValueOf, name_of};
+//! The texts and values of options, flags and paths, from clap's matches for them.
+ghost use Rattle.std.specs.Prelude.{◌≡◌, ℕ, IfErr, IfOk, IsSome, List, Some};
+ghost use Rattle.clap.specs.Words.{Row, Text, found_of, rows_of};
+ghost use Rattle.command_line.specs.Jobs.{IsFlagOf, IsInvalidIn, IsMisspelled, IsMisspelledAs, IsSpelled, IsTextOf};
+ghost use Rattle.command_line.specs.Jobs.{IsValueOf, IsValueOr, name_of, text_in};
+ghost use Rattle.command_line.specs.Spelling.{SpellsAddressOf, SpellsNumber};
 
+use crate::spelling::{group_of, number_of};
 use crate::{InvalidValue, ValueOption};
 use clap::ArgMatches;
+use text::address_of;
 
-/// The name of an option.
+/// Returns the name of an option.
 pub(crate) fn name_of(option: ValueOption) -> &'static str
     ensures { result.now ≡ name_of option }
 {
@@ -30,46 +33,90 @@ pub(crate) fn name_of(option: ValueOption) -> &'static str
     }
 }
 
-/// The text of an option, if the option is given.
-pub(crate) fn text_of<'a>(matches: &ArgMatches<'a>, option: ValueOption) -> Option<&'a str>
-    ensures { first_of (name_of option) (rows_of (found_of matches.now)) ≡ option_map (λ text. text.now) result }
+/// Returns clap's text for an option, a flag or a path, if there is a text.
+pub(crate) fn text<'a>(matches: &ArgMatches<'a>, name: &str) -> Option<&'a str>
+    ensures { IsTextOf (text_in matches.now name.now) result }
 {
-    matches.get_str(name_of(option))
+    matches.get_str(name)
 }
 
-/// An option with its text, which doesn't have the option's form.
+/// Returns whether a flag is given.
+pub(crate) fn flag(matches: &ArgMatches<'_>, name: &str) -> bool
+    ensures { IsFlagOf (text_in matches.now name.now) result }
+{
+    text(matches, name) == Some("true")
+}
+
+/// Returns the path of a file or a folder that is given.
+pub(crate) fn path<'a>(matches: &ArgMatches<'a>, name: &str) -> &'a str
+    requires { IsSome (text_in matches.now name.now) }
+    ensures { text_in matches.now name.now ≡ Some result.now }
+{
+    text(matches, name).unwrap()
+}
+
+/// Returns an option with its text, which is invalid for the option.
 pub(crate) fn invalid<'a>(matches: &ArgMatches<'a>, option: ValueOption) -> InvalidValue<'a>
     requires { IsMisspelled (rows_of (found_of matches.now)) option }
     ensures option { result.option ≡ option }
     ensures invalid { IsInvalidIn (rows_of (found_of matches.now)) result }
 {
-    let text = text_of(matches, option).unwrap();
+    let text = text(matches, name_of(option)).unwrap();
     InvalidValue { option, text }
 }
 
-/// The value that `read` finds in the text of an option, if the option is given.
-///
-/// # Errors
-///
-/// The option, if its text doesn't have its form: `read` then returns `None`.
-pub(crate) fn value<T, F: FnOnce(&str) -> Option<T>>(
+/// Returns the address in the text of an option, if the option is given. Fails with the option if its text doesn't
+/// have the option's form.
+pub(crate) fn address(
     matches: &ArgMatches<'_>,
     option: ValueOption,
-    read: F,
-) -> Result<Option<T>, ValueOption>
-    requires callable { F.IsAlwaysCallable read }
-    requires exact { (rows : List Row) (text : Text) → FnOnceReturnsAt F.FnOnce read text None
-        → ¬ IsSpelled rows option text }
-    ensures value { IfOk result (IsValueOf (λ text value. FnOnceReturnsAt F.FnOnce read text (Some value))
-        (first_of (name_of option) (rows_of (found_of matches.now)))) }
-    ensures refused { IfErr result
-        (λ refused. (refused ≡ option) × IsMisspelled (rows_of (found_of matches.now)) refused) }
+) -> Result<Option<[u8; 6]>, ValueOption>
+    requires { (rows : List Row) (text : Text) → IsSpelled rows option text
+        → (address : List ℕ) × SpellsAddressOf option text address }
+    ensures value { IfOk result (IsValueOf (SpellsAddressOf option) (text_in matches.now (name_of option))) }
+    ensures refused { IfErr result (IsMisspelledAs option (rows_of (found_of matches.now))) }
 {
-    let Some(text) = text_of(matches, option) else {
+    let Some(text) = text(matches, name_of(option)) else {
         return Ok(None);
     };
-    match read(text) {
-        Some(value) => Ok(Some(value)),
+    let address = match option {
+        ValueOption::Group => group_of(text),
+        _ => address_of(text),
+    };
+    match address {
+        Some(address) => Ok(Some(address)),
         None => Err(option),
     }
+}
+
+/// Returns the number in the text of an option, if the option is given. Fails with the option if its text doesn't have
+/// the option's form.
+pub(crate) fn number(
+    matches: &ArgMatches<'_>,
+    option: ValueOption,
+) -> Result<Option<u64>, ValueOption>
+    requires { (rows : List Row) (text : Text) → IsSpelled rows option text → (n : ℕ) × SpellsNumber option text n }
+    ensures value { IfOk result (IsValueOf (SpellsNumber option) (text_in matches.now (name_of option))) }
+    ensures refused { IfErr result (IsMisspelledAs option (rows_of (found_of matches.now))) }
+{
+    let Some(text) = text(matches, name_of(option)) else {
+        return Ok(None);
+    };
+    match number_of(text, option) {
+        Some(number) => Ok(Some(number)),
+        None => Err(option),
+    }
+}
+
+/// Returns the number in the text of an option, or `default` if the option isn't given. Fails like [`number`].
+pub(crate) fn number_or(
+    matches: &ArgMatches<'_>,
+    option: ValueOption,
+    default: u64,
+) -> Result<u64, ValueOption>
+    requires { (rows : List Row) (text : Text) → IsSpelled rows option text → (n : ℕ) × SpellsNumber option text n }
+    ensures value { IfOk result (IsValueOr (SpellsNumber option) default (text_in matches.now (name_of option))) }
+    ensures refused { IfErr result (IsMisspelledAs option (rows_of (found_of matches.now))) }
+{
+    Ok(number(matches, option)?.unwrap_or(default))
 }

@@ -1,4 +1,4 @@
--- A line is good or faulty, and a text is read or refused.
+-- No line is both good and faulty, and no text is both read and refused.
 use native.Mathlib.Decide.{dec_le}
 use Rattle.std.proofs.Common.{◌≡◌, ◌-◌, ℕ, Option, Some, None, take, refl, subst, arith}
 use Rattle.std.specs.Option.{IsSomeAnd}

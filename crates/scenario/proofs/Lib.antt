@@ -3,6 +3,7 @@ pub mod CallTicks
 pub mod Changes
 pub mod FirstFaults
 pub mod LineAnswers
+pub mod LineFacts
 pub mod Places
 pub mod ReadLines
 pub mod TextLines

@@ -1,4 +1,4 @@
--- Which lines are valid, and the faults of the others (our choice).
+-- Which lines are valid, and the faults of invalid lines (our choice).
 use Rattle.std.specs.Prelude.{◌≡◌, ◌<◌, ◌≤◌, ◌==◌, ℕ, Bool, true, false, List, [], ◌∷◌, Option, Some, None, Result, Ok, Err, if◌then◌else◌}
 use Rattle.std.specs.Prelude.{◌-◌, IsSomeAnd, length, slice_index, take}
 use Rattle.std.specs.List.{fold}
@@ -33,7 +33,7 @@ pub record IsGood (kind : LineKind) (before : SoFar) (words : List Text) : Type 
   pub names : HasHostNames kind before.hosts words
   pub order : HasOrder kind before.commands
 
--- the fault of a line of this kind: the first that applies
+-- A line of this kind has this fault: the first that applies.
 abbrev pub IsFaulty : LineKind → SoFar → List Text → Fault → Type 0
 IsFaulty kind before words fault.Count = ¬ HasCount kind words
 IsFaulty kind before words fault.Value = HasCount kind words × (¬ HasValues kind words)
@@ -52,65 +52,64 @@ abbrev pub IsGrowth : (Host → ℕ) → ℕ → (Host → Host) → Host → Re
 IsGrowth held most change host (Ok u) after = (held host < most) × (after ≡ change host)
 IsGrowth held most change host (Err stopped) after = (stopped ≡ fault.Name) × (¬ (held host < most))
 
--- The result of adding an item to the host of this name: it has room and gets the item, or no host of this name has room.
+-- The result of adding an item to the first host of this name: the host has room and gets the item, or there is no such host with room.
 abbrev pub IsChange : Text → (Host → ℕ) → ℕ → (Host → Host) → List Host → Result (Unit {0}) Fault → List Host → Type 0
 IsChange name held most change hosts (Ok u) after =
     IsRoomAt name held most hosts × (after ≡ changed_first (has_name name) change hosts)
 IsChange name held most change hosts (Err stopped) after = (stopped ≡ fault.Name) × (¬ IsRoomAt name held most hosts)
 
--- A host line has the right number of words, each has its form, and they spell this address and these options.
-pub record IsHostRead (words : List Text) (read : List ℕ × HostOptions) : Type 0 where
-  pub count : HasCount line.Host words
-  pub values : HasValues line.Host words
+-- A host line is valid, and its words spell this address and these options.
+pub record IsHostRead (before : SoFar) (words : List Text) (read : List ℕ × HostOptions) : Type 0 where
+  pub good : IsGood line.Host before words
   pub address : read.0 ≡ address_in (word 2 words)
   pub options : read.1 ≡ options_asked (uses_in (option_words words))
 
--- Words spell these ticks, all at known hosts.
+-- Words spell these ticks, each `go` or at a known host.
 pub record AreTicks (hosts : List Host) (words : List Text) (ticks : List Tick) : Type 0 where
   pub known : are_ticks_of hosts words ≡ true
   pub spelled : ticks ≡ ticks_in hosts words
 
--- the number of the host of a call, and the ticks inside it, all at known hosts
+-- The host of this name and the hosts of all ticks are known. `call` is the host's number and the ticks.
 pub record IsCall (hosts : List Host) (name : Text) (ticks : List Text) (call : ℕ × List Tick) : Type 0 where
   pub spelled : are_ticks ticks ≡ true
   pub known : AreKnown hosts name ticks
   pub host : call.0 ≡ number_of name hosts
   pub inside : call.1 ≡ ticks_in hosts ticks
 
--- the fault of the host and the ticks of a call: the first that applies
+-- The host or the ticks of a call have this fault: the first that applies.
 abbrev pub IsFaultyCall : List Host → (name : Text) → (ticks : List Text) → Fault → Type 0
 IsFaultyCall hosts name ticks fault.Value = ¬ (are_ticks ticks ≡ true)
 IsFaultyCall hosts name ticks fault.Name = (are_ticks ticks ≡ true) × (¬ AreKnown hosts name ticks)
 IsFaultyCall hosts name ticks _ = ⊥
 
--- A line isn't too long, and is UTF-8.
+-- A line has at most 8,192 bytes, and is UTF-8.
 pub record IsReadable (line : Text) : Type 0 where
   pub size : length line ≤ most_line_bytes
   pub text : IsUtf8 line
 
--- Empty lines, and those whose first word begins with # (0x23), are skipped.
+-- Lines without words, and lines whose first word begins with # (0x23), are skipped.
 abbrev pub is_skipped : List Text → Bool
 is_skipped [] = true
 is_skipped (first ∷ words) = slice_index first 0 == 0x23
 
--- A line is valid, or it is skipped.
+-- A line is readable, and it is valid or skipped.
 pub record IsGoodLine (before : SoFar) (line : Text) : Type 0 where
   pub readable : IsReadable line
   pub said : is_skipped (words_of line) ≡ false
       → IsSomeAnd (kind_named (word 0 (words_of line))) (λ kind. IsGood kind before (words_of line))
 
--- the fault of a line that isn't skipped, by its words
+-- The words of a line that isn't skipped have this fault.
 abbrev pub IsFaultySaying : SoFar → List Text → Fault → Type 0
 IsFaultySaying before words fault.Word = kind_named (word 0 words) ≡ None
 IsFaultySaying before words one = IsSomeAnd (kind_named (word 0 words)) (λ kind. IsFaulty kind before words one)
 
--- the fault of a line
+-- A line has this fault: the first that applies.
 abbrev pub IsFaultyLine : SoFar → Text → Fault → Type 0
 IsFaultyLine before line fault.Long = most_line_bytes < length line
 IsFaultyLine before line fault.Text = (length line ≤ most_line_bytes) × (¬ IsUtf8 line)
 IsFaultyLine before line one = IsReadable line × (is_skipped (words_of line) ≡ false) × IsFaultySaying before (words_of line) one
 
--- the hosts, commands and traces after a valid line, by the kind of the line
+-- the hosts, commands and traces after a line of this kind; a line without a kind changes nothing
 abbrev pub after_kind : Option LineKind → SoFar → List Text → SoFar
 after_kind (Some kind) before words = after_line kind before words
 after_kind None before words = before
@@ -134,11 +133,11 @@ IsLineAnswer before line (Err stop) after = IfFault stop (IsFaultyLine before li
 abbrev pub said_by : List Text → SoFar
 said_by lines = fold (λ before line. after_words before (words_of line)) nothing_read lines
 
--- The first `count` lines are valid, each after the lines before it.
+-- The first `count` lines are valid or skipped, each after the lines before it.
 abbrev pub AreGood : ℕ → List Text → Type 0
 AreGood count all = (k : ℕ) → k < count → IsGoodLine (said_by (take k all)) (word k all)
 
--- A text is read: all its lines are valid, and `read` is what they add.
+-- A text is read: all its lines are valid or skipped, and `read` contains their hosts, commands and traces.
 pub record IsRead (text : Text) (read : SoFar) : Type 0 where
   pub good : AreGood (length (lines text)) (lines text)
   pub said : read ≡ said_by (lines text)
@@ -150,7 +149,7 @@ pub record IsRefusedAt (text : Text) (line : ℕ) (one : Fault) : Type 0 where
   pub good : AreGood (line - 1) (lines text)
   pub faulty : IsFaultyLine (said_by (take (line - 1) (lines text))) (word (line - 1) (lines text)) one
 
--- why a text is refused
+-- A text is refused for this reason. The reason `Memory` is possible for every text.
 abbrev pub IsRefused : Text → Refusal → Type 0
 IsRefused text (refusal.Line line one) = IsRefusedAt text line one
 IsRefused text refusal.Memory = Unit {0}

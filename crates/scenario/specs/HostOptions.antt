@@ -25,11 +25,11 @@ option_kinds =
     ∷ (codes "promiscuous", option.Promiscuous)
     ∷ []
 
--- the option with this name
+-- the option with this name, if there is one
 unfoldable pub option_named : Text → Option OptionKind
 option_named word = value_in option_kinds word
 
--- never, or the number of ticks after which a link is up
+-- never, or the number of ticks after which a link is up, if the value spells one of these
 abbrev pub link_in : Text → Option Link
 link_in value = if bytes_eq value (codes "never") then Some link.Never else option_map link.After (number_in 10 16 value)
 
@@ -37,7 +37,7 @@ abbrev pub use_or_unread : OptionKind → Option HostUse → HostUse
 use_or_unread kind (Some read) = read
 use_or_unread kind None = uses.Unread kind
 
--- the use of an option with its value
+-- the use of an option with its value; `Unread` if the value doesn't have its form
 abbrev pub use_of : OptionKind → Text → HostUse
 use_of option.Rx value = use_or_unread option.Rx (option_map uses.Rx (number_in 10 16 value))
 use_of option.Tx value = use_or_unread option.Tx (option_map uses.Tx (number_in 10 16 value))
@@ -67,7 +67,7 @@ abbrev pub use_without : Option OptionKind → HostUse
 use_without (Some kind) = lone_use kind
 use_without None = uses.Unknown
 
--- The uses that words spell: an option with a value takes the word after it; every other word is a use by itself.
+-- The uses that words spell. An option that takes a value takes the next word, if there is one. Every other word is a use by itself.
 abbrev pub uses_in : List Text → List HostUse
 uses_in [] = []
 uses_in (word ∷ []) = use_without (option_named word) ∷ []
@@ -99,7 +99,7 @@ abbrev pub is_some_of : OptionKind → Option OptionKind → Bool
 is_some_of kind (Some own) = is_same own kind
 is_some_of kind None = false
 
--- whether this option is used
+-- whether a use is one of this option
 abbrev pub is_use_of : OptionKind → HostUse → Bool
 is_use_of kind one = is_some_of kind (kind_of_use one)
 
@@ -121,16 +121,16 @@ pub record AreOnce (given : List HostUse) : Type 0 where
   pub link : count_by (is_use_of option.Link) given ≤ 1
   pub promiscuous : count_by (is_use_of option.Promiscuous) given ≤ 1
 
--- Each option has its value, and is used at most once.
+-- Each option that takes a value has one, and each option is used at most once.
 pub record AreCounted (given : List HostUse) : Type 0 where
   pub whole : All (λ one. is_whole one ≡ true) given
   pub once : AreOnce given
 
--- Each word is an option, and its value, if it has one, has its form.
+-- Each use is of an option, and the option's value, if there is one, has its form.
 pub record AreRead (given : List HostUse) : Type 0 where
   pub all : All (λ one. is_read one ≡ true) given
 
--- the values of options that a line doesn't have
+-- the values of options that a line doesn't use
 abbrev pub defaults : HostOptions
 defaults = record { rx = 8; tx = 8; buffers = 16; rxa = 48; link = link.After 1; promiscuous = false }
 

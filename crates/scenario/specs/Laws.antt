@@ -5,7 +5,7 @@ use Rattle.scenario.specs.SoFar.{SoFar}
 use Rattle.scenario.specs.Words.{Text}
 use Rattle.scenario.specs.declared.refusal.Fault.{Fault}
 
--- A text that is read isn't refused.
+-- A text that is read isn't refused for a line.
 abbrev pub TextsAreReadOrRefused : Type 0
 TextsAreReadOrRefused = (text : Text) (read : SoFar) (line : ℕ) (one : Fault) → IsRead text read → ¬ IsRefusedAt text line one
 

@@ -42,7 +42,7 @@ most_sockets = 8
 abbrev pub most_events : ℕ
 most_events = 1000000
 
--- the words of a call: those before the first lone slash
+-- the words of a call: the words before the first word that is a slash, or all words if there is none
 abbrev pub call_words : List Text → List Text
 call_words words = words_before (codes "/") words
 
@@ -53,7 +53,7 @@ tick_words words = words_after (codes "/") words
 abbrev pub option_words : List Text → List Text
 option_words words = drop 4 words
 
--- whether a word is a number of events to draw
+-- whether a word is a number of events to draw: a decimal number of at most 1,000,000
 abbrev pub is_count : Text → Bool
 is_count text = is_number 10 64 text && nat_le (digits_value 10 text) most_events
 
@@ -61,15 +61,15 @@ is_count text = is_number 10 64 text && nat_le (digits_value 10 text) most_event
 abbrev pub are_ticks : List Text → Bool
 are_ticks words = list_all is_tick words
 
--- whether each word spells a tick at a known host
+-- whether each word is go, or spells a tick at a known host
 abbrev pub are_ticks_of : List Host → List Text → Bool
 are_ticks_of hosts words = list_all (λ one. is_some (tick_named hosts one)) words
 
--- the ticks that words spell
+-- the ticks that words spell; `Go` for a word that spells no tick at a known host
 abbrev pub ticks_in : List Host → List Text → List Tick
 ticks_in hosts words = map (λ one. unwrap_or (tick_named hosts one) tick.Go) words
 
--- A `host` line has enough words, each option has its value, and no option occurs twice.
+-- A `host` line has at least 4 words, each option that takes a value has one, and no option occurs twice.
 pub record HasHostWords (words : List Text) : Type 0 where
   pub least : 4 ≤ length words
   pub options : AreCounted (uses_in (option_words words))
@@ -80,7 +80,7 @@ size_of_call call.Interrupt = 2
 size_of_call call.Reset = 2
 size_of_call _ = 3
 
--- A line has the right number of words.
+-- A line of this kind has the right number of words. The words of a call's ticks don't count.
 abbrev pub HasCount : LineKind → List Text → Type 0
 HasCount line.Host words = HasHostWords words
 HasCount (line.Item one) words = length words ≡ 3
@@ -90,13 +90,13 @@ HasCount line.Feed words = length words ≡ 3
 HasCount line.Auto words = length words ≡ 3
 HasCount line.Drain words = length words ≡ 2
 
--- A text has the form of an item.
+-- A text has the form of an item of this kind.
 abbrev pub IsItem : ItemKind → Text → Type 0
 IsItem item.Group text = IsAddress text
 IsItem item.Vlan text = is_number 10 16 text ≡ true
 IsItem item.Socket text = IsSome (socket_in text)
 
--- The words of a call have the form of what it asks.
+-- The words of a call have the form of this kind of call.
 abbrev pub CanAsk : CallKind → List Text → Type 0
 CanAsk call.Send words = IsFrame (word 2 words)
 CanAsk call.Recv words = is_number 10 64 (word 2 words) ≡ true
@@ -115,7 +115,7 @@ HasValues line.Feed words = Unit {0}
 HasValues line.Auto words = (is_count (word 1 words) ≡ true) × (is_number 10 64 (word 2 words) ≡ true)
 HasValues line.Drain words = Unit {0}
 
--- There is a host of this name, and it has room.
+-- There is a host of this name, and the first such host holds fewer than `most` items.
 abbrev pub IsRoomAt : Text → (Host → ℕ) → ℕ → List Host → Type 0
 IsRoomAt name held most hosts = IsSomeAnd (find (has_name name) hosts) (λ host. held host < most)
 
@@ -128,7 +128,7 @@ vlans_held host = length (vlans_of host.config.vlans)
 abbrev pub sockets_held : Host → ℕ
 sockets_held host = length host.sockets
 
--- the number of the items of a host that are of the kind of this item
+-- the number of a host's items of the same kind as this item
 abbrev pub items_held : Item → Host → ℕ
 items_held (items.Group group) = groups_held
 items_held (items.Vlan vlan) = vlans_held
@@ -142,20 +142,20 @@ most_items (items.Socket socket) = most_sockets
 abbrev pub number_read : Text → ℕ
 number_read text = digits_value 10 text
 
--- the item that a text of its form spells
+-- the item of this kind that a text of the right form spells
 abbrev pub item_in : ItemKind → Text → Item
 item_in item.Group text = items.Group (address_in text)
 item_in item.Vlan text = items.Vlan (number_read text)
 item_in item.Socket text = items.Socket (unwrap_or (socket_in text) socket.All)
 
--- There is a host of this name, and it has room for this item.
+-- There is a host of this name, and the first such host has room for this item.
 abbrev pub IsRoomFor : Text → Item → List Host → Type 0
 IsRoomFor name one hosts = IsRoomAt name (items_held one) (most_items one) hosts
 
 abbrev pub NamesHost : Text → List Host → Type 0
 NamesHost name hosts = IsSome (place_of name hosts)
 
--- There is a host of this name, and the host of each tick.
+-- There is a host of this name, and each tick is `go` or at a known host.
 pub record AreKnown (hosts : List Host) (name : Text) (ticks : List Text) : Type 0 where
   pub host : NamesHost name hosts
   pub inside : are_ticks_of hosts ticks ≡ true
@@ -170,12 +170,13 @@ HasHostNames line.Feed hosts words = NamesHost (word 1 words) hosts
 HasHostNames line.Auto hosts words = Unit {0}
 HasHostNames line.Drain hosts words = NamesHost (word 1 words) hosts
 
--- whether lines of this kind set up hosts; they must come before the first event
+-- whether lines of this kind set up hosts: `host` lines, and lines that add a group, a VLAN or a socket
 abbrev pub sets_up : LineKind → Bool
 sets_up line.Host = true
 sets_up (line.Item one) = true
 sets_up _ = false
 
+-- A line that sets up hosts is before the first command.
 abbrev pub HasOrder : LineKind → List Said → Type 0
 HasOrder kind commands = sets_up kind ≡ true → length commands ≡ 0
 
@@ -198,7 +199,7 @@ host_described name address wire options = record {
   sockets = [];
 }
 
--- the host that a line makes
+-- the host that a `host` line makes
 abbrev pub host_of_words : List Text → Host
 host_of_words words = host_described (word 1 words) (address_in (word 2 words)) (word 3 words) (options_asked (uses_in
     (option_words words)))
@@ -218,7 +219,7 @@ with_item (items.Group group) = with_group group
 with_item (items.Vlan vlan) = with_vlan vlan
 with_item (items.Socket kind) = with_socket kind
 
--- the list in which the first host that passes the test is changed
+-- the list with a change of the first host that passes the test
 abbrev pub changed_first : (Host → Bool) → (Host → Host) → List Host → List Host
 changed_first test change [] = []
 changed_first test change (host ∷ hosts) = if test host then change host ∷ hosts else host ∷ changed_first test change hosts
@@ -226,7 +227,7 @@ changed_first test change (host ∷ hosts) = if test host then change host ∷ h
 abbrev pub with_hosts : List Host → SoFar → SoFar
 with_hosts hosts before = record before { hosts = hosts }
 
--- the lines read so far, with the host of this name changed
+-- the lines read so far, with a change of the first host of this name
 abbrev pub changing : Text → (Host → Host) → SoFar → SoFar
 changing name change before = with_hosts (changed_first (has_name name) change before.hosts) before
 
@@ -252,12 +253,12 @@ said_in_call call.Reset words host ticks = Resets host ticks
 said_in_call call.Join words host ticks = Joins host (address_in (word 2 words)) ticks
 said_in_call call.Leave words host ticks = Leaves host (address_in (word 2 words)) ticks
 
--- The words of a call ask this.
+-- The words of a call of this kind have its form, and spell the call `one`.
 pub record IsAsked (kind : CallKind) (words : List Text) (one : Asked) : Type 0 where
   pub form : CanAsk kind words
   pub said : (host : ℕ) (ticks : List Tick) → said_asking one host ticks ≡ said_in_call kind words host ticks
 
--- the number of the host of this name
+-- the number of the first host of this name, or 0 if there is no such host
 abbrev pub number_of : Text → List Host → ℕ
 number_of name hosts = unwrap_or (place_of name hosts) 0
 

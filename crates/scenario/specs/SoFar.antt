@@ -22,7 +22,7 @@ pub record Host : Type 0 where
   pub wire : Text
   -- the words of its EEPROM
   pub image : List ℕ
-  -- the number of ticks until its link is up, if it ever is
+  -- the number of ticks until its link is up, or that the link is never up
   pub link : Link
   -- its rings, buffers, packet buffer and filter
   pub config : Config
@@ -40,7 +40,7 @@ host_of_plan plan = record {
   sockets = plan.sockets.items;
 }
 
--- A command: an event with the bytes of its frame and the list of its ticks, or a feed, random events, or a drain.
+-- A command: an event with the bytes of its frame and the list of its ticks, a feed, random events, or a drain.
 pub data Said : Type 0 where
   Sends : (host : ℕ) (frame : List ℕ) (ticks : List Tick) → Said
   Receives : (host socket : ℕ) (ticks : List Tick) → Said
@@ -94,6 +94,6 @@ nothing_read = record { hosts = []; commands = []; traces = [] }
 abbrev pub has_name : Text → Host → Bool
 has_name name host = bytes_eq host.name name
 
--- the number of the host of this name, if there is one
+-- the number of the first host of this name, if there is one
 abbrev pub place_of : Text → List Host → Option ℕ
 place_of name hosts = position (has_name name) hosts

@@ -1,4 +1,4 @@
--- Which words spell an address, a frame, an EtherType and the frames of a socket, and which (our choice).
+-- Which words spell an address, a frame, an EtherType or the frames of a socket, and what they spell (our choice).
 use Rattle.std.specs.Prelude.{◌≤◌, ◌+◌, ◌*◌, ℕ, List, [], ◌∷◌, Option, Some, None, if◌then◌else◌}
 use Rattle.std.specs.Prelude.{IsOk, ◌==◌, codes, Ok, Err, Result, length, map, slice_index}
 use Rattle.std.specs.Option.{option_map}
@@ -11,11 +11,11 @@ use Rattle.packet_socket.specs.declared.socket_kind.SocketKind.{SocketKind}
 use Rattle.packet_socket.specs.declared.socket_kind.SocketKind.TheVariants as socket
 use Rattle.scenario.specs.Words.{Text}
 
--- the byte whose two digits are at this place of a text
+-- the byte whose two digits begin at this place of a text
 abbrev pub byte_at : Text → ℕ → ℕ
 byte_at text place = hexadecimal_value (slice_index text place) * 16 + hexadecimal_value (slice_index text (place + 1))
 
--- the six bytes of an address: each has two digits, and a colon follows all but the last
+-- the six bytes of an address: each byte has two digits, and a colon is between two bytes
 abbrev pub address_in : Text → List ℕ
 address_in text = map (byte_at text) (0 ∷ 3 ∷ 6 ∷ 9 ∷ 12 ∷ 15 ∷ [])
 
@@ -31,7 +31,7 @@ abbrev pub bytes_or_none : Result (List ℕ) FromHexError → List ℕ
 bytes_or_none (Ok bytes) = bytes
 bytes_or_none (Err fault) = []
 
--- the bytes that hexadecimal digits spell, two digits a byte
+-- the bytes that hexadecimal digits spell, two digits a byte; no bytes if the text isn't such digits
 abbrev pub frame_in : Text → List ℕ
 frame_in text = bytes_or_none (decode_of text)
 
@@ -44,6 +44,6 @@ pub record IsFrame (text : Text) : Type 0 where
 abbrev pub ether_type_in : Text → Option ℕ
 ether_type_in text = if length text == 4 then number_in 16 16 text else None
 
--- the frames that a socket takes: all, or those of an EtherType
+-- the frames that a socket takes: all frames if the text is `all`, or the frames of an EtherType, if the text spells one
 abbrev pub socket_in : Text → Option SocketKind
 socket_in text = if bytes_eq text (codes "all") then Some socket.All else option_map socket.Ether (ether_type_in text)

@@ -6,7 +6,7 @@ use Rattle.scenario.specs.declared.refusal.Refusal.TheVariants as refusal
 use Rattle.scenario.specs.declared.refusal.Stop.{Stop}
 use Rattle.scenario.specs.declared.refusal.Stop.TheVariants as stop
 
--- This holds of the fault, if a fault is the reason.
+-- If the reason is a fault, the fault has this property.
 abbrev pub IfFault : Stop → (Fault → Type 0) → Type 0
 IfFault stop.Memory P = Unit {0}
 IfFault (stop.Fault fault) P = P fault

@@ -1,4 +1,4 @@
--- Which words spell a tick, and which tick (our choice).
+-- Which words spell a tick, and which tick they spell (our choice).
 use Rattle.std.specs.Prelude.{◌==◌, ◌&&◌, ◌||◌, ℕ, Bool, List, [], ◌∷◌, Option, Some, None, codes, if◌then◌else◌, is_some, length, nat_lt}
 use Rattle.std.specs.List.{after_first, before_first, position_or_len}
 use Rattle.std.specs.Str.{bytes_eq}
@@ -54,7 +54,7 @@ tick_if (Some kind) (Some host) = Some (tick_at kind host)
 tick_if (Some kind) None = None
 tick_if None host = None
 
--- the tick that a word spells, if its kind and its host are known
+-- the tick that a word spells, if the word is go, or its kind and its host are known
 abbrev pub tick_named : List Host → Text → Option Tick
 tick_named hosts word =
     if bytes_eq word (codes "go") then Some tick.Go

@@ -7,11 +7,11 @@ use network_plan::{Event, Plan};
 pub enum Command {
     /// An event.
     Event(Event),
-    /// For each frame of a trace, the events that send the frame and let it arrive.
+    /// For each frame of a trace, the events that send the frame and receive it at the other hosts on the wire.
     Feed {
         /// The host, numbered from 0 in the order of the plan.
         host: usize,
-        /// The trace: its place among the names of traces, from 0.
+        /// The trace: the place of its name in [`trace_names`](Scenario::trace_names), from 0.
         trace: usize,
     },
     /// Events drawn at random.
@@ -37,21 +37,21 @@ pub struct Scenario {
     pub commands: Vec<Command>,
     /// The number of each command's line, from 1.
     pub(crate) lines: Vec<u64>,
-    /// The names of the traces to feed, in order.
+    /// The names of the traces to feed, one for each `feed` line, in order.
     pub(crate) traces: Vec<String>,
 }
 
 impl Scenario {
     ghost use Rattle.std.specs.Prelude.{◌≡◌};
 
-    /// The number of the line of each command, from 1, in order.
+    /// Returns the number of the line of each command, from 1, in order.
     pub fn command_lines(&self) -> &[u64]
         ensures { result.now ≡ self.now.lines.items }
     {
         self.lines.as_slice()
     }
 
-    /// The names of the traces to feed, one for each `feed` line, in order.
+    /// Returns the names of the traces to feed, one for each `feed` line, in order.
     pub fn trace_names(&self) -> &[String]
         ensures { result.now ≡ self.now.traces.items }
     {

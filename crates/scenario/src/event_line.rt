@@ -1,4 +1,4 @@
-// The lines of events.
+// Reads the lines of commands.
 
 ghost use Rattle.std.specs.Prelude.{◌≡◌, IfErr, IfOk, OnOk, length, true};
 ghost use Rattle.std.specs.Option.{SomeIff};
@@ -7,10 +7,10 @@ ghost use Rattle.scenario.specs.Answers.{AreTicks, IsAnswer, IsCall, IsFaultyCal
 ghost use Rattle.scenario.specs.Meanings as meanings;
 ghost use Rattle.scenario.specs.SoFar.{event_of, hosts_of, said_of, so_far};
 ghost use Rattle.scenario.specs.Stops.{IfFault};
-ghost use Rattle.scenario.specs.Spellings.{IsAddress, address_in};
 ghost use Rattle.scenario.specs.Words.{texts};
 ghost use Rattle.scenario.specs.declared.line_kind.LineKind.TheVariants as line;
 ghost use Rattle.scenario.specs.declared.refusal.Fault.TheVariants as faults;
+ghost use Rattle.scenario.specs.declared.refusal.Stop.TheVariants as stops;
 
 use crate::command::{Command, Scenario};
 use crate::line_kind::CallKind;
@@ -19,23 +19,23 @@ use crate::spelling::{address_of, frame_of, number_of};
 use crate::tick_word::{host_named, is_tick, tick_of};
 use network_plan::{Event, HostPlan};
 use stations::Tick;
-use std::alloc::{AllocError, Global};
+use std::alloc::Global;
 use text::{split_at_word, word_at};
 
 /// The maximum number of events that an `auto` line draws (our choice).
 const MOST_EVENTS: u64 = 1_000_000;
 
-/// The word between those of a call and those of its ticks.
+/// The word between the words of a call and the words of its ticks.
 const SLASH: &str = "/";
 
-/// Whether each word spells a tick.
+/// Returns whether each word spells a tick.
 fn are_ticks(words: &[&str]) -> bool
     ensures { result ≡ meanings.are_ticks (texts words.now) }
 {
     words.iter().all(|word| is_tick(word))
 }
 
-/// The ticks that words spell.
+/// Returns the ticks that words spell.
 ///
 /// # Errors
 ///
@@ -55,7 +55,7 @@ fn ticks_of(alloc: Global, hosts: &[HostPlan], words: &[&str]) -> Result<Vec<Tic
     Ok(ticks)
 }
 
-/// The host of a call, and the ticks inside it.
+/// Returns the host of a call, and the ticks inside it.
 ///
 /// # Errors
 ///
@@ -80,19 +80,20 @@ fn call_of(
 }
 
 /// Appends a command.
-fn say(scenario: &mut Scenario, command: Command) -> Result<(), AllocError>
-    ensures { OnOk result (so_far scenario.new ≡ meanings.saying (said_of command) (so_far scenario.old)) }
+fn say(scenario: &mut Scenario, command: Command) -> Result<(), Stop>
+    ensures said { OnOk result (so_far scenario.new ≡ meanings.saying (said_of command) (so_far scenario.old)) }
+    ensures memory { IfErr result (λ stopped. stopped ≡ stops.Memory) }
 {
     scenario.commands.push(command)?;
     Ok(())
 }
 
-/// What a call asks of its host, without its ticks.
+/// What a call asks its host to do. It contains no ticks.
 #[derive(Drop)]
 enum Asked {
     /// To send a frame.
     Send(Vec<u8>),
-    /// For the oldest frame of the socket with this number.
+    /// To return the oldest frame of the socket with this number.
     Recv(usize),
     /// To handle an interrupt.
     Interrupt,
@@ -105,7 +106,7 @@ enum Asked {
 }
 
 impl Asked {
-    /// The event of this call at a host, with these ticks inside.
+    /// Returns the event of this call at a host, with these ticks inside.
     fn event(self, host: usize, ticks: Vec<Tick>) -> Event
         ensures { event_of result ≡ meanings.said_asking self host ticks.items }
     {
@@ -124,7 +125,7 @@ impl Asked {
     }
 }
 
-/// The number of words of a call, without its ticks.
+/// Returns the number of words of a call, without its ticks.
 fn size_of_call(kind: CallKind) -> usize
     ensures { result ≡ meanings.size_of_call kind }
 {
@@ -134,18 +135,7 @@ fn size_of_call(kind: CallKind) -> usize
     }
 }
 
-/// The group that a word spells.
-fn group_of(word: &str) -> Result<[u8; 6], Fault>
-    ensures ok { IfOk result (λ group. IsAddress word.now × (group ≡ address_in word.now)) }
-    ensures err { IfErr result (λ fault. (fault ≡ faults.Value) × (¬ IsAddress word.now)) }
-{
-    match address_of(word) {
-        Some(group) => Ok(group),
-        None => Err(Fault::Value),
-    }
-}
-
-/// What the words of a call ask of its host.
+/// Returns what the words of a call ask its host to do.
 ///
 /// # Errors
 ///
@@ -157,20 +147,29 @@ fn asked_of(alloc: Global, kind: CallKind, call: &[&str]) -> Result<Asked, Stop>
         (fault ≡ faults.Value) × (¬ meanings.CanAsk kind (texts call.now)))) }
 {
     match kind {
-        CallKind::Send => Ok(Asked::Send(frame_of(alloc, word_at(call, 2))?)),
+        CallKind::Send => match frame_of(alloc, word_at(call, 2)) {
+            Ok(frame) => Ok(Asked::Send(frame)),
+            Err(stop) => Err(stop),
+        },
         CallKind::Recv => match number_of(word_at(call, 2)) {
             Some(socket) => Ok(Asked::Recv(socket as usize)),
             None => Err(Stop::Fault(Fault::Value)),
         },
         CallKind::Interrupt => Ok(Asked::Interrupt),
         CallKind::Reset => Ok(Asked::Reset),
-        CallKind::Join => Ok(Asked::Join(group_of(word_at(call, 2))?)),
-        CallKind::Leave => Ok(Asked::Leave(group_of(word_at(call, 2))?)),
+        CallKind::Join => match address_of(word_at(call, 2)) {
+            Some(group) => Ok(Asked::Join(group)),
+            None => Err(Stop::Fault(Fault::Value)),
+        },
+        CallKind::Leave => match address_of(word_at(call, 2)) {
+            Some(group) => Ok(Asked::Leave(group)),
+            None => Err(Stop::Fault(Fault::Value)),
+        },
     }
 }
 
-/// `send HOST HEX`, `recv HOST S`, `interrupt HOST`, `reset HOST`, `join HOST ADDRESS` and `leave HOST ADDRESS`, each
-/// with ticks.
+/// Reads a call and its ticks: `send HOST HEX`, `recv HOST S`, `interrupt HOST`, `reset HOST`, `join HOST ADDRESS` or
+/// `leave HOST ADDRESS`.
 pub(crate) fn read_call(
     alloc: Global,
     scenario: &mut Scenario,
@@ -186,8 +185,7 @@ pub(crate) fn read_call(
     let asked = asked_of(alloc, kind, call)?;
     let hosts = scenario.plan.hosts.as_slice();
     let (host, ticks) = call_of(alloc, hosts, word_at(call, 1), ticks)?;
-    say(scenario, Command::Event(asked.event(host, ticks)))?;
-    Ok(())
+    say(scenario, Command::Event(asked.event(host, ticks)))
 }
 
 /// Reads a line `tick TICK`.
@@ -204,8 +202,7 @@ pub(crate) fn read_tick(scenario: &mut Scenario, words: &[&str]) -> Result<(), S
     let Some(tick) = tick_of(scenario.plan.hosts.as_slice(), word) else {
         return Err(Stop::Fault(Fault::Name));
     };
-    say(scenario, Command::Event(Event::Tick(tick)))?;
-    Ok(())
+    say(scenario, Command::Event(Event::Tick(tick)))
 }
 
 /// Reads a line `feed HOST FILE`.
@@ -221,11 +218,10 @@ pub(crate) fn read_feed(alloc: Global, scenario: &mut Scenario, words: &[&str]) 
     let name = String::from_str(alloc, word_at(words, 2))?;
     let trace = scenario.traces.len();
     scenario.traces.push(name)?;
-    say(scenario, Command::Feed { host, trace })?;
-    Ok(())
+    say(scenario, Command::Feed { host, trace })
 }
 
-/// The number of events that a word asks to draw, if it is a number of at most 1,000,000.
+/// Returns the number of events that a word asks to draw, if the word is a decimal number of at most 1,000,000.
 fn count_of(text: &str) -> Option<u32>
     ensures { SomeIff result (meanings.is_count text.now ≡ true) (digits_value 10 text.now) }
 {
@@ -249,8 +245,7 @@ pub(crate) fn read_auto(scenario: &mut Scenario, words: &[&str]) -> Result<(), S
     let Some(start) = number_of(word_at(words, 2)) else {
         return Err(Stop::Fault(Fault::Value));
     };
-    say(scenario, Command::Auto { count, start })?;
-    Ok(())
+    say(scenario, Command::Auto { count, start })
 }
 
 /// Reads a line `drain HOST`.
@@ -263,6 +258,5 @@ pub(crate) fn read_drain(scenario: &mut Scenario, words: &[&str]) -> Result<(), 
     let Some(host) = host_named(scenario.plan.hosts.as_slice(), word_at(words, 1)) else {
         return Err(Stop::Fault(Fault::Name));
     };
-    say(scenario, Command::Drain { host })?;
-    Ok(())
+    say(scenario, Command::Drain { host })
 }

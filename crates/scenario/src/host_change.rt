@@ -15,7 +15,7 @@ use network_plan::HostPlan;
 use packet_socket::SocketKind;
 use std::alloc::{AllocError, Global};
 
-/// An item of a host: its group, VLAN or socket. A host can have several of each.
+/// An item of a host: a group, a VLAN or a socket.
 #[derive(Clone, Copy)]
 pub(crate) enum Item {
     /// The group with this address.
@@ -26,7 +26,7 @@ pub(crate) enum Item {
     Socket(SocketKind),
 }
 
-/// The host of a `host` line.
+/// Returns the host of a `host` line.
 pub(crate) fn new_host(
     alloc: Global,
     name: &str,
@@ -54,7 +54,7 @@ pub(crate) fn new_host(
     })
 }
 
-/// Adds a group to a host.
+/// Adds a group to a host, if the host has room.
 fn push_group(host: &mut HostPlan, group: [u8; 6]) -> Result<(), Fault>
     ensures { IsGrowth meanings.groups_held meanings.most_groups (meanings.with_group group)
         (host_of_plan host.old) result (host_of_plan host.new) }
@@ -66,7 +66,7 @@ fn push_group(host: &mut HostPlan, group: [u8; 6]) -> Result<(), Fault>
     Ok(())
 }
 
-/// Adds a VLAN to a host.
+/// Adds a VLAN to a host, if the host has room.
 fn push_vlan(host: &mut HostPlan, vlan: u16) -> Result<(), Fault>
     ensures { IsGrowth meanings.vlans_held meanings.most_vlans (meanings.with_vlan vlan)
         (host_of_plan host.old) result (host_of_plan host.new) }
@@ -80,7 +80,7 @@ fn push_vlan(host: &mut HostPlan, vlan: u16) -> Result<(), Fault>
     Ok(())
 }
 
-/// Adds a socket to a host.
+/// Adds a socket to a host, if the host has room.
 fn push_socket(host: &mut HostPlan, kind: SocketKind) -> Result<(), Fault>
     ensures { IsGrowth meanings.sockets_held meanings.most_sockets (meanings.with_socket kind)
         (host_of_plan host.old) result (host_of_plan host.new) }
@@ -92,7 +92,7 @@ fn push_socket(host: &mut HostPlan, kind: SocketKind) -> Result<(), Fault>
     Ok(())
 }
 
-/// Adds an item to a host.
+/// Adds an item to a host, if the host has room.
 fn push_item(host: &mut HostPlan, item: Item) -> Result<(), Fault>
     ensures { IsGrowth (meanings.items_held item) (meanings.most_items item) (meanings.with_item item)
         (host_of_plan host.old) result (host_of_plan host.new) }
@@ -104,7 +104,7 @@ fn push_item(host: &mut HostPlan, item: Item) -> Result<(), Fault>
     }
 }
 
-/// Adds an item to the host with this name.
+/// Adds an item to the host with this name, if the host exists and has room.
 #[tactic(auto, using(crate::proofs::Changes::no_room))]
 pub(crate) fn add_item(hosts: &mut [HostPlan], name: &str, item: Item) -> Result<(), Fault>
     ensures { IsChange name.now (meanings.items_held item) (meanings.most_items item) (meanings.with_item item)

@@ -20,13 +20,13 @@ pub(crate) enum OptionKind {
     Buffers,
     /// `rxa N`: the receive part of the packet buffer, in kilobytes.
     Rxa,
-    /// `link N` or `link never`: the number of ticks until the link is up.
+    /// `link N` or `link never`: the number of ticks until the link is up, if it is ever up.
     Link,
-    /// `promiscuous`: every frame passes the filter.
+    /// `promiscuous`: frames for every destination address pass the filter.
     Promiscuous,
 }
 
-/// A use of an option: a word of a `host` line after its wire, with the value that follows it.
+/// A use of an option: a word of a `host` line after the wire, and the value that follows the word, if any.
 #[derive(Clone, Copy)]
 pub(crate) enum HostUse {
     /// The word isn't an option.
@@ -60,7 +60,7 @@ pub(crate) struct HostOptions {
     pub(crate) promiscuous: bool,
 }
 
-/// The values of options that a line doesn't have.
+/// The values of options that a line doesn't use.
 const DEFAULTS: HostOptions = HostOptions {
     rx: 8,
     tx: 8,
@@ -71,7 +71,7 @@ const DEFAULTS: HostOptions = HostOptions {
 };
 
 impl OptionKind {
-    /// This option with a value.
+    /// Returns the use of this option with a value.
     fn with_value(self, value: &str) -> HostUse
         ensures { result ≡ options.use_of self value.now }
     {
@@ -86,7 +86,7 @@ impl OptionKind {
         }
     }
 
-    /// This option without a value.
+    /// Returns the use of this option without a value.
     fn without_value(self) -> HostUse
         ensures { result ≡ options.lone_use self }
     {
@@ -96,7 +96,7 @@ impl OptionKind {
         }
     }
 
-    /// Whether a value follows the option.
+    /// Returns whether the option takes a value.
     fn takes_value(self) -> bool
         ensures { result ≡ options.takes_value self }
     {
@@ -108,7 +108,7 @@ impl OptionKind {
 }
 
 impl HostUse {
-    /// The option that is used.
+    /// Returns the option that is used; `None` if the word isn't an option.
     fn kind(&self) -> Option<OptionKind>
         ensures { result ≡ options.kind_of_use self.now }
     {
@@ -125,7 +125,7 @@ impl HostUse {
         }
     }
 
-    /// Whether this option is used.
+    /// Returns whether this is a use of this option.
     fn is_of(&self, kind: OptionKind) -> bool
         ensures { result ≡ options.is_use_of kind self.now }
     {
@@ -135,14 +135,14 @@ impl HostUse {
         }
     }
 
-    /// Whether the option has its value, if it takes one.
+    /// Returns false if and only if an option lacks its value.
     fn is_whole(&self) -> bool
         ensures { result ≡ options.is_whole self.now }
     {
         !matches!(self, HostUse::Lone(_))
     }
 
-    /// Whether the word is an option, and its value, if it has one, has its form.
+    /// Returns whether the word is an option, and its value, if it has one, has its form.
     fn is_read(&self) -> bool
         ensures { result ≡ options.is_read self.now }
     {
@@ -151,7 +151,7 @@ impl HostUse {
 }
 
 impl HostOptions {
-    /// These options with the value of one more use.
+    /// Returns these options with the value of one more use, if the use has a value.
     fn with_use(self, one: HostUse) -> HostOptions
         ensures { result ≡ options.with_use self one }
     {
@@ -170,7 +170,7 @@ impl HostOptions {
     }
 }
 
-/// When a link is up, if the value spells this.
+/// Returns when a link is up: `never`, or after a number of ticks below 2^16. `None` for any other text.
 fn link_of(value: &str) -> Option<Link>
     ensures { result ≡ options.link_in value.now }
 {
@@ -190,7 +190,7 @@ const OPTION_KINDS: [(&str, OptionKind); 6] = [
     ("promiscuous", OptionKind::Promiscuous),
 ];
 
-/// The option with this name.
+/// Returns the option with this name.
 #[tactic(auto, unfolding(crate::specs::HostOptions::option_named))]
 fn option_of(word: &str) -> Option<OptionKind>
     ensures { result ≡ options.option_named word.now }
@@ -198,7 +198,7 @@ fn option_of(word: &str) -> Option<OptionKind>
     value_of(&OPTION_KINDS, word)
 }
 
-/// The first use in these words, and the number of words of `behind` that belong to it.
+/// Returns the use that begins with `word`, and the number of words of `behind` that belong to this use.
 fn first_use(word: &str, behind: &[&str]) -> (HostUse, usize)
     ensures first { options.uses_in (word.now ∷ texts behind.now)
         ≡ result.0 ∷ options.uses_in (texts (drop result.1 behind.now)) }
@@ -216,7 +216,7 @@ fn first_use(word: &str, behind: &[&str]) -> (HostUse, usize)
     }
 }
 
-/// The uses of options that the words after the wire spell.
+/// Returns the uses of options that the words after the wire spell.
 pub(crate) fn uses_of(alloc: Global, words: &[&str]) -> Result<Vec<HostUse>, AllocError>
     ensures { IfOk result (λ uses. uses.items ≡ options.uses_in (texts words.now)) }
 {
@@ -230,14 +230,14 @@ pub(crate) fn uses_of(alloc: Global, words: &[&str]) -> Result<Vec<HostUse>, All
     Ok(uses)
 }
 
-/// Whether an option is used at most once.
+/// Returns whether an option is used at most once.
 fn is_once(uses: &[HostUse], kind: OptionKind) -> bool
     ensures { IsTrue result ↔ (count_by (options.is_use_of kind) uses.now ≤ 1) }
 {
     uses.iter().filter(|one| one.is_of(kind)).count() <= 1
 }
 
-/// Whether each option is used at most once.
+/// Returns whether each option is used at most once.
 fn are_once(uses: &[HostUse]) -> bool
     ensures { IsTrue result ↔ options.AreOnce uses.now }
 {
@@ -249,21 +249,21 @@ fn are_once(uses: &[HostUse]) -> bool
         && is_once(uses, OptionKind::Promiscuous)
 }
 
-/// Whether each option has its value, and is used at most once.
+/// Returns whether each option has its value, and is used at most once.
 pub(crate) fn are_counted(uses: &[HostUse]) -> bool
     ensures { IsTrue result ↔ options.AreCounted uses.now }
 {
     uses.iter().all(|one| one.is_whole()) && are_once(uses)
 }
 
-/// Whether each word is an option, and its value, if it has one, has its form.
+/// Returns whether each word is an option, and its value, if it has one, has its form.
 pub(crate) fn are_read(uses: &[HostUse]) -> bool
     ensures { IsTrue result ↔ options.AreRead uses.now }
 {
     uses.iter().all(|one| one.is_read())
 }
 
-/// The values that options have after these uses.
+/// Returns the values that options have after these uses.
 pub(crate) fn options_of(uses: &[HostUse]) -> HostOptions
     ensures { result ≡ options.options_asked uses.now }
 {

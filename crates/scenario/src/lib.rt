@@ -1,7 +1,7 @@
-//! Reads the text of a run for `nicbench run`: the plan of a network, and commands for its hosts, line by line.
+//! Reads a scenario for `nicbench run`, line by line: the plan of a network, and commands for its hosts.
 //!
-//! [`Scenario::read`] returns plan and commands, or a [`Refusal`] with the number of the first faulty line and its
-//! fault.
+//! [`Scenario::read`] returns the plan and the commands, or a [`Refusal`]: the number and the fault of the first faulty
+//! line, or refused memory.
 #![tactic(auto)]
 
 mod command;

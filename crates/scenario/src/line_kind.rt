@@ -8,11 +8,11 @@ use text::value_of;
 /// The kinds of items that a host can have several of.
 #[derive(Clone, Copy)]
 pub(crate) enum ItemKind {
-    /// `group`: its adapter passes the frames of the group.
+    /// `group`: a multicast group of the host.
     Group,
-    /// `vlan`: its adapter passes the frames of the VLAN.
+    /// `vlan`: a VLAN of the host.
     Vlan,
-    /// `socket`: it has the socket.
+    /// `socket`: a socket of the host.
     Socket,
 }
 
@@ -33,12 +33,12 @@ pub(crate) enum CallKind {
     Leave,
 }
 
-/// The kinds of lines. The first two set up, the others are events.
+/// The kinds of lines. The first two set up hosts, the others are commands.
 #[derive(Clone, Copy)]
 pub(crate) enum LineKind {
     /// `host`: a new host.
     Host,
-    /// A host gets an item.
+    /// `group`, `vlan` or `socket`: a new item of a host.
     Item(ItemKind),
     /// A host's call, with ticks inside it.
     Call(CallKind),
@@ -48,7 +48,7 @@ pub(crate) enum LineKind {
     Feed,
     /// `auto`: events drawn at random.
     Auto,
-    /// `drain`: a host delivers all frames that it has for its sockets.
+    /// `drain`: a host delivers all frames that it holds for its sockets.
     Drain,
 }
 
@@ -70,7 +70,7 @@ const KINDS: [(&str, LineKind); 14] = [
     ("drain", LineKind::Drain),
 ];
 
-/// The kind of the lines that begin with a word.
+/// Returns the kind of the lines that begin with a word; `None` if no kind does.
 #[tactic(auto, unfolding(crate::specs::Kinds::kind_named))]
 pub(crate) fn kind_of(word: &str) -> Option<LineKind>
     ensures { result ≡ kind_named word.now }

@@ -6,8 +6,8 @@ ghost use Rattle.scenario.specs.declared.refusal.Stop.TheVariants as stop;
 use std::alloc::{AllocError, AllocFailed};
 use thiserror::Error;
 
-/// The fault of a line. If a line has several, the first one is reported: [`Long`](Fault::Long), then
-/// [`Text`](Fault::Text), then the first of the others in this order.
+/// The fault of a line. If a line has several faults, the first in this order is reported: [`Long`](Fault::Long),
+/// [`Text`](Fault::Text), then the others in their order below.
 #[derive(Clone, Copy, Debug, PartialEq, Eq)]
 pub enum Fault {
     /// The first word of the line isn't known.
@@ -55,7 +55,7 @@ pub(crate) enum Stop {
 impl Stop {
     ghost use Rattle.scenario.specs.Stops.{refusal_at};
 
-    /// The refusal of a text if this line wasn't read.
+    /// Returns the refusal of a text in which the line with this number wasn't read for this reason.
     pub(crate) fn at(self, line: usize) -> Refusal
         ensures { result ≡ refusal_at line self }
     {

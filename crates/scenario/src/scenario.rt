@@ -6,7 +6,6 @@ ghost use Rattle.std.specs.Str.Lines.{lines, strip_carriage_return};
 ghost use Rattle.scenario.specs.Answers.{IsLineAnswer, IsRead, IsRefused};
 ghost use Rattle.scenario.specs.SoFar.{nothing_read, so_far};
 ghost use Rattle.scenario.specs.Words.{is_feed};
-ghost use Rattle.scenario.specs.declared.refusal.Stop.TheVariants as stop;
 
 use crate::command::Scenario;
 use crate::line::read_line;
@@ -14,7 +13,7 @@ use crate::refusal::{Refusal, Stop};
 use network_plan::Plan;
 use std::alloc::Global;
 
-/// The place of the first line feed, if there is one.
+/// Returns the place of the first line feed, if there is one.
 fn first_feed(text: &[u8]) -> Option<usize>
     ensures place { result ≡ position is_feed text.now }
     ensures within { IfSome result (λ place. place < length text.now) }
@@ -22,7 +21,7 @@ fn first_feed(text: &[u8]) -> Option<usize>
     text.iter().position(|byte| *byte == b'\n')
 }
 
-/// The number of bytes before the first line feed, or of all bytes if there is no line feed.
+/// Returns the number of bytes before the first line feed, or the number of all bytes if there is no line feed.
 #[tactic(auto, using(crate::proofs::TextLines::feed_found, crate::proofs::TextLines::feed_missing))]
 fn line_end(text: &[u8]) -> usize
     ensures end { result ≡ position_or_len is_feed text.now }
@@ -34,7 +33,7 @@ fn line_end(text: &[u8]) -> usize
     }
 }
 
-/// A line without the carriage return at its end, if it has one.
+/// Returns a line without the carriage return at its end, if it has one.
 fn without_return(line: &[u8]) -> &[u8]
     ensures { result.now ≡ strip_carriage_return line.now }
 {
@@ -46,7 +45,8 @@ fn without_return(line: &[u8]) -> &[u8]
     kept
 }
 
-/// The first line of a text, and the number of its bytes, including its line feed and carriage return.
+/// Returns the first line of a text, and the number of its bytes with its line feed and carriage return, if it has
+/// them.
 fn first_line(text: &[u8]) -> (&[u8], usize)
     requires { 0 < length text.now }
     ensures first { lines text.now ≡ result.0.now ∷ lines (drop result.1 text.now) }
@@ -61,7 +61,7 @@ fn first_line(text: &[u8]) -> (&[u8], usize)
     (without_return(line), end + 1)
 }
 
-/// A scenario without hosts and commands.
+/// Returns a scenario without hosts and commands.
 fn empty_scenario(alloc: Global) -> Scenario
     ensures { so_far result ≡ nothing_read }
 {
@@ -75,18 +75,8 @@ fn empty_scenario(alloc: Global) -> Scenario
     }
 }
 
-/// Stores the line's number for its command, if it had one. The commands before it already have their numbers.
-fn number_command(scenario: &mut Scenario, line: usize) -> Result<(), Stop>
-    ensures same { so_far scenario.new ≡ so_far scenario.old }
-    ensures memory { IfErr result (λ stopped. stopped ≡ stop.Memory) }
-{
-    if scenario.lines.len() < scenario.commands.len() {
-        scenario.lines.push(line as u64)?;
-    }
-    Ok(())
-}
-
-/// Reads a line with this number.
+/// Reads the line with this number, and stores the number for the line's command, if the line has a command. The
+/// commands of earlier lines already have their numbers.
 fn read_numbered(
     alloc: Global,
     scenario: &mut Scenario,
@@ -96,7 +86,10 @@ fn read_numbered(
     ensures { IsLineAnswer (so_far scenario.old) bytes.now result (so_far scenario.new) }
 {
     read_line(alloc, scenario, bytes)?;
-    number_command(scenario, line)
+    if scenario.lines.len() < scenario.commands.len() {
+        scenario.lines.push(line as u64)?;
+    }
+    Ok(())
 }
 
 impl Scenario {

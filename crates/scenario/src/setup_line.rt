@@ -1,15 +1,14 @@
-// The lines that set up hosts, and their groups, VLANs and sockets.
+// Reads the lines that set up hosts, and their groups, VLANs and sockets.
 
-ghost use Rattle.std.specs.Prelude.{◌≡◌, ◌≤◌, IfErr, IfOk, OnOk, length};
+ghost use Rattle.std.specs.Prelude.{◌≡◌, ◌≤◌, IfErr, IfOk, length};
 ghost use Rattle.std.specs.Option.{SomeIff};
-ghost use Rattle.scenario.specs.Answers.{IsAnswer, IsFaulty, IsGood, IsHostRead};
+ghost use Rattle.scenario.specs.Answers.{IsAnswer, IsFaulty, IsHostRead};
 ghost use Rattle.scenario.specs.HostOptions.{uses_in};
-ghost use Rattle.scenario.specs.Meanings.{HasCount, HasValues, IsItem, host_of_words, item_in, option_words};
-ghost use Rattle.scenario.specs.SoFar.{SoFar, host_of_plan, so_far};
+ghost use Rattle.scenario.specs.Meanings.{IsItem, item_in, option_words};
+ghost use Rattle.scenario.specs.SoFar.{so_far};
 ghost use Rattle.scenario.specs.Stops.{IfFault};
 ghost use Rattle.scenario.specs.Words.{texts};
 ghost use Rattle.scenario.specs.declared.line_kind.LineKind.TheVariants as line;
-ghost use Rattle.scenario.specs.declared.refusal.Fault.TheVariants as fault;
 
 use crate::command::Scenario;
 use crate::host_change::{Item, add_item, new_host};
@@ -18,7 +17,6 @@ use crate::line_kind::ItemKind;
 use crate::refusal::{Fault, Stop};
 use crate::spelling::{address_of, number16_of, socket_of};
 use crate::tick_word::host_named;
-use network_plan::HostPlan;
 use std::alloc::Global;
 use text::word_at;
 
@@ -28,7 +26,7 @@ const HOST_WORDS: usize = 4;
 /// The number of words of a `group`, a `vlan` and a `socket` line.
 const ITEM_WORDS: usize = 3;
 
-/// The words after the first four of a `host` line: its options.
+/// Returns the words after the first four of a `host` line: its options.
 fn option_words<'a, 'b>(words: &'b [&'a str]) -> &'b [&'a str]
     requires { HOST_WORDS ≤ length words.now }
     ensures { texts result.now ≡ option_words (texts words.entry.now) }
@@ -37,28 +35,21 @@ fn option_words<'a, 'b>(words: &'b [&'a str]) -> &'b [&'a str]
     options
 }
 
-/// Checks that no event comes before this line.
-fn check_order(scenario: &Scenario) -> Result<(), Fault>
-    ensures ok { OnOk result (length (so_far scenario.now).commands ≡ 0) }
-    ensures err { IfErr result (λ stopped. (stopped ≡ fault.Order) × (¬ (length (so_far scenario.now).commands ≡ 0))) }
-{
-    if scenario.commands.is_empty() {
-        Ok(())
-    } else {
-        Err(Fault::Order)
-    }
-}
-
-/// The address and the options of a `host` line, whose words spell these uses of options.
+/// Returns the address and the options of a `host` line, whose words spell these uses of options. Checks that the name
+/// of the new host is free, and that no command comes before this line.
 ///
 /// # Errors
 ///
-/// [`Count`](Fault::Count) and [`Value`](Fault::Value).
-fn values_in(words: &[&str], uses: &[HostUse]) -> Result<([u8; 6], HostOptions), Fault>
+/// The first fault of the line.
+fn values_in(
+    scenario: &Scenario,
+    words: &[&str],
+    uses: &[HostUse],
+) -> Result<([u8; 6], HostOptions), Fault>
     requires least { HOST_WORDS ≤ length words.now }
     requires uses { uses.now ≡ uses_in (option_words (texts words.now)) }
-    ensures ok { IfOk result (λ read. IsHostRead (texts words.now) (read.0, read.1)) }
-    ensures err { (before : SoFar) → IfErr result (IsFaulty line.Host before (texts words.now)) }
+    ensures ok { IfOk result (λ read. IsHostRead (so_far scenario.now) (texts words.now) (read.0, read.1)) }
+    ensures err { IfErr result (IsFaulty line.Host (so_far scenario.now) (texts words.now)) }
 {
     if !are_counted(uses) {
         return Err(Fault::Count);
@@ -66,53 +57,47 @@ fn values_in(words: &[&str], uses: &[HostUse]) -> Result<([u8; 6], HostOptions),
     if !are_read(uses) {
         return Err(Fault::Value);
     }
-    match address_of(word_at(words, 2)) {
-        Some(address) => Ok((address, options_of(uses))),
-        None => Err(Fault::Value),
+    let Some(address) = address_of(word_at(words, 2)) else {
+        return Err(Fault::Value);
+    };
+    if host_named(scenario.plan.hosts.as_slice(), word_at(words, 1)).is_some() {
+        return Err(Fault::Name);
     }
+    if !scenario.commands.is_empty() {
+        return Err(Fault::Order);
+    }
+    Ok((address, options_of(uses)))
 }
 
-/// The address and the options of a `host` line.
+/// Returns the address and the options of a `host` line. Checks that the name of the new host is free, and that no
+/// command comes before this line.
 ///
 /// # Errors
 ///
-/// [`Count`](Fault::Count) and [`Value`](Fault::Value).
-fn host_values(alloc: Global, words: &[&str]) -> Result<([u8; 6], HostOptions), Stop>
-    ensures ok { IfOk result (λ read. IsHostRead (texts words.now) (read.0, read.1)) }
-    ensures err { (before : SoFar) →
-        IfErr result (λ stop. IfFault stop (IsFaulty line.Host before (texts words.now))) }
+/// The first fault of the line.
+fn host_values(
+    alloc: Global,
+    scenario: &Scenario,
+    words: &[&str],
+) -> Result<([u8; 6], HostOptions), Stop>
+    ensures ok { IfOk result (λ read. IsHostRead (so_far scenario.now) (texts words.now) (read.0, read.1)) }
+    ensures err { IfErr result (λ stop. IfFault stop (IsFaulty line.Host (so_far scenario.now) (texts words.now))) }
 {
     if words.len() < HOST_WORDS {
         return Err(Stop::Fault(Fault::Count));
     }
     let uses = uses_of(alloc, option_words(words))?;
-    match values_in(words, uses.as_slice()) {
+    match values_in(scenario, words, uses.as_slice()) {
         Ok(values) => Ok(values),
         Err(fault) => Err(Stop::Fault(fault)),
     }
 }
 
-/// Checks that the name of a new host is free, and that no event comes before its line.
-fn check_host(scenario: &Scenario, words: &[&str]) -> Result<(), Fault>
-    requires count { HasCount line.Host (texts words.now) }
-    requires values { HasValues line.Host (texts words.now) }
-    ensures ok { OnOk result (IsGood line.Host (so_far scenario.now) (texts words.now)) }
-    ensures err { IfErr result (IsFaulty line.Host (so_far scenario.now) (texts words.now)) }
+/// Reads a line `host NAME ADDRESS WIRE`, followed by its options.
+pub(crate) fn read_host(alloc: Global, scenario: &mut Scenario, words: &[&str]) -> Result<(), Stop>
+    ensures { IsAnswer line.Host (so_far scenario.old) (texts words.now) result (so_far scenario.new) }
 {
-    if host_named(scenario.plan.hosts.as_slice(), word_at(words, 1)).is_some() {
-        return Err(Fault::Name);
-    }
-    check_order(scenario)
-}
-
-/// The host of a line `host NAME ADDRESS WIRE`, and options.
-fn host_in(alloc: Global, scenario: &Scenario, words: &[&str]) -> Result<HostPlan, Stop>
-    ensures good { OnOk result (IsGood line.Host (so_far scenario.now) (texts words.now)) }
-    ensures host { IfOk result (λ host. host_of_plan host ≡ host_of_words (texts words.now)) }
-    ensures err { IfErr result (λ stop. IfFault stop (IsFaulty line.Host (so_far scenario.now) (texts words.now))) }
-{
-    let (address, options) = host_values(alloc, words)?;
-    check_host(scenario, words)?;
+    let (address, options) = host_values(alloc, scenario, words)?;
     let host = new_host(
         alloc,
         word_at(words, 1),
@@ -120,26 +105,18 @@ fn host_in(alloc: Global, scenario: &Scenario, words: &[&str]) -> Result<HostPla
         word_at(words, 3),
         options,
     )?;
-    Ok(host)
-}
-
-/// Reads a line `host NAME ADDRESS WIRE`, and its options.
-pub(crate) fn read_host(alloc: Global, scenario: &mut Scenario, words: &[&str]) -> Result<(), Stop>
-    ensures { IsAnswer line.Host (so_far scenario.old) (texts words.now) result (so_far scenario.new) }
-{
-    let host = host_in(alloc, scenario, words)?;
     scenario.plan.hosts.push(host)?;
     Ok(())
 }
 
-/// The item of this kind that a text spells.
+/// Returns the item of this kind that a text spells.
 fn item_of(kind: ItemKind, text: &str) -> Option<Item>
     ensures { SomeIff result (IsItem kind text.now) (item_in kind text.now) }
 {
     match kind {
-        ItemKind::Group => Some(Item::Group(address_of(text)?)),
-        ItemKind::Vlan => Some(Item::Vlan(number16_of(text)?)),
-        ItemKind::Socket => Some(Item::Socket(socket_of(text)?)),
+        ItemKind::Group => address_of(text).map(Item::Group),
+        ItemKind::Vlan => number16_of(text).map(Item::Vlan),
+        ItemKind::Socket => socket_of(text).map(Item::Socket),
     }
 }
 
@@ -153,7 +130,11 @@ pub(crate) fn read_item(scenario: &mut Scenario, kind: ItemKind, words: &[&str])
     let Some(item) = item_of(kind, word_at(words, 2)) else {
         return Err(Stop::Fault(Fault::Value));
     };
-    add_item(scenario.plan.hosts.as_mut_slice(), word_at(words, 1), item)?;
-    check_order(scenario)?;
+    if let Err(fault) = add_item(scenario.plan.hosts.as_mut_slice(), word_at(words, 1), item) {
+        return Err(Stop::Fault(fault));
+    }
+    if !scenario.commands.is_empty() {
+        return Err(Stop::Fault(Fault::Order));
+    }
     Ok(())
 }

@@ -24,28 +24,28 @@ const DECIMAL: u32 = 10;
 
 const HEXADECIMAL: u32 = 16;
 
-/// The number below 2^64 that a text of decimal digits spells.
+/// Returns the number below 2^64 that a text of decimal digits spells.
 pub(crate) fn number_of(text: &str) -> Option<u64>
     ensures { result ≡ number_in 10 64 text.now }
 {
     digits_of(text, DECIMAL)
 }
 
-/// The number below 2^16 that a text of decimal digits spells.
+/// Returns the number below 2^16 that a text of decimal digits spells.
 pub(crate) fn number16_of(text: &str) -> Option<u16>
     ensures { result ≡ number_in 10 16 text.now }
 {
     u16::try_from(number_of(text)?).ok()
 }
 
-/// The number below 2^8 that a text of decimal digits spells.
+/// Returns the number below 2^8 that a text of decimal digits spells.
 pub(crate) fn number8_of(text: &str) -> Option<u8>
     ensures { result ≡ number_in 10 8 text.now }
 {
     u8::try_from(number_of(text)?).ok()
 }
 
-/// The number that four hexadecimal digits spell.
+/// Returns the number that four hexadecimal digits spell.
 fn ether_type_of(text: &str) -> Option<u16>
     ensures { result ≡ ether_type_in text.now }
 {
@@ -55,7 +55,8 @@ fn ether_type_of(text: &str) -> Option<u16>
     u16::try_from(digits_of(text, HEXADECIMAL)?).ok()
 }
 
-/// Which frames a socket takes: `all` is all frames, and four hexadecimal digits are those of an EtherType.
+/// Returns which frames a socket takes: `all` spells [`All`](SocketKind::All), and four hexadecimal digits spell an
+/// EtherType.
 pub(crate) fn socket_of(text: &str) -> Option<SocketKind>
     ensures { result ≡ socket_in text.now }
 {
@@ -65,18 +66,18 @@ pub(crate) fn socket_of(text: &str) -> Option<SocketKind>
     Some(SocketKind::Ether(ether_type_of(text)?))
 }
 
-/// The address that six pairs of hexadecimal digits spell, joined by colons.
+/// Returns the address that six pairs of hexadecimal digits spell, joined by colons.
 pub(crate) fn address_of(text: &str) -> Option<[u8; 6]>
     ensures { SomeIff result (IsAddress text.now) (address_in text.now) }
 {
     text::address_of(text)
 }
 
-/// The bytes that pairs of hexadecimal digits spell.
+/// Returns the bytes that pairs of hexadecimal digits spell.
 ///
 /// # Errors
 ///
-/// [`Value`](Fault::Value) if there are other characters, an odd number of digits, or more than 8,000.
+/// [`Value`](Fault::Value) if there are other characters, an odd number of digits, or more than 8,000 digits.
 pub(crate) fn frame_of(alloc: Global, text: &str) -> Result<Vec<u8>, Stop>
     ensures ok { IfOk result (λ frame. IsFrame text.now × (frame.items ≡ frame_in text.now)) }
     ensures err { IfErr result (λ stop. IfFault stop (λ fault. (fault ≡ faults.Value) × (¬ IsFrame text.now))) }

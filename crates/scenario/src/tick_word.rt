@@ -12,14 +12,14 @@ use text::value_of;
 /// The kinds of ticks at a host.
 #[derive(Clone, Copy)]
 pub(crate) enum TickKind {
-    /// Its adapter takes this step.
+    /// A step of this kind of the host's adapter.
     Step(StepKind),
-    /// The oldest frame at its end of the wire is delivered.
+    /// The delivery of the oldest frame at the host's end of the wire.
     Deliver,
 }
 
 impl TickKind {
-    /// The tick of this kind at a host.
+    /// Returns the tick of this kind at a host.
     fn at(self, host: usize) -> Tick
         ensures { result ≡ words.tick_at self host }
     {
@@ -41,7 +41,7 @@ const TICK_KINDS: [(&str, TickKind); 7] = [
     ("deliver", TickKind::Deliver),
 ];
 
-/// The kind of ticks with this name.
+/// Returns the kind of ticks with this name.
 #[tactic(auto, unfolding(crate::specs::TickWords::tick_kind_named))]
 fn tick_kind_of(word: &str) -> Option<TickKind>
     ensures { result ≡ words.tick_kind_named word.now }
@@ -49,14 +49,14 @@ fn tick_kind_of(word: &str) -> Option<TickKind>
     value_of(&TICK_KINDS, word)
 }
 
-/// Whether a host has this name.
+/// Returns whether a host has this name.
 fn is_named(host: &HostPlan, name: &str) -> bool
     ensures { result ≡ has_name name.now (host_of_plan host.now) }
 {
     host.name.as_str() == name
 }
 
-/// The number of the host with this name.
+/// Returns the number of the host with this name.
 pub(crate) fn host_named(hosts: &[HostPlan], name: &str) -> Option<usize>
     ensures place { result ≡ place_of name.now (hosts_of hosts.now) }
     ensures there { IfSome result (λ host. host < length hosts.now) }
@@ -64,7 +64,7 @@ pub(crate) fn host_named(hosts: &[HostPlan], name: &str) -> Option<usize>
     hosts.iter().position(|host| is_named(host, name))
 }
 
-/// Whether a word spells a tick, at any host.
+/// Returns whether a word spells a tick, at a host of any name.
 pub(crate) fn is_tick(word: &str) -> bool
     ensures { result ≡ words.is_tick word.now }
 {
@@ -77,15 +77,18 @@ pub(crate) fn is_tick(word: &str) -> bool
     }
 }
 
-/// The tick that a word spells, if its kind and its host are known.
+/// Returns the tick that a word spells, if its kind and its host are known.
 pub(crate) fn tick_of(hosts: &[HostPlan], word: &str) -> Option<Tick>
     ensures { result ≡ words.tick_named (hosts_of hosts.now) word.now }
 {
     if word == "go" {
         return Some(Tick::Go);
     }
-    let (kind, name) = word.split_once(':')?;
-    let kind = tick_kind_of(kind)?;
-    let host = host_named(hosts, name)?;
-    Some(kind.at(host))
+    let Some((kind, name)) = word.split_once(':') else {
+        return None;
+    };
+    match (tick_kind_of(kind), host_named(hosts, name)) {
+        (Some(kind), Some(host)) => Some(kind.at(host)),
+        _ => None,
+    }
 }

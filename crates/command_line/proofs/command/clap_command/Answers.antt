@@ -18,7 +18,7 @@ loop-argument-preserved c =
     let new = c.in_ok-command.command in
     let arg = c.clap_argument.result in
     record {
-      app = with_argument old new arg (new_app c.args.subcommand.now.name.now) c.args.subcommand.now.arguments.now
+      app = with_argument old new arg (new_app c.args.subcommand.now.0.now) c.args.subcommand.now.3.now
           c.loop-argument.argument-index _ (omega arith) c.in_ok-command.ensures c.clap_argument.ensures.local c.clap_argument.ensures.rule
           c.loop-argument.invariant.app;
       local = local_argument old new arg c.in_ok-command.ensures c.clap_argument.ensures.local c.loop-argument.invariant.local;
@@ -27,8 +27,8 @@ loop-argument-preserved c =
 pub returns-clause-app : goal.returns-clause-app
 returns-clause-app c =
     c.loop-argument.invariant.app
-    ∙ ap (λ arguments. with_rules (new_app c.args.subcommand.now.name.now) (map rule_for arguments))
-    (take_all c.loop-argument.argument-index c.args.subcommand.now.arguments.now (omega arith))
+    ∙ ap (λ arguments. with_rules (new_app c.args.subcommand.now.0.now) (map rule_for arguments))
+    (take_all c.loop-argument.argument-index c.args.subcommand.now.3.now (omega arith))
 
 pub returns-clause-local : goal.returns-clause-local
 returns-clause-local c = c.loop-argument.invariant.local

@@ -4,10 +4,10 @@ use Rattle.clap.specs.declared.builder.command.Command.TheViews.{out-Command as 
 use Rattle.command_line.specs.Arguments.{rule_for, with_rules}
 use Rattle.command_line.proofs.command.clap_command.Given as goal
 
--- the command has the arguments so far
+-- the command has the rules of the arguments before this index, and no global argument
 abbrev pub invariant-loop-argument : goal.invariant-loop-argument
 invariant-loop-argument l = record {
   app : app_of l.command
-      ≡ with_rules (new_app l.subcommand.name.now) (map rule_for (take l.argument-index l.subcommand.arguments.now));
+      ≡ with_rules (new_app l.subcommand.0.now) (map rule_for (take l.argument-index l.subcommand.3.now));
   local : (fields_of l.command).has_globals ≡ false;
 }

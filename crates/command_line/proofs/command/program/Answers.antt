@@ -1,13 +1,7 @@
-use Rattle.std.proofs.Common.{◌∙◌, ◌∷◌, [], ap}
 use Rattle.std.proofs.lemmas.Result.{IfOk-weaker}
-use Rattle.clap.specs.Words.{App}
-use Rattle.command_line.specs.Arguments.{with_subcommands}
 use Rattle.command_line.specs.Shape.{drive_app, pass_app, program_app, run_app, serve_app, show_app}
 use Rattle.command_line.proofs.command.program.Goals as goal
 
 pub returns-clause-app : goal.returns-clause-app
 unfolding program_app pass_app run_app show_app serve_app drive_app
-returns-clause-app c = IfOk-weaker c.add_commands.result _ _
-    (λ command is. is
-    ∙ ap (λ (app : App). with_subcommands app (pass_app ∷ run_app ∷ show_app ∷ serve_app ∷ drive_app ∷ [])) c.bare_program.ensures.app)
-    c.add_commands.ensures.app
+returns-clause-app c = IfOk-weaker c.program_with.result _ _ (λ command is. is) c.program_with.ensures.app
