@@ -7,7 +7,7 @@ ghost use Rattle.std.specs.Box.Ownership.{box_owns};
 use std::alloc::Allocator;
 use std::marker::Model;
 
-/// The two fields of a box, which own its value.
+/// The pointer and the allocator of a box. Together they own the box's value.
 pub struct Parts<T, A: Allocator> {
     /// The address of the value.
     pub ptr: *mut T,
@@ -22,7 +22,7 @@ impl<T, A: Allocator> Model for Parts<T, A> {
 }
 
 impl<T, A: Allocator> Parts<T, A> {
-    /// The parts of a box.
+    /// Splits a box into its parts.
     pub fn of(b: Box<T, A>) -> Parts<T, A>
     where
         T: Drop,
@@ -32,7 +32,7 @@ impl<T, A: Allocator> Parts<T, A> {
         Parts { ptr, alloc }
     }
 
-    /// The box of these parts.
+    /// Returns the box with these parts.
     pub fn into_box(self) -> Box<T, A>
         ensures { result.value ≡ self.value }
     {

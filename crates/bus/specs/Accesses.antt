@@ -10,7 +10,7 @@ use Rattle.bus.specs.declared.event.Access.{Access}
 use Rattle.bus.specs.declared.event.Access.TheVariants.{Loads, Reads, Stores, Writes}
 use Rattle.bus.specs.Trails.{world_after_access}
 
--- A read of the register clears it: the register is ICR or a counter.
+-- The register is ICR, MPC, GPRC, GPTC or RNBC: a read clears it.
 abbrev pub IsClearedByRead : Register → Type 0
 IsClearedByRead Icr = ⊤
 IsClearedByRead Mpc = ⊤
@@ -39,17 +39,17 @@ IsStore (Stores address bytes) = ⊤
 abbrev pub QuietAccessesLeaveAdapters : Type 0
 QuietAccessesLeaveAdapters = (access : Access) (world : World) → IsQuiet access → (world_after_access access world).adapter ≡ world.adapter
 
--- A quiet access that is no store doesn't change memory.
+-- A quiet access that is no store changes neither the adapter nor memory.
 abbrev pub QuietAccessesLeaveWorlds : Type 0
 QuietAccessesLeaveWorlds = (access : Access) (world : World) → IsQuiet access → ¬ (IsStore access) → world_after_access access world ≡ world
 
--- A write of the register can change the recorded causes: the register is ICR or ICS.
+-- The register is ICR or ICS: a write of it can change the recorded causes.
 abbrev pub MovesCauses : Register → Type 0
 MovesCauses Icr = ⊤
 MovesCauses Ics = ⊤
 MovesCauses register = ⊥
 
--- A write of the register can change the mask: the register is IMS or IMC.
+-- The register is IMS or IMC: a write of it can change the mask.
 abbrev pub MovesMask : Register → Type 0
 MovesMask Ims = ⊤
 MovesMask Imc = ⊤
@@ -59,11 +59,11 @@ MovesMask register = ⊥
 abbrev pub ResetsNothing : ℕ → Register → Type 0
 ResetsNothing value register = is_reset register value ≡ false
 
--- A write of this word to the register isn't a reset, and doesn't change the recorded causes.
+-- The register is neither ICR nor ICS, and a write of this word to the register isn't a reset.
 abbrev pub WriteLeavesCauses : ℕ → Register → Type 0
 WriteLeavesCauses value register = (¬ (MovesCauses register)) × ResetsNothing value register
 
--- A write of this word to the register isn't a reset, and doesn't change the mask.
+-- The register is neither IMS nor IMC, and a write of this word to the register isn't a reset.
 abbrev pub WriteLeavesMask : ℕ → Register → Type 0
 WriteLeavesMask value register = (¬ (MovesMask register)) × ResetsNothing value register
 
@@ -88,16 +88,16 @@ LeavesMask (Writes offset value) = IfSome (register_at offset) (WriteLeavesMask 
 LeavesMask (Loads address size) = ⊤
 LeavesMask (Stores address bytes) = ⊤
 
--- The access isn't a reset, and changes neither the recorded causes nor the mask.
+-- The access is neither a reset, nor a read of ICR, nor a write of ICR, ICS, IMS or IMC.
 pub record LeavesInterrupts (access : Access) : Type 0 where
   pub no_reset : IsNoReset access
   pub causes : LeavesCauses access
   pub mask : LeavesMask access
 
--- Quiet accesses aren't resets, and change neither the recorded causes nor the mask.
+-- Each quiet access obeys `LeavesInterrupts`.
 abbrev pub QuietAccessesLeaveInterrupts : Type 0
 QuietAccessesLeaveInterrupts = (access : Access) → IsQuiet access → LeavesInterrupts access
 
--- Writes of a ring's registers, including RDT and TDT, aren't resets, and change neither the recorded causes nor the mask.
+-- Each write of a ring's register, also of RDT or TDT, obeys `LeavesInterrupts`.
 abbrev pub RingWritesLeaveInterrupts : Type 0
 RingWritesLeaveInterrupts = (register : Register) (value : ℕ) → IsOfRing register → LeavesInterrupts (Writes (row_of register).offset value)

@@ -16,9 +16,9 @@ use Rattle.bus.specs.declared.event.Access.{Access}
 use Rattle.bus.specs.declared.event.Access.TheVariants.{Loads, Reads, Stores, Writes}
 use Rattle.bus.specs.Trails.{world_after_access}
 
--- An adapter at rest: no slot of its rings is offered, its engines hold no frame, no fault has stopped them, and RCTL and MPC are 0.
+-- An adapter at rest: its rings are idle, its engines hold no frame, no fault has stopped them, and RCTL and MPC are 0.
 pub record IsAtRest (world : World) : Type 0 where
-  -- No slot of either ring is offered.
+  -- No slot of either ring is offered, and the rings are inside memory and apart from each other.
   pub rings : HasIdleRings world
   -- No frame is in the receive engine, and no fault has stopped the engine.
   pub receiver : world.adapter.receiver ≡ new_receiver

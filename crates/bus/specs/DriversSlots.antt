@@ -17,16 +17,16 @@ use Rattle.adapter.specs.World.{receive_ring, transmit_ring, World}
 abbrev pub SlotsStay : World → World → List ℕ → Type 0
 SlotsStay a b slots = All (λ slot. bytes_in b.memory (descriptor_area slot) ≡ bytes_in a.memory (descriptor_area slot)) slots
 
--- The frame that a finished slot names.
+-- The bytes of the piece in a finished slot.
 abbrev pub frame_named : World → ℕ → List ℕ
 frame_named world slot = bytes_in world.memory (named world.memory slot)
 
--- The descriptors of finished slots, and the frames that they name, don't change.
+-- The descriptors of finished slots, and the bytes of their pieces, don't change.
 pub record FinishedStay (oldest : ℕ) (a b : World) : Type 0 where
   pub slots : SlotsStay a b (finished oldest a)
   pub frames : map (frame_named b) (finished oldest a) ≡ map (frame_named a) (finished oldest a)
 
--- The slot with this index isn't outstanding, so it is the driver's.
+-- The ring has a slot with this index, and the slot isn't outstanding. So the slot is the driver's.
 pub record IsDriversSlot (ring : Ring) (oldest slot : ℕ) : Type 0 where
   pub below : slot < count_of ring
   pub apart : All (λ other. other ≢ address_of ring slot) (outstanding ring oldest)
@@ -40,7 +40,7 @@ pub record DriversSlotStays (ring : World → Ring) (oldest slot : ℕ) (a b : W
 abbrev pub DriversSlotsStay : (World → Ring) → ℕ → World → World → Type 0
 DriversSlotsStay ring oldest a b = (slot : ℕ) → IsDriversSlot (ring a) oldest slot → DriversSlotStays ring oldest slot a b
 
--- The address in a receive descriptor doesn't change.
+-- The addresses in the receive descriptors don't change.
 abbrev pub AddressesStay : World → World → Type 0
 AddressesStay a b =
     (slot : ℕ) → slot < count_of (receive_ring a)

@@ -17,7 +17,7 @@ pub record IsDriversArea (oldest_receive oldest_transmit : ℕ) (world : World) 
   pub sent : All (λ slot. AreApart area (descriptor_area slot)) (outstanding (transmit_ring world) oldest_transmit)
   pub frames : All (AreApart area) (frame_areas oldest_receive world)
 
--- The conditions hold in the second world as in the first, and slots, pieces and frames are the same.
+-- The conditions hold in the second world, and its slots, pieces and frames are those of the first world.
 pub record SameFrames (oldest_receive oldest_transmit : ℕ) (a b : World) : Type 0 where
   pub sound : Sound oldest_receive oldest_transmit b
   pub held : frames_held oldest_receive b ≡ frames_held oldest_receive a
@@ -32,7 +32,7 @@ pub record SameFrames (oldest_receive oldest_transmit : ℕ) (a b : World) : Typ
   pub fits : (size : ℕ) → (HasBit b.adapter.filter.rctl rctl_en → buffer_size b ≤ size)
       → FitBuffers size oldest_receive a → FitBuffers size oldest_receive b
 
--- The frames are the same, and engines that could run still can run.
+-- The conditions hold, slots, pieces and frames are the same, and engines that could run still can run.
 pub record LeavesFrames (oldest_receive oldest_transmit : ℕ) (a b : World) : Type 0 where
   pub same : SameFrames oldest_receive oldest_transmit a b
   pub runs : GoOn a b

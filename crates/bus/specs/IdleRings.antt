@@ -23,8 +23,8 @@ pub record HasIdleRings (world : World) : Type 0 where
 abbrev pub moved_bytes : Receiver → List ℕ
 moved_bytes receiver = take receiver.moved (oldest receiver.buffer)
 
--- No slot is offered or taken: no piece is in progress, and no frame is in the transmit packet buffer. Frames may wait in the receive
--- packet buffer; no byte of them has been moved.
+-- No slot is offered or taken: the rings are idle, no piece is in progress, and no frame is in the transmit packet buffer. Frames may wait
+-- in the receive packet buffer; no byte of them has been moved.
 pub record IsIdle (world : World) : Type 0 where
   pub work : world.adapter.receiver.work ≡ None
   pub unmoved : moved_bytes world.adapter.receiver ≡ []

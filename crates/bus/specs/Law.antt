@@ -31,7 +31,7 @@ pub record Management : Type 0 where
 abbrev pub management_of : AdapterState → Management
 management_of adapter = record { mdic = adapter.mdic; phy = adapter.phy }
 
--- MDIC and the PHY after a tick. The tick has an effect if the PHY counts ticks until the link is up, or if a command of MDIC is pending.
+-- MDIC and the PHY after a tick. The tick has an effect if the PHY's link countdown is running, or if a command of MDIC is pending.
 abbrev pub phy_ticked : Management → Management
 phy_ticked management =
     if has_work management.mdic management.phy
@@ -60,7 +60,7 @@ pub record OnlyHeadMoves (a b : RingRegisters) : Type 0 where
 
 -- The frames that were stored or missed.
 pub record CountsArrivals (a b : World) (past : Past) : Type 0 where
-  -- MPC grows by the number of missed frames, up to its greatest value, where it remains.
+  -- MPC grows by the number of missed frames, and saturates at its greatest value.
   pub missed : b.adapter.missed_packets ≡ max a.adapter.missed_packets (min (a.adapter.missed_packets + past.missed) greatest_count)
   -- If RCTL.EN is 0, no frame is stored or missed.
   pub off : ¬ (HasBit a.adapter.filter.rctl rctl_en) → (past.stored ≡ []) × (past.missed ≡ 0)
@@ -69,9 +69,9 @@ pub record CountsArrivals (a b : World) (past : Past) : Type 0 where
 
 -- The registers that only ticks change.
 pub record MovesByTicks (a b : World) (past : Past) : Type 0 where
-  -- Only ticks of the EEPROM change EERD.
+  -- Each tick of the EEPROM has its effect on EERD. Nothing else changes EERD.
   pub eerd : b.adapter.eerd ≡ iterate (eeprom.after_tick a.adapter.image) past.eeprom_ticks a.adapter.eerd
-  -- Only ticks of the PHY change MDIC and the PHY.
+  -- Each tick of the PHY has its effect on MDIC and the PHY. Nothing else changes MDIC or the PHY.
   pub management : management_of b.adapter ≡ iterate phy_ticked past.phy_ticks (management_of a.adapter)
 
 -- What is true of every interval, whatever the registers and the memory contain.
@@ -116,7 +116,7 @@ pub record Between (oldest_receive oldest_transmit : ℕ) (a b : World) (past : 
   pub fits : (size : ℕ) → FitBuffers size oldest_receive a → FitBuffers size oldest_receive b
   -- If frames are cut into buffers of some size, new frames are cut in the same way.
   pub whole : (size : ℕ) → AreCut size oldest_receive a → AreCut size oldest_receive b
-  -- An area that isn't the adapter's doesn't change, and doesn't become the adapter's.
+  -- An area that the adapter may not write doesn't change, and remains such an area.
   pub untouched : (area : Area) → IsForeign a area → bytes_in b.memory area ≡ bytes_in a.memory area
   pub foreign : (area : Area) → IsForeign a area → IsForeign b area
   -- If the engines can run before the interval, they can run after it: no fault stops them.

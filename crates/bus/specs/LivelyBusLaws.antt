@@ -38,7 +38,7 @@ lives_join a b c first later one two = record {
   count = omega (arith, one.count, two.count, length-append first.accesses later.accesses);
 }
 
--- Each access increases the count by one.
+-- Each access increases the count by one, up to the greatest u64.
 pub lives_count : (a b : LivelyBus) (past : Past) → Lives a b past
     → min b.accesses most_accesses ≡ min (min a.accesses most_accesses + length past.accesses) most_accesses
 lives_count a b past lives = omega (arith, lives.count)

@@ -31,7 +31,8 @@ IsQuietEvent (Steps kind wire_free outcome) = ⊥
 IsQuietEvent (Arrives frame fate) = ⊥
 IsQuietEvent (Accesses access) = ⊤
 
--- These events happened from one state to another: for each access, a step of the EEPROM, a step of the PHY, and the access itself.
+-- From one state to another, the same machine is lent, and only accesses, steps of the EEPROM and steps of the PHY happened, the same
+-- number of each. The accesses are counted, up to the greatest u64.
 pub record Lives (a b : LivelyBus) (past : Past) : Type 0 where
   pub lent : IsSameMachine a b
   pub events : List Event

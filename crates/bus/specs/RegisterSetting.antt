@@ -32,6 +32,7 @@ with_tail index world = record world
     { adapter = record world.adapter { receive_ring = record world.adapter.receive_ring { tail = index } } }
 
 -- One write advances RDT by k slots: the conditions hold again, these slots are the last outstanding ones, and frames are the same.
+-- Engines that could run still can run.
 pub record OfferedMany (oldest_receive oldest_transmit k : ℕ) (a b : World) : Type 0 where
   pub same : SameFrames oldest_receive oldest_transmit a b
   pub runs : GoOn a b
@@ -69,7 +70,7 @@ ReceiverCanBeSet =
 abbrev pub with_transmit_control : ℕ → World → World
 with_transmit_control control world = record world { adapter = record world.adapter { transmit_control = control } }
 
--- TCTL may be written if PSP is set, or TDH is TDT.
+-- TCTL may be written if PSP is set in the written value, or TDH equals TDT.
 abbrev pub TransmitterCanBeSet : Type 0
 TransmitterCanBeSet =
     (oldest_receive oldest_transmit control : ℕ) (world : World) → Sound oldest_receive oldest_transmit world
@@ -80,7 +81,8 @@ TransmitterCanBeSet =
 abbrev pub with_transmit_ring : RingRegisters → World → World
 with_transmit_ring ring world = record world { adapter = record world.adapter { transmit_ring = ring } }
 
--- The conditions hold with TDT as the oldest slot, no slot is outstanding, no frame is to be sent, and received frames don't change.
+-- The conditions hold with TDT as the oldest slot, no transmit slot is outstanding, no frame is to be sent, and received frames don't
+-- change. Engines that could run still can run.
 pub record TransmitRingSet (oldest_receive : ℕ) (a b : World) : Type 0 where
   pub sound : Sound oldest_receive b.adapter.transmit_ring.tail b
   pub none_outstanding : outstanding (transmit_ring b) b.adapter.transmit_ring.tail ≡ []
@@ -120,7 +122,7 @@ ReadsLeaveFrames =
     (oldest_receive oldest_transmit offset : ℕ) (world : World)
     → Sound oldest_receive oldest_transmit world → LeavesFrames oldest_receive oldest_transmit world (world_after_read offset world)
 
--- No frame is in the transmit packet buffer, and TDH is TDT.
+-- No frame is in the transmit packet buffer, and TDH equals TDT.
 pub record IsTransmitIdle (world : World) : Type 0 where
   pub buffer : world.adapter.transmitter.buffer ≡ []
   pub ring : world.adapter.transmit_ring.head ≡ world.adapter.transmit_ring.tail

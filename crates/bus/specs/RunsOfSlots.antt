@@ -1,5 +1,5 @@
--- A driver takes a run of its oldest finished receive slots, if a frame ends in the last slot of the run, and in no other. Then the slot
--- after the run is the oldest one.
+-- A driver may take a run of its oldest finished receive slots, if a frame ends in the last slot of the run, and in no other slot. Then
+-- the slot after the run is the oldest one.
 use Rattle.std.specs.Prelude.{◌≡◌, ◌++◌, ℕ, List, [], ◌∷◌, All, length, map}
 use Rattle.std.specs.List.{concat}
 use Rattle.descriptors.specs.Frames.{IsLegal}
@@ -23,8 +23,8 @@ places_of_run oldest run world = slots_from (count_of (receive_ring world)) olde
 abbrev pub after_run : ℕ → List ℕ → World → ℕ
 after_run oldest run world = place (count_of (receive_ring world)) oldest (length run)
 
--- The frame of a run, if frames are cut into buffers of one size. It is legal, its parts fill their buffers, and no slot has an error. The
--- frames in the other slots are cut in the same way.
+-- The frame of a run, if frames are cut into buffers of one size. The frame is legal, its parts fill their buffers, and no descriptor of
+-- the run reports an error. The frames in the other slots are cut in the same way.
 pub record IsCutRun (size oldest_receive : ℕ) (world : World) (run : List ℕ) (seen : List (List ℕ)) (last : List ℕ) : Type 0 where
   pub legal : IsLegal (concat seen ++ last)
   pub full : All (λ bytes. length bytes ≡ size) seen
@@ -41,12 +41,12 @@ pub record RunBecomesDrivers (oldest_receive : ℕ) (world : World) (run : List 
       ≡ run ++ outstanding (receive_ring world) (after_run oldest_receive run world)
   -- The slots of the run are the driver's.
   pub own : All (IsDriversSlot (receive_ring world) (after_run oldest_receive run world)) (places_of_run oldest_receive run world)
-  -- The bytes that the slots name aren't the adapter's to write.
+  -- The adapter may not write the pieces in the slots.
   pub foreign : All (λ slot. IsForeign world (named world.memory slot)) run
 
 -- The slots contain parts of a frame, and then its last piece.
 pub record RunContainsFrame (oldest_receive : ℕ) (world : World) (run : List ℕ) (seen : List (List ℕ)) (last : List ℕ) : Type 0 where
-  -- The bytes that the slots name, and the lengths in their descriptors, are those of the pieces.
+  -- The bytes in the slots' buffers, and the lengths in their descriptors, are those of the pieces.
   pub bytes : map (frame_named world) run ≡ seen ++ last ∷ []
   pub sizes : map (λ slot. (descriptor_at world.memory slot).length) run ≡ map length (seen ++ last ∷ [])
   -- The frame is removed from the front of the frames held.

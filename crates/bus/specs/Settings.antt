@@ -21,7 +21,7 @@ use Rattle.bus.specs.declared.event.Access.TheVariants.{Loads, Reads, Stores, Wr
 pub record Settings : Type 0 where
   -- The words of the EEPROM, which never change.
   pub image : List ℕ
-  -- After how many ticks the PHY's link is up, which never changes.
+  -- The setting of the PHY's link, which never changes: the number of ticks of negotiation, or `Never`.
   pub link : Link
   -- The kilobytes of PBA.
   pub receive_kilobytes : ℕ
@@ -52,7 +52,7 @@ settings_of adapter = record {
   transmit_ring = record adapter.transmit_ring { head = 0 };
 }
 
--- An adapter at rest that has these settings.
+-- An adapter after a reset, but with these settings.
 abbrev pub adapter_with : Settings → AdapterState
 adapter_with settings = record (adapter_at_reset settings.image (new_phy settings.link) settings.receive_kilobytes) {
   device_control = settings.device_control;
@@ -99,7 +99,7 @@ SettingsJoin = (a b c : World) (first later : Past) → AreSet a b first → Are
 abbrev pub HappeningsLeaveSettings : Type 0
 HappeningsLeaveSettings = (a b : World) (past : Past) → Happens a b past → settings_of b.adapter ≡ settings_of a.adapter
 
--- A write of any register has the same effect on the settings as on an adapter at rest with these settings.
+-- A write of any register changes the settings as `settings_after` defines: the effect depends only on the settings.
 abbrev pub WritesSet : Type 0
 WritesSet =
     (offset value : ℕ) (adapter : AdapterState)

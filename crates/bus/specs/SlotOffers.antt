@@ -40,17 +40,17 @@ pub record CanOffer (oldest : ℕ) (world : World) : Type 0 where
   pub ring : HasRoom oldest world.adapter.receive_ring
   -- The slot's descriptor isn't done.
   pub fresh : is_done world.memory (address_of (receive_ring world) world.adapter.receive_ring.tail) ≡ false
-  -- While RCTL.EN is set, the buffer is in memory.
+  -- If RCTL.EN is set, the buffer is in memory.
   pub lies : HasBit world.adapter.filter.rctl rctl_en
       → LiesIn world.memory (buffer_of world (address_of (receive_ring world) world.adapter.receive_ring.tail)).address
       (buffer_of world 0).size
-  -- While RCTL.EN is set, the buffer is apart from all areas that the conditions name.
+  -- If RCTL.EN is set, the buffer is apart from all areas that the conditions name.
   pub apart : HasBit world.adapter.filter.rctl rctl_en
       → All (λ area. AreApart area (buffer_of world (address_of (receive_ring world) world.adapter.receive_ring.tail)))
       (areas oldest world)
 
 -- After the offer, the conditions hold again, the slot is the last outstanding one, and frames are the same. Engines that could run still
--- can run. An area that the adapter may not write remains such an area if it is apart from bytes 8 to 15 of the slot's descriptor. While
+-- can run. An area that the adapter may not write remains such an area if it is apart from bytes 8 to 15 of the slot's descriptor. If
 -- RCTL.EN is set, the area must also be apart from the slot's buffer.
 pub record Offered (oldest_receive oldest_transmit : ℕ) (a b : World) : Type 0 where
   pub same : SameFrames oldest_receive oldest_transmit a b
@@ -114,7 +114,7 @@ pub record OfferedFrame (oldest_receive oldest_transmit : ℕ) (a b : World) : T
       ++ address_of (transmit_ring a) a.adapter.transmit_ring.tail ∷ []
   -- If the descriptor can be transmitted, engines that could run still can run.
   pub runs : CanTransmit a.memory (address_of (transmit_ring a) a.adapter.transmit_ring.tail) → GoOn a b
-  -- An area that isn't the adapter's doesn't become the adapter's, if it is apart from the slot's status byte.
+  -- An area that the adapter may not write remains such an area, if it is apart from the slot's status byte.
   pub foreign : (area : Area) → IsForeign a area → AreApart area (status_byte (address_of (transmit_ring a) a.adapter.transmit_ring.tail))
       → IsForeign b area
 

@@ -9,8 +9,8 @@ use Rattle.bus.specs.Pasts.{Past}
 use Rattle.adapter.specs.Slots.{outstanding}
 use Rattle.adapter.specs.World.{receive_ring, transmit_ring, World}
 
--- An area is apart from both rings, from the receive buffers of this size that outstanding slots name, and from the data that outstanding
--- transmit slots name.
+-- An area is apart from both rings, from the receive buffers of this size that outstanding slots point to, and from the data that
+-- outstanding transmit slots point to.
 pub record IsSpare (size oldest_receive oldest_transmit : ℕ) (world : World) (area : Area) : Type 0 where
   pub receive_slots : AreApart (ring_area (receive_ring world)) area
   pub transmit_slots : AreApart (ring_area (transmit_ring world)) area
@@ -18,7 +18,8 @@ pub record IsSpare (size oldest_receive oldest_transmit : ℕ) (world : World) (
       (outstanding (receive_ring world) oldest_receive)
   pub sources : All (λ slot. AreApart (data_of world.memory slot) area) (outstanding (transmit_ring world) oldest_transmit)
 
--- The area is spare, apart from all areas that the conditions of the law name, and not the adapter's to write.
+-- Pieces of frames fit into buffers of this size. The area is spare and apart from all areas that the conditions of the law name, and the
+-- adapter may not write it.
 pub record StaysApart (size oldest_receive oldest_transmit : ℕ) (world : World) (area : Area) : Type 0 where
   pub fit : FitBuffers size oldest_receive world
   pub spare : IsSpare size oldest_receive oldest_transmit world area

@@ -23,14 +23,14 @@ past_of_step RxDone answer = nothing
 past_of_step EepromTick answer = record nothing { eeprom_ticks = 1 }
 past_of_step PhyTick answer = record nothing { phy_ticks = 1 }
 
--- The world after a step of this kind with this result.
+-- The world after a step of this kind with this outcome.
 abbrev pub world_after_step : StepKind → FrameOutcome → World → World
 world_after_step kind answer world = record {
   memory = memory_after_step kind answer world.memory world.adapter;
   adapter = after_step kind answer world.memory world.adapter;
 }
 
--- The number of frames that an arrival with this fate misses.
+-- The number of missed frames of an arrival with this fate: 0 or 1.
 abbrev pub missed_by : Fate → ℕ
 missed_by Off = 0
 missed_by Illegal = 0

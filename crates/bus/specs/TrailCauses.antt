@@ -23,7 +23,7 @@ use Rattle.bus.specs.Trails.{Trail, past_of, world_after}
 use Rattle.bus.specs.declared.event.Event.{Event}
 use Rattle.bus.specs.declared.event.Event.TheVariants.{Accesses, Arrives, Steps}
 
--- The causes that a tick of the PHY records: LSC and MDAC.
+-- The causes of LSC and MDAC that a tick of the PHY records.
 abbrev pub causes_by_tick : Option Ticked → ℕ
 causes_by_tick (Some ticked) = causes_told ticked
 causes_by_tick None = 0
@@ -77,7 +77,7 @@ pub record IsRecorded (later : List Event) (a b : World) : Type 0 where
   pub link : (wire_free : Bool) (answer : FrameOutcome) → Trail (Steps PhyTick wire_free answer ∷ later) a b
       → (ticked : Ticked) → told a.adapter.mdic a.adapter.phy ≡ Some ticked → ticked.link_changed ≡ true
       → HasBit b.adapter.causes.recorded lsc
-  -- RXDMT0, bit 4: the number of descriptors from RDH to RDT was half the ring after a piece of a frame was moved.
+  -- RXDMT0, bit 4: half of the ring's descriptors were offered after a piece of a frame was moved.
   pub part : (wire_free : Bool) → Trail (Steps RxData wire_free Part ∷ later) a b
       → is_half_offered (ring_of (moved_on a.adapter.receive_ring)) ≡ true → HasBit b.adapter.causes.recorded rxdmt0
   pub moved : (wire_free : Bool) → Trail (Steps RxData wire_free Moved ∷ later) a b

@@ -11,8 +11,8 @@ use Rattle.adapter.specs.World.{receive_ring, transmit_ring, World}
 use Rattle.bus.specs.DriversSlots.{IsDriversSlot}
 use Rattle.bus.specs.DriversStores.{IsDriversArea}
 
--- A descriptor that a driver can write. It is inside memory, and the adapter may not write it. A store to it changes neither the conditions
--- of the law nor frames.
+-- A descriptor that a driver can write. The descriptor is inside memory, and the adapter may not write it. The descriptor is apart from
+-- outstanding descriptors, and from the frames and buffers that the conditions name.
 pub record CanBeWritten (oldest_receive oldest_transmit : ℕ) (world : World) (descriptor : ℕ) : Type 0 where
   pub lies : LiesIn world.memory descriptor descriptor_bytes
   pub own : IsDriversArea oldest_receive oldest_transmit world (descriptor_area descriptor)

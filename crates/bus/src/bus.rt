@@ -12,10 +12,10 @@ ghost use Rattle.dma_memory.specs.HostMemory.{bytes_at};
 /// The interface through which a driver accesses its adapter and its memory. Each call except [`size`](Bus::size) is
 /// one access.
 ///
-/// Any type may implement `Bus`. A bus that isn't `honest` only ensures that its size and the values that were lent to
-/// it don't change, and that a lively bus is still lively. An honest bus has one adapter and one memory. Before an
-/// access, only steps of the adapter and deliveries may happen. Then the access itself has exactly the effect that
-/// adapter and memory define.
+/// Any type may implement `Bus`. A bus that isn't `honest` ensures only that its size and the values lent to it don't
+/// change. If such a bus is lively, it remains lively. An honest bus has one adapter and one memory. Before an access,
+/// only steps of the adapter and deliveries may happen. Then the access itself has exactly the effect that adapter and
+/// memory define.
 pub trait Bus {
     /// The number of bytes of memory.
     ghost extent: { Self → ℕ };
@@ -29,13 +29,13 @@ pub trait Bus {
     /// The memory and the adapter.
     ghost world: { Self → World };
 
-    /// Whether the bus reports that this happened in an interval, from one of its states to another.
+    /// Whether the bus reports that exactly this happened in the interval from one of its states to another.
     ghost happened: { Self → Self → Past → Type 0 };
 
     /// Whether the values that were lent to the bus, if any, are the same in both states.
     ghost lent_stays: { Self → Self → Type 0 };
 
-    /// The number of bytes of memory, which never changes.
+    /// Returns the number of bytes of memory, which never changes.
     fn size(&self) -> u64
         ensures { result ≡ extent self.now };
 
@@ -81,14 +81,14 @@ pub trait HonestBus: Bus {
     /// The number of accesses so far, up to the greatest `u64`.
     ghost counted: { Self → ℕ };
 
-    /// The number of accesses so far. The count saturates at the greatest `u64`.
+    /// Returns the number of accesses so far. The count saturates at the greatest `u64`.
     fn accesses(&self) -> u64
         ensures { result ≡ counted self.now };
 
     /// The bus is honest in every state.
     ghost always: { (b : Self) → Self.honest b };
 
-    /// Each access increases the count by one, and nothing else changes it.
+    /// Each access increases the count by one, up to the greatest `u64`. Nothing else changes the count.
     ghost counts: { (a b : Self) (past : Past) → Self.happened a b past
         → counted b ≡ min (counted a + length past.accesses) most_accesses };
 }

@@ -12,7 +12,7 @@ use std::marker::Model;
 
 /// The bytes that a driver stored by one access.
 ///
-/// The bytes are in their own allocation: one byte of memory for each byte.
+/// The bytes are in an allocation of their own, which has room for at least these bytes.
 #[derive(Debug, Drop)]
 pub struct StoredBytes {
     bytes: Vec<u8>,
@@ -29,7 +29,7 @@ impl Model for StoredBytes {
 impl StoredBytes {
     ghost use Rattle.std.specs.Prelude.{◌≡◌, IfOk};
 
-    /// A copy of these bytes.
+    /// Returns a copy of these bytes.
     ///
     /// # Errors
     ///
@@ -42,7 +42,7 @@ impl StoredBytes {
         Ok(StoredBytes { bytes: held })
     }
 
-    /// The bytes, the one at the lowest address first.
+    /// Returns the bytes, the one at the lowest address first.
     pub fn as_slice(&self) -> &[u8]
         ensures { result.now ≡ self.now }
     {

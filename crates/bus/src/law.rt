@@ -32,8 +32,8 @@ pub fn between_composes()
     ensures sound { SoundStays }
 {}
 
-/// Any list of adapter steps and deliveries may happen between two accesses, if each is as the adapter's contract
-/// defines it.
+/// Any list of adapter steps and deliveries may happen between two accesses, if each has an outcome that the adapter's
+/// contract allows.
 pub fn any_steps_may_happen()
     ensures { TrailsHappen }
 {}
@@ -52,20 +52,20 @@ pub fn faults_never_come()
 {}
 
 /// What doesn't change between two accesses of a driver. The conditions of the law hold again, and the lists of
-/// finished and written-back slots only grow. An area that isn't the adapter's doesn't change, and doesn't become the
-/// adapter's. The same slots are outstanding. The descriptors of finished slots and the frames that they name don't
-/// change. Nor do the descriptors of written-back slots, and of the driver's own slots of both rings. The address in a
-/// receive descriptor doesn't change. Of a transmit descriptor, only the status changes.
+/// finished and written-back slots only grow. An area that the adapter may not write doesn't change, and remains such
+/// an area. The same slots are outstanding. The descriptors of finished slots and their pieces of frames don't change.
+/// The descriptors of written-back slots and of the driver's own slots of both rings don't change either. The
+/// addresses in receive descriptors don't change. Of a transmit descriptor, only the status may change.
 pub fn drivers_side_stays()
     ensures { DriversSideStaysAlways }
 {}
 
-/// A driver's store to its own memory, apart from all outstanding descriptors and from the frames and
+/// The effect of a driver's store to bytes that are apart from all outstanding descriptors, and from the frames and
 /// buffers that the conditions of the law name.
 /// - `frames`: the store doesn't change these conditions, the slots, or the frames held and to be sent. Frames that are
 ///   cut into buffers of some size are still cut in this way. Pieces that fit into such buffers still fit, and engines
 ///   that could run still can run.
-/// - `foreign`: an area that isn't the adapter's doesn't become the adapter's.
+/// - `foreign`: an area that the adapter may not write remains such an area.
 pub fn drivers_stores_leave_frames()
     ensures frames { DriversStoresLeaveFrames }
     ensures foreign { DriversStoresLeaveForeign }
@@ -94,20 +94,20 @@ pub fn tails_can_be_moved()
     ensures transmit { TransmitTailMoves }
 {}
 
-/// A driver may offer its next receive slot by advancing RDT by one. The slot's descriptor must not be done. While
-/// RCTL.EN is set, its buffer must be inside memory, apart from all areas that the conditions of the law name. After
-/// the offer, these conditions hold again, frames are the same, and engines that could run still can run. An area that
-/// isn't the adapter's doesn't become the adapter's, if it is apart from bytes 8 to 15 of the descriptor and from the
-/// buffer.
+/// A driver may offer its next receive slot by advancing RDT by one. DD must be clear in the slot's descriptor. If
+/// RCTL.EN is set, the slot's buffer must be inside memory, apart from all areas that the conditions of the law name.
+/// After the offer, these conditions hold again, the frames held and to be sent are the same, and engines that could
+/// run still can run. An area that the adapter may not write remains such an area, if it is apart from bytes 8 to 15
+/// of the descriptor and from the buffer.
 pub fn slots_can_be_offered()
     ensures { SlotsCanBeOffered }
 {}
 
-/// A driver may offer its next transmit slot by advancing TDT by one. The slot's descriptor must not be done and must
-/// ask for a report. Its data must be inside memory, apart from all areas that the conditions of the law name. After
-/// the offer, these conditions hold again, and the slot's frame, padded, is the last one to be sent. If the descriptor
-/// can be transmitted, engines that could run still can run. An area that isn't the adapter's doesn't become the
-/// adapter's, if it is apart from byte 12 of the descriptor.
+/// A driver may offer its next transmit slot by advancing TDT by one. TCTL.PSP must be set. The slot's descriptor must
+/// ask for a report, and its DD must be clear. The slot's data must be inside memory, apart from all areas that the
+/// conditions of the law name. After the offer, these conditions hold again, and the slot's frame, padded, is the last
+/// one to be sent. If the descriptor can be transmitted, engines that could run still can run. An area that the
+/// adapter may not write remains such an area, if it is apart from byte 12 of the descriptor.
 pub fn frames_can_be_offered()
     ensures { FramesCanBeOffered }
 {}
@@ -120,8 +120,8 @@ pub fn large_buffers_take_frames()
 
 /// A driver takes a run of its oldest finished receive slots, of which only the last has EOP. For this, the driver
 /// counts the slot after the run as its oldest. Then the conditions of the law hold, and the slots of the run are the
-/// driver's. Their frame, with its pieces joined, is removed from the front of the frames held. The adapter may not
-/// write the frame any more.
+/// driver's. The frame of these slots, with its pieces joined, is removed from the front of the frames held. The
+/// adapter may not write the frame any more.
 pub fn runs_can_be_taken()
     ensures { RunsCanBeTaken }
 {}
@@ -132,24 +132,25 @@ pub fn written_slots_can_be_freed()
     ensures { WrittenSlotsCanBeFreed }
 {}
 
-/// Spare memory is apart from both rings, and from all buffers and data that outstanding slots name. It remains spare
-/// whatever happens, is apart from all areas that the conditions of the law name, and isn't the adapter's to write. The
-/// finished pieces and the piece in progress must fit into a receive buffer, and they still fit afterwards.
+/// Spare memory is apart from both rings, and from all buffers and data that outstanding slots point to. Whatever
+/// happens, spare memory remains spare, is apart from all areas that the conditions of the law name, and may not be
+/// written by the adapter. The finished pieces and the piece in progress must fit into a receive buffer, and they
+/// still fit afterwards.
 pub fn areas_stay_apart()
     ensures { AreasStayApart }
 {}
 
-/// An adapter is idle if no piece is in progress, no byte of a frame in its packet buffer is moved, and no frame is to
-/// be sent. Its rings must offer no slot, and be in memory, apart from each other. An idle adapter meets the conditions
-/// of the law, with the tails as the driver's oldest slots. An adapter is idle after power-on and after a reset, with a
-/// memory of any size.
+/// An adapter is idle if no piece is in progress, no byte of a frame in the receive packet buffer is moved, and no
+/// frame is to be sent. Its rings must offer no slot, and be in memory, apart from each other. An idle adapter meets
+/// the conditions of the law, with the tails as the driver's oldest slots. An adapter is idle after power-on and after
+/// a reset, with a memory of any size.
 pub fn idle_rings_are_sound()
     ensures sound { IdleRingsAreSound }
     ensures after_power_on { IdleAfterPowerOn }
     ensures after_reset { IdleAfterReset }
 {}
 
-/// Idle rings remain idle until a register of a ring is written. They remain idle whatever happens between two
+/// Idle rings remain idle until a register of a ring is written. The rings remain idle whatever happens between two
 /// accesses, whatever is read or stored, and after a write of any other register, even after a reset. After a write of
 /// a ring's register, the rings are idle if head equals tail and both rings are in memory, apart from each other. So
 /// the conditions of the law hold in each state of initialization up to the first offered slot.
@@ -168,11 +169,11 @@ pub fn many_slots_can_be_offered()
 
 /// Other accesses of a driver to registers. After them, the conditions of the law hold, and slots and frames are the
 /// same:
-/// - `receive_control`: a write of RCTL, if the buffers that the conditions then name are apart from all other areas.
-/// - `transmit_control`: a write of TCTL, if PSP is set or TDH is TDT.
-/// - `transmit_ring`: the set-up of a transmit ring, if no frame is in the packet buffer, TDH equals TDT, and the ring
-/// is
-///   apart from all other areas; the conditions then hold with TDT as the oldest slot.
+/// - `receive_control`: a write of RCTL, if all areas that the conditions then name are inside memory, apart from one
+///   another.
+/// - `transmit_control`: a write of TCTL, if PSP is set in the written value or TDH equals TDT.
+/// - `transmit_ring`: the setup of a transmit ring while no frame is in the packet buffer. TDH must equal TDT, and the
+///   ring must be apart from all other areas. The conditions then hold with TDT as the oldest slot.
 /// - `others`, `reads`: a write of any other register, without a reset; a read of any register.
 pub fn registers_can_be_set()
     ensures receive_control { ReceiverCanBeSet }
@@ -183,9 +184,8 @@ pub fn registers_can_be_set()
 {}
 
 /// What doesn't change while a driver initializes, whatever happens between two of its accesses:
-/// - `offers`: the offered receive slots and the addresses of their buffers, while RCTL.EN is 0 and no frame is held,
-/// if
-///   frames are cut into buffers of one size.
+/// - `offers`: the offered receive slots and the addresses of their buffers. RCTL.EN must be 0, no frame may be held,
+///   and frames must be cut into buffers of one size, at least one byte.
 /// - `transmit_ring`: a transmit ring without outstanding slots.
 pub fn rings_wait()
     ensures offers { OffersWait }

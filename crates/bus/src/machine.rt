@@ -23,7 +23,7 @@ use dma_memory::HostMemory;
 use std::hash::{DefaultHasher, Hasher};
 use std::marker::Model;
 
-/// An adapter and its host's memory. Each call, except [`report_line`](Machine::report_line), plays one event or none.
+/// An adapter and its host's memory. Each call, except [`report_line`](Machine::report_line), plays at most one event.
 ///
 /// In contracts, the value is a `MachineState`, plain data that `specs/Machines.antt` defines.
 #[derive(Clone, Drop)]
@@ -44,7 +44,7 @@ impl Model for Machine {
 }
 
 impl Machine {
-    /// A machine with this adapter and this memory.
+    /// Returns a machine with this adapter and this memory.
     pub fn new(adapter: Adapter, memory: HostMemory) -> Machine
         ensures { result ≡ record {
           world = record { memory = memory; adapter = adapter };
@@ -69,7 +69,7 @@ impl Machine {
         self.adapter.step(kind, &mut self.memory, wire_free)
     }
 
-    /// The frame that a step [`TxPut`](StepKind::TxPut) puts onto a wire with room, if there is one. See
+    /// Returns the frame that a step [`TxPut`](StepKind::TxPut) puts onto a wire with room, if there is one. See
     /// [`Adapter::to_put`].
     pub fn to_put(&self) -> Option<&[u8]>
         ensures none { IsNone result ↔ (self.now.world.adapter.transmitter.buffer ≡ []) }
@@ -98,8 +98,8 @@ impl Machine {
         self.adapter.read(offset)
     }
 
-    /// The value that a read of the register at an offset in bytes would return now. No event happens, and nothing
-    /// changes.
+    /// Returns the value that a read of the register at an offset in bytes would return now. No event happens, and
+    /// nothing changes.
     pub fn value(&self, offset: u32) -> u32
         ensures answer { result ≡ answer_at offset self.now.world.adapter }
         ensures adapter { IsAdapter self.now.world.adapter }
@@ -134,14 +134,14 @@ impl Machine {
         let _ = self.memory.store(address, bytes);
     }
 
-    /// The number of bytes of memory.
+    /// Returns the number of bytes of memory.
     pub fn size(&self) -> u64
         ensures { result ≡ length self.now.world.memory }
     {
         self.memory.size()
     }
 
-    /// Whether the adapter's interrupt line is asserted.
+    /// Returns whether the adapter's interrupt line is asserted.
     pub fn line(&self) -> bool
         ensures line { result ≡ is_asserted self.now.world.adapter }
         ensures adapter { IsAdapter self.now.world.adapter }
@@ -149,29 +149,29 @@ impl Machine {
         self.adapter.line()
     }
 
-    /// Whether a step of this kind has something to do. See [`Adapter::has_work`].
+    /// Returns whether a step of this kind has something to do. See [`Adapter::has_work`].
     pub fn has_work(&self, kind: StepKind) -> bool
         ensures work { TellsWork kind result self.now.world.adapter }
     {
         self.adapter.has_work(kind)
     }
 
-    /// Whether a step of the EEPROM would end a read.
+    /// Returns whether a step of the EEPROM would end a read.
     pub fn eeprom_has_work(&self) -> bool
         ensures { result ≡ is_pending self.now.world.adapter.eerd }
     {
         self.adapter.eeprom_has_work()
     }
 
-    /// Whether a step of the PHY would change the PHY or MDIC.
+    /// Returns whether a step of the PHY would change the PHY or MDIC.
     pub fn phy_has_work(&self) -> bool
         ensures { result ≡ has_work self.now.world.adapter.mdic self.now.world.adapter.phy }
     {
         self.adapter.phy_has_work()
     }
 
-    /// The level of the interrupt line, if it differs from the level at the last report. The first report compares the
-    /// level with the level when the machine was made.
+    /// Reports the interrupt line: returns its level, or `None` if the level is the one at the last report. The first
+    /// report compares the level with the level when the machine was made.
     pub fn report_line(&mut self) -> Option<bool>
         ensures none { IfNone result (self.old.reported ≡ is_asserted self.old.world.adapter) }
         ensures some { IfSome result (λ level.
@@ -186,7 +186,7 @@ impl Machine {
         Some(line)
     }
 
-    /// The adapter's frame counts. No register is cleared.
+    /// Returns the adapter's frame counts. No register is cleared.
     pub fn counts(&self) -> FrameCounts
         ensures missed { result.missed ≡ self.now.world.adapter.missed_packets }
         ensures without_descriptor { result.without_descriptor ≡ self.now.world.adapter.no_receive_buffers }
@@ -196,7 +196,7 @@ impl Machine {
         self.adapter.counts()
     }
 
-    /// The numbers of frames that wait in the adapter's packet buffers.
+    /// Returns the numbers of frames that wait in the adapter's packet buffers.
     pub fn waiting(&self) -> WaitingFrames
         ensures received { result.received ≡ length self.now.world.adapter.receiver.buffer }
         ensures transmit { result.transmit ≡ length self.now.world.adapter.transmitter.buffer }
@@ -204,7 +204,7 @@ impl Machine {
         self.adapter.waiting()
     }
 
-    /// The machine's adapter.
+    /// Returns the machine's adapter.
     pub fn adapter(&self) -> &Adapter
         ensures { result.now ≡ self.now.world.adapter }
     {
@@ -226,8 +226,8 @@ impl Machine {
         self.adapter.pending(&self.memory, oldest, sending, holding);
     }
 
-    /// A digest of the adapter and its memory, by SipHash-1-3. Machines with equal adapters and memories have equal
-    /// digests; different machines have the same digest only by chance. The image of the EEPROM, which no event
+    /// Returns a digest of the adapter and its memory, by SipHash-1-3. Machines with equal adapters and memories have
+    /// equal digests; different machines have the same digest only by chance. The image of the EEPROM, which no event
     /// changes, and the level of the interrupt line at the last report aren't covered.
     #[tactic(auto, unfolding(crate::specs::Digests::digest_of))]
     pub fn digest(&self) -> u64

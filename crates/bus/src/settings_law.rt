@@ -3,10 +3,11 @@
 ghost use Rattle.bus.specs.AdaptersAtRest.{AccessesKeepRest, HappeningsKeepRest, RestAfterReset, RestIsIdle};
 ghost use Rattle.bus.specs.Settings.{HappeningsLeaveSettings, SettingsJoin, StaysOff, WritesSet};
 
-/// The law of a driver's settings: the contents of the registers of control, mask, filter, rings and packet buffer that
-/// only a driver changes. What happens between two accesses doesn't change them. A write of any register, even a reset,
-/// has the effect that it would have on an adapter at rest with these settings. The settings after two intervals follow
-/// from both. RCTL.EN remains 0 if RCTL isn't written.
+/// The law of a driver's settings: the contents of the registers of control, mask, filter, rings and packet buffer
+/// that only a driver changes. What happens between two accesses doesn't change them. A write of any register, even a
+/// reset, changes the settings in a way that depends only on the settings. If the driver's writes determine the
+/// settings after each of two consecutive intervals, they determine the settings after both. RCTL.EN remains 0 if RCTL
+/// isn't written.
 pub fn writes_alone_set()
     ensures happenings { HappeningsLeaveSettings }
     ensures writes { WritesSet }
@@ -14,9 +15,9 @@ pub fn writes_alone_set()
     ensures stays_off { StaysOff }
 {}
 
-/// An adapter at rest, as after a reset, remains at rest while its driver sets it up. It remains at rest whatever
-/// happens, whatever is read or stored, and after a write of any register except RCTL and those of the rings.
-/// Meanwhile, no frame is stored, missed or put on the wire.
+/// An adapter at rest, as after a reset, remains at rest while its driver sets it up. The adapter remains at rest
+/// whatever happens between two accesses, and after each read and store. It also remains at rest after a write of any
+/// register except RCTL and those of the rings. Meanwhile, no frame is stored, missed or put on the wire.
 pub fn adapters_rest()
     ensures idle { RestIsIdle }
     ensures after_reset { RestAfterReset }

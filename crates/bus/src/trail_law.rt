@@ -16,12 +16,11 @@ pub fn faults_stay_visible()
 
 /// Which interrupt causes are recorded, and which are in the mask, after any steps, deliveries and
 /// accesses.
-/// - `recorded`: those that were recorded before, and those that each step and each delivery records, if no access
-/// reads
-///   or writes ICR, writes ICS or resets the adapter.
+/// - `recorded`: the causes that were recorded before, and those that each step and each delivery records. No access
+///   may read or write ICR, write ICS or reset the adapter.
 /// - `mask`: the mask doesn't change if no access writes IMS or IMC or resets the adapter.
-/// - `stay`: a cause that a step or a delivery records is still recorded at the end, if no access after it reads or
-///   writes ICR, writes ICS or resets the adapter.
+/// - `stay`: a cause that a step or a delivery records is still recorded at the end. No access after this step or
+///   delivery may read or write ICR, write ICS or reset the adapter.
 pub fn causes_are_those_of_steps()
     ensures recorded { CausesAreThoseOfSteps }
     ensures mask { MasksStay }
@@ -30,7 +29,7 @@ pub fn causes_are_those_of_steps()
 
 /// A load, a store, and a read of any register except ICR and the counters don't change the adapter.
 /// - `worlds`: a load, and a read of such a register, don't change memory either.
-/// - `interrupts`: they aren't resets, and change neither the recorded causes nor the mask.
+/// - `interrupts`: these accesses aren't resets, and change neither the recorded causes nor the mask.
 /// - `rings`: a write of a ring's register, such as RDT or TDT, isn't a reset, and changes neither causes nor mask.
 pub fn quiet_accesses_leave_adapters()
     ensures adapters { QuietAccessesLeaveAdapters }

@@ -122,7 +122,7 @@ tx_desc_bytes-tx_desc_of bytes are size =
     let special = little_bytes-drop 2 14 bytes are (omega arith) in
     join-same _ _ _ _ _ _ _ _ _ _ address length command status special ∙ in_pieces bytes size
 
--- A frame is sendable exactly if it has 14 to 1,518 bytes.
+-- A sendable frame has 14 to 1,518 bytes.
 pub is_sendable-bounds : (frame : List ℕ) → IsTrue (is_sendable frame) → (14 ≤ length frame) × (length frame ≤ 1518)
 is_sendable-bounds frame sendable = search rules
 

@@ -4,7 +4,7 @@ use Rattle.std.specs.Prelude.{◌≡◌, ◌<◌, ◌+◌, ◌-◌, ◌*◌, ◌
 use Rattle.descriptors.specs.declared.ring.Ring.{Ring}
 
 -- The number of descriptors of the ring, sixteen bytes each. There are at most 65,536, because indices have 16 bits. The length registers
--- have 20 bits, so the adapter's rings have fewer.
+-- have 20 bits, so the adapter's rings have fewer than 65,536.
 abbrev pub count_of : Ring → ℕ
 count_of ring = min (ring.bytes / 16) 65536
 
@@ -15,7 +15,7 @@ pub record HasValidIndices (ring : Ring) : Type 0 where
   -- Tail is the index of a slot.
   pub tail : ring.tail < count_of ring
 
--- The slot after an index; after the last one, the first.
+-- The slot after the slot with this index. After the last slot, this is the first slot.
 abbrev pub next_of : Ring → ℕ → ℕ
 next_of ring index = (index + 1) % count_of ring
 
@@ -39,8 +39,8 @@ offered_places ring = slots_from (count_of ring) ring.head (distance_of ring rin
 
 -- Laws of rings whose head and tail are slots.
 
--- If head differs from tail, the first slot that the adapter owns is the one at the head. After the head advances, the adapter owns the
--- others.
+-- If head differs from tail, the first slot that the adapter owns is the one at the head. After the head advances by one slot, the adapter
+-- owns the same slots without this first slot.
 abbrev pub OfferedBeginAtHead : Type 0
 OfferedBeginAtHead = (ring : Ring) → HasValidIndices ring → ¬ (ring.head ≡ ring.tail)
     → offered_places ring ≡ ring.head ∷ offered_places (record ring { head = next_of ring ring.head })
@@ -53,8 +53,7 @@ NoneIsOffered = (ring : Ring) → ring.head ≡ ring.tail → offered_places rin
 abbrev pub OfferedAreDistance : Type 0
 OfferedAreDistance = (ring : Ring) → length (offered_places ring) ≡ distance_of ring ring.head ring.tail
 
--- If the tail advances by one, the slot at the old tail is added as the adapter's last slot. The slot after the old tail must not be the
--- head.
+-- If the tail advances by one slot, but not to the head, the slot at the old tail is added as the adapter's last slot.
 abbrev pub OfferedGrowAtTail : Type 0
 OfferedGrowAtTail =
     (ring : Ring) → HasValidIndices ring → ¬ (next_of ring ring.tail ≡ ring.head)

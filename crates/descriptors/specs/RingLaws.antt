@@ -17,7 +17,8 @@ next-last n i last = ap (λ (k : ℕ). k % n) last ∙ mod_self n
 pub next-below : (n i : ℕ) → i < n → (i + 1) % n < n
 next-below n i slot = mod_below (i + 1) n (omega arith)
 
--- The distance to a slot with a greater number is the difference of the numbers. To a slot with a smaller number, the distance wraps.
+-- The distance to a slot with the same or a greater number is the difference of the numbers. To a slot with a smaller number, the
+-- distance wraps.
 pub distance-forward : (n from to : ℕ) → to < n → from ≤ to → (to + n - from) % n ≡ to - from
 distance-forward n from to slot forward =
     let moved : to + n - from ≡ n + (to - from) = omega arith in
@@ -47,7 +48,7 @@ distance-step n from to slot_from slot_to apart =
     (omega arith))
     (cases_lt to from)
 
--- The distance to the next slot after a slot is longer by one.
+-- The distance to the slot after `to` is one more than the distance to `to`, if that slot isn't `from`.
 pub distance-grows : (n from to : ℕ) → from < n → to < n → ¬ ((to + 1) % n ≡ from)
     → ((to + 1) % n + n - from) % n ≡ suc ((to + n - from) % n)
 distance-grows n from to slot_from slot_to apart =
@@ -100,7 +101,8 @@ place-distance n (suc k) from to slot_from slot_to far =
     place-distance n k ((from + 1) % n) to (next-below n from slot_from) slot_to (omega arith))
     (cases_eq from to)
 
--- The slots that the adapter owns begin at the head.
+-- If head differs from tail, the first slot that the adapter owns is the one at the head. After the head advances by one slot, the
+-- adapter owns the same slots without this first slot.
 pub places-head : OfferedBeginAtHead
 unfolding offered_places
 places-head ring sound apart = ap (slots_from (count_of ring) ring.head)
@@ -119,7 +121,7 @@ pub length-places : OfferedAreDistance
 unfolding offered_places
 length-places ring = length-slots_from (count_of ring) ring.head (distance_of ring ring.head ring.tail)
 
--- If the tail advances, the slot at the old tail becomes the last offered slot.
+-- If the tail advances by one slot, but not to the head, the slot at the old tail becomes the last offered slot.
 pub places-tail : OfferedGrowAtTail
 unfolding offered_places
 places-tail ring sound apart =

@@ -43,7 +43,7 @@ impl Frame {
     /// The greatest number of bytes of a frame.
     pub const MAX_LEN: usize = LONGEST_LEGAL;
 
-    /// An empty frame.
+    /// Returns an empty frame.
     pub fn new() -> Frame
         ensures { result ≡ [] }
     {
@@ -52,7 +52,7 @@ impl Frame {
         }
     }
 
-    /// The frame with these bytes, of which there are at most 1,518.
+    /// Returns the frame with these bytes. There must be at most 1,518 bytes.
     pub fn from_slice(bytes: &[u8]) -> Frame
         requires { length bytes.now ≤ 1518 }
         ensures { result ≡ bytes.now }
@@ -64,7 +64,7 @@ impl Frame {
         frame
     }
 
-    /// The frame with these bytes, or `None` exactly if there are more than 1,518 bytes.
+    /// Returns the frame with these bytes, or `None` exactly if there are more than 1,518 bytes.
     pub fn try_from_slice(bytes: &[u8]) -> Option<Frame>
         ensures fits { IsSome result ↔ (length bytes.now ≤ 1518) }
         ensures value { IfSome result (λ frame. frame ≡ bytes.now) }
@@ -75,7 +75,7 @@ impl Frame {
         Some(Frame::from_slice(bytes))
     }
 
-    /// The number of bytes of the frame.
+    /// Returns the number of bytes of the frame.
     pub fn len(&self) -> usize
         ensures value { result ≡ length self.now }
         ensures fits { result ≤ 1518 }
@@ -83,14 +83,14 @@ impl Frame {
         self.bytes.len()
     }
 
-    /// Whether the frame is empty.
+    /// Returns whether the frame is empty.
     pub fn is_empty(&self) -> bool
         ensures { result ≡ (length self.now == 0) }
     {
         self.bytes.is_empty()
     }
 
-    /// The bytes of the frame.
+    /// Returns the bytes of the frame.
     pub fn as_slice(&self) -> &[u8]
         ensures value { result.now ≡ self.now }
         ensures fits { length result.now ≤ 1518 }
@@ -99,7 +99,7 @@ impl Frame {
     }
 }
 
-/// A clone has the same bytes. It allocates no memory, so it never fails.
+/// A clone has the same bytes. Cloning allocates no memory, so it never fails.
 impl Clone for Frame {
     ghost is_clone = { λ frame copy. copy ≡ frame };
 

@@ -26,15 +26,16 @@ pub struct Ring {
 impl Ring {
     ghost use Rattle.descriptors.specs.Ring.{count_of, HasValidIndices, next_of, distance_of, address_of};
 
-    /// The number of descriptors of the ring: its length divided by sixteen bytes, and at most 65,536, because indices
-    /// have 16 bits. The length registers of the adapter have 20 bits, so its rings have fewer.
+    /// Returns the number of descriptors of the ring: its length divided by sixteen bytes, and at most 65,536, because
+    /// indices have 16 bits. The length registers of the adapter have 20 bits, so its rings have fewer than 65,536
+    /// descriptors.
     pub fn count(&self) -> u32
         ensures { result ≡ count_of self.now }
     {
         (self.bytes / DESCRIPTOR_BYTES).min(MOST_INDEXED)
     }
 
-    /// Whether head and tail are slots of the ring. A ring without descriptors has no slots.
+    /// Returns whether head and tail are slots of the ring. A ring without descriptors has no slots.
     pub fn has_valid_indices(&self) -> bool
         ensures { IsTrue result ↔ HasValidIndices self.now }
     {
@@ -42,7 +43,7 @@ impl Ring {
         (self.head as u32) < count && (self.tail as u32) < count
     }
 
-    /// The next slot; after the last one, the first.
+    /// Returns the slot after the slot `index`. After the last slot, this is the first slot.
     pub fn next(&self, index: u16) -> u16
         requires { index < count_of self.now }
         ensures { result ≡ next_of self.now index }
@@ -51,7 +52,7 @@ impl Ring {
         if next == self.count() { 0 } else { next as u16 }
     }
 
-    /// The number of steps from one slot forward to another, with wrapping.
+    /// Returns the number of steps from one slot forward to another, with wrapping.
     pub fn distance(&self, from: u16, to: u16) -> u32
         requires from_slot { from < count_of self.now }
         requires to_slot { to < count_of self.now }
@@ -64,8 +65,8 @@ impl Ring {
         }
     }
 
-    /// The address of a slot's descriptor, or `None` exactly if the address has more than 64 bits. Addresses don't
-    /// wrap.
+    /// Returns the address of a slot's descriptor, or `None` exactly if the address has more than 64 bits. Addresses
+    /// don't wrap.
     pub fn descriptor(&self, index: u16) -> Option<u64>
         ensures in_range { IsSome result ↔ (address_of self.now index < 2 ^ 64) }
         ensures value { IfSome result (λ address. address ≡ address_of self.now index) }

@@ -17,7 +17,7 @@ pub struct RxDesc {
     pub length: u16,
     /// The packet checksum.
     pub checksum: u16,
-    /// Whether the adapter is done with the descriptor, and whether the packet ends here.
+    /// Whether the adapter is done with the descriptor, and whether the packet ends in the descriptor's buffer.
     pub status: RxStatus,
     /// The error bits; 0 if there was no error.
     pub errors: u8,
@@ -28,7 +28,7 @@ pub struct RxDesc {
 impl RxDesc {
     ghost use Rattle.descriptors.specs.RxDesc.{rx_desc_bytes, rx_desc_of};
 
-    /// The sixteen bytes of the descriptor in memory: its fields in order, each little-endian.
+    /// Returns the sixteen bytes of the descriptor in memory: its fields in order, each little-endian.
     #[tactic(auto, unfolding(crate::specs::RxDesc::rx_desc_bytes))]
     pub fn to_bytes(&self) -> [u8; 16]
         ensures { result ≡ rx_desc_bytes self.now }
@@ -43,7 +43,7 @@ impl RxDesc {
         bytes
     }
 
-    /// The descriptor that these bytes in memory encode.
+    /// Returns the descriptor that these bytes in memory encode.
     #[tactic(auto, unfolding(crate::specs::RxDesc::rx_desc_of))]
     pub fn from_bytes(bytes: &[u8; 16]) -> RxDesc
         ensures { result ≡ rx_desc_of bytes.now }

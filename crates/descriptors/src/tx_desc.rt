@@ -30,7 +30,7 @@ pub struct TxDesc {
 impl TxDesc {
     ghost use Rattle.descriptors.specs.TxDesc.{tx_desc_bytes, tx_desc_of};
 
-    /// The sixteen bytes of the descriptor in memory: its fields in order, each little-endian.
+    /// Returns the sixteen bytes of the descriptor in memory: its fields in order, each little-endian.
     #[tactic(auto, unfolding(crate::specs::TxDesc::tx_desc_bytes))]
     pub fn to_bytes(&self) -> [u8; 16]
         ensures { result ≡ tx_desc_bytes self.now }
@@ -46,7 +46,7 @@ impl TxDesc {
         bytes
     }
 
-    /// The descriptor that these bytes in memory encode.
+    /// Returns the descriptor that these bytes in memory encode.
     #[tactic(auto, unfolding(crate::specs::TxDesc::tx_desc_of))]
     pub fn from_bytes(bytes: &[u8; 16]) -> TxDesc
         ensures { result ≡ tx_desc_of bytes.now }

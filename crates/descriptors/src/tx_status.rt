@@ -2,8 +2,8 @@ ghost use Rattle.std.specs.Prelude.{⊤, [], ◌∷◌, codes};
 
 use bitflags::{Flag, Flags, bitflag_items};
 
-/// The status byte of a transmit descriptor. Its low four bits are the status (Intel's manual, "3.3.3.2 Transmit
-/// Descriptor Status Field Format").
+/// The status byte of a transmit descriptor. The low four bits of the byte are the status (Intel's manual, "3.3.3.2
+/// Transmit Descriptor Status Field Format").
 ///
 /// The byte comes from memory, so bits that have no name here are kept, too.
 #[derive(Clone, Copy, PartialEq, Eq, Debug)]

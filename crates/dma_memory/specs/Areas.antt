@@ -21,7 +21,7 @@ descriptor_area address = area_at address 16
 abbrev pub bytes_in : List ℕ → Area → List ℕ
 bytes_in memory area = bytes_at memory area.address area.size
 
--- One of two areas ends at or before the start of the other, so no byte belongs to both.
+-- One of two areas ends at or before the start of the other, so no byte belongs to both areas.
 abbrev pub AreApart : Area → Area → Type 0
 AreApart a b = (a.address + a.size ≤ b.address) ⊎ (b.address + b.size ≤ a.address)
 
@@ -39,9 +39,9 @@ pub record AreSeparate (memory : List ℕ) (areas : List Area) : Type 0 where
   -- Any two areas are apart.
   pub apart : AllPairs AreApart areas
 
--- Memory may differ in this area only.
+-- The two memories differ at most in this area.
 pub record ChangesOnly (memory memory' : List ℕ) (area : Area) : Type 0 where
   -- The size of memory doesn't change.
   pub size : length memory' ≡ length memory
-  -- Every area apart from this one has the same bytes as before.
+  -- Every area that doesn't overlap this area has the same bytes in both memories.
   pub others : (other : Area) → AreApart area other → bytes_in memory' other ≡ bytes_in memory other

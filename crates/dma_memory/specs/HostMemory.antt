@@ -1,8 +1,8 @@
--- A host's memory is a list of bytes, and an address is a place in it (our choice; the adapter reads and writes it as
--- bus master, "3.2 Packet Reception" and "3.3 Packet Transmission" of Intel's manual).
+-- A host's memory is a list of bytes, and an address is the index of a byte in this list (our choice; the adapter reads and writes memory
+-- as bus master, "3.2 Packet Reception" and "3.3 Packet Transmission" of Intel's manual).
 use Rattle.std.specs.Prelude.{◌≤◌, ◌+◌, ◌-◌, ◌++◌, ℕ, List, length, take, drop}
 
--- The n bytes from an address on.
+-- The n bytes from an address on, or fewer if memory ends before.
 abbrev pub bytes_at : List ℕ → ℕ → ℕ → List ℕ
 bytes_at memory address n = take n (drop address memory)
 

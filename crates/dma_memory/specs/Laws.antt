@@ -21,7 +21,7 @@ bytes_at-front front rest address n fits =
     ap (take n) (drop-append-le address front rest (omega arith))
     ∙ take-append-le n (drop address front) rest (omega (arith, length-drop address front))
 
--- A range inside the second of two joined lists is a range of the second list.
+-- A range that doesn't begin before the second of two joined lists is a range of the second list.
 bytes_at-rest : (front rest : List ℕ) (address n : ℕ) → length front ≤ address
     → bytes_at (front ++ rest) address n ≡ bytes_at rest (address - length front) n
 bytes_at-rest front rest address n past =
@@ -89,7 +89,7 @@ pub bytes_at-elsewhere : (memory bytes : List ℕ) (address i n : ℕ) → LiesI
 bytes_at-elsewhere memory bytes address i n fits (inl after) = bytes_at-after memory bytes address i n fits after
 bytes_at-elsewhere memory bytes address i n fits (inr before) = bytes_at-before memory bytes address i n fits before
 
--- Two stores, the second right after the first, are one store, if the first begins at or before the end of memory.
+-- Two stores to adjacent ranges are one store of the joined bytes, if the first range begins at or before the end of memory.
 adjacent : (memory first second : List ℕ) (address : ℕ) → address ≤ length memory
     → with_bytes (with_bytes memory address first) (address + length first) second ≡ with_bytes memory address (first ++ second)
 adjacent memory first second address fits =
@@ -105,7 +105,7 @@ adjacent memory first second address fits =
     drop-drop (length second) (address + length first) memory ∙ ap (λ (i : ℕ). drop i memory) (omega (arith, length-append first second)) in
     rw (kept, behind, both, append_assoc (take address memory) first second) refl
 
--- Two stores, the second right after the first, are equal to one store.
+-- Two stores to adjacent ranges are equal to one store of the joined bytes.
 pub with_bytes-adjacent : (memory first second : List ℕ) (address : ℕ) → LiesIn memory address (length (first ++ second))
     → with_bytes (with_bytes memory address first) (address + length first) second ≡ with_bytes memory address (first ++ second)
 with_bytes-adjacent memory [] second address fits =
@@ -123,7 +123,7 @@ pub bytes_at-zeros : (size address n : ℕ) → LiesIn (replicate size 0) addres
 bytes_at-zeros size address n fits =
     ap (take n) (drop-replicate address size 0) ∙ take-replicate n (size - address) 0 (omega (arith, length-replicate {A = ℕ} size 0))
 
--- The first n bytes of a range, followed by the other k bytes, are the range.
+-- A range of n + k bytes is its first n bytes, followed by its other k bytes.
 pub bytes_at-parts : (memory : List ℕ) (address n k : ℕ)
     → bytes_at memory address (n + k) ≡ bytes_at memory address n ++ bytes_at memory (address + n) k
 bytes_at-parts memory address n k = take-add n k (drop address memory)

@@ -68,7 +68,8 @@ HasPlace counts TransmitRing = Unit {0}
 HasPlace counts (TransmitBuffer slot) = slot < counts.tx
 HasPlace counts (ReceiveBuffer number) = number < counts.buffers
 
--- The address of a place. The receive ring comes first, then the transmit ring, the transmit buffers and the receive buffers.
+-- The address of a place. In the order of addresses, there are the receive ring, the transmit ring, the transmit buffers and the receive
+-- buffers.
 abbrev pub start_of : Counts → Place → ℕ
 start_of counts ReceiveRing = 0
 start_of counts TransmitRing = descriptor_bytes * counts.rx

@@ -2,7 +2,7 @@
 use Rattle.std.specs.Prelude.{ℕ, List}
 
 pub record Numbers : Type 0 where
-  -- The number of buffers. Each number in the pool is below it.
+  -- The number of receive buffers. Each number in the pool is below this number.
   pub buffers : ℕ
   -- The numbers that are in the pool.
   pub free : List ℕ

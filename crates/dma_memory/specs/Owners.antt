@@ -18,7 +18,7 @@ HasNoSecondOwner n numbers = (k : ℕ) → copies k numbers ≤ (if nat_lt k n t
 abbrev pub HaveSameNumbers : List ℕ → List ℕ → Type 0
 HaveSameNumbers xs ys = (k : ℕ) → copies k xs ≡ copies k ys
 
--- Each number below n is at exactly one place of the list. No other number is at a place.
+-- Each number below n is at exactly one place of the list. No other number is in the list.
 pub record EachStandsOnce (n : ℕ) (numbers : List ℕ) : Type 0 where
   pub somewhere : (k : ℕ) → k < n → (i : ℕ) × (slice_get numbers i ≡ Some k)
   pub nowhere_else : (i j k : ℕ) → slice_get numbers i ≡ Some k → slice_get numbers j ≡ Some k → i ≡ j
@@ -32,12 +32,12 @@ CountsArePlaces = (n : ℕ) (numbers : List ℕ) → HasOneOwner n numbers ↔ E
 abbrev pub OwnersAddUp : Type 0
 OwnersAddUp = (k : ℕ) (xs ys : List ℕ) → copies k (xs ++ ys) ≡ copies k xs + copies k ys
 
--- A number that moves from one owner to another still has one owner.
+-- If each number below n has one owner, this remains true after a number moves from one owner to another.
 abbrev pub MovesKeepOneOwner : Type 0
 MovesKeepOneOwner = (n number : ℕ) (giver giver' taker taker' : List ℕ) → HasOneOwner n (giver ++ taker)
     → HaveSameNumbers giver (number ∷ giver') → HaveSameNumbers (number ∷ taker) taker' → HasOneOwner n (giver' ++ taker')
 
--- A number that one owner has is below n, and no other owner has it.
+-- If each number below n has one owner, a number that one owner has is below n, and no other owner has it.
 abbrev pub OwnedIsNowhereElse : Type 0
 OwnedIsNowhereElse = (n number : ℕ) (xs ys : List ℕ) → HasOneOwner n (xs ++ ys) → 0 < copies number ys → (number < n)
     × (copies number xs ≡ 0)
@@ -50,7 +50,7 @@ OneOwnerCounts = (n : ℕ) (numbers : List ℕ) → HasOneOwner n numbers → le
 abbrev pub NoSecondOwnerBounds : Type 0
 NoSecondOwnerBounds = (n : ℕ) (numbers : List ℕ) → HasNoSecondOwner n numbers → length numbers ≤ n
 
--- If no number has a second owner and one is missing, the list has fewer than n numbers.
+-- If no number has a second owner and a number below n is missing, the list has fewer than n numbers.
 abbrev pub MissingLeavesRoom : Type 0
 MissingLeavesRoom = (n number : ℕ) (numbers : List ℕ) → HasNoSecondOwner n numbers → number < n → copies number numbers ≡ 0
     → length numbers < n

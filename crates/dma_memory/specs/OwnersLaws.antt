@@ -38,14 +38,14 @@ if_below-next k n next is_next = grind (arith, nat_tests)
 if_same-swap : (k x : ℕ) → if_same k x ≡ if_same x k
 if_same-swap k x = grind (arith, nat_tests)
 
--- How often a number occurs after another number is put at the front of the list.
+-- How often the number k occurs after a number x is put at the front of the list.
 pub copies-cons : (k x : ℕ) (xs : List ℕ) → copies k (x ∷ xs) ≡ if_same k x + copies k xs
 copies-cons k x xs = sum_by-cons (λ y. if k == y then 1 else 0) x xs
 
 pub copies-itself : (k : ℕ) (xs : List ℕ) → copies k (k ∷ xs) ≡ 1 + copies k xs
 copies-itself k xs = omega (arith, copies-cons k k xs, if_same-yes k k refl)
 
--- How often a number occurs after another number is put at the end of the list.
+-- How often the number k occurs after a number x is put at the end of the list.
 pub copies-push : (k x : ℕ) (xs : List ℕ) → copies k (xs ++ x ∷ []) ≡ copies k xs + if_same k x
 copies-push k x xs = sum_by_push (λ y. if k == y then 1 else 0) xs x
 
@@ -56,7 +56,7 @@ copies-last k xs = omega (arith, copies-push k k xs, if_same-yes k k refl)
 pub copies-append : OwnersAddUp
 copies-append k xs ys = sum_by-append (λ y. if k == y then 1 else 0) xs ys
 
--- If each number has one owner, no number has a second owner.
+-- If each number below n has one owner, no number has a second owner.
 pub no_second_from_one : (n : ℕ) (xs : List ℕ) → HasOneOwner n xs → HasNoSecondOwner n xs
 no_second_from_one n xs one k = omega (arith, one k)
 
@@ -74,7 +74,7 @@ known_from_no_second n number xs once some = below_from_if_below number n (omega
 pub once_from_no_second : (n number : ℕ) (xs : List ℕ) → HasNoSecondOwner n xs → copies number xs ≤ 1
 once_from_no_second n number xs once = omega (arith, once number, if_below-most number n)
 
--- If each number has one owner, the same is true of each list with the same numbers.
+-- If each number below n has one owner, the same is true of each list with the same numbers.
 pub one_owner-same : (n : ℕ) (xs ys : List ℕ) → HasOneOwner n xs → HaveSameNumbers xs ys → HasOneOwner n ys
 one_owner-same n xs ys one same k = omega (arith, one k, same k)
 
@@ -90,7 +90,7 @@ pub taken-last : (number : ℕ) (xs ys ys' : List ℕ) → HaveSameNumbers (numb
 taken-last number xs ys ys' same k =
     omega (arith, same k, copies-append k xs ys, copies-append k xs ys', copies-cons k number ys, copies-cons k number (xs ++ ys))
 
--- If no number has a second owner, no number has one after a number is removed from the list.
+-- If no number has a second owner, the same is true after a number is removed from the list.
 pub no_second-taken : (n number : ℕ) (xs xs' : List ℕ) → HasNoSecondOwner n xs → HaveSameNumbers xs (number ∷ xs') → HasNoSecondOwner n xs'
 no_second-taken n number xs xs' once taken k = omega (arith, once k, taken k, copies-cons k number xs')
 
@@ -102,7 +102,7 @@ pub out_from_taken : (n number : ℕ) (xs xs' : List ℕ) → HasNoSecondOwner n
 out_from_taken n number xs xs' once taken =
     omega (arith, once_from_no_second n number xs once, taken number, copies-itself number xs')
 
--- If a number is missing, it can be added: then still no number has a second owner.
+-- If no number has a second owner and a number below n is missing, no number has a second owner after the missing number is added.
 if_same-fits : (k x n m : ℕ) → m ≤ if_below k n → (k ≡ x → m ≡ 0) → x < n → if_same k x + m ≤ if_below k n
 if_same-fits k x n m once out known = grind (arith, nat_tests)
 
@@ -112,7 +112,7 @@ no_second-given n number xs xs' once known out given k =
     let fits = if_same-fits k number n (copies k xs) (once k) (λ same. rw same out) known in
     omega (arith, given k, copies-cons k number xs)
 
--- A number that moves from one owner to another still has one owner.
+-- If each number below n has one owner, this remains true after a number moves from one owner to another.
 pub one_owner-moved : MovesKeepOneOwner
 one_owner-moved n number giver giver' taker taker' one taken given k =
     omega (
@@ -126,7 +126,7 @@ one_owner-moved n number giver giver' taker taker' one taken given k =
       copies-cons k number taker,
     )
 
--- A number that one owner has is below n, and no other owner has it.
+-- If each number below n has one owner, a number that one owner has is below n, and no other owner has it.
 pub owned-nowhere_else : OwnedIsNowhereElse
 owned-nowhere_else n number xs ys one some =
     let both = copies-append number xs ys in
@@ -145,7 +145,7 @@ places-cons : (n x : ℕ) (xs : List ℕ) → places n (x ∷ xs) ≡ if_below x
 places-cons zero x xs = omega (arith, if_below-no x 0 (omega arith))
 places-cons (suc n) x xs = omega (arith, places-cons n x xs, copies-cons n x xs, if_below-next x n (suc n) (omega arith), if_same-swap x n)
 
--- A list of numbers below n is as long as the number of places at which these numbers are.
+-- If no number has a second owner, the list is as long as the number of places at which there are numbers below n.
 length-places : (n : ℕ) (xs : List ℕ) → HasNoSecondOwner n xs → length xs ≡ places n xs
 length-places n [] once = sym (places-none n)
 length-places n (x ∷ xs) once =
@@ -173,7 +173,7 @@ length-one_owner n xs one =
           (λ k below. omega (arith, one k, if_below-yes k n below)),
     )
 
--- If no number has a second owner, the list has at most n numbers, and fewer if one is missing.
+-- If no number has a second owner, the list has at most n numbers, and fewer if a number below n is missing.
 pub length-no_second : NoSecondOwnerBounds
 length-no_second n xs once =
     omega (arith, length-places n xs once, places-most n xs (λ k. once_from_no_second n k xs once))
@@ -182,7 +182,7 @@ pub length-missing : MissingLeavesRoom
 length-missing n number xs once known out =
     omega (arith, length-no_second n (number ∷ xs) (no_second-given n number xs (number ∷ xs) once known out (λ k. refl)))
 
--- The list of one owner is shorter than n if another owner has a number.
+-- If each number below n has one owner and an owner has a number, the list of the other owner has fewer than n numbers.
 pub length-elsewhere : (n number : ℕ) (xs ys : List ℕ) → HasOneOwner n (xs ++ ys) → 0 < copies number xs → length ys < n
 length-elsewhere n number xs ys one some =
     let missing = owned-nowhere_else n number ys xs (one_owner-swap n xs ys one) some in

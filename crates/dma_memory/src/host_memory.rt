@@ -5,8 +5,8 @@ use std::alloc::{AllocError, Global};
 use std::marker::Model;
 use thiserror::Error;
 
-/// The error of a load, a store or a view if the address of one of its bytes isn't below the memory's size. Its text is
-/// `E1 OutOfRange`.
+/// The error of a load, a store or a view if the address of one of its bytes isn't below the memory's size. The text
+/// of the error is `E1 OutOfRange`.
 #[derive(Clone, Copy, Debug, PartialEq, Eq, Error)]
 #[error("E1 OutOfRange")]
 pub struct OutOfRange;
@@ -27,7 +27,7 @@ impl Model for HostMemory {
 }
 
 impl HostMemory {
-    /// A memory of `size` bytes, all of them zero.
+    /// Returns a memory of `size` bytes, each with value 0.
     ///
     /// # Errors
     ///
@@ -40,14 +40,14 @@ impl HostMemory {
         })
     }
 
-    /// The number of bytes of the memory.
+    /// Returns the number of bytes of the memory.
     pub fn size(&self) -> u64
         ensures { result ≡ length self.now }
     {
         self.bytes.len() as u64
     }
 
-    /// Whether `count` bytes from `address` on are in the memory.
+    /// Returns whether `count` bytes from `address` on are in the memory.
     fn has(&self, address: u64, count: usize) -> bool
         ensures { IsTrue result ↔ LiesIn self.now address count }
     {
@@ -89,7 +89,7 @@ impl HostMemory {
         Ok(())
     }
 
-    /// The `count` bytes from `address` on, without a copy.
+    /// Returns the `count` bytes from `address` on, without a copy.
     ///
     /// # Errors
     ///
@@ -108,7 +108,7 @@ impl HostMemory {
         Ok(&self.bytes.as_slice()[start..start + count])
     }
 
-    /// All bytes of the memory, without a copy.
+    /// Returns all bytes of the memory, without a copy.
     pub fn as_slice(&self) -> &[u8]
         ensures { result.now ≡ self.now }
     {

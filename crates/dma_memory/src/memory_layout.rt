@@ -16,8 +16,8 @@ pub const TRANSMIT_BUFFER_BYTES: u64 = 2048;
 /// frame, of 1,518 bytes, needs six receive buffers.
 pub const RECEIVE_BUFFER_BYTES: u64 = 256;
 
-/// The number of descriptors of a ring is a positive multiple of this number: its length in bytes is a multiple of 128
-/// (Intel's manual, "13.4.27 Receive Descriptor Length").
+/// The number of descriptors of a ring is a positive multiple of this number, because the ring's length in bytes is a
+/// multiple of 128 (Intel's manual, "13.4.27 Receive Descriptor Length").
 pub const RING_STEP: u16 = 8;
 
 /// The greatest number of descriptors of a ring (our choice).
@@ -43,8 +43,8 @@ pub enum LayoutError {
 /// Where the rings and buffers of one driver are in its host's memory, by byte addresses.
 ///
 /// The receive ring is at address 0, and the transmit ring follows it. Each descriptor has 16 bytes. The transmit
-/// buffers begin at the next multiple of 2,048: one of 2,048 bytes for each transmit descriptor. The receive buffers
-/// follow them, each of 256 bytes.
+/// buffers begin at the first multiple of 2,048 at or after the end of the rings. Each transmit descriptor has one of
+/// these buffers, of 2,048 bytes. The receive buffers follow, each of 256 bytes.
 #[derive(Clone, Copy, Debug, PartialEq, Eq)]
 pub struct Layout {
     rx: u16,
@@ -62,14 +62,14 @@ impl Model for Layout {
     ghost inverse = { λ counts. record { rx = counts.rx; tx = counts.tx; buffers = counts.buffers } };
 }
 
-/// Whether a ring may have `n` descriptors.
+/// Returns whether a ring may have `n` descriptors.
 fn is_ring_size(n: u16) -> bool
     ensures { IsTrue result ↔ IsRingSize n }
 {
     n % RING_STEP == 0 && RING_STEP <= n && n <= MOST_DESCRIPTORS
 }
 
-/// Whether a layout may have this number of receive buffers for a receive ring of `rx` descriptors.
+/// Returns whether a layout may have this number of receive buffers for a receive ring of `rx` descriptors.
 fn is_buffer_count(rx: u16, buffers: u16) -> bool
     ensures { IsTrue result ↔ IsBufferCount rx buffers }
 {
@@ -77,8 +77,8 @@ fn is_buffer_count(rx: u16, buffers: u16) -> bool
 }
 
 impl Layout {
-    /// The layout for a receive ring of `rx` and a transmit ring of `tx` descriptors, with this number of receive
-    /// buffers.
+    /// Returns the layout for a receive ring of `rx` and a transmit ring of `tx` descriptors, with this number of
+    /// receive buffers.
     ///
     /// # Errors
     ///
@@ -100,7 +100,7 @@ impl Layout {
         Ok(Layout { rx, tx, buffers })
     }
 
-    /// The number of descriptors of the receive ring.
+    /// Returns the number of descriptors of the receive ring.
     pub fn rx(&self) -> u16
         ensures count { result ≡ self.now.rx }
         ensures allowed { IsRingSize result }
@@ -108,7 +108,7 @@ impl Layout {
         self.rx
     }
 
-    /// The number of descriptors of the transmit ring, which is also the number of transmit buffers.
+    /// Returns the number of descriptors of the transmit ring, which is also the number of transmit buffers.
     pub fn tx(&self) -> u16
         ensures count { result ≡ self.now.tx }
         ensures allowed { IsRingSize result }
@@ -116,7 +116,7 @@ impl Layout {
         self.tx
     }
 
-    /// The number of receive buffers.
+    /// Returns the number of receive buffers.
     pub fn buffers(&self) -> u16
         ensures count { result ≡ self.now.buffers }
         ensures allowed { IsBufferCount self.now.rx result }
@@ -124,21 +124,21 @@ impl Layout {
         self.buffers
     }
 
-    /// The address of the receive ring's first descriptor.
+    /// Returns the address of the receive ring's first descriptor.
     pub fn receive_ring(&self) -> u64
         ensures { result ≡ start_of self.now ReceiveRing }
     {
         RECEIVE_RING
     }
 
-    /// The address of the transmit ring's first descriptor.
+    /// Returns the address of the transmit ring's first descriptor.
     pub fn transmit_ring(&self) -> u64
         ensures { result ≡ start_of self.now TransmitRing }
     {
         self.receive_ring() + DESCRIPTOR_BYTES * u64::from(self.rx)
     }
 
-    /// The address of the buffer that belongs to the transmit descriptor `slot`.
+    /// Returns the address of the buffer that belongs to the transmit descriptor `slot`.
     pub fn transmit_buffer(&self, slot: u16) -> u64
         requires { slot < self.now.tx }
         ensures start { result ≡ start_of self.now (TransmitBuffer slot) }
@@ -147,7 +147,7 @@ impl Layout {
         self.first_transmit_buffer() + TRANSMIT_BUFFER_BYTES * u64::from(slot)
     }
 
-    /// The address of the receive buffer `number`.
+    /// Returns the address of the receive buffer `number`.
     pub fn receive_buffer(&self, number: u16) -> u64
         requires { number < self.now.buffers }
         ensures start { result ≡ start_of self.now (ReceiveBuffer number) }
@@ -156,7 +156,8 @@ impl Layout {
         self.first_receive_buffer() + RECEIVE_BUFFER_BYTES * u64::from(number)
     }
 
-    /// The number of bytes of memory that the layout needs: from address 0 to the end of the last receive buffer.
+    /// Returns the number of bytes of memory that the layout needs: from address 0 to the end of the last receive
+    /// buffer.
     pub fn size(&self) -> u64
         ensures end { result ≡ size_of self.now }
 
@@ -166,7 +167,7 @@ impl Layout {
         self.first_receive_buffer() + RECEIVE_BUFFER_BYTES * u64::from(self.buffers)
     }
 
-    /// The address of the first transmit buffer.
+    /// Returns the address of the first transmit buffer.
     fn first_transmit_buffer(&self) -> u64
         ensures start { result ≡ start_of self.now (TransmitBuffer 0) }
         ensures most { result ≤ 131072 }
@@ -175,7 +176,7 @@ impl Layout {
         rings_end.next_multiple_of(TRANSMIT_BUFFER_BYTES)
     }
 
-    /// The address of the first receive buffer.
+    /// Returns the address of the first receive buffer.
     fn first_receive_buffer(&self) -> u64
         ensures start { result ≡ start_of self.now (ReceiveBuffer 0) }
         ensures most { result ≤ 8519680 }

@@ -4,7 +4,7 @@ ghost use Rattle.dma_memory.specs.Owners.{copies, HasOneOwner, HaveSameNumbers};
 use std::alloc::{AllocError, Global};
 use std::marker::Model;
 
-/// The number of a receive buffer. Its holder is the only owner of the buffer.
+/// The number of a receive buffer. The holder of the `BufId` is the only owner of the buffer.
 ///
 /// A `BufId` can't be copied, and only a [`Pool`] makes one. If a `BufId` is dropped, its number is lost.
 #[derive(Drop)]
@@ -21,7 +21,7 @@ impl Model for BufId {
 }
 
 impl BufId {
-    /// The number itself, from which a [`Layout`](crate::Layout) computes the buffer's address.
+    /// Returns the number, from which a [`Layout`](crate::Layout) computes the buffer's address.
     pub fn number(&self) -> u16
         ensures { result ≡ self.now }
     {
@@ -50,7 +50,7 @@ impl Model for Pool {
 }
 
 impl Pool {
-    /// A pool with all numbers below `buffers` in it.
+    /// Returns a pool with all numbers below `buffers` in it.
     ///
     /// # Errors
     ///
@@ -66,7 +66,7 @@ impl Pool {
         Ok(Pool { free, buffers })
     }
 
-    /// How many numbers are in the pool.
+    /// Returns how many numbers are in the pool.
     pub fn len(&self) -> u16
         ensures count { result ≡ length self.now.free }
         ensures most { result ≤ self.now.buffers }
@@ -74,15 +74,15 @@ impl Pool {
         self.free.len() as u16
     }
 
-    /// Whether no number is in the pool.
+    /// Returns whether no number is in the pool.
     pub fn is_empty(&self) -> bool
         ensures { IsTrue result ↔ (self.now.free ≡ []) }
     {
         self.free.is_empty()
     }
 
-    /// Removes a number from the pool and returns it; `None` exactly if the pool is empty. The contract doesn't state
-    /// which number.
+    /// Removes a number from the pool and returns the number, or `None` exactly if the pool is empty. The contract
+    /// doesn't state which number is removed.
     pub fn take(&mut self) -> Option<BufId>
         ensures none { IsNone result ↔ (self.old.free ≡ []) }
         ensures taken { IfSome result (λ number. HaveSameNumbers self.old.free (number ∷ self.new.free)) }
@@ -94,7 +94,7 @@ impl Pool {
         self.free.pop()
     }
 
-    /// Puts a number back into the pool from which it was taken. The call allocates no memory and never fails.
+    /// Puts a number back into the pool from which the number was taken. The call allocates no memory and never fails.
     pub fn give(&mut self, buffer: BufId)
         requires known { buffer < self.old.buffers }
         requires out { copies buffer self.old.free ≡ 0 }

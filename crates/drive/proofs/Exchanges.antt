@@ -142,7 +142,7 @@ effect-flows bus composes old new received accepted Does maps honest does =
       tt,
     )) does).0
 
--- A frame is handed to the driver.
+-- A frame is passed to the driver.
 pub exchange-sends : {B : Type 0} (bus : Ghosts B) → Composes bus.happened bus.lent_stays → (old new : HostMoment B) (frame : List ℕ)
     (result : SendAnswer) (text : Option (List ℕ)) (number : ℕ)
     → Keeps bus old.bus new.bus → new.host.driver.layout ≡ old.host.driver.layout
@@ -196,7 +196,7 @@ pub still-fits : {B : Type 0} (bus : Ghosts B) (accepted : List (List ℕ)) (a b
     → size_of a.host.driver.layout ≤ bus.extent a.bus → size_of b.host.driver.layout ≤ bus.extent b.bus
 still-fits bus accepted a b one fits = rw (one.layout, one.keeps.extent) fits
 
--- whether a driver accepted or refused a frame that was handed to it
+-- whether a driver accepted or rejected a frame that was passed to it
 abbrev pub is_done : SendAnswer → Bool
 is_done (Ok u) = true
 is_done (Err TooShort) = true

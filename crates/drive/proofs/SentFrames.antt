@@ -1,4 +1,4 @@
--- Frames that are handed to the driver, one after the other.
+-- Frames that are passed to the driver, one after the other.
 use Rattle.std.proofs.Common.{◌≡◌, ◌+◌, ◌++◌, ◌∷◌, [], ℕ, Bool, true, false, List, sym, ap, subst, ◌∙◌, arith, append_assoc}
 use Rattle.std.proofs.Common.{cond}
 use Rattle.std.specs.Prelude.{count_by, not, if◌then◌else◌}
@@ -21,7 +21,7 @@ count-push : (p : List ℕ → Bool) (frames : List (List ℕ)) (frame : List �
     → count_by p (frames ++ frame ∷ []) ≡ count_by p frames + cond (p frame) 1 0
 count-push p frames frame = sum_by_push (λ x. cond (p x) 1 0) frames frame
 
--- Nothing was handed yet.
+-- No frame was passed to the driver yet.
 pub sends-start : {B : Type 0} (bus : Ghosts B) → Composes bus.happened bus.lent_stays
     → (frames left : List (List ℕ)) (now : ExchangeMoment B)
     → left ≡ frames → SendsUpTo bus frames left 0 0 now now
@@ -33,7 +33,7 @@ sends-start bus composes frames left now is = record {
   exchanges = exchanges-here bus composes now;
 }
 
--- Nothing more was handed.
+-- No further frame was passed to the driver.
 pub sends-then : {B : Type 0} (bus : Ghosts B) → Composes bus.happened bus.lent_stays → (frames left : List (List ℕ)) (sent illegal : ℕ)
     (a b c : ExchangeMoment B) → SendsUpTo bus frames left sent illegal a b → Exchanges bus [] b c
     → SendsUpTo bus frames left sent illegal a c
@@ -57,7 +57,7 @@ grown-not : (count old new : ℕ) (less : Bool) → old ≡ saturated count → 
 grown-not count old new true was is = omega (arith, was, is)
 grown-not count old new false was is = omega (arith, was, is)
 
--- The next frame was handed, and then nothing more.
+-- The next frame was passed to the driver, and then no further frame.
 pub sends-more : {B : Type 0} (bus : Ghosts B) → Composes bus.happened bus.lent_stays → (frames left : List (List ℕ)) (frame : List ℕ)
     (sent illegal sent' illegal' : ℕ) (a b c d : ExchangeMoment B) → SendsUpTo bus frames (frame ∷ left) sent illegal a b
     → Exchanges bus (accepted_of frame) b c → Exchanges bus [] c d

@@ -16,7 +16,8 @@ use Rattle.drive.specs.declared.counts.DriveRings.{DriveRings}
 abbrev pub counts_of : DriveRings → Counts
 counts_of rings = record { rx = rings.rx; tx = rings.tx; buffers = rings.buffers }
 
--- An adapter was initialized with these rings, and then these frames were exchanged. The bus obeys the bus law.
+-- An adapter was initialized with these rings. Then the driver accepted the frames `accepted`, and the socket returned the frames
+-- `received`, over a bus that obeys the bus law.
 pub record DrivesLawfully {B : Type 0} (bus : Ghosts B) (rings : DriveRings) (accepted received : List (List ℕ)) (new : B) : Type 0 where
   -- the moment after the initialization
   pub up : HostMoment B
@@ -27,10 +28,10 @@ pub record DrivesLawfully {B : Type 0} (bus : Ghosts B) (rings : DriveRings) (ac
   pub end_is : end.bus ≡ new
   pub flows : HostFlows bus accepted received up end
 
--- The first frames of the list, `handed`, were passed to the driver, each once and in order. Some frames were received,
--- and the trace of exactly these frames, in order, was written. The counts are right. Over a bus that obeys the law,
--- the driver accepted the frames of `handed` that have 14 to 1,518 bytes, padded. The socket returned the frames
--- received.
+-- The first frames of the list, `handed`, were passed to the driver, each once and in order. The frames `received` were received, and the
+-- trace of exactly these frames, in order, was written. The counts `sent`, `illegal` and `received` are the numbers of these frames, and
+-- saturate. Over a bus that obeys the bus law, the driver accepted the frames of `handed` that have 14 to 1,518 bytes, padded, and the
+-- socket returned the frames `received`.
 pub record Drives {B : Type 0} (bus : Ghosts B) (rings : DriveRings) (frames : List (List ℕ)) (counts : DriveCounts)
     (before after : Option (List ℕ)) (old new : B)
     : Type 0 where

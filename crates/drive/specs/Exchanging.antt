@@ -20,11 +20,11 @@ abbrev pub accepted_of_all : List (List ℕ) → List (List ℕ)
 accepted_of_all [] = []
 accepted_of_all (frame ∷ later) = accepted_of frame ++ accepted_of_all later
 
--- whether a frame isn't accepted
+-- whether a frame has fewer than 14 or more than 1,518 bytes
 abbrev pub is_illegal : List ℕ → Bool
 is_illegal frame = not (is_sendable frame)
 
--- a count of 64 bits
+-- a count that saturates at the greatest `u64`
 abbrev pub saturated : ℕ → ℕ
 saturated n = min n (2 ^ 64 - 1)
 
@@ -34,9 +34,8 @@ saturated n = min n (2 ^ 64 - 1)
 abbrev pub given_of : List ℕ → Given
 given_of frame = record { socket = 0; frame = frame }
 
--- An interval of a host's run over a bus that obeys the law. The driver accepted the frames `accepted`, and the socket
--- returned the frames `received`. `flows` relates both lists to the frames that the adapter put on the wire and stored.
--- No frame is lost, duplicated or reordered.
+-- An interval of a host's run over a bus that obeys the bus law. The driver accepted the frames `accepted`, and the socket returned the
+-- frames `received`. `flows` relates both lists to the frames that the adapter put on the wire and stored.
 pub record HostFlows {B : Type 0} (bus : Ghosts B) (accepted received : List (List ℕ)) (old new : HostMoment B) : Type 0 where
   pub honest : bus.honest new.bus
   -- the frames that the driver took off the receive ring
@@ -47,8 +46,7 @@ pub record HostFlows {B : Type 0} (bus : Ghosts B) (accepted received : List (Li
   pub flows : HostFlowsTo true (in_world old.host (bus.world old.bus)) (in_world new.host (bus.world new.bus))
       (host_did taken (map given_of received) accepted) past
 
--- A moment of an exchange: the host on its bus, the bytes written to the sink or still buffered for it, and the number
--- of the next received frame.
+-- A moment of an exchange: the host on its bus, the bytes written to the sink or waiting for it, and the next received frame's number.
 pub record ExchangeMoment (B : Type 0) : Type 0 where
   pub bus : B
   pub host : HostState
@@ -61,8 +59,9 @@ exchange_at bus host text number = record { bus = bus; host = host; text = text;
 abbrev pub host_moment : {B : Type 0} → ExchangeMoment B → HostMoment B
 host_moment now = record { bus = now.bus; host = now.host }
 
--- An interval of an exchange, over any bus: some frames were received, and exactly these were written, in order, each with its number.
--- Over a bus that obeys the law these are the frames that the socket returned, and the driver accepted the frames `accepted`.
+-- An interval of an exchange, over any bus: exactly the frames `received` were written, in order, each with its number. If the host is
+-- ready at the beginning, on a bus that obeys the bus law, the socket returned the frames `received`, and the driver accepted the frames
+-- `accepted`.
 pub record Exchanges {B : Type 0} (bus : Ghosts B) (accepted : List (List ℕ)) (old new : ExchangeMoment B) : Type 0 where
   pub keeps : Keeps bus old.bus new.bus
   pub layout : new.host.driver.layout ≡ old.host.driver.layout
@@ -71,9 +70,8 @@ pub record Exchanges {B : Type 0} (bus : Ghosts B) (accepted : List (List ℕ)) 
   pub count : new.number ≡ number_after old.number received
   pub flows : IsReadyHost bus true (host_moment old) → HostFlows bus accepted received (host_moment old) (host_moment new)
 
--- The first frames of a list were passed to the driver, in order. `sent` counts those that the driver accepted, and
--- `illegal` those that have fewer than 14 or more than 1,518 bytes. A count saturates. The frames `left` weren't
--- passed.
+-- The first frames of a list, `handed`, were passed to the driver, in order; the frames `left` weren't passed. `sent` counts the frames of
+-- `handed` that have 14 to 1,518 bytes, and `illegal` the others. A count saturates. Frames may also have been received (`Exchanges`).
 pub record SendsUpTo {B : Type 0} (bus : Ghosts B) (frames left : List (List ℕ)) (sent illegal : ℕ) (old new : ExchangeMoment B) : Type 0
   where
     pub handed : List (List ℕ)

@@ -4,20 +4,20 @@ use Rattle.std.specs.List.{flat_map}
 use Rattle.pcap_trace.specs.Format.{Timed, packet_of}
 use Rattle.pcap_trace.specs.declared.unit.Unit.TheVariants.{Micros}
 
--- the number of the next frame, up to the greatest u64
+-- the number of the next frame; it saturates at the greatest `u64`
 abbrev pub next_number : ℕ → ℕ
 next_number n = min (n + 1) (2 ^ 64 - 1)
 
--- the number after these frames, if the first one has number n
+-- the number after these frames, if the first frame has number n
 abbrev pub number_after : (n : ℕ) → (frames : List (List ℕ)) → ℕ
 number_after n [] = n
 number_after n (frame ∷ later) = number_after (next_number n) later
 
--- frames with their numbers as times in microseconds, from n on
+-- frames with their numbers as times in microseconds, from n on; a number saturates
 abbrev pub numbered : (n : ℕ) → (frames : List (List ℕ)) → List Timed
 numbered n [] = []
 numbered n (frame ∷ later) = record { time = n; frame = frame } ∷ numbered (next_number n) later
 
--- the packets of these frames, one after the other
+-- the packets of these frames, numbered from n on, one after the other
 abbrev pub packets_of : (n : ℕ) → (frames : List (List ℕ)) → List ℕ
 packets_of n frames = flat_map (packet_of Micros) (numbered n frames)

@@ -16,16 +16,19 @@ pub struct DriveRings {
 /// When a drive ends.
 #[derive(Clone, Copy, Debug, PartialEq, Eq)]
 pub struct DriveLimits {
-    /// The drive ends when all frames are sent and at least this number of frames was received. `None`: the drive goes
-    /// on until it is idle.
+    /// The number of received frames after which the drive ends, once it sends no more frames. If it is `None`, only
+    /// `idle` ends the drive.
     pub expect: Option<u64>,
-    /// The drive ends after this number of turns in a row in which no frame was received or accepted for sending. A
-    /// turn calls the interrupt handler, and takes the received frames.
+    /// The number of turns in a row in which no frame was received or passed to the driver, after which the drive ends.
+    /// A turn calls the interrupt handler, and takes the received frames. If the transmit ring is full during this
+    /// number of such turns, the drive sends no more frames. It then ends after this number of further turns in a row
+    /// without a received frame.
     pub idle: u64,
 }
 
 impl DriveLimits {
-    /// Whether the number of frames received is at least the number expected.
+    /// Returns whether the number of frames received is at least the number expected. Returns `false` if no number is
+    /// expected.
     pub(crate) fn are_met(&self, received: u64) -> bool {
         match self.expect {
             Some(expected) => received >= expected,
@@ -34,7 +37,7 @@ impl DriveLimits {
     }
 }
 
-/// The counts of a drive. Each count saturates.
+/// The counts of a drive. Each count saturates at the greatest `u64`.
 #[derive(Clone, Copy, Debug, PartialEq, Eq)]
 pub struct DriveCounts {
     /// The number of frames that the driver accepted for sending.
@@ -51,7 +54,8 @@ pub struct DriveCounts {
 }
 
 impl DriveCounts {
-    /// Whether at least this number of frames was passed to the driver, and at least the expected number was received.
+    /// Returns whether at least `frames` frames were passed to the driver, and at least `expect` frames were received.
+    /// If `expect` is `None`, the number of frames received doesn't matter.
     pub fn is_all(&self, frames: u64, expect: Option<u64>) -> bool
         ensures { IsTrue result
             ↔ ((frames ≤ self.now.sent + self.now.illegal) × IfSome expect (λ n. n ≤ self.now.received)) }

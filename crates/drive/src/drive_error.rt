@@ -1,4 +1,4 @@
-// Why a drive ended early.
+// Why a drive failed.
 
 ghost use Rattle.std.specs.Prelude.{◌≡◌};
 ghost use Rattle.drive.specs.declared.drive_error.DriveError.TheVariants as errors;
@@ -9,13 +9,13 @@ use qtest_bus::BusFault;
 use std::alloc::AllocError;
 use thiserror::Error;
 
-/// Why a drive ended before it was done.
+/// Why a drive failed.
 #[derive(Clone, Copy, Debug, PartialEq, Eq, Error)]
 pub enum DriveError {
     /// Memory was refused.
     #[error("out of memory")]
     Memory,
-    /// The adapter wasn't initialized.
+    /// The adapter wasn't initialized. Memory wasn't refused, and the bus didn't stop.
     #[error("the adapter wasn't initialized: {0}")]
     Init(InitError),
     /// The bus stopped.

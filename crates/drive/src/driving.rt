@@ -18,7 +18,7 @@ use pcap_trace::{Frames, RecordWriter, Sink, Unit};
 use qtest_bus::BusFault;
 use std::alloc::Global;
 
-/// The configuration of a promiscuous driver with these rings.
+/// Returns the configuration of a promiscuous driver with these rings.
 fn config(rings: &DriveRings) -> Config
     ensures { configured_counts result ≡ counts_of rings.now }
 {
@@ -52,7 +52,8 @@ fn bring_up<B: WatchedBus>(
     }
 }
 
-/// Why an initialization failed. A bus that stopped reads zeros, so its fault is the reason.
+/// Returns why an initialization failed: the fault of the bus if the bus stopped, or else the error. Each read of a
+/// stopped bus returns 0, so the error doesn't state the reason.
 fn reason(fault: Option<BusFault>, error: InitError) -> DriveError {
     match (fault, error) {
         (Some(fault), _) => DriveError::Bus(fault),
@@ -62,8 +63,8 @@ fn reason(fault: Option<BusFault>, error: InitError) -> DriveError {
 }
 
 impl Exchange {
-    /// Has turns until the limits are met: enough frames were received, or no frame was received in the maximum number
-    /// of turns in a row.
+    /// Makes turns until the number of frames in `limits.expect` was received, if there is one, or no frame was
+    /// received in `limits.idle` turns in a row.
     fn wait<B: WatchedBus, S: Sink>(
         &mut self,
         bus: &mut B,
@@ -89,18 +90,19 @@ impl Exchange {
 }
 
 /// Initializes an adapter with these rings, sends the frames of a list, and receives frames until `limits` are met. The
-/// frames received are written to `sink`, as a trace in which each frame has its number, from 0 on, as its time in
-/// microseconds.
+/// frames received are written to `sink`, as a trace. The time of each frame in microseconds is the frame's number,
+/// from 0 on.
 ///
-/// The frames are passed to the driver in order, each once. While its transmit ring is full, and after the last frame,
-/// the handler is called repeatedly. It reads ICR, so it finds its work even if the bus reports no interrupt line.
-/// While frames are sent, the handler is also called after each frame if the interrupt line is asserted.
+/// The frames are passed to the driver in order, each at most once. While its transmit ring is full, and after the last
+/// frame, the handler is called repeatedly. Each call reads ICR, so the bus needn't report the interrupt line. While
+/// frames are sent, the handler is also called after each frame if the interrupt line is asserted.
 ///
 /// # Errors
 ///
 /// [`Memory`](DriveError::Memory) if memory was refused, [`Init`](DriveError::Init) if the adapter wasn't initialized
 /// ([`Config`](InitError::Config) if these rings aren't allowed or don't fit), [`Write`](DriveError::Write) if `sink`
-/// failed, and [`Bus`](DriveError::Bus) if the bus stopped. After an error, a part of the trace may have been written.
+/// failed, and [`Bus`](DriveError::Bus) if the bus stopped. After an error, a beginning of the trace may have been
+/// written.
 pub fn drive<B: WatchedBus, S: Sink>(
     alloc: Global,
     bus: &mut B,

@@ -1,4 +1,4 @@
-// A host exchanges frames with its adapter.
+// Exchanges the frames of a host with its adapter.
 
 ghost use Rattle.std.specs.Prelude.{◌≡◌, ◌<◌, ◌≤◌, [], OnOk};
 ghost use Rattle.std.specs.Io.KnownBytes.{append_known};
@@ -21,9 +21,9 @@ const LONGEST: usize = 1518;
 pub(crate) struct Exchange {
     pub(crate) host: Host,
     pub(crate) writer: RecordWriter,
-    /// The number of frames received, which is the number of the next frame.
+    /// The number of frames received, which is the number of the next frame. The number saturates.
     pub(crate) received: u64,
-    /// The number of turns in a row in which no frame was received or accepted.
+    /// The number of turns in a row in which no frame was received or passed to the driver.
     pub(crate) quiet: u64,
 }
 
@@ -74,7 +74,7 @@ impl Exchange {
         Ok(())
     }
 
-    /// A turn: handles an interrupt, and takes the frames that were received.
+    /// Makes a turn: handles an interrupt, and takes the frames that were received. Fails if the bus has stopped.
     pub(crate) fn turn<B: WatchedBus, S: Sink>(
         &mut self,
         bus: &mut B,

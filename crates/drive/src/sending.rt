@@ -1,4 +1,4 @@
-// A host sends the frames of a list.
+// Sends the frames of a list from a host.
 
 ghost use Rattle.std.specs.Prelude.{◌≡◌, ◌<◌, ◌≤◌, ◌+◌, [], List, ℕ, Option, IfOk, OnOk, if◌then◌else◌};
 ghost use Rattle.std.specs.Io.KnownBytes.{append_known};
@@ -43,7 +43,7 @@ impl Handed {
     }
 }
 
-/// Whether a frame can be sent: whether it has 14 to 1,518 bytes.
+/// Returns whether a frame can be sent: whether it has 14 to 1,518 bytes.
 fn is_sendable(frame: &[u8]) -> bool
     ensures { result ≡ is_sendable frame.now }
 {
@@ -67,8 +67,8 @@ impl Exchange {
         error != SendError::RingFull
     }
 
-    /// Passes a frame to the driver, with turns while its transmit ring is full. Returns `false` if the ring is still
-    /// full after `idle` turns in a row in which no frame was received.
+    /// Passes a frame to the driver, and makes turns while the transmit ring is full. Returns `false` after `idle`
+    /// turns in a row in which no frame was received or passed, if the ring was full before the last of these turns.
     fn send<B: WatchedBus, S: Sink>(
         &mut self,
         bus: &mut B,
@@ -97,7 +97,7 @@ impl Exchange {
         Ok(false)
     }
 
-    /// Has a turn if the interrupt line is asserted.
+    /// Makes a turn if the interrupt line is asserted.
     fn answer_line<B: WatchedBus, S: Sink>(
         &mut self,
         bus: &mut B,
@@ -117,8 +117,8 @@ impl Exchange {
         self.turn(bus, sink)
     }
 
-    /// Passes the frames of a list to the driver, in order, until `send` returns `false`. After each frame, has a turn
-    /// if the interrupt line is asserted.
+    /// Passes the frames of a list to the driver, in order, until `send` returns `false`. After each frame, makes a
+    /// turn if the interrupt line is asserted.
     pub(crate) fn send_all<B: WatchedBus, S: Sink>(
         &mut self,
         bus: &mut B,

@@ -6,10 +6,10 @@ use std::io::{BufRead, Write};
 
 /// A bus that reports the adapter's interrupt line, and that may stop. The contract states nothing of these reports.
 pub trait WatchedBus: Bus {
-    /// Whether the interrupt line is asserted, as far as the bus knows.
+    /// Returns whether the interrupt line is asserted, as far as the bus knows.
     fn is_asserted(&self) -> bool;
 
-    /// Why the bus stopped, if it did.
+    /// Returns why the bus stopped; `None` if it didn't stop.
     fn fault(&self) -> Option<BusFault>;
 }
 

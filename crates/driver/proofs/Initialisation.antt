@@ -54,8 +54,8 @@ use Rattle.bring_up.specs.declared.config.Config.{Config}
 use Rattle.bring_up.proofs.DriverAccesses.{asked-still}
 use Rattle.bring_up.proofs.Steps.{IntervalsJoin}
 use Rattle.bring_up.proofs.NoFrames.{clears-write_none, new_transmit_ring_stays, quiet_stays, stores-write_none}
-use Rattle.joined_groups.specs.Groups.{AreNamedOnce}
-use Rattle.joined_groups.proofs.Numbers.{same-numbers}
+use Rattle.bring_up.specs.Groups.{AreNamedOnce}
+use Rattle.bring_up.proofs.Numbers.{same-numbers}
 use Rattle.driver.specs.Initialisation.{HasFoundRing, Initialises, first_accesses, transmit_accesses}
 use Rattle.driver.proofs.FirstSlots.{head-first, offering}
 

@@ -39,7 +39,7 @@ use Rattle.driver.specs.declared.interrupt.Handled.TheVariants as answers
 
 -- Taking frames
 
--- The first list contains some of the items of the second list, in the same order.
+-- The first list is the second list without some of its items, or the whole second list. The order is the same.
 pub data IsSublist {X : Type 0} : List X → List X → Type 0 where
   part_none : IsSublist [] []
   part_with : {one : X} {some all : List X} → IsSublist some all → IsSublist (one ∷ some) (one ∷ all)
@@ -51,14 +51,14 @@ count_limit = 2 ^ 64
 
 -- A count grew by `more`, unless it saturated at the greatest u64.
 pub record GrowsBy (before after more : ℕ) : Type 0 where
-  -- the count didn't fall
+  -- the count didn't decrease
   pub least : before ≤ after
   -- the count grew by at most `more`
   pub most : after ≤ before + more
   -- the count grew by exactly `more`, unless it is at its greatest value
   pub exactly : after < count_limit - 1 → after ≡ before + more
 
--- A receiver was shown this frame. It kept the frame, or the frame's buffers are in the pool.
+-- A receiver was shown this frame. The receiver kept the frame, or the frame's buffers are in the pool.
 pub record Shows {R : Type 0} (took : R → R → List Received → List Received → Type 0) (before after : R) (received : Received)
     (pool pool' : List ℕ) : Type 0 where
   pub kept : List Received
@@ -97,14 +97,16 @@ whole_frames runs = map (λ (run : RunOfSlots). run.parts) (filter (λ (run : Ru
 abbrev pub bad_runs : List RunOfSlots → ℕ
 bad_runs runs = count_by (λ (run : RunOfSlots). not run.whole) runs
 
--- The received frames are the whole frames of these runs, in order. Each has the buffers and lengths of its run, and a legal size.
+-- The received frames are the whole frames of these runs, in order. Each has the buffers and lengths of its run, and a legal size, and its
+-- pieces fit into their buffers.
 pub record AreFramesOf (runs : List RunOfSlots) (received : List Received) : Type 0 where
   -- each frame has the buffers and lengths of its run
   pub parts : map (λ (one : Received). one.parts) received ≡ whole_frames runs
-  -- each frame has a legal size
+  -- each frame has a legal size, and its pieces fit into their buffers
   pub sizes : AreFrames received
 
--- The whole frames of these runs were shown to the receiver, in order. The receiver kept some of these frames.
+-- The whole frames of these runs were shown to the receiver, in order. The receiver kept none, some or all of these
+-- frames.
 pub record ShowsRuns {R : Type 0} (took : R → R → List Received → List Received → Type 0) (before after : R) (runs : List RunOfSlots)
     : Type 0 where
   -- the frames shown
@@ -124,19 +126,21 @@ pub record ShowsAll {R : Type 0} (took : R → R → List Received → List Rece
   pub receiver : ShowsRuns took before after runs
   pub buffers : HaveSameNumbers (run_buffers runs ++ pool) (pool' ++ buffers_of receiver.kept)
 
--- A run was passed on: its whole frame was shown to the receiver; or it was counted as bad, and its buffers went to the pool.
+-- A run was passed on. Either its whole frame was shown to the receiver, or the run was counted as bad and its buffers went to the pool.
 pub record PassesOn {R : Type 0} (took : R → R → List Received → List Received → Type 0) (before after : R) (run : RunOfSlots)
     (d d' : DriverState) : Type 0 where
   pub shows : ShowsAll took before after (run ∷ []) d.pool d'.pool
   pub bad : GrowsBy d.bad d'.bad (bad_runs (run ∷ []))
 
--- A run of the oldest slots left the ring. Its buffers were the first of the driver's outstanding buffers.
+-- A run of the oldest slots left the ring. The run's buffers were the first of the driver's outstanding buffers, and
+-- `parts` are these buffers with the run's lengths.
 pub record LeavesRing (run : Run) (parts : List Part) (d d' : DriverState) : Type 0 where
   pub first : d.buffers ≡ buffers_in parts ++ d'.buffers
   pub lengths : lengths_in parts ≡ take run.count run.lengths
   pub others : d' ≡ after_slots d run.count d'.buffers d.handed_out
 
--- The parts have the lengths of the run. A whole run has the size of a frame, and each of its parts fits into a buffer.
+-- The parts have the lengths of the run, and the length of the run is their sum. A whole run has the size of a frame,
+-- and each of its parts fits into a buffer.
 pub record HasParts (run : Run) (parts : List Part) : Type 0 where
   pub lengths : lengths_in parts ≡ take run.count run.lengths
   pub length_is : run.length ≡ sum (lengths_in parts)
@@ -180,7 +184,8 @@ abbrev pub HasEtherType : List HandedOut → Type 0
 HasEtherType [] = ⊥
 HasEtherType (first ∷ later) = header_bytes ≤ length first.bytes
 
--- `WhereReadyIn` if `whole`, and if others hold the frame in these parts, whose first piece contains the EtherType.
+-- `WhereReadyIn` if `whole`, and if others hold the frame in these parts, whose first piece contains the frame's
+-- header.
 abbrev pub WhereTaken : {B R : Type 0} → Ghosts B → List Part → (whole : Bool) → (old new : Scene B R)
     → (List HandedOut → Bool → Scene B R → Scene B R → Type 0) → Type 0
 WhereTaken bus parts whole old new Holds =
@@ -224,7 +229,7 @@ pub record ShowsFrames {R : Type 0} (receivers : OfReceiver R) (n : ℕ) (before
   pub count : length taken ≡ n
   -- each frame has at least one buffer, and no more buffers than the longest frame needs (`AreOfOneFrame`)
   pub groups : All AreOfOneFrame (map piece_numbers taken)
-  -- each frame has a legal size, and fills all its buffers except the last
+  -- each frame has a legal size, fills all its buffers except the last, and its last piece isn't empty
   pub each : All IsTaken taken
 
 -- n frames were taken off the ring, the oldest first, and shown to the receiver.
@@ -263,7 +268,8 @@ pub record TakesAll {B R : Type 0} (bus : Ghosts B) (receivers : OfReceiver R) (
       (held_at (old.driver.handed_out ++ pieces_of takes.frames.kept) (at middle new.driver))
       (held_at (old.driver.handed_out ++ pieces_of takes.frames.kept) (moment new))
 
--- If the bus obeys the law and others hold the frame in these parts, the value read is the frame's EtherType.
+-- The value read is the EtherType of the frame in these parts. The bus must obey the law, others must hold the frame,
+-- and its first piece must contain the header.
 abbrev pub ReadsEtherType : {B : Type 0} → Ghosts B → List Part → Moment B → (read : ℕ) → Type 0
 ReadsEtherType bus parts now read =
     (up : Bool) (held later : List HandedOut) (first : HandedOut) → IsReadyOver bus up (held_at (held ++ first ∷ later) now)
@@ -334,7 +340,8 @@ pub record ReadsMisses (d d' : DriverState) : Type 0 where
   pub misses : ℕ
   -- the sum grew by this value, up to the greatest u64
   pub missed : d'.missed ≡ (with_missed misses d).missed
-  -- the sum is exact if it was exact before and the value was added exactly
+  -- the sum is exact exactly if it was exact before, the value is below MPC's greatest value, and the sum didn't
+  -- saturate
   pub exact : d'.exact ≡ (with_missed misses d).exact
 
 -- The oldest slots, with the buffers `taken`, left the ring. After the remaining slots, staged and new slots are offered. No run was bad.
@@ -379,7 +386,7 @@ pub record Asked {B : Type 0} (bus : Ghosts B) (up : Bool) (old : Moment B) : Ty
   -- the read of ICR, with no other access
   pub reads : ReadsCauses bus up causes old after_read
 
--- The result is `NotMine`: the value of ICR had no cause that the driver handles. After the read of ICR, the driver did nothing.
+-- The result is `NotMine`: the value of ICR had no cause that the driver handles. After the read of ICR, the bus didn't change.
 pub record DoesNothing {B : Type 0} (bus : Ghosts B) {up : Bool} (old new : Moment B) (asked : Asked bus up old) : Type 0 where
   -- the value of ICR had no cause that the driver handles
   pub none : ¬ Meet asked.causes handled_causes
@@ -408,7 +415,7 @@ pub record HandlesCauses {B : Type 0} (bus : Ghosts B) (taken : List (List Hande
 -- The result is `Handled`, with a receiver. The n frames are shown to the receiver, and others hold the pieces of the frames that it keeps.
 pub record HandlesIt {B R : Type 0} (bus : Ghosts B) (receivers : OfReceiver R) (n : ℕ) {up : Bool} (old new : Scene B R)
     (asked : Asked bus up (moment old)) : Type 0 where
-  -- the receiver was shown the frames, and kept some
+  -- the receiver was shown the frames, and kept none, some or all of them
   pub frames : ShowsFrames receivers n old.receiver new.receiver
   -- the driver handled the causes; others hold the pieces of the frames that the receiver kept
   pub driver :
@@ -430,7 +437,8 @@ pub record Handles {B R : Type 0} (bus : Ghosts B) (receivers : OfReceiver R) (r
 
 -- Over any bus
 
--- Only the receive side of the driver changes: the layout, the outstanding transmit slots, the setup and the joined groups are the same.
+-- Only the driver's receive side and its counts may change: the layout, the outstanding transmit slots, the setup and the joined groups
+-- are the same.
 pub record OnlyReceives (d d' : DriverState) : Type 0 where
   -- rings and buffers have the same sizes
   pub layout : d'.layout ≡ d.layout
@@ -445,7 +453,7 @@ pub record OnlyReceives (d d' : DriverState) : Type 0 where
 
 -- These runs left the ring, the oldest first. After the remaining slots, the staged slots are offered, and slots with buffers `offered`.
 pub record LeaveRing (d d' : DriverState) (runs : List RunOfSlots) : Type 0 where
-  -- each run has one to six slots
+  -- each run has one to six slots; in a whole run, each slot before the last is full, and the last isn't empty
   pub are_runs : All IsRun runs
   -- the buffers of the slots that remain outstanding
   pub rest : List ℕ
@@ -469,9 +477,9 @@ pub record ServesRing (d d' : DriverState) (runs : List RunOfSlots) (n : ℕ) : 
   pub leave : LeaveRing d d' runs
   -- Each bad run is counted once.
   pub bad : GrowsBy d.bad d'.bad (bad_runs runs)
-  -- No buffer is free, or all slots but one are outstanding.
+  -- No buffer is free, or all receive slots but one are outstanding.
   pub refilled : IsRefilled d'
-  -- the driver's own state lists no pieces that others hold; `held_in` adds them
+  -- the driver's own state before the call lists no pieces that others hold; `held_in` adds them
   pub none_out : d.handed_out ≡ []
   -- no buffer has two owners
   pub one_owner : HasNoSecondOwner d'.layout.buffers (owners d')
@@ -491,7 +499,7 @@ pub record ServesRing (d d' : DriverState) (runs : List RunOfSlots) (n : ℕ) : 
 pub record ServesReceiver {R : Type 0} (receivers : OfReceiver R) (before after : R) (d d' : DriverState) (n : ℕ) : Type 0 where
   -- the runs that left the ring
   pub runs : List RunOfSlots
-  -- what became of the driver
+  -- how the driver changed
   pub ring : ServesRing d d' runs n
   -- the frames that the receiver was shown, and those that it kept
   pub receiver : ShowsRuns receivers.took before after runs

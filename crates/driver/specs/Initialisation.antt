@@ -33,7 +33,7 @@ use Rattle.bring_up.specs.declared.init_error.InitError.TheVariants.{Memory}
 use Rattle.bring_up.specs.declared.init_error.InitError.TheVariants as errors
 use Rattle.driver_law.specs.Calls.{HasNoForgottenWork, IsReadyOver, IsRefilled, Moment, Ran, only, stores_from}
 use Rattle.driver_law.specs.Beginnings.{new_driver}
-use Rattle.joined_groups.specs.Groups.{AreNamedOnce, HasTable}
+use Rattle.bring_up.specs.Groups.{AreNamedOnce, HasTable}
 use Rattle.driver_law.specs.DriverState.{DriverState, owners, receive_slot, with_owners}
 use Rattle.driver_law.specs.ReadyDrivers.{Ready}
 
@@ -54,7 +54,8 @@ pub record RefusesInit {B : Type 0} (bus : Ghosts B) (old new : B) (error : Init
 
 -- Parts of initialization
 
--- The words of both tables of the filter have the bits of these groups and VLANs.
+-- The words of both tables of the filter have the bits of these groups and VLANs, and no others. Each word has 32
+-- bits.
 pub record AreFilterTables (named : List (List ℕ)) (named_vlans groups vlans : List ℕ) : Type 0 where
   -- MTA has the bits of the groups, and no others
   pub has_groups : HasNumbers groups (numbers_of_groups named)
@@ -65,7 +66,8 @@ pub record AreFilterTables (named : List (List ℕ)) (named_vlans groups vlans :
   -- each word of VFTA has 32 bits
   pub vlans_are : AreWords vlans
 
--- A device with the address `found` was found, and its filter and its receive ring are set up, with no slot offered.
+-- A device with the address `found` was found: its EEPROM's checksum is right, and its link is up. Its filter and its
+-- receive ring are set up, with no slot offered.
 pub record HasFoundRing {B : Type 0} (bus : Ghosts B) (config : Config) (found : List ℕ) (old new : B) : Type 0 where
   pub sum : HasRightSum (bus.world old).adapter.image
   pub address : IsAddress (address_bytes (bus.world old).adapter.image)
@@ -88,8 +90,8 @@ pub record FindsRing {B : Type 0} (bus : Ghosts B) (config : Config) (result : R
   pub why : IfErr result (λ error. IsErrorOf error (bus.world old).adapter.image (length past.accesses))
   pub why_lively : bus.lively old → IfErr result (λ error. IsErrorOfLively error (bus.world old))
 
--- The accesses that store the descriptors of the receive slots, clear that of the last slot, and then offer all slots
--- except the last.
+-- First the descriptors of the first receive slots are stored with the buffers `numbers`. Then the descriptor of the
+-- last slot is cleared, and the last slot's index is written to RDT.
 abbrev pub first_accesses : Counts → List ℕ → List Access
 first_accesses counts numbers =
     stores_from counts 0 numbers ++ (clears (receive_slot (counts.rx - 1)) ∷ Writes RDT (counts.rx - 1) ∷ [])
@@ -143,7 +145,7 @@ pub record IsStarted (d : DriverState) (world : World) (later : Past) : Type 0 w
   pub frames : FramesSinceStart d world later
 
 -- The EEPROM has the right checksum and is unchanged. The settings are those of the configuration, with the address in
--- the EEPROM's first three words, and the link is up.
+-- the EEPROM's first three words. The link is up, and no MDIC command is pending.
 pub record IsSetUp (config : Config) (old new : World) : Type 0 where
   pub sum : HasRightSum old.adapter.image
   pub image : new.adapter.image ≡ old.adapter.image
@@ -160,7 +162,7 @@ pub record Initialises {B : Type 0} (bus : Ghosts B) (config : Config) (old new 
   pub reports_first : bus.happened old middle first
   pub reports_later : bus.happened middle new later
   pub accesses : InitAccesses config d first.accesses later.accesses
-  -- Neither ICR nor ICS was written
+  -- neither ICR nor ICS was written
   pub no_cause : RecordsNoCause (joined first later)
   pub started : IsStarted d (bus.world new) later
   pub adapter : IsSetUp config (bus.world old) (bus.world new)
@@ -175,7 +177,7 @@ pub record IsFresh (config : Config) (driver : DriverState) : Type 0 where
   pub layout : driver.layout ≡ configured_counts config
   pub new : driver ≡ with_owners (new_driver (configured_counts config) driver.setup driver.groups []) driver.buffers [] driver.pool []
   pub setup : driver.setup ≡ setup_of config driver.setup.address
-  -- the driver has joined the groups of the configuration
+  -- the driver has joined exactly the groups of the configuration, each once
   pub joined : AreNamedOnce config.groups.items driver.groups
   pub one_owner : HasOneOwner driver.layout.buffers (owners driver)
   pub none_out : driver.handed_out ≡ []

@@ -34,13 +34,14 @@ IsPartSize false n = n ≡ receive_buffer_bytes
 abbrev pub ends : RxDesc → Bool
 ends descriptor = is_set (status_bits descriptor.status) eop
 
--- A slot with this descriptor may contain a piece of a whole frame.
+-- A slot with this descriptor may contain a piece of a whole frame. The descriptor has no errors, and its length is
+-- the size of such a piece.
 pub record IsSoundPart (descriptor : RxDesc) : Type 0 where
   pub no_errors : descriptor.errors ≡ 0
   pub size : IsPartSize (ends descriptor) descriptor.length
 
--- The run has one to six slots, and at most `outstanding`. If the run is whole, it has the size of a frame, each slot
--- before the last is full, and the last isn't empty.
+-- The run has one to six slots, and at most `outstanding`. Its length is the sum of the slots' lengths. If the run is
+-- whole, it has the size of a frame, each slot before the last is full, and the last isn't empty.
 pub record IsLookedRun (outstanding : ℕ) (run : Run) : Type 0 where
   pub room : length run.lengths ≡ MOST_PARTS
   pub least : 1 ≤ run.count
@@ -71,7 +72,7 @@ pub record IsRunOf (run : Run) (seen : List (List ℕ)) (last : List ℕ) : Type
   pub length_is : run.length ≡ length (concat seen ++ last)
   pub whole : IsTrue run.whole
 
--- The oldest finished slots contain a whole frame, and `run` are its slots. Their descriptors were loaded.
+-- The oldest finished slots contain a whole frame, and `run` are its slots. The descriptors of these slots were loaded.
 pub record FindsFrame {B : Type 0} (bus : Ghosts B) (run : Run) (up : Bool) (old new : Moment B) : Type 0 where
   pub seen : List (List ℕ)
   pub last : List ℕ

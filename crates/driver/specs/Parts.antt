@@ -84,7 +84,8 @@ pub record IsWholeFrame (received : Received) : Type 0 where
   -- each piece fits into a buffer
   pub fits : FitIntoBuffers (lengths_in received.parts)
 
--- Each of these frames has a legal size, and pieces that fit into their buffers.
+-- Each of these frames has a legal size, which is the sum of its pieces' sizes, and pieces that fit into their
+-- buffers.
 abbrev pub AreFrames : List Received → Type 0
 AreFrames list = All IsWholeFrame list
 

@@ -7,15 +7,15 @@ use Rattle.driver_law.specs.DriverState.{DriverState, HandedOut, next_receive, p
 use Rattle.driver.specs.Parts.{buffers_in}
 use Rattle.driver.specs.declared.parts.Part.{Part}
 
--- The next slots are staged with these buffers of the pool. Over a bus that obeys the law, their descriptors are
--- stored, in order.
+-- The next slots are staged with these buffers of the pool. If the bus obeys the law and the driver is ready, the
+-- accesses are exactly the stores of their descriptors, in order.
 pub record Stages {B : Type 0} (bus : Ghosts B) (numbers : List ℕ) (old new : Moment B) : Type 0 where
   pub others :
       new.driver ≡ with_owners old.driver old.driver.buffers (old.driver.staged ++ numbers) new.driver.pool old.driver.handed_out
   pub pool : HaveSameNumbers old.driver.pool (numbers ++ new.driver.pool)
   pub ran : Runs bus (only (stores_from old.driver.layout (next_receive old.driver) numbers)) old new
 
--- Some slots are staged.
+-- The next slots, or no slots, are staged.
 pub record StagesSome {B : Type 0} (bus : Ghosts B) (old new : Moment B) : Type 0 where
   pub numbers : List ℕ
   pub stages : Stages bus numbers old new
@@ -29,7 +29,8 @@ pub record Refills {B : Type 0} (bus : Ghosts B) (up : Bool) (old new : Moment B
       Ran bus up (only (stores_from old.driver.layout (next_receive old.driver) numbers
       ++ tail_write (next_receive new.driver) (old.driver.staged ++ numbers))) old new
 
--- Over any bus: slots with the buffers `offered` of the pool are offered, after the outstanding and the staged slots.
+-- Over any bus: after the outstanding slots, the staged slots are offered, and then slots with the buffers `offered`
+-- of the pool.
 pub record OffersAfter (d d' : DriverState) : Type 0 where
   pub offered : List ℕ
   pub newest : d'.buffers ≡ d.buffers ++ (d.staged ++ offered)

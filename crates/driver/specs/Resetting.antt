@@ -35,7 +35,7 @@ use Rattle.driver_law.specs.Calls.{with_missed}
 use Rattle.driver_law.specs.DriverState.{DriverSetup, DriverState, HandedOut, receive_slot, with_owners}
 use Rattle.driver_law.specs.ReadyDrivers.{Ready}
 use Rattle.driver_law.specs.Resets.{reset_driver}
-use Rattle.joined_groups.specs.Groups.{HasTable}
+use Rattle.bring_up.specs.Groups.{HasTable}
 use Rattle.driver.specs.Initialisation.{AreFilterTables, transmit_accesses}
 
 -- The accesses
@@ -51,7 +51,7 @@ free_accesses counts numbers =
     stores_from counts 0 numbers
     ++ (clears_from (receive_slot (length numbers)) (counts.rx - length numbers) ++ Writes RDT (length numbers) ∷ [])
 
--- The register writes after the reset, up to those of the receive ring.
+-- The register writes after the accesses of the reset, up to and including those of the receive ring.
 abbrev pub quiet_writes : DriverSetup → Counts → (groups vlans : List ℕ) → List Access
 quiet_writes setup counts groups vlans =
     accesses_of (allocation_writes setup.rxa)
@@ -59,7 +59,7 @@ quiet_writes setup counts groups vlans =
     ++ (accesses_of (table_writes MTA groups ++ (table_writes VFTA vlans ++ address_writes setup.address))
     ++ accesses_of (ring_setup_writes RDBAL 0 (descriptor_bytes * counts.rx))))
 
--- The accesses after those of the reset, up to the write of RCTL.
+-- The accesses after those of the reset, up to and including the write of RCTL.
 abbrev pub quiet_accesses : DriverSetup → Counts → (groups vlans numbers : List ℕ) → List Access
 quiet_accesses setup counts groups vlans numbers =
     quiet_writes setup counts groups vlans
@@ -91,15 +91,15 @@ pub record StopsReceiver {B : Type 0} (bus : Ghosts B) (up : Bool) (old stopped 
   pub ran : Ran bus up (only (stop_accesses misses)) old stopped
 
 -- The driver that begins again after a reset with this pool: slots with the buffers `numbers` are outstanding, and the
--- other buffers of the pool are free.
+-- other buffers of the pool are free. The ring is refilled (`IsRefilled`), no slot is staged, and others hold the
+-- pieces `handed_out`.
 pub record BeginsAgain (stopped : DriverState) (handed_out : List HandedOut) (pool numbers : List ℕ) (new : DriverState) : Type 0 where
   pub driver : new ≡ with_owners (reset_driver pool stopped) numbers [] new.pool handed_out
   pub same : HaveSameNumbers pool (numbers ++ new.pool)
   pub refilled : IsRefilled new
 
--- After a reset the driver is ready, and no work is forgotten. The frames held are exactly those that were stored since
--- the write of RCTL (`later`). Since that write no frame was put on the wire, and no
--- frame is to be sent.
+-- After a reset the driver is ready, and no work is forgotten. The frames held are exactly those that were stored since the write of RCTL
+-- (`later`). Since this write, no frame was put on the wire, and no frame is to be sent.
 pub record IsRestarted (d : DriverState) (world : World) (later : Past) : Type 0 where
   pub ready : Ready d world
   pub work : HasNoForgottenWork d world
@@ -112,7 +112,7 @@ pub record IsRestarted (d : DriverState) (world : World) (later : Past) : Type 0
 pub record Resets {B : Type 0} (bus : Ghosts B) (up : Bool) (old new : Moment B) : Type 0 where
   pub stopped : Moment B
   pub stops : StopsReceiver bus up old stopped
-  -- The bus after the reset. The frames that are held or to be sent in `resets.last` are lost.
+  -- the bus after the accesses of the reset: the writes of CTRL.RST and IMC, and the read of ICR
   pub middle : B
   pub pool : List ℕ
   pub resets : ResetsDriver bus up pool stopped.driver stopped.bus middle
@@ -134,5 +134,5 @@ pub record Resets {B : Type 0} (bus : Ghosts B) (up : Bool) (old new : Moment B)
   -- The reset loses no count of missed frames.
   pub sums : SumsMisses (driver_in old.driver (bus.world old.bus)) (driver_in new.driver (bus.world new.bus))
       (joined stops.ran.past (joined resets.first.past (joined resets.later.past (joined quiet.past later.past))))
-  -- A link that is up remains up.
+  -- If the link is up and no MDIC command is pending, both remain true.
   pub link : HasLink (bus.world old.bus) → HasLink (bus.world new.bus)

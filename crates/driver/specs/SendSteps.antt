@@ -42,8 +42,8 @@ slots_looked_at outstanding left = outstanding - left + min left 1
 abbrev pub loads_to_free : DriverState → (left : ℕ) → List Access
 loads_to_free d left = oldest_loads d (slots_looked_at d.sending left)
 
--- The oldest slots are freed, by one load each, up to the first slot that isn't written back. If slots are left, the
--- descriptor of the oldest remaining slot is loaded, too. After these loads, no outstanding slot is written back.
+-- The oldest slots are freed. The accesses are one load of the descriptor of each freed slot, and one of the oldest
+-- remaining slot if any slot is left. After these loads, no outstanding slot is written back.
 pub record Reclaims {B : Type 0} (bus : Ghosts B) (old new : Moment B) : Type 0 where
   pub ran : Ran bus true (only (loads_to_free old.driver new.driver.sending)) old new
   pub none : written_back new.driver.oldest_transmit (bus.world new.bus) ≡ []
@@ -66,11 +66,11 @@ accesses_by (Err TooShort) d d' frame = []
 accesses_by (Err TooLong) d d' frame = []
 accesses_by (Err RingFull) d d' frame = loads_to_free d d'.sending
 
--- All slots except one are outstanding, and no slot is written back. So no slot can be freed.
+-- All transmit slots except one are outstanding, and no slot is written back. So no slot can be freed.
 abbrev pub IsFull : {B : Type 0} → Ghosts B → Moment B → Type 0
 IsFull bus now = (now.driver.sending + 1 ≡ now.driver.layout.tx) × (written_back now.driver.oldest_transmit (bus.world now.bus) ≡ [])
 
--- The frame was accepted.
+-- The frame was accepted: slots were freed, and the frame's slot is outstanding.
 pub record AcceptsForSending {B : Type 0} (bus : Ghosts B) (old new : Moment B) : Type 0 where
   -- At least the slots that were written back before the call were freed. The + 1 is the frame's own slot.
   pub freed : length (written_back old.driver.oldest_transmit (bus.world old.bus)) + new.driver.sending ≤ old.driver.sending + 1
@@ -83,7 +83,7 @@ pub record StaysFull {B : Type 0} (bus : Ghosts B) (old new : Moment B) : Type 0
   pub at_return : IsFull bus new
   pub same : new.driver ≡ old.driver
 
--- What the result of `transmit` means for the ring.
+-- What the result of `transmit` means for the ring; nothing is stated for TooShort and TooLong.
 abbrev pub IsTransmitAnswer : {B : Type 0} → Ghosts B → SendAnswer → (old new : Moment B) → Type 0
 IsTransmitAnswer bus (Ok u) old new = AcceptsForSending bus old new
 IsTransmitAnswer bus (Err TooShort) old new = ⊤
@@ -116,8 +116,8 @@ pub record FreesThenSends {B : Type 0} (bus : Ghosts B) (frame : List ℕ) (old 
   pub more : new.driver ≡ with_transmit_slots freed.driver freed.driver.oldest_transmit (freed.driver.sending + 1)
   pub sends : Ran bus true (sent_now freed.driver frame) freed new
 
--- Slots are freed first, up to the first that isn't written back. Then the frame is sent if it is accepted. For
--- RingFull, no slot could be freed (`same` of `StaysFull`).
+-- Slots are freed first, until no outstanding slot is written back. Then the frame is sent if it is accepted. Nothing
+-- is stated for TooShort and TooLong.
 abbrev pub FreesFirst : {B : Type 0} → Ghosts B → List ℕ → SendAnswer → (old new : Moment B) → Type 0
 FreesFirst bus frame (Ok u) old new = FreesThenSends bus frame old new
 FreesFirst bus frame (Err TooShort) old new = ⊤

@@ -8,16 +8,16 @@ ghost use Rattle.rx_engine.specs.GroupLists.{Removes};
 ghost use Rattle.bring_up.specs.declared.config.TheConstants.{MOST_GROUPS};
 ghost use Rattle.bus.specs.Keeping.{Keeps};
 ghost use Rattle.driver_law.specs.Calls.{WhereReady, at};
-ghost use Rattle.joined_groups.specs.Groups.{ChangesJoined, HasNumber, with_groups};
-ghost use Rattle.joined_groups.specs.declared.groups.GroupError.TheVariants.{GroupsFull, Joined, NotGroup, NotJoined};
+ghost use Rattle.bring_up.specs.Groups.{ChangesJoined, HasNumber, with_groups};
+ghost use Rattle.bring_up.specs.declared.groups.GroupError.TheVariants.{GroupsFull, Joined, NotGroup, NotJoined};
 
 use crate::Driver;
+use bring_up::GroupError;
 use bus::Bus;
-use joined_groups::GroupError;
 
 impl Driver {
     /// Joins a group, so that frames to the group pass the receive filter. If no joined group has the same group
-    /// number, one word of the group table is written; otherwise there is no access.
+    /// number, the call writes one word of the group table; otherwise it makes no access.
     ///
     /// # Errors
     ///
@@ -45,8 +45,8 @@ impl Driver {
         self.groups.join(bus, group)
     }
 
-    /// Leaves a group. If no other joined group has the same group number, one word of the group table is written;
-    /// otherwise there is no access.
+    /// Leaves a group. If no other joined group has the same group number, the call writes one word of the group
+    /// table; otherwise it makes no access.
     ///
     /// # Errors
     ///

@@ -20,14 +20,13 @@ use crate::Driver;
 use crate::refill::receive_slot;
 use crate::setup::Setup;
 use bring_up::{
-    Config, InitError, RingPlace, clear_descriptor, clear_descriptors, enable_interrupts,
+    Config, Groups, InitError, RingPlace, clear_descriptor, clear_descriptors, enable_interrupts,
     enable_receiver, enable_transmitter, find_device, named_vlans, set_filter, set_receive_ring,
     set_transmit_ring,
 };
 use bus::Bus;
 use circular_buffer::HeapCircularBuffer;
 use dma_memory::{DESCRIPTOR_BYTES, Layout, Pool};
-use joined_groups::Groups;
 use std::alloc::{AllocError, Global};
 
 /// Finds the device, and sets up its receive filter and its receive ring, with no slot offered. Returns the device's
@@ -55,7 +54,7 @@ fn find_ring<B: Bus>(bus: &mut B, config: &Config, layout: Layout) -> Result<[u8
     Ok(address)
 }
 
-/// The place of a ring of `slots` slots that begins at `base`.
+/// Returns the place of a ring of `slots` slots that begins at `base`.
 pub(crate) fn place_of(base: u64, slots: u16) -> RingPlace
     ensures { result ≡ record { base = base; bytes = descriptor_bytes * slots } }
 {
@@ -81,7 +80,8 @@ pub(crate) fn set_up_transmitter<B: Bus>(bus: &mut B, layout: Layout)
 }
 
 impl Driver {
-    /// A driver that has offered no slot, has joined these groups, and has all buffers in its pool.
+    /// Returns a driver with this setup that has offered no slot, has joined these groups, and has all buffers in its
+    /// pool.
     fn new(
         alloc: Global,
         layout: Layout,
@@ -136,7 +136,7 @@ impl Driver {
     /// of the configuration, each once.
     ///
     /// This call allocates all memory that the driver needs. If an allocation fails, or the configuration isn't valid
-    /// in the memory of the bus, there is no access. After each error the call may be made again.
+    /// in the memory of the bus, there is no access. After an error, the call may be made again.
     ///
     /// # Errors
     ///

@@ -31,15 +31,15 @@ pub enum Handled {
     },
 }
 
-/// Whether one of these causes is TXDW, RXDMT0, RXO or RXT0.
+/// Returns whether one of these causes is TXDW, RXDMT0, RXO or RXT0.
 fn is_mine(causes: u32) -> bool
     ensures { IsTrue result ↔ Meet causes handled_causes }
 {
     Cause(causes).intersects(interrupt_causes())
 }
 
-/// Whether adding a value read from MPC keeps the sum exact: the value is below MPC's greatest value, and the sum
-/// doesn't saturate.
+/// Returns whether adding a value read from MPC keeps the sum exact: the value is below MPC's greatest value, and the
+/// sum doesn't saturate.
 fn adds_exactly(missed: u64, value: u32) -> bool
     ensures { result ≡ calls.adds_exactly missed value }
 {
@@ -47,7 +47,8 @@ fn adds_exactly(missed: u64, value: u32) -> bool
 }
 
 impl Driver {
-    /// Reads MPC, adds its value to the sum of missed frames, and returns this value.
+    /// Reads MPC, adds its value to the sum of missed frames, up to the greatest `u64`, and returns this value. The
+    /// sum remains exact only if the value is added exactly (`adds_exactly`).
     pub(crate) fn count_missed<B: Bus>(&mut self, bus: &mut B) -> u32
         ensures keeps { Keeps B.Bus bus.old bus.new }
         ensures others { self.new ≡ with_missed result self.old }
@@ -64,17 +65,17 @@ impl Driver {
 
     /// Handles an interrupt, and returns the number of frames taken, or `NotMine`.
     ///
-    /// If the bus obeys the law and the driver is ready, the call reads ICR first. If ICR has none of TXDW, RXDMT0, RXO
-    /// and RXT0, the call makes no other access, and the result is `NotMine`. Otherwise the call reads MPC, takes
+    /// If the bus obeys the law and the driver is ready, the call reads ICR first. If ICR has none of TXDW, RXDMT0,
+    /// RXO and RXT0, the call makes no other access, and the result is `NotMine`. Otherwise the call reads MPC, takes
     /// frames off finished receive slots, and refills the ring. The frames that it takes include all frames that ended
-    /// in finished slots at the beginning. Before it refills the ring, it looks at slots until no frame ends in
+    /// in finished slots at the beginning. Before the call refills the ring, it looks at slots until no frame ends in
     /// finished slots. ICR is read before the slots are looked at, so a frame that ends later records RXT0 again. If
     /// RXT0 is in IMS at the beginning and the result is `Handled`, no work is forgotten at the end. If the result is
     /// `NotMine`, no work is forgotten at the end if none was forgotten at the beginning.
     ///
-    /// If the bus doesn't obey the law or the driver isn't ready, the contract states no accesses. It states only that
-    /// the bus keeps its size and the values lent to it, and what becomes of the driver, its buffers and the receiver.
-    /// `bus` must have at least `layout().size()` bytes.
+    /// If the bus doesn't obey the law or the driver isn't ready, the contract states no accesses. The contract then
+    /// states only that the bus keeps its size and the values lent to it, and how the driver, its buffers and the
+    /// receiver change. `bus` must have at least `layout().size()` bytes.
     pub fn interrupt<B: Bus, R: Receiver>(&mut self, bus: &mut B, receiver: &mut R) -> Handled
         requires memory { size_of self.old.layout ≤ B.extent bus.old }
         ensures keeps { Keeps B.Bus bus.old bus.new }

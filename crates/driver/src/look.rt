@@ -18,36 +18,36 @@ use bus::Bus;
 use descriptors::{LONGEST_LEGAL, RX_DESC_BYTES, RxDesc, RxStatus, SHORTEST_LEGAL};
 use dma_memory::RECEIVE_BUFFER_BYTES;
 
-/// A run: the oldest finished slots up to the first with EOP, or six slots without EOP.
+/// A run: the oldest finished slots up to and including the first with EOP, or six slots without EOP.
 #[derive(Clone, Copy)]
 pub(crate) struct Run {
-    /// The lengths in the slots' descriptors.
+    /// The first `count` items are the lengths in the slots' descriptors; the other items are 0.
     pub lengths: [u16; MOST_PARTS],
     /// The number of slots.
     pub count: usize,
     /// The sum of the slots' lengths.
     pub length: u32,
-    /// Whether the slots contain a whole frame: the last descriptor has EOP, no descriptor has errors, and each buffer
-    /// except the last is full. The sum of the lengths is 60 to 1,518 bytes.
+    /// Whether the slots contain a whole frame: the last descriptor has EOP, and no descriptor has errors. Each buffer
+    /// except the last is full, and the last isn't empty. The sum of the lengths is 60 to 1,518 bytes.
     pub whole: bool,
 }
 
-/// Whether a descriptor has DD: the slot is finished.
+/// Returns whether a descriptor has DD: the slot is finished.
 fn is_done(descriptor: &RxDesc) -> bool
     ensures { result ≡ is_set (status_bits descriptor.now.status) dd }
 {
     descriptor.status.contains(RxStatus::DD)
 }
 
-/// Whether a descriptor has EOP: a frame ends in the slot.
+/// Returns whether a descriptor has EOP: a frame ends in the slot.
 fn is_ended(descriptor: &RxDesc) -> bool
     ensures { result ≡ is_set (status_bits descriptor.now.status) eop }
 {
     descriptor.status.contains(RxStatus::EOP)
 }
 
-/// Whether a slot with this descriptor may contain a piece of a whole frame. The descriptor must have no errors. Its
-/// length must be 256 bytes, or 1 to 256 bytes with EOP.
+/// Returns whether a slot with this descriptor may contain a piece of a whole frame. The descriptor must have no
+/// errors. Its length must be 256 bytes, or 1 to 256 bytes with EOP.
 fn is_sound(descriptor: &RxDesc) -> bool
     ensures { IsTrue result ↔ IsSoundPart descriptor.now }
 {
@@ -62,7 +62,7 @@ fn is_sound(descriptor: &RxDesc) -> bool
 }
 
 impl Run {
-    /// A run without slots.
+    /// Returns a run without slots.
     fn new() -> Run
         ensures { result ≡ new_run }
     {
@@ -89,7 +89,7 @@ impl Run {
         self.count += 1;
     }
 
-    /// Whether the run contains a whole frame, if EOP is in its last descriptor.
+    /// Returns whether the run contains a whole frame, if its last descriptor has EOP.
     fn is_frame(&self) -> bool
         ensures { IsTrue result ↔ (IsTrue self.now.whole × IsFrameSize self.now.length) }
     {
@@ -113,9 +113,10 @@ impl Driver {
         RxDesc::from_bytes(&bytes)
     }
 
-    /// Looks at the oldest outstanding slots, each by one load of its descriptor, up to the first slot with EOP.
-    /// Returns these slots, or six slots without EOP. Returns `None` if the call first reaches a slot that isn't
-    /// finished or isn't outstanding. DD, EOP and the length of a slot come from the same load. No slot is taken.
+    /// Looks at the oldest outstanding slots, each by one load of its descriptor, up to and including the first slot
+    /// with EOP. Returns these slots, or six slots without EOP. Returns `None` if the call first reaches a slot that
+    /// isn't finished or isn't outstanding. DD, EOP and the length of a slot come from the same load. No slot is
+    /// taken.
     pub(crate) fn look<B: Bus>(&self, bus: &mut B) -> Option<Run>
         requires memory { size_of self.now.layout ≤ B.extent bus.old }
         ensures keeps { Keeps B.Bus bus.old bus.new }

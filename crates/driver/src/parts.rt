@@ -37,7 +37,7 @@ impl Model for Parts {
 }
 
 impl Parts {
-    /// An empty list of pieces.
+    /// Returns an empty list of pieces.
     pub fn new() -> Parts
         ensures { result ≡ [] }
     {
@@ -47,7 +47,7 @@ impl Parts {
         }
     }
 
-    /// The number of pieces.
+    /// Returns the number of pieces.
     pub fn len(&self) -> usize
         ensures count { result ≡ length self.now }
         ensures most { result ≤ MOST_PARTS }
@@ -55,7 +55,7 @@ impl Parts {
         self.count
     }
 
-    /// The piece at an index, if there is one.
+    /// Returns the piece at an index, if there is one.
     pub fn get(&self, index: usize) -> Option<&Part>
         ensures none { IfNone result (length self.now ≤ index) }
         ensures some { IfSome result (λ part. index < length self.now) }
@@ -78,7 +78,7 @@ impl Parts {
         self.count += 1;
     }
 
-    /// Removes the last piece, and returns it.
+    /// Removes and returns the last piece. Returns `None` if there is no piece.
     pub fn pop(&mut self) -> Option<Part>
         ensures none { IfNone result (self.old ≡ []) }
         ensures last { IfSome result (λ part. self.old ≡ self.new ++ part ∷ []) }

@@ -12,7 +12,7 @@ use bus::Bus;
 
 impl Driver {
     /// Copies a received frame to the front of `into`, by one load from each of its buffers, and returns its size in
-    /// bytes.
+    /// bytes. The bytes of `into` after this size don't change.
     pub fn read<B: Bus>(&self, bus: &mut B, received: &Received, into: &mut [u8; 1518]) -> usize
         requires memory { size_of self.now.layout ≤ B.extent bus.old }
         requires known { All (λ number. number < self.now.layout.buffers) (buffers_in received.now.parts) }

@@ -20,7 +20,7 @@ use dma_memory::BufId;
 /// The offset of the EtherType in a frame, in bytes.
 const ETHER_TYPE: u64 = 12;
 
-/// Removes the oldest buffers from a queue, one for each length.
+/// Removes the oldest buffers from a queue, one for each length, and returns them with these lengths.
 fn take_parts(queue: &mut HeapCircularBuffer<BufId>, lengths: &[u16]) -> Parts
     requires few { length lengths.now ≤ MOST_PARTS }
     requires enough { length lengths.now ≤ length queue.old.items }
@@ -54,8 +54,8 @@ impl Driver {
         parts
     }
 
-    /// Bytes 12 and 13 of the frame in these buffers, by one load from the first buffer. Returns 0 if there is no
-    /// buffer.
+    /// Returns bytes 12 and 13 of the frame in these buffers, by one load from the first buffer. Returns 0 if there is
+    /// no buffer.
     fn ether_type<B: Bus>(&self, bus: &mut B, parts: &Parts) -> u16
         requires memory { size_of self.now.layout ≤ B.extent bus.old }
         requires known { All (λ number. number < self.now.layout.buffers) (buffers_in parts.now) }
@@ -85,8 +85,8 @@ impl Driver {
         self.put_back(back);
     }
 
-    /// Passes on a run that was taken, and returns whether it contains a whole frame. If it does, the frame is shown to
-    /// the receiver; otherwise the run's buffers return to the pool, and the run is counted as bad.
+    /// Passes on a run that was taken, and returns whether it contains a whole frame. A whole frame is shown to the
+    /// receiver. The buffers of any other run return to the pool, and the run is counted as bad.
     fn pass_on<B: Bus, R: Receiver>(
         &mut self,
         bus: &mut B,

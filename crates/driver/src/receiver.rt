@@ -17,13 +17,15 @@ pub struct Received {
     pub ether_type: u16,
 }
 
-/// A receiver takes received frames. It keeps a frame with its buffers, or returns the buffers at once.
+/// A receiver takes received frames. The receiver keeps a frame with the frame's buffers, or returns these buffers at
+/// once.
 pub trait Receiver {
     /// Between these two states, the receiver was shown the frames of the first list, and kept those of the second
     /// list, both in order.
     ghost took: { Self → Self → List Received → List Received → Type 0 };
 
-    /// Takes a frame. Returns all buffers of the frame, or no buffer; then the receiver owns all buffers of the frame.
+    /// Takes a frame. Returns all buffers of the frame, or no buffer. If no buffer is returned, the receiver owns all
+    /// buffers of the frame.
     fn take(&mut self, received: Received) -> Parts
         ensures { ReceiverAnswers took self.old self.new received result };
 

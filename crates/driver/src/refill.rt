@@ -19,14 +19,14 @@ use bus::Bus;
 use descriptors::{RxDesc, RxStatus};
 use dma_memory::{DESCRIPTOR_BYTES, Pool};
 
-/// The address of a receive slot's descriptor. The ring begins at address 0.
+/// Returns the address of a receive slot's descriptor. The ring begins at address 0.
 pub(crate) fn receive_slot(slot: u16) -> u64
     ensures { result ≡ descriptor_bytes * slot }
 {
     DESCRIPTOR_BYTES * u64::from(slot)
 }
 
-/// The receive descriptor with the address of a buffer. All its other fields are 0.
+/// Returns a receive descriptor with the address of a buffer. The other fields are 0.
 fn descriptor_of(buffer: u64) -> RxDesc
     ensures { rx_desc_bytes result ≡ empty_descriptor buffer }
 {

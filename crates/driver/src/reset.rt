@@ -36,7 +36,8 @@ fn give_buffers(pool: &mut Pool, buffers: &mut HeapCircularBuffer<BufId>)
 }
 
 impl Driver {
-    /// The place of the oldest outstanding receive slot.
+    /// Returns the place of the oldest outstanding receive slot, or of the next slot to be offered if no slot is
+    /// outstanding.
     pub fn oldest(&self) -> u16
         ensures { result ≡ self.now.oldest_receive }
     {
@@ -68,7 +69,7 @@ impl Driver {
         self.staged = 0;
     }
 
-    /// The number of staged slots.
+    /// Returns the number of staged slots.
     fn staged_count(&self) -> u16
         ensures count { result ≡ length self.now.staged }
         ensures room { length self.now.buffers + length self.now.staged < self.now.layout.rx }
@@ -92,9 +93,10 @@ impl Driver {
         self.offer_all(bus);
     }
 
-    /// Resets the adapter and sets it up again as [`init`](Driver::init) did, with the groups joined now. A link that
-    /// is up remains up. Frames that are still to be sent, and frames that the driver hasn't taken, are lost. Frames
-    /// that a receiver kept are still in their buffers. The call allocates no memory, and can't fail.
+    /// Resets the adapter and sets it up again as [`init`](Driver::init) did, with the groups joined now. Unlike
+    /// `init`, the call doesn't read the EEPROM, and doesn't wait for the link. A link that is up remains up. Frames
+    /// that are still to be sent, and frames that the driver hasn't taken, are lost. Frames that a receiver kept are
+    /// still in their buffers. The call allocates no memory, and can't fail.
     pub fn reset<B: Bus>(&mut self, bus: &mut B)
         requires memory { size_of self.old.layout ≤ B.extent bus.old }
         ensures keeps { Keeps B.Bus bus.old bus.new }

@@ -18,7 +18,7 @@ pub(crate) struct Setup {
 }
 
 impl Setup {
-    /// The setup of a configuration, with an address of zeros until the adapter's address is known.
+    /// Returns the setup of a configuration, with an address of zeros until the adapter's address is known.
     pub(crate) fn of(config: &Config) -> Setup
         requires { HasRightNumbers config.now }
         ensures is { setup_in result ≡ setup_of config.now (replicate 6 0) }
@@ -33,7 +33,7 @@ impl Setup {
     }
 }
 
-/// A copy of a list of VLANs, if there is one.
+/// Returns a copy of a list of VLANs, if there is one.
 fn copied(vlans: &Option<ArrayVec<u16, MOST_VLANS>>) -> Option<ArrayVec<u16, MOST_VLANS>>
     ensures { result ≡ vlans.now }
 {
@@ -43,7 +43,7 @@ fn copied(vlans: &Option<ArrayVec<u16, MOST_VLANS>>) -> Option<ArrayVec<u16, MOS
     }
 }
 
-/// A copy of a list of VLANs.
+/// Returns a copy of a list of VLANs.
 fn copy_of(list: &ArrayVec<u16, MOST_VLANS>) -> ArrayVec<u16, MOST_VLANS>
     ensures { result ≡ list.now }
 {

@@ -38,7 +38,7 @@ pub enum SendError {
     RingFull,
 }
 
-/// The address of a transmit slot's descriptor.
+/// Returns the address of a transmit slot's descriptor.
 fn descriptor_address(layout: Layout, slot: u16) -> u64
     requires { slot < layout.tx }
     ensures start { result ≡ transmit_slot layout slot }
@@ -47,14 +47,15 @@ fn descriptor_address(layout: Layout, slot: u16) -> u64
     layout.transmit_ring() + DESCRIPTOR_BYTES * u64::from(slot)
 }
 
-/// Whether a transmit descriptor has DD: it is written back.
+/// Returns whether a transmit descriptor has DD, so that it is written back.
 fn shows_done(bytes: &[u8; TX_DESC_BYTES]) -> bool
     ensures { result ≡ is_set (slice_index bytes.now sent_status_offset) tx_dd }
 {
     TxDesc::from_bytes(bytes).status.contains(TxStatus::DD)
 }
 
-/// The descriptor of a frame in one buffer, with EOP, IFCS (insert the frame check sequence) and RS (report status).
+/// Returns the descriptor of a frame in one buffer, with EOP, IFCS (insert the frame check sequence) and RS (report
+/// status).
 fn whole_packet(buffer: u64, size: u16) -> [u8; TX_DESC_BYTES]
     ensures { result ≡ whole_descriptor buffer size }
 {
@@ -107,8 +108,8 @@ impl Driver {
         while self.free_oldest(bus) {}
     }
 
-    /// Sends a frame in the slot after the outstanding slots: stores its bytes into the slot's buffer, then its
-    /// descriptor, and then writes TDT.
+    /// Sends a frame in the slot after the outstanding slots: stores the frame's bytes into the slot's buffer, then
+    /// the slot's descriptor, and then writes TDT.
     fn send<B: Bus>(&mut self, bus: &mut B, frame: &[u8])
         requires memory { size_of self.old.layout ≤ B.extent bus.old }
         requires room { self.old.sending + 1 < self.old.layout.tx }
@@ -131,9 +132,9 @@ impl Driver {
 
     /// Sends a frame of 14 to 1,518 bytes.
     ///
-    /// First the call frees the oldest transmit slots whose descriptors have DD, by one load each. If outstanding slots
-    /// remain, the descriptor of the oldest remaining slot is loaded, too. `bus` must have at least `layout().size()`
-    /// bytes. Over a bus that doesn't obey the law, all clauses but `transmits` hold.
+    /// First the call frees the oldest transmit slots whose descriptors have DD, by one load each. If outstanding
+    /// slots remain, the descriptor of the oldest remaining slot is loaded, too. `bus` must have at least
+    /// `layout().size()` bytes. Over a bus that doesn't obey the law, all clauses except `transmits` hold.
     ///
     /// # Errors
     ///

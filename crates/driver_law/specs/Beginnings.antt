@@ -43,7 +43,8 @@ new_driver counts setup groups pool = record {
   setup = setup;
 }
 
--- The receive ring is set up, the transmit side is set up or off, and no slot of either ring is offered.
+-- The receive ring is set up, the transmit side is set up or off, and no slot of either ring is offered. Memory
+-- contains the whole layout, and no step of an engine is a fault.
 pub record IsAtBeginning (up : Bool) (counts : Counts) (setup : DriverSetup) (groups : List (List ℕ)) (pool : List ℕ) (world : World) :
     Type 0
   where
@@ -73,8 +74,8 @@ TransmitRingIsWritten =
     → GoesTo false (driver_in driver world) (driver_in (record driver { oldest_transmit = ring.tail }) (with_transmit_ring ring world))
     (driver_did [] []) nothing
 
--- TCTL is written with PSP, bit 3. Before the write, TDBAL, TDBAH and TDLEN have the ring's base and size, and TDT is
--- the driver's tail. After the write the transmit side is set up.
+-- TCTL is written with PSP, bit 3. Before the write, TDBAL, TDBAH and TDLEN contain the ring's base and size, and TDT contains the
+-- driver's tail. After the write the transmit side is set up.
 abbrev pub TransmitterIsEnabled : Type 0
 TransmitterIsEnabled =
     (driver : DriverState) (control : ℕ) (world : World) → ReadyWith false driver world → driver.oldest_transmit < driver.layout.tx
@@ -91,8 +92,8 @@ ReceiverIsEnabled =
     → buffer_size (with_receive_control control world) ≡ receive_buffer_bytes
     → GoesTo false (driver_in driver world) (driver_in driver (with_receive_control control world)) (driver_did [] []) nothing
 
--- In both worlds, the frames to be sent, the received frames that are held, the finished and the written-back slots are
--- the same.
+-- In both worlds, the frames to be sent and the received frames that are held are the same. So are the finished slots
+-- with their pieces, and the written-back slots.
 pub record FramesStay (driver : DriverState) (a b : World) : Type 0 where
   pub to_send : frames_to_send b ≡ frames_to_send a
   pub held : frames_held driver.oldest_receive b ≡ frames_held driver.oldest_receive a
@@ -100,7 +101,8 @@ pub record FramesStay (driver : DriverState) (a b : World) : Type 0 where
   pub pieces_same : finished_pieces driver.oldest_receive b ≡ finished_pieces driver.oldest_receive a
   pub written_same : written_back driver.oldest_transmit b ≡ written_back driver.oldest_transmit a
 
--- Causes were enabled in the mask, and nothing else that the driver knows has changed.
+-- The causes `causes` were enabled in the mask. The driver is ready, and frames, slots, MPC and the recorded causes
+-- are the same.
 pub record Enabled (up : Bool) (driver : DriverState) (causes : ℕ) (a b : World) : Type 0 where
   pub ready : ReadyWith up driver b
   pub frames : FramesStay driver a b
@@ -156,7 +158,7 @@ pub record HoldsNoFrame (driver : DriverState) (world : World) : Type 0 where
   pub disabled : ¬ (HasBit world.adapter.filter.rctl rctl_en)
   pub none : frames_held driver.oldest_receive world ≡ []
 
--- RCTL.EN remains 0 and no received frame is held, whatever happens between two accesses.
+-- If RCTL.EN is 0 and no received frame is held, both remain true, whatever happens between two accesses.
 abbrev pub NoFrameComes : Type 0
 NoFrameComes =
     (up : Bool) (driver : DriverState) (a b : World) (past : Past) → ReadyWith up driver a → Happens a b past

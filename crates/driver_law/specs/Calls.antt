@@ -51,12 +51,12 @@ pub record HasNoForgottenWork (d : DriverState) (world : World) : Type 0 where
   -- no frame ends in the finished slots, or RXT0 is recorded
   pub asked : (frames_ended (driver_in d world) ≡ []) ⊎ HasBit world.adapter.causes.recorded rxt0
 
--- The ring is refilled: no buffer is free, or all slots but one are outstanding.
+-- The receive ring is refilled: no buffer is free, or all its slots but one are outstanding.
 abbrev pub IsRefilled : DriverState → Type 0
 IsRefilled d = (d.pool ≡ []) ⊎ (length d.buffers + 1 ≡ d.layout.rx)
 
--- The receive ring was refilled: no slot is staged any more, and only the owners of buffers changed. This is stated for
--- any bus, also for one that doesn't obey the bus law.
+-- The receive ring was refilled: no slot is staged any more, and only the owners of buffers changed. This statement is for any bus, even
+-- one that doesn't obey the bus law.
 pub record OffersAll (d d' : DriverState) : Type 0 where
   -- only the owners of buffers change, and no slot is staged
   pub others : d' ≡ with_owners d d'.buffers [] d'.pool []
@@ -108,14 +108,14 @@ misses_known now = now.driver.missed + now.world.adapter.missed_packets
 pub record IsExactSum (old new : DriverInWorld) (past : Past) : Type 0 where
   -- the sum was exact at the beginning
   pub exact : IsTrue old.driver.exact
-  -- at the beginning MPC was below its greatest value, at which it sticks
+  -- at the beginning MPC was below its greatest value, at which it saturates
   pub below_greatest : old.world.adapter.missed_packets < greatest_count
   -- the sum plus MPC grew by exactly the number of frames missed
   pub sum : misses_known new ≡ misses_known old + past.missed
 
 -- How the driver's sum and MPC change in an interval, by the number of frames missed in it.
 pub record SumsMisses (old new : DriverInWorld) (past : Past) : Type 0 where
-  -- The driver's sum doesn't fall.
+  -- The driver's sum doesn't decrease.
   pub sum : old.driver.missed ≤ new.driver.missed
   -- The sum plus MPC grows by exactly the number of frames missed, if MPC wouldn't pass its greatest value and the
   -- total fits into a u64.
@@ -166,8 +166,8 @@ pub record FlowsTo (up : Bool) (old new : DriverInWorld) (did : DriverDid) (past
   -- The number of frames taken, plus the number that end in finished slots at the end, is at least the number that
   -- ended there at the beginning.
   pub least : length (frames_ended old) ≤ length did.taken + length (frames_ended new)
-  -- The number of outstanding transmit slots that aren't written back grows by one for each frame accepted, and falls
-  -- by one for each frame put on the wire.
+  -- The number of outstanding transmit slots that aren't written back increases by one for each frame accepted, and decreases by one for
+  -- each frame put on the wire.
   pub frees :
       length (written_back old.driver.oldest_transmit old.world) + length past.put + new.driver.sending
       ≡ old.driver.sending + length did.accepted + length (written_back new.driver.oldest_transmit new.world)
@@ -193,7 +193,7 @@ Goes = GoesTo true
 
 -- What the driver's writes determine in an interval.
 pub record FollowsWrites (old new : World) (past : Past) : Type 0 where
-  -- The settings change only by these writes.
+  -- The settings change only by the writes in `past`.
   pub set : AreSet old new past
   -- If RCTL.EN is 0 and RCTL isn't written, no frame is stored or missed.
   pub off : WhileOff old past
@@ -223,8 +223,8 @@ abbrev pub ether_type_load : Counts → (numbers : List ℕ) → List Access
 ether_type_load counts [] = []
 ether_type_load counts (number ∷ later) = Loads (buffer_at counts number + 12) 2 ∷ []
 
--- The accesses by which frames are taken off the slots from `slot` on. Each item of the list contains the buffers of
--- one frame: the descriptors of its slots are loaded, and then its bytes 12 and 13.
+-- The accesses by which frames are taken off the slots from `slot` on. Each item of the list contains the buffers of one frame: the
+-- descriptors of the frame's slots are loaded, and then bytes 12 and 13 of the frame.
 abbrev pub takes_from : Counts → (slot : ℕ) → List (List ℕ) → List Access
 takes_from counts slot [] = []
 takes_from counts slot (numbers ∷ later) =
@@ -266,8 +266,7 @@ whole_descriptor address size = tx_desc_bytes (record {
 abbrev pub transmit_loads : Counts → (oldest : ℕ) → ℕ → List Access
 transmit_loads counts oldest k = map (λ slot. Loads (transmit_slot counts slot) descriptor_bytes) (slots_from counts.tx oldest k)
 
--- The accesses that send a frame in the slot at the tail: its bytes are stored, then the descriptor, and then TDT is
--- written.
+-- The accesses that send a frame in the slot at the tail: the frame's bytes are stored, then the descriptor, and then TDT is written.
 abbrev pub send_accesses : DriverState → List ℕ → List Access
 send_accesses driver frame =
     Stores (tail_buffer driver) frame
@@ -308,7 +307,7 @@ pub record Ran {B : Type 0} (bus : Ghosts B) (up : Bool) (did : Did) (old new : 
   -- what the driver's writes determine
   pub follows : FollowsWrites (bus.world old.bus) (bus.world new.bus) past
 
--- ICR was read over a bus, as the only access, with this value.
+-- ICR was read over a bus, as the only access, with the value `causes`.
 pub record ReadsCauses {B : Type 0} (bus : Ghosts B) (up : Bool) (causes : ℕ) (old : Moment B) (after_read : B) : Type 0 where
   -- what happened in the interval of the read
   pub past : Past
@@ -325,7 +324,7 @@ pub record ReadsCauses {B : Type 0} (bus : Ghosts B) (up : Bool) (causes : ℕ) 
   -- If RXT0, bit 7, isn't in the value, and no work was forgotten before the read, no work is forgotten after it.
   pub work :
       ¬ HasBit causes rxt0 → HasNoForgottenWork old.driver (bus.world old.bus) → HasNoForgottenWork old.driver (bus.world after_read)
-  -- The read changes no setting.
+  -- There is no write, so no setting changes.
   pub follows : FollowsWrites (bus.world old.bus) (bus.world after_read) past
 
 -- The bus obeys the law, and the driver is ready. The transmit side is set up if `up` is true, and off otherwise.
@@ -335,9 +334,8 @@ pub record IsReadyOver {B : Type 0} (bus : Ghosts B) (up : Bool) (now : Moment B
   -- the driver is ready
   pub ready : ReadyWith up now.driver (bus.world now.bus)
 
--- If the bus obeys the law and the driver is ready before a call, `Holds` relates the moments before and after the
--- call. This is stated for each list of pieces of frames that others hold, and for a transmit side that is set up or
--- off.
+-- If the bus obeys the law and the driver is ready before a call, `Holds` relates the moments before and after the call. The relation is
+-- stated for each list of pieces of frames that others hold, and for a transmit side that is set up or off.
 abbrev pub WhereReady : {B : Type 0} → Ghosts B → (old new : Moment B) → (Bool → Moment B → Moment B → Type 0) → Type 0
 WhereReady bus old new Holds =
     (up : Bool) (held : List HandedOut) → IsReadyOver bus up (held_at held old) → Holds up (held_at held old) (held_at held new)

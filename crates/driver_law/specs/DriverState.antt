@@ -19,7 +19,7 @@ frame_of pieces = concat (map (λ (one : HandedOut). one.bytes) pieces)
 abbrev pub piece_numbers : List HandedOut → List ℕ
 piece_numbers handed_out = map (λ (one : HandedOut). one.number) handed_out
 
--- The setup with which the driver initializes its adapter again after a reset. Nothing changes it.
+-- The setup with which the driver initializes its adapter again after a reset.
 pub record DriverSetup : Type 0 where
   -- the size in kilobytes of the packet buffer for received frames (PBA.RXA)
   pub rxa : ℕ
@@ -36,7 +36,7 @@ pub record DriverSetup : Type 0 where
 pub record DriverState : Type 0 where
   -- the sizes of the rings, and the number of receive buffers
   pub layout : Counts
-  -- the place of the oldest outstanding receive slot
+  -- the place of the oldest outstanding receive slot, or of the next slot to be offered if no slot is outstanding
   pub oldest_receive : ℕ
   -- the numbers of the buffers of the outstanding receive slots, the oldest first
   pub buffers : List ℕ
@@ -46,22 +46,23 @@ pub record DriverState : Type 0 where
   pub pool : List ℕ
   -- the pieces of frames that others hold and may read
   pub handed_out : List HandedOut
-  -- the place of the oldest outstanding transmit slot
+  -- the place of the oldest outstanding transmit slot, or of the next slot to be offered if no slot is outstanding
   pub oldest_transmit : ℕ
   -- the number of outstanding transmit slots
   pub sending : ℕ
   -- the sum of all values read from MPC; it saturates at the greatest u64
   pub missed : ℕ
-  -- whether the sum is exact: no value read from MPC was its greatest value, and the sum never saturated
+  -- whether the sum is exact: no value read from MPC was MPC's greatest value, and the sum never saturated
   pub exact : Bool
-  -- the number of runs of finished slots that weren't delivered because they didn't contain a whole frame
+  -- the number of runs of finished slots that weren't delivered because they didn't contain a whole frame; the number
+  -- saturates at the greatest u64
   pub bad : ℕ
   -- the multicast groups that the driver has joined
   pub groups : List (List ℕ)
   -- the setup that a reset uses
   pub setup : DriverSetup
 
--- The driver with other owners of its buffers.
+-- The driver with these outstanding and staged slots, this pool, and these pieces that others hold.
 abbrev pub with_owners : DriverState → (buffers staged pool : List ℕ) → List HandedOut → DriverState
 with_owners driver buffers staged pool handed_out = record driver
     { buffers = buffers; staged = staged; pool = pool; handed_out = handed_out }
@@ -94,14 +95,14 @@ receive_slot slot = descriptor_bytes * slot
 abbrev pub transmit_slot : Counts → ℕ → ℕ
 transmit_slot counts slot = descriptor_bytes * counts.rx + descriptor_bytes * slot
 
--- the place after the last outstanding receive slot, to which RDT is set
+-- the place after the last outstanding receive slot, or `oldest_receive` if no slot is outstanding
 abbrev pub receive_tail : DriverState → ℕ
 receive_tail driver = place driver.layout.rx driver.oldest_receive (length driver.buffers)
 
--- the place after the outstanding and staged receive slots
+-- the place of the receive slot after the outstanding and staged slots
 abbrev pub next_receive : DriverState → ℕ
 next_receive driver = place driver.layout.rx driver.oldest_receive (length driver.buffers + length driver.staged)
 
--- the place after the last outstanding transmit slot, to which TDT is set
+-- the place after the last outstanding transmit slot, or `oldest_transmit` if no slot is outstanding
 abbrev pub transmit_tail : DriverState → ℕ
 transmit_tail driver = place driver.layout.tx driver.oldest_transmit driver.sending

@@ -37,7 +37,7 @@ ShowsSlot false k pieces descriptor = length pieces ≤ k
 -- The descriptor of the k-th slot after the oldest was loaded, and shows whether this slot is finished.
 pub record LooksAtSlot {B : Type 0} (bus : Ghosts B) (up : Bool) (k : ℕ) (descriptor : RxDesc) (old : Moment B) (new : B) : Type 0 where
   pub ran : Ran bus up (only (Loads (receive_slot (slot_after_oldest old.driver k)) descriptor_bytes ∷ [])) old (at new old.driver)
-  -- The pieces in slots that were finished in this interval. They follow the pieces that were in finished slots before.
+  -- The pieces in slots that were finished in this interval. These pieces follow the pieces that were in finished slots before.
   pub more : List Piece
   pub grows : finished_pieces old.driver.oldest_receive (bus.world new)
       ≡ finished_pieces old.driver.oldest_receive (bus.world old.bus) ++ more

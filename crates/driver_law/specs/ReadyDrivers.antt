@@ -35,7 +35,7 @@ pub record IsDriver (driver : DriverState) : Type 0 where
 
 -- The receive side
 
--- The bytes of a receive descriptor with the address of a buffer. All its other fields are 0.
+-- The bytes of a receive descriptor with the address of a buffer. The other fields are 0.
 abbrev pub empty_descriptor : ℕ → List ℕ
 empty_descriptor buffer = rx_desc_bytes
     (record { address = buffer; length = 0; checksum = 0; status = status_of 0; errors = 0; special = 0 })
@@ -54,8 +54,8 @@ pub record Stands (counts : Counts) (memory : List ℕ) (one : HandedOut) : Type
   -- The piece isn't longer than a receive buffer.
   pub short : length one.bytes ≤ receive_buffer_bytes
 
--- The transmit side is set up: the registers of its ring agree with the driver. The data of each outstanding slot is in
--- the slot's own buffer.
+-- The transmit side is set up: the registers of its ring agree with the driver. TCTL.PSP is set. The data of each
+-- outstanding slot is in the slot's own buffer.
 pub record TransmitIsUp (counts : Counts) (oldest sending : ℕ) (memory : List ℕ) (ring : Ring) (control : ℕ) : Type 0 where
   -- the oldest transmit slot is a slot of the ring
   pub oldest_slot : oldest < counts.tx
@@ -63,20 +63,21 @@ pub record TransmitIsUp (counts : Counts) (oldest sending : ℕ) (memory : List 
   pub room : sending < counts.tx
   -- TCTL.PSP is set
   pub pads : HasBit control tctl_psp
-  -- TDBAL, TDBAH and TDLEN have the ring's base and size, and TDT is the place after the last outstanding slot
+  -- TDBAL, TDBAH and TDLEN contain the ring's base and size. TDT contains the place after the last outstanding slot,
+  -- and TDH the place of a slot.
   pub knows : KnowsRing ring (descriptor_bytes * counts.rx) counts.tx (place counts.tx oldest sending)
   -- the data of each outstanding slot is inside its own buffer
   pub sources : All (λ slot. IsInside (data_of memory (transmit_slot counts slot)) (area_of counts (TransmitBuffer slot)))
       (slots_from counts.tx oldest sending)
 
--- The transmit side is off, as during initialization: its ring ends before the buffers, no slot is outstanding, and the
--- transmit packet buffer is empty.
+-- The transmit side is off, as during initialization: its ring ends before the buffers, no slot is outstanding, and
+-- the transmit packet buffer is empty. TDH and TDT contain the place of the driver's oldest slot.
 pub record TransmitIsOff (counts : Counts) (oldest sending : ℕ) (ring : Ring) (buffer : List Queued) : Type 0 where
   -- the ring ends before the buffers
   pub ends : ring.base + descriptor_bytes * count_of ring ≤ descriptor_bytes * counts.rx + descriptor_bytes * counts.tx
   -- TDH equals TDT
   pub idle : ring.head ≡ ring.tail
-  -- TDT is the driver's oldest slot
+  -- TDT contains the place of the driver's oldest slot
   pub last : ring.tail ≡ oldest
   -- no slot is outstanding
   pub nothing : sending ≡ 0
@@ -114,15 +115,16 @@ pub record MeetsLaw (oldest_receive oldest_transmit : ℕ) (world : World) : Typ
   pub sound : Sound oldest_receive oldest_transmit world
   -- no step of an engine is a fault
   pub runs : CanRun world
-  -- A receive buffer is large enough for each finished piece of a frame, and for the piece in progress.
+  -- A receive buffer is large enough for each finished piece of a frame, for the piece in progress, and for later
+  -- pieces.
   pub fit : FitBuffers receive_buffer_bytes oldest_receive world
   -- Received frames are split by the size of the receive buffers, which RCTL.BSIZE selects while RCTL.EN is set. Finished descriptors have
-  -- no errors.
+  -- no errors, and each frame that ends in slots is legal.
   pub whole : AreCut receive_buffer_bytes oldest_receive world
 
 -- The descriptors of receive slots in memory agree with the driver's state.
 pub record SlotsAreStored (driver : DriverState) (world : World) : Type 0 where
-  -- The descriptor of each outstanding slot has the address of the buffer that the driver has for this slot.
+  -- The descriptor of each outstanding slot contains the address of the buffer that the driver lists for this slot.
   pub names : map (named_address world.memory) (outstanding (receive_ring world) driver.oldest_receive) ≡ map
       (buffer_at driver.layout) driver.buffers
   -- Each staged slot has an empty descriptor with the address of its buffer.
@@ -132,11 +134,12 @@ pub record SlotsAreStored (driver : DriverState) (world : World) : Type 0 where
 pub record ReadyWith (up : Bool) (driver : DriverState) (world : World) : Type 0 where
   -- what always holds of the driver's own state
   pub driver_is : IsDriver driver
-  -- the conditions of the bus law
+  -- the conditions of the bus law hold, and no step of an engine is a fault
   pub law : MeetsLaw driver.oldest_receive driver.oldest_transmit world
   -- Memory contains the whole layout.
   pub lies : size_of driver.layout ≤ length world.memory
-  -- RDBAL, RDBAH and RDLEN have the ring's base and size, and RDT is the place after the last outstanding slot
+  -- RDBAL, RDBAH and RDLEN contain the ring's base and size. RDT contains the place after the last outstanding slot,
+  -- and RDH the place of a slot.
   pub receive : KnowsRing (receive_ring world) 0 driver.layout.rx (receive_tail driver)
   -- the transmit side is set up or off
   pub transmit : TransmitIs up driver.layout driver.oldest_transmit driver.sending (transmit_side world)

@@ -49,8 +49,8 @@ abbrev pub after_slots : DriverState → (count : ℕ) → (others : List ℕ) �
 after_slots d count others handed_out = record d
     { oldest_receive = place d.layout.rx d.oldest_receive count; buffers = others; handed_out = handed_out }
 
--- The oldest finished slots, `run`, contain one whole frame: the parts `seen`, and then its last piece. Their buffers
--- are `numbers`, the first of the driver's outstanding buffers.
+-- The oldest finished slots, `run`, contain one whole frame: the parts `seen`, and then its last piece. The buffers of these slots are
+-- `numbers`, the first of the driver's outstanding buffers.
 pub record ContainFrame (d : DriverState) (world : World) (numbers run : List ℕ) (seen : List (List ℕ)) (last : List ℕ) : Type 0 where
   pub others : List ℕ
   pub buffers : d.buffers ≡ numbers ++ others
@@ -82,8 +82,8 @@ RunIsOfFrame =
     → (contain : ContainFrame d world numbers run seen last)
     → AreOfFrame seen last × (map (λ (one : HandedOut). one.bytes) (pieces_in world run numbers) ≡ seen ++ last ∷ [])
 
--- The number of parts before the first last piece, times the size of a receive buffer, is at most the size of the
--- longest frame. So there are at most five parts of 256 bytes.
+-- The number of pieces before the first piece that ends a frame, times the size of a receive buffer, is at most the size of the longest
+-- frame. So there are at most five such pieces, of 256 bytes each.
 abbrev pub PartsAreFew : Type 0
 PartsAreFew =
     (up : Bool) (d : DriverState) (seen : List (List ℕ)) (later : List Piece) (world : World) → ReadyWith up d world

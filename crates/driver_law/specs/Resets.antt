@@ -28,7 +28,8 @@ ReceiverIsDisabled =
 
 -- The reset
 
--- The driver after a reset: no slot is outstanding or staged, and these buffers are free.
+-- The driver after a reset: no slot is outstanding or staged, the oldest slot of each ring is slot 0, and these
+-- buffers are free.
 abbrev pub reset_driver : (pool : List ℕ) → DriverState → DriverState
 reset_driver pool driver = record driver {
   oldest_receive = 0;
@@ -43,8 +44,8 @@ reset_driver pool driver = record driver {
 abbrev pub reset_world : World → World
 reset_world world = record world { adapter = after_reset world.adapter }
 
--- The adapter is at rest, each buffer has one owner, and the pieces of frames that others hold are still in their
--- buffers.
+-- The adapter is at rest, and memory contains the whole layout. Each buffer has one owner, and the pieces of frames
+-- that others hold are in their buffers.
 pub record RestsWith (driver : DriverState) (world : World) : Type 0 where
   pub rest : IsAtRest world
   -- Memory contains the whole layout.
@@ -71,7 +72,7 @@ ResetKeepsSum =
 abbrev pub RestKeepsMemory : Type 0
 RestKeepsMemory = (a b : World) (past : Past) → Happens a b past → IsAtRest a → b.memory ≡ a.memory
 
--- After a reset the adapter remains at rest, and no frame is stored or put on the wire, whatever happens between two accesses.
+-- `RestsWith` remains true, and no frame is put on the wire, stored or missed, whatever happens between two accesses.
 abbrev pub DriversRest : Type 0
 DriversRest =
     (driver : DriverState) (a b : World) (past : Past) → Happens a b past → IsAdapter b.adapter → RestsWith driver a

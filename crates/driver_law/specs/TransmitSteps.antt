@@ -76,8 +76,8 @@ TailIsMoved =
     (driver : DriverState) (world : World) → Ready driver world
     → world_after_write TDT ((transmit_tail driver + 1) % driver.layout.tx) world ≡ offering_frame world
 
--- If the slot at the tail contains a frame, and the tail advances by one, the frame, padded, is the last frame to be
--- sent.
+-- Let the slot at the tail contain a frame of 14 to 1,518 bytes, and at least two slots not be outstanding. If the
+-- tail advances by one, the frame, padded, is the last frame to be sent.
 abbrev pub FrameIsOffered : Type 0
 FrameIsOffered =
     (driver : DriverState) (frame : List ℕ) (world : World) → Ready driver world → driver.sending + 1 < driver.layout.tx

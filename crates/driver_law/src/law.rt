@@ -28,12 +28,12 @@ pub fn intervals_join()
         → GoesTo up (driver_in d1 a) (driver_in d3 c) (driver_did (t1 ++ t2) (g1 ++ g2)) (joined s1 s2) }
 {}
 
-/// What holds between two calls of a driver, whatever happens in between.
-/// - `goes`: the driver remains ready, and what happens is an interval of its run in which no frame is taken or
-/// accepted.
+/// What remains true in the intervals of a driver that is ready.
+/// - `goes`: between two calls the driver remains ready, whatever happens. What happens is an interval of its run in
+///   which no frame is taken or accepted.
 /// - `work`: if no work is forgotten before an interval in which no recorded cause is cleared, no work is forgotten
-/// after the interval.
-/// - `handed_out`: pieces of frames that others hold remain in their buffers.
+///   after the interval.
+/// - `handed_out`: between two calls, pieces of frames that others hold remain in their buffers.
 pub fn drivers_go_on()
     ensures goes { (up : Bool) (d : DriverState) (a b : World) (past : Past)
         → ReadyWith up d a → Happens a b past → GoesTo up (driver_in d a) (driver_in d b) (driver_did [] []) past }
@@ -46,13 +46,13 @@ pub fn drivers_go_on()
 
 /// What a driver does with the slots of its receive ring. Each action is an interval of the driver's run.
 /// - `staged`: the driver stores the descriptor of the next slot, with a free buffer. After that, at least one slot
-/// must remain that is neither outstanding nor staged.
+///   must remain that is neither outstanding nor staged.
 /// - `offered`: the driver offers all staged slots by one write of RDT.
 /// - `taken`: the driver takes the oldest finished slots if these slots contain one whole frame. After that, others
-/// hold the pieces of the frame.
-/// - `legal`: this frame is legal. Each of its pieces except the last fills its buffer.
-/// - `few`: the receive buffers of the finished slots before the first end of a frame have together at most the size of
-/// the longest frame.
+///   hold the pieces of the frame.
+/// - `legal`: this frame is legal. Each of its pieces except the last fills its buffer, and the last isn't empty.
+/// - `few`: the receive buffers of the finished slots before the first end of a frame have together at most the size
+///   of the longest frame.
 /// - `comes_back`: buffers whose pieces others held return to the pool.
 pub fn receive_slots_go_round()
     ensures staged { SlotsCanBeStaged }

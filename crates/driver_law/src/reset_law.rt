@@ -9,8 +9,8 @@ ghost use Rattle.driver_law.specs.Resets.{RestKeepsMemory};
 ///   frames that others hold are still in their buffers.
 /// - `sum`: the reset loses no count of missed frames if MPC is 0 before.
 /// - `memory`: an adapter at rest doesn't write memory, whatever happens between two accesses.
-/// - `rests`: the adapter remains at rest, and no frame is stored or put on the wire, whatever happens between two
-///   accesses.
+/// - `rests`: the adapter remains at rest, and no frame is put on the wire, stored or missed, whatever happens between
+///   two accesses.
 pub fn drivers_reset()
     ensures disabled { ReceiverIsDisabled }
     ensures forgets { ResetForgetsSlots }

@@ -6,7 +6,7 @@ ghost use Rattle.dma_memory.specs.Layout.{size_of};
 
 use driver::Driver;
 
-/// The number of bytes that the rings and buffers of a driver occupy.
+/// Returns the number of bytes that the rings and buffers of a driver occupy.
 fn bytes_of(driver: &Driver) -> u64
     ensures exact { result ≡ size_of driver.now.layout }
 {

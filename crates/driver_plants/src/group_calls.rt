@@ -3,11 +3,11 @@
 ghost use Rattle.std.specs.Prelude.{◌≡◌};
 ghost use Rattle.std.specs.Result.{OnOk};
 ghost use Rattle.driver_law.specs.Calls.{WhereReady, at};
-ghost use Rattle.joined_groups.specs.Groups.{ChangesJoined, HasNumber};
+ghost use Rattle.bring_up.specs.Groups.{ChangesJoined, HasNumber};
 
+use bring_up::GroupError;
 use bus::Bus;
 use driver::Driver;
-use joined_groups::GroupError;
 
 /// A twin of [`Driver::join`].
 pub fn join<B: Bus>(driver: &mut Driver, bus: &mut B, group: [u8; 6]) -> Result<(), GroupError>

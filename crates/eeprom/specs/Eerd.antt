@@ -16,7 +16,8 @@ addr value = value / 256 % 256
 abbrev pub after_write : ℕ → ReadState → ReadState
 after_write value state = if has_start value then Pending (addr value) else state
 
--- A tick ends a pending read with the word of the image (our choice: how long a read takes).
+-- A tick ends a pending read with the word of the image (our choice: how long a read takes). Without a pending read, a tick changes
+-- nothing.
 abbrev pub after_tick : List ℕ → ReadState → ReadState
 after_tick words Idle = Idle
 after_tick words (Pending address) = Done address (word_at words address)

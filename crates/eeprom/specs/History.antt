@@ -40,20 +40,20 @@ NoTick operations = list_any is_tick operations ≡ false
 abbrev pub HasTick : List Operation → Type 0
 HasTick operations = IsTrue (list_any is_tick operations)
 
--- The value of a register that was new, after a list of operations.
+-- The value of a register, after a list of operations since it was new.
 abbrev pub reads_after : List ℕ → List Operation → ℕ
 reads_after words operations = shown (after_all words operations Idle)
 
--- The value of EERD depends only on the last write with START, and on whether a tick came after it (manual, 13.4.4; that a later START
--- replaces a pending one, and that a write without START does nothing, is our choice).
+-- The value of EERD depends only on the image, on the last write with START, and on whether a tick followed this write (manual, 13.4.4;
+-- that a later START replaces a pending one, and that a write without START changes nothing, is our choice).
 pub record AnswersByHistory : Type 0 where
   -- Without a write with START, the register reads 0.
   pub never_asked : (words : List ℕ) (all : List Operation) → NoStart all → reads_after words all ≡ 0
-  -- If no tick came after the last write with START, the register reads only the ADDR of this write.
+  -- If no tick followed the last write with START, the register reads only the ADDR of this write.
   pub no_tick_yet : (words : List ℕ) (before : List Operation) (value : ℕ) (after : List Operation) → IsTrue (has_start value)
       → NoStart after → NoTick after
       → reads_after words (before ++ Write value ∷ after) ≡ shown_before (addr value)
-  -- If a tick came after the last write with START, the register reads the word at the ADDR of this write, the ADDR, and DONE.
+  -- If a tick followed the last write with START, the register reads the word at the ADDR of this write, the ADDR, and DONE.
   pub ticked : (words : List ℕ) (before : List Operation) (value : ℕ) (after : List Operation) → IsTrue (has_start value) → NoStart after
       → HasTick after
       → reads_after words (before ++ Write value ∷ after) ≡ shown_after (addr value) (word_at words (addr value))

@@ -6,14 +6,14 @@ use Rattle.std.specs.Prelude.{◌≡◌, ℕ, ◌+◌, ◌-◌, ◌*◌, ◌/◌
 abbrev pub address_word : List ℕ → ℕ → ℕ
 address_word address k = slice_index address (2 * k) + 256 * slice_index address (2 * k + 1)
 
--- The six bytes that words 0 to 2 hold (manual, the same place).
+-- The six bytes of the Ethernet address in words 0 to 2 (manual, the same place).
 abbrev pub address_bytes : List ℕ → List ℕ
 address_bytes words =
     let low : ℕ → ℕ = λ k. slice_index words k % 256 in
     let high : ℕ → ℕ = λ k. slice_index words k / 256 in
     low 0 ∷ high 0 ∷ low 1 ∷ high 1 ∷ low 2 ∷ high 2 ∷ []
 
--- The 64 words add up to BABAh, modulo 2 to the 16 (manual, "EEPROM Interface": "Checksum Word (3Fh)").
+-- The words add up to BABAh, modulo 2 to the 16 (manual, "EEPROM Interface": "Checksum Word (3Fh)").
 abbrev pub HasRightSum : List ℕ → Type 0
 HasRightSum words = sum words % 65536 ≡ 0xBABA
 

@@ -30,7 +30,7 @@ stays_idle words (Write value ∷ all) none =
     ap (after_all words all) (after_write-no_start value Idle parts.0) ∙ stays_idle words all parts.1
 stays_idle words (Tick ∷ all) none = stays_idle words all none
 
--- Without a write with START, a register that has read a word keeps it.
+-- Without a write with START, a register that contains a read word doesn't change.
 pub stays_done : (words : List ℕ) (all : List Operation) (address word : ℕ) → NoStart all
     → after_all words all (Done address word) ≡ Done address word
 stays_done words [] address word none = refl
@@ -39,7 +39,7 @@ stays_done words (Write value ∷ all) address word none =
     ap (after_all words all) (after_write-no_start value (Done address word) parts.0) ∙ stays_done words all address word parts.1
 stays_done words (Tick ∷ all) address word none = stays_done words all address word none
 
--- Without a tick and a write with START, a pending read remains pending.
+-- If no tick and no write with START happens, a pending read remains pending.
 pub stays_pending : (words : List ℕ) (all : List Operation) (address : ℕ) → NoStart all → NoTick all
     → after_all words all (Pending address) ≡ Pending address
 stays_pending words [] address none still = refl

@@ -33,7 +33,7 @@ pub enum ReadState {
     Idle,
     /// The word at this address is being read.
     Pending(u8),
-    /// The word at this address was read.
+    /// A read has ended: the address, and the word at this address.
     Done(u8, u16),
 }
 
@@ -60,7 +60,7 @@ impl Eerd {
     ghost use Rattle.eeprom.specs.Eerd.{after_tick, after_write, is_pending, shown};
     ghost use Rattle.eeprom.specs.Hashed.{eerd_writes};
 
-    /// A register for which no read was begun: it reads 0.
+    /// Returns a register for which no read was begun: it reads 0.
     pub fn new() -> Self
         ensures { result ≡ Idle }
     {
@@ -80,8 +80,8 @@ impl Eerd {
         }
     }
 
-    /// The value of the register. It is 0 if no read was begun, and only ADDR while a read is pending. After the read
-    /// has ended, it is DATA, ADDR and DONE. START reads 0 (our choice).
+    /// Returns the value of the register. This value is 0 if no read was begun, and only ADDR while a read is pending.
+    /// After the read has ended, the value is DATA, ADDR and DONE. START reads 0 (our choice).
     #[tactic(auto, using(crate::proofs::Fields::or_fields))]
     pub fn read(&self) -> u32
         ensures { result ≡ shown self.now }
@@ -95,7 +95,7 @@ impl Eerd {
         }
     }
 
-    /// Whether a read is pending, so that a tick would end it.
+    /// Returns whether a read is pending, so that a tick would end it.
     pub fn is_pending(&self) -> bool
         ensures { result ≡ is_pending self.now }
     {

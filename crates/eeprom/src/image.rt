@@ -9,7 +9,7 @@ pub const WORDS: usize = 64;
 /// The index of the checksum word, 3Fh.
 const CHECKSUM_WORD: usize = 63;
 
-/// The sum of the 64 words, modulo 65,536.
+/// The sum that the 64 words must have, modulo 65,536.
 const CHECKSUM: u16 = 0xBABA;
 
 /// The sum of the words is taken modulo this number.
@@ -38,7 +38,7 @@ impl Model for Image {
 }
 
 impl Image {
-    /// The image with these words.
+    /// Returns the image with these words.
     pub fn from_words(words: [u16; WORDS]) -> Self
         ensures words { result ≡ words }
         ensures size { length result ≡ 64 }
@@ -46,7 +46,8 @@ impl Image {
         Image { words }
     }
 
-    /// The image with an Ethernet address in words 0 to 2, the checksum in the last word, and 0 in the other words.
+    /// Returns the image with an Ethernet address in words 0 to 2, the checksum in the last word, and 0 in the other
+    /// words.
     pub fn with_address(address: [u8; 6]) -> Self
         ensures words { result ≡ image_with address }
         ensures checksum { HasRightSum result }
@@ -63,7 +64,7 @@ impl Image {
         Image::from_words(words)
     }
 
-    /// The Ethernet address that words 0 to 2 hold.
+    /// Returns the Ethernet address in words 0 to 2.
     pub fn address(&self) -> [u8; 6]
         ensures { result ≡ address_bytes self.now }
     {
@@ -73,7 +74,7 @@ impl Image {
         [b0, b1, b2, b3, b4, b5]
     }
 
-    /// The word at an address; after the last word, 0xFFFF (our choice).
+    /// Returns the word at an address, or 0xFFFF if the address is above 63 (our choice).
     pub fn word(&self, address: u8) -> u16
         ensures word { result ≡ word_at self.now address }
         ensures size { length self.now ≡ 64 }
@@ -85,14 +86,14 @@ impl Image {
     }
 }
 
-/// Whether the 64 words add up to 0xBABA, modulo 65,536 (manual: "Checksum Word (3Fh)").
+/// Returns whether the 64 words add up to 0xBABA, modulo 65,536 (manual: "Checksum Word (3Fh)").
 pub fn checksum_ok(image: &Image) -> bool
     ensures { IsTrue result ↔ HasRightSum image.now }
 {
     sum_of(&image.words) % MODULUS == u32::from(CHECKSUM)
 }
 
-/// The sum of the words, which fits into 32 bits.
+/// Returns the sum of the words, which fits into 32 bits.
 fn sum_of(words: &[u16]) -> u32
     requires { length words.now ≤ WORDS }
     ensures { result ≡ sum words.now }

@@ -5,7 +5,7 @@ ghost use Rattle.std.specs.Prelude.{◌≡◌, IfOk};
 use circular_buffer::HeapCircularBuffer;
 use std::alloc::AllocError;
 
-/// A copy of a buffer, with the same capacity and the same items.
+/// Returns a copy of a buffer, with the same capacity and the same items.
 ///
 /// # Errors
 ///

@@ -41,7 +41,7 @@ impl Model for PackedQueue {
 impl Clone for PackedQueue {
     ghost is_clone = { λ queue copy. copy ≡ queue };
 
-    /// A queue with the same limits and the same frames.
+    /// Returns a queue with the same limits and the same frames.
     ///
     /// # Errors
     ///
@@ -57,7 +57,7 @@ impl Clone for PackedQueue {
 }
 
 impl PackedQueue {
-    /// An empty queue for at most `capacity` frames with at most `room` bytes in total.
+    /// Returns an empty queue for at most `capacity` frames with at most `room` bytes in total.
     ///
     /// # Errors
     ///
@@ -73,7 +73,7 @@ impl PackedQueue {
         })
     }
 
-    /// The number of frames in the queue.
+    /// Returns the number of frames in the queue.
     pub fn len(&self) -> u16
         ensures count { result ≡ length self.now.frames }
         ensures fits { result ≤ self.now.capacity }
@@ -81,7 +81,7 @@ impl PackedQueue {
         self.lengths.len() as u16
     }
 
-    /// The oldest frame, without a copy. `None` if and only if the queue is empty.
+    /// Returns the oldest frame, without a copy, or `None` exactly if the queue is empty.
     pub fn front(&self) -> Option<&[u8]>
         ensures none { IsNone result ↔ (self.now.frames ≡ []) }
         ensures oldest { IfSome result (λ frame. slice_get self.now.frames 0 ≡ Some frame.now) }
@@ -90,8 +90,8 @@ impl PackedQueue {
         Some(&self.bytes.as_slice()[self.first..self.first + length])
     }
 
-    /// The frame with this index, without a copy. The oldest frame has index 0. The call takes time in proportion to
-    /// the index.
+    /// Returns the frame with this index, without a copy. The oldest frame has index 0. The call takes time in
+    /// proportion to the index.
     pub fn frame_at(&self, index: usize) -> &[u8]
         requires { index < length self.now.frames }
         ensures { slice_get self.now.frames index ≡ Some result.now }

@@ -39,7 +39,7 @@ impl Model for FrameQueue {
 impl Clone for FrameQueue {
     ghost is_clone = { λ queue copy. copy ≡ queue };
 
-    /// A queue of the same capacity with the same frames.
+    /// Returns a queue of the same capacity with the same frames.
     ///
     /// # Errors
     ///
@@ -54,7 +54,7 @@ impl Clone for FrameQueue {
 }
 
 impl FrameQueue {
-    /// An empty queue for at most `capacity` frames.
+    /// Returns an empty queue for at most `capacity` frames.
     ///
     /// # Errors
     ///
@@ -71,14 +71,14 @@ impl FrameQueue {
         })
     }
 
-    /// The greatest number of frames in the queue, which never changes.
+    /// Returns the greatest number of frames in the queue, which never changes.
     pub fn capacity(&self) -> u8
         ensures { result ≡ self.now.capacity }
     {
         self.lengths.capacity() as u8
     }
 
-    /// The number of frames in the queue.
+    /// Returns the number of frames in the queue.
     pub fn len(&self) -> u8
         ensures count { result ≡ length self.now.frames }
         ensures fits { result ≤ self.now.capacity }
@@ -86,21 +86,21 @@ impl FrameQueue {
         self.lengths.len() as u8
     }
 
-    /// Whether no frame is in the queue.
+    /// Returns whether no frame is in the queue.
     pub fn is_empty(&self) -> bool
         ensures { IsTrue result ↔ (self.now.frames ≡ []) }
     {
         self.lengths.is_empty()
     }
 
-    /// Whether the number of frames in the queue is its capacity.
+    /// Returns whether the number of frames in the queue is its capacity.
     pub fn is_full(&self) -> bool
         ensures { IsTrue result ↔ (length self.now.frames ≡ self.now.capacity) }
     {
         self.lengths.is_full()
     }
 
-    /// The oldest frame, without a copy; `None` exactly if the queue is empty.
+    /// Returns the oldest frame, without a copy, or `None` exactly if the queue is empty.
     pub fn front(&self) -> Option<&[u8]>
         ensures none { IsNone result ↔ (self.now.frames ≡ []) }
         ensures oldest { IfSome result (λ frame. slice_get self.now.frames 0 ≡ Some frame.now) }
@@ -154,7 +154,7 @@ impl FrameQueue {
         self.lengths.clear();
     }
 
-    /// The frame with this index, without a copy. The oldest frame has index 0.
+    /// Returns the frame with this index, without a copy. The oldest frame has index 0.
     pub fn frame_at(&self, index: usize) -> &[u8]
         requires { index < length self.now.frames }
         ensures frame { slice_get self.now.frames index ≡ Some result.now }
@@ -180,7 +180,8 @@ impl FrameQueue {
     }
 }
 
-/// The place with this number. Numbers after the last place wrap to the first place, at most once.
+/// Returns the place with this number. From a number after the last place, the capacity is subtracted once, so that
+/// the place wraps to the start.
 fn wrap(place: usize, capacity: usize) -> usize
     ensures { result ≡ wrapped capacity place }
 {

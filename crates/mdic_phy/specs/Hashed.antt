@@ -10,7 +10,7 @@ use Rattle.mdic_phy.specs.declared.phy.Negotiation.TheVariants.{NotStarted, Runn
 use Rattle.mdic_phy.specs.Mdic.{MdicState}
 use Rattle.mdic_phy.specs.Phy.{PhyState}
 
--- A tag for the command that is pending.
+-- A tag for the pending command, or 0 if no command is pending.
 abbrev pub pending_tag : Option Operation → ℕ
 pending_tag None = 0
 pending_tag (Some Write) = 1
@@ -31,6 +31,6 @@ negotiation_writes NotStarted = u8 0
 negotiation_writes (Running ticks) = u8 1 ++ u16 ticks
 negotiation_writes Complete = u8 2
 
--- The whole state of the PHY.
+-- What the PHY feeds: its whole state.
 abbrev pub phy_writes : PhyState → HashWrites
 phy_writes phy = bool phy.negotiation_enabled ++ bool phy.latched_low ++ link_writes phy.link ++ negotiation_writes phy.negotiation

@@ -64,14 +64,14 @@ with_data word value = value / 2 ^ 16 * 2 ^ 16 + word
 abbrev pub reaches_phy : ℕ → Bool
 reaches_phy value = phyadd value == 1
 
--- The value of MDIC after a command has ended at a PHY in this state. At another address no PHY answers: E is set, and DATA doesn't change
--- (our choice).
+-- The value of MDIC after a command has ended at a PHY in this state. With PHYADD 1, R is set, and a read stores the PHY's register in
+-- DATA. At another address no PHY answers: R and E are set, and DATA doesn't change (our choice).
 abbrev pub ended_value : Operation → PhyState → ℕ → ℕ
 ended_value Write state value = if reaches_phy value then with_ready value else with_error value
 ended_value Read state value = if reaches_phy value then with_ready
     (with_data (phy.read_value (regadd value) state) value) else with_error value
 
--- The PHY after a command has ended, if this is the value of MDIC.
+-- The PHY after a command has ended, with this value of MDIC. If PHYADD isn't 1, the PHY doesn't change.
 abbrev pub ended_phy : Operation → ℕ → PhyState → PhyState
 ended_phy Write value state = if reaches_phy value then phy.after_write (regadd value) (data_of value) state else state
 ended_phy Read value state = if reaches_phy value then phy.after_read (regadd value) state else state
@@ -86,7 +86,7 @@ abbrev pub phy_ended : Option Operation → ℕ → PhyState → PhyState
 phy_ended None value state = state
 phy_ended (Some operation) value state = ended_phy operation value state
 
--- MDIC after a tick. Its command reads the PHY after the PHY's tick.
+-- MDIC after a tick. A pending command accesses the PHY after the PHY's tick.
 abbrev pub mdic_after_tick : MdicState → PhyState → MdicState
 mdic_after_tick mdic state = record { value = ended mdic.pending mdic.value (phy.after_tick state); pending = None }
 
@@ -94,7 +94,7 @@ mdic_after_tick mdic state = record { value = ended mdic.pending mdic.value (phy
 abbrev pub phy_after_tick : MdicState → PhyState → PhyState
 phy_after_tick mdic state = phy_ended mdic.pending mdic.value (phy.after_tick state)
 
--- Whether a tick has something to do: the PHY's count is running, or a command is pending.
+-- Whether a tick has something to do: the PHY's link countdown is running, or a command is pending.
 abbrev pub has_work : MdicState → PhyState → Bool
 has_work mdic state = phy.is_counting state || is_some mdic.pending
 
@@ -102,8 +102,8 @@ has_work mdic state = phy.is_counting state || is_some mdic.pending
 abbrev pub tells_end : MdicState → Bool
 tells_end mdic = is_some mdic.pending && is_set mdic.value mdic_i
 
--- What a tick reports: whether the link changes from down to up (for LSC), and whether a command with I set ends (for MDAC); `None` if it
--- has nothing to do.
+-- What a tick reports: whether the link changes from down to up (for LSC), and whether a command with I set ends (for MDAC). `None` if the
+-- tick has nothing to do.
 abbrev pub told : MdicState → PhyState → Option Ticked
 told mdic state =
     if has_work mdic state

@@ -78,12 +78,12 @@ abbrev pub phy_of : PhyState → List MdicEvent → PhyState
 phy_of state events = after_events (accesses events) state
 
 -- What a tick reports to the adapter if no command was written right before the tick: whether the link changed from down to up. `None` if
--- no count ran.
+-- no countdown was running.
 abbrev pub told_of_link : PhyState → Option Ticked
 told_of_link phy = if is_counting phy then Some (record { link_changed = comes_up phy; access_complete = false }) else None
 
--- A tick reports LSC if the link changed from down to up. It reports MDAC if a command ended whose I is set (manual, 13.4.7): the command
--- of the write right before this tick, and no other.
+-- A tick reports LSC if the link changed from down to up. The tick reports MDAC if a command ended whose I is set (manual, 13.4.7): the
+-- command of the write right before this tick, and no other.
 pub record ToldByHistory : Type 0 where
   pub first : (state : PhyState) → told_behind state [] ≡ told_of_link state
   pub ticked : (state : PhyState) (before : List MdicEvent)
@@ -94,7 +94,7 @@ pub record ToldByHistory : Type 0 where
       → told_behind state (before ++ Write value ∷ [])
       ≡ Some (record { link_changed = comes_up (phy_of state (before ++ Write value ∷ [])); access_complete = is_set value mdic_i })
 
--- The value of MDIC depends only on the last write, on whether a tick came after it, and on the PHY's register at this tick (manual,
+-- The value of MDIC depends only on the last write, on whether a tick followed this write, and on the PHY's register at this tick (manual,
 -- 13.4.7). Commands of earlier writes don't matter.
 pub record MdicByHistory : Type 0 where
   -- Without a write, the register reads 0.
@@ -105,11 +105,11 @@ pub record MdicByHistory : Type 0 where
   pub no_command : (state : PhyState) (before : List MdicEvent) (value : ℕ) (after : List MdicEvent) → operation_of value ≡ None
       → NoWrite after
       → mdic_reads state (before ++ Write value ∷ after) ≡ kept value
-  -- After a tick has ended a write command, R is set.
+  -- After a tick has ended a write command for the PHY, the register reads the written value with R set.
   pub written : (state : PhyState) (before : List MdicEvent) (value : ℕ) (after : List MdicEvent)
       → operation_of value ≡ Some operation.Write → phyadd value ≡ 1 → NoWrite after
       → mdic_reads state (before ++ Write value ∷ Tick ∷ after) ≡ with_ready (kept value)
-  -- After a tick has ended a read command, R is set, and DATA is the PHY's register as it was at this tick.
+  -- After a tick has ended a read command for the PHY, R is set, and DATA is the PHY's register as it was at this tick.
   pub read : (state : PhyState) (before : List MdicEvent) (value : ℕ) (after : List MdicEvent) → operation_of value ≡ Some operation.Read
       → phyadd value ≡ 1 → NoWrite after
       → mdic_reads state (before ++ Write value ∷ Tick ∷ after)

@@ -167,7 +167,7 @@ interrupt-kept value =
 abbrev told_by : Bool → Bool → Option Ticked
 told_by up complete = Some (record { link_changed = up; access_complete = complete })
 
--- If no command is pending, a tick has something to do only if a count runs.
+-- If no command is pending, a tick has something to do only if the countdown is running.
 told-counting : (counts up : Bool) → cond (counts || false) (told_by up false) None ≡ cond counts (told_by up false) None
 told-counting true up = refl
 told-counting false up = refl

@@ -10,7 +10,7 @@ use Rattle.mdic_phy.specs.Places.{control_enable, control_reset, control_restart
 
 -- The state of a PHY.
 pub record PhyState : Type 0 where
-  -- How long negotiation takes until the link is up.
+  -- The number of ticks that negotiation takes until the link is up, or `Never`.
   pub link : Link
   -- Whether negotiation is enabled (register 0, bit 12).
   pub negotiation_enabled : Bool
@@ -34,7 +34,7 @@ is_complete Complete = true
 abbrev pub link_is_up : PhyState → Bool
 link_is_up phy = is_complete phy.negotiation
 
--- Negotiation that is started ends after the number of ticks of the setting, or never (our choice).
+-- Negotiation after it is started: it ends after the setting's number of ticks, or never starts (our choice).
 abbrev pub negotiation_of : Link → Negotiation
 negotiation_of (After ticks) = Running ticks
 negotiation_of Never = NotStarted
@@ -52,7 +52,7 @@ after_control value phy =
     (let kept : PhyState = record phy { negotiation_enabled = is_set value control_enable } in
     if is_set value control_enable && is_set value control_restart then restarted kept else kept)
 
--- All registers except 0 ignore a write (our choice).
+-- The PHY after a write of a register. All registers except 0 ignore the write (our choice).
 abbrev pub after_write : ℕ → ℕ → PhyState → PhyState
 after_write register value phy = if register == 0 then after_control value phy else phy
 
@@ -81,7 +81,7 @@ read_value register phy =
     (if register == 2 then 0x0141 else
     (if register == 3 then 0x0C20 else 0)))
 
--- A read of register 1 clears the latch, even if the link is down (22.2.4.2, "Link Status").
+-- A read of register 1 clears the latch, even if the link is down (22.2.4.2, "Link Status"). A read of another register changes nothing.
 abbrev pub after_read : ℕ → PhyState → PhyState
 after_read register phy = if register == 1 then record phy { latched_low = false } else phy
 
@@ -95,7 +95,7 @@ is_running Complete = false
 abbrev pub is_counting : PhyState → Bool
 is_counting phy = is_running phy.negotiation
 
--- A tick lowers a running count. At 0, negotiation is complete (how long it takes is our choice).
+-- Negotiation after a tick: a running countdown decreases by 1, and at 0 negotiation is complete (the number of ticks is our choice).
 abbrev pub counted : Negotiation → Negotiation
 counted NotStarted = NotStarted
 counted (Running left) = if nat_le left 1 then Complete else Running (left - 1)

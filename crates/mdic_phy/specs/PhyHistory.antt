@@ -44,13 +44,13 @@ is_control_write Tick = false
 is_control_write (Read register) = false
 is_control_write (Write register value) = register == 0
 
--- Register 0 is written with bit 15 (IEEE 802.3, 22.2.4.1, "Reset").
+-- Whether the event is a write of register 0 with bit 15 (IEEE 802.3, 22.2.4.1, "Reset").
 abbrev pub is_reset : PhyEvent → Bool
 is_reset Tick = false
 is_reset (Read register) = false
 is_reset (Write register value) = register == 0 && is_set value control_reset
 
--- Register 0 is written with bits 12 and 9, and without bit 15 (22.2.4.1, "Restart Auto-Negotiation").
+-- Whether the event is a write of register 0 with bits 12 and 9, and without bit 15 (22.2.4.1, "Restart Auto-Negotiation").
 abbrev pub is_restart : PhyEvent → Bool
 is_restart Tick = false
 is_restart (Read register) = false
@@ -61,11 +61,12 @@ is_restart (Write register value) = register == 0 && (not
 abbrev pub takes_down : PhyEvent → Bool
 takes_down event = is_reset event || is_restart event
 
--- No event of the list passes the test.
+-- No event of the list meets the condition.
 abbrev pub HasNo : (PhyEvent → Bool) → List PhyEvent → Type 0
 HasNo test events = list_any test events ≡ false
 
--- The link is up exactly if at least d ticks came after the last write that started negotiation, and no reset did.
+-- With `After d` and d at least 1, the link is up exactly if at least d ticks, but no reset, followed the last write that started
+-- negotiation. With `Never`, the link is down.
 pub record LinkByHistory : Type 0 where
   -- The link is down if negotiation was never started.
   pub never_started : (link : Link) (all : List PhyEvent) → HasNo is_restart all → link_is_up (phy_behind link all) ≡ false
@@ -73,7 +74,7 @@ pub record LinkByHistory : Type 0 where
   pub reset : (link : Link) (before : List PhyEvent) (event : PhyEvent) (after : List PhyEvent) → IsTrue (is_reset event)
       → HasNo is_restart after
       → link_is_up (phy_behind link (before ++ event ∷ after)) ≡ false
-  -- If neither a reset nor a restart came after negotiation was started, the link is up after d ticks.
+  -- If neither a reset nor a restart followed the start of negotiation, the link is up exactly if at least d ticks followed the start.
   pub started : (d : ℕ) (before : List PhyEvent) (event : PhyEvent) (after : List PhyEvent) → 1 ≤ d → IsTrue (is_restart event)
       → HasNo takes_down after
       → link_is_up (phy_behind (After d) (before ++ event ∷ after)) ≡ nat_le d (count_by is_tick after)
@@ -91,13 +92,13 @@ where_up link events value = if link_is_up (phy_behind link events) then value e
 -- Bit 5 of the status register is set exactly if the link is up. Bit 2 is set exactly if the link is up and the register was read after the
 -- last reset or restart (22.2.4.2, "Link Status": latched low until read).
 pub record LatchByHistory : Type 0 where
-  -- Bit 2 is 0 before the first read.
+  -- Bit 2 is 0 before the first read of the register.
   pub never_read : (link : Link) (all : List PhyEvent) → HasNo is_status_read all → status_behind link all ≡ where_up link all link_unseen
-  -- Bit 2 is 0 if no read came after a reset or a restart.
+  -- Bit 2 is 0 if no read of the register followed a reset or a restart.
   pub taken_down : (link : Link) (before : List PhyEvent) (event : PhyEvent) (after : List PhyEvent) → IsTrue (takes_down event)
       → HasNo is_status_read after
       → status_behind link (before ++ event ∷ after) ≡ where_up link (before ++ event ∷ after) link_unseen
-  -- Bit 2 is 1 if the link is up and neither a reset nor a restart came after a read.
+  -- Bit 2 is 1 if the link is up and neither a reset nor a restart followed a read of the register.
   pub stayed : (link : Link) (before : List PhyEvent) (event : PhyEvent) (after : List PhyEvent) → IsTrue (is_status_read event)
       → HasNo takes_down after
       → status_behind link (before ++ event ∷ after) ≡ where_up link (before ++ event ∷ after) link_seen

@@ -79,7 +79,7 @@ restart-after_event (Read register) phy is = absurd (false≢true is)
 restart-after_event (Write register value) phy is = restart-by_tests (register == 0) (is_set value control_reset)
     (is_set value control_enable) (is_set value control_restart) phy is
 
--- A link that is set to `Never` remains down.
+-- If the link is set to `Never`, negotiation that was not started remains not started.
 pub never-after_event : (event : PhyEvent) (phy : PhyState) → phy.link ≡ Never → phy.negotiation ≡ NotStarted
     → (after_event event phy).negotiation ≡ NotStarted
 never-after_event Tick phy never idle = ap counted idle
@@ -112,7 +112,7 @@ complete-after_events (Write register value ∷ later) phy none up =
     complete-after_events later (after_write register value phy) (later_fail takes_down (Write register value) later none)
     (counted-after_event (Write register value) phy (first_fails takes_down (Write register value) later none) refl ∙ up)
 
--- A tick ends a count of at most 1, and lowers a greater count by one.
+-- A tick ends a countdown of at most 1, and decreases a greater countdown by one.
 counted-last : (left : ℕ) → nat_le left 1 ≡ true → counted (Running left) ≡ Complete
 counted-last left last = rw last refl
 
@@ -132,12 +132,12 @@ enough-one_less left n m some more = grind (arith, nat_tests)
 still_some : (left : ℕ) → nat_le left 1 ≡ false → 1 ≤ left - 1
 still_some left more = grind (arith, nat_tests)
 
--- A test passes or fails.
+-- A condition is true or false.
 either : (b : Bool) → (b ≡ true) ⊎ (b ≡ false)
 either true = inl refl
 either false = inr refl
 
--- Without a reset or a restart, a count that runs ends after this number of ticks.
+-- Without a reset or a restart, a running countdown has ended exactly if at least `left` ticks happened.
 pub running-after_events : (events : List PhyEvent) (phy : PhyState) (left : ℕ) → HasNo takes_down events → 1 ≤ left
     → phy.negotiation ≡ Running left
     → is_complete (after_events events phy).negotiation ≡ nat_le left (count_by is_tick events)

@@ -25,7 +25,7 @@ resets control reset = control && reset
 abbrev pub restarts : Bool → Bool → Bool → Bool → Bool
 restarts control reset enable again = control && (not reset && (enable && again))
 
--- The setting of the link doesn't change.
+-- No write changes the setting of the link.
 pub link-by_tests : (c r e a : Bool) (phy : PhyState) → (by_tests c r e a phy).link ≡ phy.link
 link-by_tests false r e a phy = refl
 link-by_tests true true e a phy = refl
@@ -42,13 +42,13 @@ not_started-by_tests true false true true phy none idle = absurd (true≢false n
 not_started-by_tests true false true false phy none idle = idle
 not_started-by_tests true false false a phy none idle = idle
 
--- A reset ends negotiation.
+-- After a reset, negotiation is not started.
 pub reset-by_tests : (c r e a : Bool) (phy : PhyState) → resets c r ≡ true → (by_tests c r e a phy).negotiation ≡ NotStarted
 reset-by_tests false r e a phy is = absurd (false≢true is)
 reset-by_tests true true e a phy is = refl
 reset-by_tests true false e a phy is = absurd (false≢true is)
 
--- A restart starts negotiation.
+-- A restart starts negotiation, unless the link is set to `Never`.
 pub restart-by_tests : (c r e a : Bool) (phy : PhyState) → restarts c r e a ≡ true
     → (by_tests c r e a phy).negotiation ≡ negotiation_of phy.link
 restart-by_tests false r e a phy is = absurd (false≢true is)
@@ -92,7 +92,7 @@ still_latched-by_tests true false true true phy was = refl
 still_latched-by_tests true false true false phy was = was
 still_latched-by_tests true false false a phy was = was
 
--- A link that is set to `Never` remains down.
+-- If the link is set to `Never`, negotiation that was not started remains not started.
 pub never-by_tests : (c r e a : Bool) (phy : PhyState) → phy.link ≡ Never → phy.negotiation ≡ NotStarted
     → (by_tests c r e a phy).negotiation ≡ NotStarted
 never-by_tests false r e a phy never idle = idle
@@ -101,7 +101,7 @@ never-by_tests true false true true phy never idle = ap negotiation_of never
 never-by_tests true false true false phy never idle = idle
 never-by_tests true false false a phy never idle = idle
 
--- Bit 12 after a write of the control register.
+-- After a write of the control register, bit 12 is set if and only if the write was a reset or set bit 12.
 pub enabled-by_tests : (r e a : Bool) (phy : PhyState) → (by_tests true r e a phy).negotiation_enabled ≡ cond r true e
 enabled-by_tests true e a phy = refl
 enabled-by_tests false true true phy = refl

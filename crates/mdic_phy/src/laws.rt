@@ -3,8 +3,8 @@
 ghost use Rattle.mdic_phy.specs.MdicHistory.{AccessesByHistory, MdicByHistory, ToldByHistory};
 ghost use Rattle.mdic_phy.specs.PhyHistory.{ControlByHistory, LatchByHistory, LinkByHistory};
 
-/// When the link is up, for every history. With `After(d)`, the link is up if at least d ticks came after the last
-/// write that started negotiation, and no reset did. With `Never`, the link is always down.
+/// The condition under which the link is up, for every history. With `After(d)`, the link is up exactly if at least d
+/// ticks, but no reset, followed the last write that started negotiation. With `Never`, the link is always down.
 pub fn link_by_history()
     ensures { LinkByHistory }
 {}
@@ -16,25 +16,25 @@ pub fn latch_by_history()
 {}
 
 /// The value of the control register, which depends only on the history: bit 12 of the last written value. Without a
-/// write, and after a reset, the value is 0x1000.
+/// write, or if the last write was a reset, the value is 0x1000.
 pub fn control_by_history()
     ensures { ControlByHistory }
 {}
 
-/// The events at the PHY, which depend only on the history of MDIC: each tick, followed by the access of the command
+/// The events at the PHY, which depend only on the history of MDIC. Each tick is followed by the access of the command
 /// that was written right before the tick. A write that is followed by another write before a tick makes no access.
 pub fn accesses_by_history()
     ensures { AccessesByHistory }
 {}
 
-/// The value of MDIC. It depends only on the last written value, on whether a tick came after this write, and on the
+/// The value of MDIC, which depends only on the last written value, on whether a tick followed this write, and on the
 /// PHY's register at this tick.
 pub fn mdic_by_history()
     ensures { MdicByHistory }
 {}
 
 /// The causes that the adapter records after a tick, which depend only on the history of MDIC. LSC is recorded if the
-/// link is now up and was down. MDAC is recorded if the command written right before the tick has ended, and its I is
+/// link changed from down to up. MDAC is recorded if the command written right before the tick has ended, and its I is
 /// set.
 pub fn told_by_history()
     ensures { ToldByHistory }

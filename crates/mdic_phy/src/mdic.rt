@@ -65,7 +65,7 @@ pub enum Operation {
 /// What the adapter records after a tick of the PHY.
 #[derive(Clone, Copy, Debug, PartialEq, Eq)]
 pub struct Ticked {
-    /// Whether the link is now up and was down: the cause LSC.
+    /// Whether the link changed from down to up: the cause LSC.
     pub link_changed: bool,
     /// Whether a command ended whose I was set: the cause MDAC.
     pub access_complete: bool,
@@ -94,7 +94,7 @@ impl Mdic {
     ghost use Rattle.mdic_phy.specs.Hashed.{mdic_writes};
     ghost use Rattle.mdic_phy.specs.Mdic.{after_write, has_work, mdic_after_tick, new_mdic, phy_after_tick, told};
 
-    /// A register without a command: it reads 0.
+    /// Returns a register without a pending command, which reads 0.
     pub fn new() -> Self
         ensures { result ≡ new_mdic }
     {
@@ -104,7 +104,8 @@ impl Mdic {
         }
     }
 
-    /// Begins the command of the written OP, and drops a pending command (our choice). R, E and bit 31 aren't stored.
+    /// Begins the command of the written OP, and drops a pending command (our choice). OP 00 and 11 begin no command.
+    /// R, E and bit 31 aren't stored.
     pub fn write(&mut self, value: u32)
         ensures { self.new ≡ after_write value }
     {
@@ -116,23 +117,24 @@ impl Mdic {
         };
     }
 
-    /// The value of the register: the written value, without R, E and bit 31. After the command has ended, R is set. A
-    /// read command stores the PHY's register in DATA. A command for another PHY sets E instead.
+    /// Returns the value of the register: the written value, without R, E and bit 31. After the command has ended, R
+    /// is set. A read command stores the PHY's register in DATA. A command for another PHY also sets E, and doesn't
+    /// change DATA.
     pub fn read(&self) -> u32
         ensures { result ≡ self.now.value }
     {
         self.value
     }
 
-    /// Whether the PHY is counting or a command is pending, so that a tick would do something.
+    /// Returns whether the PHY's link countdown is running or a command is pending, so that a tick would do something.
     pub fn has_work(&self, phy: &Phy) -> bool
         ensures { result ≡ has_work self.now phy.now }
     {
         phy.is_counting() || self.pending.is_some()
     }
 
-    /// Plays a tick: lowers the PHY's count, and then ends a pending command. Returns what the adapter must record, or
-    /// `None` if no count ran and no command was pending: then nothing changes.
+    /// Plays a tick: decreases the PHY's running link countdown, and then ends a pending command. Returns what the
+    /// adapter must record. If no countdown is running and no command is pending, returns `None` and changes nothing.
     pub fn tick(&mut self, phy: &mut Phy) -> Option<Ticked>
         ensures mdic { self.new ≡ mdic_after_tick self.old phy.old }
         ensures phy { phy.new ≡ phy_after_tick self.old phy.old }
@@ -182,7 +184,7 @@ impl Default for Mdic {
 }
 
 /// Ends a command at the PHY. Returns the new value of MDIC, with R set. A read stores the PHY's register in DATA. A
-/// command for another PHY sets E instead.
+/// command for another PHY accesses no register, and also sets E.
 fn end(operation: Operation, value: u32, phy: &mut Phy) -> u32
     ensures value { result ≡ ended_value operation phy.old value }
     ensures phy { phy.new ≡ ended_phy operation value phy.old }
@@ -200,7 +202,7 @@ fn end(operation: Operation, value: u32, phy: &mut Phy) -> u32
     }
 }
 
-/// A value of MDIC with this word as DATA.
+/// Returns this value of MDIC with the word as DATA.
 #[tactic(auto, using(crate::proofs::Fields::other_data))]
 fn with_data(value: u32, word: u16) -> u32
     ensures { result ≡ with_data word value }

@@ -36,7 +36,7 @@ const RUNNING_TAG: u8 = 1;
 /// The tag of `Complete` in a hash.
 const COMPLETE_TAG: u8 = 2;
 
-/// The time that negotiation takes until the link is up.
+/// The number of ticks that negotiation takes until the link is up, or that the link is never up.
 #[derive(Clone, Copy, Debug, PartialEq, Eq)]
 pub enum Link {
     /// The link is up after this number of ticks of the PHY, 1 to 65,535. (0 acts as 1.)
@@ -45,12 +45,12 @@ pub enum Link {
     Never,
 }
 
-/// The state of negotiation. The link is up exactly if it is complete (our choice).
+/// The state of negotiation. The link is up exactly if negotiation is complete (our choice).
 #[derive(Clone, Copy, Debug, PartialEq, Eq)]
 pub enum Negotiation {
     /// Negotiation was not started since the PHY was new or reset, or the setting of the link is `Never`.
     NotStarted,
-    /// Negotiation ends after this number of ticks.
+    /// Negotiation ends after this number of further ticks.
     Running(u16),
     /// Negotiation has ended, and the link is up.
     Complete,
@@ -93,7 +93,8 @@ impl Phy {
     ghost use Rattle.mdic_phy.specs.Hashed.{phy_writes};
     ghost use Rattle.mdic_phy.specs.Phy.{comes_up, is_counting};
 
-    /// A PHY whose link is down and whose negotiation was not started. `link` is how long negotiation takes.
+    /// Returns a PHY whose link is down and whose negotiation was not started. `link` states how many ticks
+    /// negotiation takes, if it ever ends.
     pub fn new(link: Link) -> Self
         ensures { result ≡ new_phy link }
     {
@@ -105,14 +106,14 @@ impl Phy {
         }
     }
 
-    /// Whether the link is up.
+    /// Returns whether the link is up.
     pub fn link_is_up(&self) -> bool
         ensures { result ≡ link_is_up self.now }
     {
         self.negotiation == Negotiation::Complete
     }
 
-    /// Whether negotiation is running, so that a tick would change the PHY.
+    /// Returns whether the link countdown is running, so that a tick would change the PHY.
     pub fn is_counting(&self) -> bool
         ensures { result ≡ is_counting self.now }
     {
@@ -146,7 +147,8 @@ impl Phy {
         }
     }
 
-    /// Plays a tick: lowers a running count, and at 0 the link is up. Returns whether the link changed from down to up.
+    /// Plays a tick: decreases a running link countdown. When the countdown reaches 0, the link is up. Returns whether
+    /// the link changed from down to up.
     pub fn tick(&mut self) -> bool
         ensures state { self.new ≡ after_tick self.old }
         ensures came_up { result ≡ comes_up self.old }
@@ -204,7 +206,7 @@ fn feed_negotiation<H: Hasher>(negotiation: Negotiation, hasher: &mut H)
 impl Phy {
     ghost use Rattle.mdic_phy.specs.Phy.{after_control, control_value, restarted, status_value};
 
-    /// The value of the control register: the bits that clear themselves read 0.
+    /// Returns the value of the control register: the bits that clear themselves read 0.
     fn control(&self) -> Control
         ensures { result.0 ≡ control_value self.now }
     {
@@ -215,7 +217,7 @@ impl Phy {
         }
     }
 
-    /// The value of the status register now.
+    /// Returns the value of the status register.
     fn status(&self) -> Status
         ensures { result.0 ≡ status_value self.now }
     {
@@ -229,8 +231,8 @@ impl Phy {
         status
     }
 
-    /// A write of the control register. Bit 15 resets the PHY. Otherwise bit 12 is stored, and bits 12 and 9 together
-    /// restart negotiation.
+    /// Writes the control register. If bit 15 is set, the PHY is reset. Otherwise bit 12 is stored, and bits 12 and 9
+    /// together restart negotiation.
     fn write_control(&mut self, control: Control)
         ensures { self.new ≡ after_control control.0 self.old }
     {
@@ -244,7 +246,8 @@ impl Phy {
         }
     }
 
-    /// Takes the link down, and begins the count of ticks after which the link is up again.
+    /// Takes the link down, and latches its status low. Unless the setting of the link is `Never`, begins the
+    /// countdown after which the link is up again.
     fn restart(&mut self)
         ensures { self.new ≡ restarted self.old }
     {

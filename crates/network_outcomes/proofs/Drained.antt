@@ -12,12 +12,12 @@ use Rattle.wire.specs.DrainedNetworks.{NetworkDrains}
 use Rattle.wire.specs.Equations.{missed_count}
 use Rattle.network_outcomes.specs.Alike.{DrainsAreAlike, FrameSinks}
 
--- the frames that a host holds for a socket, if it is there
+-- the frames that a host holds for a socket, if the host exists
 held-in : NetworkState → (host socket : ℕ) → Option HostState → List (List ℕ)
 held-in network host socket None = []
 held-in network host socket (Some h) = held_for_socket h socket (world_at network.stations host)
 
--- What a drain leaves, by the state before it.
+-- The state after a drain, by the state before the drain.
 record Leaves (old : NetworkState) (host : ℕ) (given : List Given) (new : NetworkState) : Type 0 where
   given_for : (socket : ℕ) → given_for socket given ≡ held-in old host socket (slice_get old.hosts host)
   nothing : (h : HostState) → IsHost new host h → HoldsNothing h (world_at new.stations host)

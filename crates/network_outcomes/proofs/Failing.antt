@@ -1,4 +1,4 @@
--- The host whose initialization fails, and why, if each link comes up within 2,000 ticks or never.
+-- The host whose initialization fails, and why, if each link is up within 2,000 ticks or never.
 use Rattle.std.proofs.Common.{◌≡◌, ◌≢◌, ◌<◌, ℕ, List, Err, Ok, Result, Some, length, slice_get, inl, inr}
 use Rattle.std.proofs.Common.{ap, refl, subst, sym, ◌∙◌, arith}
 use Rattle.std.proofs.lemmas.Bool.{cases_order}
@@ -17,7 +17,7 @@ use Rattle.network_outcomes.specs.Alike.{IsSameFailure, LinksAreClear}
 use Rattle.network_outcomes.proofs.Made.{there-is}
 
 module _ (plans : List HostPlan) (clear : LinksAreClear plans) where
-  -- A host that can't be initialized has a wrong checksum, or a link that never comes up.
+  -- A host that can't be initialized has a wrong checksum, or a link that is never up.
   cannot : (k : ℕ) (plan : HostPlan) (error : InitError) → slice_get plans k ≡ Some plan → IsDevices plan error
       → HasRightSum plan.image → plan.link ≢ Never → ⊥
   cannot k plan fault.Checksum there devices sum comes = devices sum
@@ -27,7 +27,7 @@ module _ (plans : List HostPlan) (clear : LinksAreClear plans) where
   cannot k plan fault.PhyTimeout there devices sum comes = devices
   cannot k plan fault.Config there devices sum comes = devices
 
-  -- It fails for one reason.
+  -- The initialization of a host fails for one reason.
   one-reason : (plan : HostPlan) (a b : InitError) → IsDevices plan a → IsDevices plan b → a ≡ b
   one-reason plan fault.Checksum fault.Checksum x y = refl
   one-reason plan fault.Checksum fault.NoLink x y = absurd (x y.0)

@@ -20,11 +20,11 @@ use Rattle.wire.specs.HostsUp.{most_link_ticks}
 
 -- Networks that were made from one plan.
 
--- the adapter passes this frame
+-- the adapter's receive filter passes this frame
 abbrev pub PassesAt : World → List ℕ → Type 0
 PassesAt world frame = Passes (filter_of world.adapter.filter) frame
 
--- Two hosts that were made by one plan.
+-- Two hosts with their worlds are alike: these parts are equal.
 pub record HostsAreAlike (one : HostState) (a : World) (other : HostState) (b : World) : Type 0 where
   -- the sizes of the rings, and the number of receive buffers
   pub layout : one.driver.layout ≡ other.driver.layout
@@ -38,14 +38,14 @@ pub record HostsAreAlike (one : HostState) (a : World) (other : HostState) (b : 
   pub passes : (frame : List ℕ) → PassesAt a frame ↔ PassesAt b frame
   -- the EEPROM
   pub image : a.adapter.image ≡ b.adapter.image
-  -- after how many ticks the link is up
+  -- after how many ticks the link is up, or that it is never up
   pub link : a.adapter.phy.link ≡ b.adapter.phy.link
 
--- Two networks that were made by one plan.
+-- Two networks are alike: these parts are equal.
 pub record NetworksAreAlike (one other : NetworkState) : Type 0 where
   -- the number of hosts
   pub count : length one.hosts ≡ length other.hosts
-  -- the hosts with the same number
+  -- the hosts with the same number, which are alike
   pub hosts : (k : ℕ) (h h' : HostState) (s s' : StationState) → IsHost one k h → IsHost other k h' → slice_get one.stations k ≡ Some s
       → slice_get other.stations k ≡ Some s' → HostsAreAlike h s.world h' s'.world
   -- the wire of each host
@@ -57,8 +57,8 @@ IsOfPlan refused.Memory = ⊥
 IsOfPlan (refused.Init host error) = ⊥
 IsOfPlan error = ⊤
 
--- The link of each host is up within 2,000 ticks, or never. The contract of `Lan::new` doesn't state whether a link that is up later is
--- found.
+-- The link of each host is up within 2,000 ticks, or never. The contract of `Lan::new` doesn't state whether initialization succeeds if a
+-- link is up later.
 abbrev pub LinksAreClear : List HostPlan → Type 0
 LinksAreClear plans =
     (k : ℕ) (plan : HostPlan) → slice_get plans k ≡ Some plan → NeedsMoreThan most_link_ticks plan.link → plan.link ≡ Never
@@ -79,14 +79,15 @@ pub record Gave (frame_sink : FrameSinks) : Type 0 where
   pub frames : List Given
   pub appended : frame_sink.after ≡ frame_sink.before ++ frames
 
--- Two drains of the host with this number.
+-- After two drains of host `host`, these parts are equal. The first drain led to the network `one`, the second to
+-- `other`.
 pub record DrainsAreAlike (host : ℕ) (a b : FrameSinks) (one other : NetworkState) : Type 0 where
-  -- the frames that the first drain returned
+  -- the frames that each drain returned
   pub first : Gave a
   pub second : Gave b
   -- the frames of each socket, in order
   pub given : (socket : ℕ) → given_for socket first.frames ≡ given_for socket second.frames
-  -- the host holds nothing afterwards
+  -- the host holds nothing after the first drain
   pub nothing : (h : HostState) → IsHost one host h → HoldsNothing h (world_at one.stations host)
   -- the frames that the host still has to send
   pub to_send : frames_to_send (world_at one.stations host) ≡ frames_to_send (world_at other.stations host)

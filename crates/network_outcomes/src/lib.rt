@@ -1,5 +1,5 @@
-//! Calls of a network and of a scenario, each made twice. What both outcomes have in common is what the call's contract
-//! determines.
+//! Calls of a network and of a scenario, each made twice. The parts in which both outcomes are equal are those that the
+//! call's contract determines.
 #![tactic(auto)]
 
 mod network_calls;

@@ -21,8 +21,8 @@ use scenario::{Refusal, Scenario};
 use std::alloc::Global;
 use wire::{Counts, FrameSink, Lan};
 
-/// [`Scenario::read`] twice: one text is read to the same hosts, commands and traces, or refused for the same line,
-/// with the same fault.
+/// [`Scenario::read`] twice: both calls read the same hosts, commands and traces, or both refuse the text for the same
+/// line, with the same fault.
 pub fn read_twice(
     alloc: Global,
     text: &[u8],
@@ -34,8 +34,9 @@ pub fn read_twice(
     (Scenario::read(alloc, text), Scenario::read(alloc, text))
 }
 
-/// [`Lan::new`] twice: one plan is refused for the same reason, or leads to networks that are alike. If each link is up
-/// within 2,000 ticks or never, then the same host can't be initialized, for the same reason.
+/// [`Lan::new`] twice: if the first call refuses the plan, the second call refuses the plan for the same reason. If
+/// both calls make networks, these are alike. If each link is up within 2,000 ticks or never, and the first call fails
+/// to initialize a host, the second call fails at the same host, for the same reason, or because memory is refused.
 pub fn new_twice(alloc: Global, plan: &Plan) -> (Result<Lan, PlanError>, Result<Lan, PlanError>)
     ensures refused { (error : PlanError) → result.0 ≡ Err error → IsOfPlan error → result.1 ≡ Err error }
     ensures made { (one other : NetworkState) → result.0 ≡ Ok one → result.1 ≡ Ok other → NetworksAreAlike one other }
@@ -52,7 +53,8 @@ pub fn counts_twice(lan: &Lan, host: usize) -> (Option<Counts>, Option<Counts>)
     (lan.counts(host), lan.counts(host))
 }
 
-/// [`Lan::log`] twice: the entries of the frames that wait at a host's end are the same.
+/// [`Lan::log`] twice: the entries of the frames that wait at a host's end are the same. If there is no host of this
+/// number, the log is empty.
 pub fn log_twice<'a>(lan: &'a Lan, host: usize) -> (&'a [(usize, Frame)], &'a [(usize, Frame)])
     ensures waits { last_of_others host (length (backlog_at lan.now.stations host)) result.0.now
         ≡ last_of_others host (length (backlog_at lan.now.stations host)) result.1.now }
@@ -69,7 +71,7 @@ pub fn drain_room_twice(lan: &Lan, host: usize) -> (usize, usize)
 }
 
 /// [`Lan::drain`] twice: two drains of one host, from equal networks, return the same frames at each socket, and the
-/// networks afterwards are alike.
+/// networks after the drains are alike.
 pub fn drain_twice<S: FrameSink>(
     one: &mut Lan,
     other: &mut Lan,

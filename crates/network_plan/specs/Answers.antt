@@ -13,7 +13,7 @@ use Rattle.network_plan.specs.declared.reply.Answer.TheVariants.{Interrupted, Jo
 abbrev pub FrameAnswer : Type 0
 FrameAnswer = Answer (List ℕ)
 
--- this answer, with `frame` in place of its frame, if it has one
+-- this answer, with `frame` in place of the answer's frame, if the answer has a frame
 abbrev pub answer_with : {F G : Type 0} → G → Answer F → Answer G
 answer_with frame (Sent sent) = Sent sent
 answer_with frame (Received (Ok old)) = Received (Ok frame)
@@ -33,7 +33,7 @@ event_answer (InterruptedBy result) = Interrupted result
 event_answer (JoinedBy result) = Joined result
 event_answer (LeftBy result) = Left result
 
--- the ticks of an event, including each Go
+-- the ticks of an event, including each `Go`
 abbrev pub ticks_by : EventKind → List Tick
 ticks_by (ByCall call) = call.ticks
 ticks_by (ByReset host ticks) = ticks

@@ -1,5 +1,5 @@
--- The kinds of events (our choice): a call of a host with its ticks, a reset of a host's adapter with its ticks, or a
--- tick outside a call. So a definition about calls doesn't need a case for each kind of call.
+-- The kinds of events (our choice). An event is a call of a host with its ticks, a reset of a host's adapter with its ticks, or a tick
+-- outside a call. So a definition about calls doesn't need a case for each kind of call.
 use Rattle.std.specs.Prelude.{List, ℕ}
 use Rattle.packet_socket.specs.CallEffects.{Interrupting, Joining, Leaving, Receiving, Request, Sending}
 use Rattle.stations.specs.declared.tick.Tick.{Tick}

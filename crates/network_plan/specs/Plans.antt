@@ -27,7 +27,7 @@ most_hosts = 16
 abbrev pub is_of_name : ℕ → Bool
 is_of_name byte = (nat_le 0x61 byte && nat_le byte 0x7A) || (nat_le 0x30 byte && nat_le byte 0x39) || (byte == 0x5F) || (byte == 0x2D)
 
--- These are the bytes of a valid name of a host or a wire.
+-- The bytes are a valid name of a host or a wire.
 pub record IsName (bytes : List ℕ) : Type 0 where
   -- at least one byte
   pub least : 1 ≤ length bytes
@@ -44,7 +44,7 @@ hosts_named hosts name = count_by (λ (host : HostPlan). string_eq host.name nam
 abbrev pub hosts_on : List HostPlan → String Global → ℕ
 hosts_on hosts wire = count_by (λ (host : HostPlan). string_eq host.wire wire) hosts
 
--- The names of the host and of its wire are valid, and no other host has its name.
+-- The names of the host and of its wire are valid, and no other host has the host's name.
 pub record HasName (hosts : List HostPlan) (host : HostPlan) : Type 0 where
   -- the host's name is valid
   pub name : IsName (string_bytes host.name)
@@ -55,7 +55,7 @@ pub record HasName (hosts : List HostPlan) (host : HostPlan) : Type 0 where
 
 -- All names are valid, and no two hosts have the same name.
 pub record HasNames (hosts : List HostPlan) : Type 0 where
-  -- each host has valid names, and no other host has its name
+  -- each host and its wire have valid names, and no other host has the host's name
   pub all : All (HasName hosts) hosts
 
 -- A wire may have this number of ends.
@@ -93,9 +93,9 @@ pub record HasAddress (hosts : List HostPlan) (host : HostPlan) : Type 0 where
   -- no other host has the same address
   pub own : All (IsSameIfAddressed host) hosts
 
--- Each host has its own individual address.
+-- Each host has an individual address that no other host has.
 pub record HasAddresses (hosts : List HostPlan) : Type 0 where
-  -- each host has its own individual address
+  -- each host has an individual address that no other host has
   pub all : All (HasAddress hosts) hosts
 
 -- The host's configuration is valid in a memory that is large enough, and its link needs at least one tick, or is never
@@ -103,12 +103,12 @@ pub record HasAddresses (hosts : List HostPlan) : Type 0 where
 pub record HasConfig (host : HostPlan) : Type 0 where
   -- its rings, buffers, packet buffer, groups and VLANs are valid
   pub config : CanBeHad host.config (2 ^ 64 - 1)
-  -- its link needs at least one tick
+  -- its link needs at least one tick, or is never up
   pub link : host.link ≢ After 0
 
--- Each host has a valid configuration.
+-- `HasConfig` holds for each host.
 pub record HasConfigs (hosts : List HostPlan) : Type 0 where
-  -- each host has a valid configuration
+  -- each host has a valid configuration, and its link needs at least one tick, or is never up
   pub all : All HasConfig hosts
 
 -- The result of checking a plan: the first reason to reject the plan, or Ok if there is no reason.

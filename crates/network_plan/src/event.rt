@@ -3,8 +3,8 @@
 use stations::Tick;
 
 /// An event of a run. Just before each access of a call or of a reset, its ticks up to the next [`Go`](Tick::Go) are
-/// played. After the last access, the remaining ticks are played, and each `Go` is skipped. Hosts are numbered from 0
-/// in the order of the plan.
+/// played, or all remaining ticks if no `Go` remains. After the last access, the remaining ticks are played, and each
+/// `Go` is skipped. Hosts are numbered from 0 in the order of the plan.
 #[derive(Debug, Drop)]
 pub enum Event {
     /// A host sends a frame of any length. The answer is E20 if the frame has fewer than 14 bytes, and E21 if the frame
@@ -66,7 +66,7 @@ impl Event {
     ghost use Rattle.std.specs.Prelude.{◌≡◌, length};
     ghost use Rattle.network_plan.specs.Answers.{ticks_of};
 
-    /// The number of the event's ticks, including each `Go`.
+    /// Returns the number of the event's ticks, including each `Go`.
     pub fn tick_count(&self) -> usize
         ensures { result ≡ length (ticks_of self.now) }
     {

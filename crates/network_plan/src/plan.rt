@@ -34,7 +34,7 @@ pub struct HostPlan {
     /// The EEPROM of the host's adapter. In a valid plan its address is an individual address, and no other host has
     /// the same address.
     pub image: Image,
-    /// When the link is up: after a number of ticks of the PHY, or never.
+    /// When the link is up: after a number of ticks of the PHY, or never. In a valid plan the number is at least 1.
     pub link: Link,
     /// The configuration with which the host's adapter is initialized.
     pub config: Config,
@@ -81,14 +81,14 @@ impl Plan {
     }
 }
 
-/// Whether a byte may be in a name.
+/// Returns whether a byte may be in a name.
 fn is_of_name(byte: u8) -> bool
     ensures { result ≡ Rattle.network_plan.specs.Plans.is_of_name byte }
 {
     matches!(byte, b'a'..=b'z' | b'0'..=b'9' | b'_' | b'-')
 }
 
-/// Whether a text is a valid name.
+/// Returns whether a text is a valid name.
 fn is_name(text: &str) -> bool
     ensures { IsTrue result ↔ IsName text.now }
 {
@@ -98,21 +98,21 @@ fn is_name(text: &str) -> bool
         && bytes.iter().all(|byte| is_of_name(*byte))
 }
 
-/// The number of hosts with this name.
+/// Returns the number of hosts with this name.
 fn count_named(hosts: &[HostPlan], name: &String) -> usize
     ensures { result ≡ hosts_named hosts.now name.now }
 {
     hosts.iter().filter(|host| host.name == *name).count()
 }
 
-/// The number of hosts on the wire of this name, which is the number of its ends.
+/// Returns the number of hosts on the wire with this name, which is the number of the wire's ends.
 fn count_ends(hosts: &[HostPlan], wire: &String) -> usize
     ensures { result ≡ hosts_on hosts.now wire.now }
 {
     hosts.iter().filter(|host| host.wire == *wire).count()
 }
 
-/// Whether a host's name and that of its wire are valid, and no other host has its name.
+/// Returns whether a host's name and the name of its wire are valid, and no other host has the host's name.
 fn has_name(hosts: &[HostPlan], host: &HostPlan) -> bool
     ensures { IsTrue result ↔ HasName hosts.now host.now }
 {
@@ -121,14 +121,14 @@ fn has_name(hosts: &[HostPlan], host: &HostPlan) -> bool
         && count_named(hosts, &host.name) == 1
 }
 
-/// Whether all names are valid, and no two hosts have the same name.
+/// Returns whether all names are valid, and no two hosts have the same name.
 fn have_names(hosts: &[HostPlan]) -> bool
     ensures { IsTrue result ↔ HasNames hosts.now }
 {
     hosts.iter().all(|host| has_name(hosts, host))
 }
 
-/// Whether a host's wire has 2 to 8 ends.
+/// Returns whether a host's wire has 2 to 8 ends.
 fn has_wire(hosts: &[HostPlan], host: &HostPlan) -> bool
     ensures { IsTrue result ↔ HasWire hosts.now host.now }
 {
@@ -136,7 +136,7 @@ fn has_wire(hosts: &[HostPlan], host: &HostPlan) -> bool
     2 <= ends && ends <= MOST_ENDS
 }
 
-/// Whether each wire has 2 to 8 ends.
+/// Returns whether each wire has 2 to 8 ends.
 fn have_ends(hosts: &[HostPlan]) -> bool
     ensures { IsTrue result ↔ HasEnds hosts.now }
 {
@@ -148,28 +148,28 @@ fn have_ends(hosts: &[HostPlan]) -> bool
     true
 }
 
-/// Whether two hosts have different addresses, or the same name.
+/// Returns whether two hosts have different addresses, or the same name.
 fn is_same_if_addressed(host: &HostPlan, other: &HostPlan) -> bool
     ensures { IsTrue result ↔ IsSameIfAddressed host.now other.now }
 {
     other.image.address() != host.image.address() || other.name == host.name
 }
 
-/// Whether a host's address is an individual address, and no other host has the same address.
+/// Returns whether a host's address is an individual address, and no other host has the same address.
 fn has_address(hosts: &[HostPlan], host: &HostPlan) -> bool
     ensures { IsTrue result ↔ HasAddress hosts.now host.now }
 {
     host.image.address()[0] % 2 == 0 && hosts.iter().all(|other| is_same_if_addressed(host, other))
 }
 
-/// Whether each host's address is an individual address, and no other host has the same address.
+/// Returns whether each host's address is an individual address, and no other host has the same address.
 fn have_addresses(hosts: &[HostPlan]) -> bool
     ensures { IsTrue result ↔ HasAddresses hosts.now }
 {
     hosts.iter().all(|host| has_address(hosts, host))
 }
 
-/// Whether each host's configuration is valid, and its link needs at least one tick, or is never up.
+/// Returns whether each host's configuration is valid, and its link needs at least one tick, or is never up.
 fn have_configs(hosts: &[HostPlan]) -> bool
     ensures { IsTrue result ↔ HasConfigs hosts.now }
 {

@@ -3,7 +3,8 @@
 use bring_up::InitError;
 use thiserror::Error;
 
-/// Why no network was made of a plan. If there are several reasons, the first in this order is returned.
+/// Why no network was made of a plan. The first of `Name`, `Ends`, `Hosts`, `Address` and `Config` that applies is
+/// returned. `Memory` and `Init` are returned only for a valid plan.
 #[derive(Clone, Copy, Debug, PartialEq, Eq, Error)]
 pub enum PlanError {
     /// The name of a host or a wire is empty, has more than 16 bytes, or has a byte other than `a-z 0-9 _ -`. Or two

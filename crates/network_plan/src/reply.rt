@@ -1,8 +1,8 @@
 // The replies to events.
 
+use bring_up::GroupError;
 use descriptors::Frame;
 use driver::{Handled, SendError};
-use joined_groups::GroupError;
 use packet_socket::RecvError;
 use stations::{HeapFrame, Outcomes};
 use thiserror::Error;
@@ -30,12 +30,12 @@ pub enum Answer<F> {
         sending: Vec<Frame>,
         /// The frames that were held, oldest first.
         holding: Vec<Frame>,
-        /// The number of accesses that the reset had made when the receiver was enabled again.
+        /// The number of accesses up to and including the write of RCTL that enabled the receiver again.
         on_after: u64,
     },
     /// A tick was played outside a call.
     NoCall,
-    /// There is no such host. The ticks of the call were played.
+    /// There is no such host. The ticks of the call or the reset were played.
     NoHost,
 }
 
@@ -43,7 +43,7 @@ impl<F> Answer<F> {
     ghost use Rattle.std.specs.Prelude.{◌≡◌};
     ghost use Rattle.network_plan.specs.Answers.{answer_with};
 
-    /// The same answer, with `frame` in place of its frame, if it has one.
+    /// Returns the same answer, with `frame` in place of the answer's frame, if the answer has a frame.
     pub fn with_frame<G>(self, frame: G) -> Answer<G>
     where
         F: Drop,
@@ -72,23 +72,24 @@ impl<F> Answer<F> {
     }
 }
 
-/// The reply to an event: its answer, the number of accesses of the call, and the outcomes of its ticks. Each outcome
-/// has the number of accesses that the call had made before the tick. A `Go` inside a call has no outcome.
+/// The reply to an event: its answer, its number of accesses, and the outcomes of its ticks. Each outcome has the
+/// number of accesses that the event had made before the tick. A `Go` inside a call or a reset has no outcome.
 #[derive(Debug, Drop)]
 pub struct Reply {
     /// The answer to the event.
     pub answer: Answer<HeapFrame>,
-    /// The number of accesses of the call, up to the greatest `u64`.
+    /// The number of accesses of the call or the reset; 0 for a tick outside a call. The number saturates at the
+    /// greatest `u64`.
     pub accesses: u64,
     /// The outcomes of the event's ticks.
     pub outcomes: Outcomes,
 }
 
-/// A run ended before an event, because memory for its observer, or for the frames that a reset gives up, couldn't be
-/// allocated. The first `done` events were run and reported, and nothing else changed.
+/// A run ended before an event: the observer refused to make room, or memory for the frames that a reset gives up
+/// couldn't be allocated. The first `done` events were run and reported, and nothing else changed in the network.
 #[derive(Clone, Copy, Debug, PartialEq, Eq, Error)]
 #[error("E47 Memory")]
 pub struct Stopped {
-    /// The number of events that were done.
+    /// The number of events that were run.
     pub done: usize,
 }

@@ -12,7 +12,7 @@ use scenario::Scenario;
 use scenario_bench::{BenchError, Summary};
 use std::alloc::Global;
 
-/// A twin of [`scenario_bench::bench`].
+/// A twin of [`scenario_bench::bench`], with the clause for Ok.
 pub fn bench<W: Sink>(
     alloc: Global,
     scenario: Scenario,
@@ -36,7 +36,7 @@ pub fn bench<W: Sink>(
     }
 }
 
-/// A twin of [`scenario_bench::bench`].
+/// A twin of [`scenario_bench::bench`], with the clause for errors.
 pub fn bench_err<W: Sink>(
     alloc: Global,
     scenario: &Scenario,

@@ -11,7 +11,7 @@ use rx_engine::MOST_FRAMES;
 use std::alloc::Global;
 use wire::{FrameSink, Lan, RunObserver};
 
-/// A twin of [`Lan::play`].
+/// A twin of [`Lan::play`], with the clause for errors.
 pub fn play<O: RunObserver>(
     lan: &mut Lan,
     events: &[Event],

@@ -1,4 +1,5 @@
--- The exit status of the program (our choice: 1 for an input that is refused, 3 for a file that failed, 4 if memory is refused).
+-- The exit status of the program after a fault (our choice: 4 if memory is refused; 3 if a file or a stream can't be opened, read or
+-- written, is too long, or is used twice; 1 for every other fault, such as an input that is refused).
 use Rattle.std.specs.Prelude.{ℕ}
 use Rattle.adapter_server.specs.declared.serve_error.ServeError.TheVariants as server
 use Rattle.drive.specs.declared.drive_error.DriveError.TheVariants as drive
@@ -75,7 +76,7 @@ file_fault files.TraceMemory = faults.TraceMemory
 file_fault files.Pipe = faults.Pipe
 file_fault files.Memory = faults.Memory
 
--- the fault of a pass that failed
+-- the fault of a `pass` that failed
 abbrev pub pass_fault : PassError → Fault
 pass_fault pass.Memory = faults.Memory
 pass_fault pass.Write = faults.Write

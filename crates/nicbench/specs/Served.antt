@@ -14,7 +14,7 @@ abbrev pub link_of : ServeLink → Link
 link_of (asked.After ticks) = links.After ticks
 link_of asked.Never = links.Never
 
--- The image is that of the address. An image from a file may be any image.
+-- The image of an address is the one that `image_with` defines. An image from a file may be any image.
 abbrev pub IsImageFor : ServeImage → List ℕ → Type 0
 IsImageFor (images.Address address) image = image ≡ image_with address
 IsImageFor (images.File path) image = ⊤

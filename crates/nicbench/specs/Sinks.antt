@@ -1,4 +1,4 @@
--- The numbers of files that a run writes (our choice).
+-- The numbers of sockets and of wires of a plan. A run writes a file for each socket, and on request for each wire (our choice).
 use Rattle.std.specs.Prelude.{ℕ, List, length}
 use Rattle.network_plan.specs.declared.plan.HostPlan.{HostPlan}
 use Rattle.scenario.specs.SoFar.{hosts_of}

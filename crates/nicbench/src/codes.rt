@@ -7,7 +7,7 @@ use std::fmt::{self, Display};
 pub(crate) struct Code {
     /// The number and the name, as they are printed.
     pub(crate) label: &'static str,
-    /// The exit status: 1 if an input was refused, 3 if a file failed, 4 if memory was refused.
+    /// The exit status: 4 if memory was refused, 3 if a file or a stream can't be used, 1 for every other fault.
     pub(crate) status: u8,
     /// The meaning, and what a user can do. IN means the input.
     pub(crate) text: &'static str,

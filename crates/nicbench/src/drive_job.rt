@@ -9,10 +9,11 @@ use program_files::{FileError, create, read_trace};
 use qtest_bus::QtestBus;
 use std::io::{self, BufReader};
 
-/// The number of turns in a row without a frame after which `drive` ends, if `--idle` isn't given.
+/// The limit of turns in a row without a frame ([`DriveLimits`]), if `--idle` isn't given.
 const IDLE: u64 = 1_000;
 
-/// Sends frames to the adapter, whose answers are read from standard input, and writes the received frames to `sink`.
+/// Sends frames to the adapter, and writes the received frames to `sink`. Writes requests to standard output, and reads
+/// their answers from standard input.
 fn drive_adapter<S: Sink>(
     rt: &HostRuntime,
     job: &DriveJob<'_>,
@@ -41,7 +42,7 @@ fn drive_adapter<S: Sink>(
 }
 
 /// Sends these frames and writes OUT. Returns the counts, and whether all frames were passed to the driver and the
-/// expected number was received.
+/// expected number, if any, was received.
 fn exchange_frames(
     rt: &HostRuntime,
     job: &DriveJob<'_>,
@@ -52,7 +53,8 @@ fn exchange_frames(
     Ok((counts, counts.is_all(frames.len() as u64, job.expect)))
 }
 
-/// Reads a trace from a file. Standard input is refused, because the answers are read from it.
+/// Reads a trace from a file or a pipe with a path. The path `-` is refused, because the adapter's answers are read
+/// from standard input.
 fn read_file_trace(rt: &HostRuntime, path: &str) -> Result<Trace, FileError> {
     if path == "-" {
         Err(FileError::open(rt.alloc(), path))
@@ -62,13 +64,14 @@ fn read_file_trace(rt: &HostRuntime, path: &str) -> Result<Trace, FileError> {
 }
 
 /// Sends the frames of IN and writes OUT. Returns the counts, and whether all frames were passed to the driver and the
-/// expected number was received.
+/// expected number, if any, was received.
 fn exchange(rt: &HostRuntime, job: &DriveJob<'_>) -> Result<(DriveCounts, bool), Fault> {
     let trace = read_file_trace(rt, job.send)?;
     exchange_frames(rt, job, &trace.frames)
 }
 
-/// Runs `drive`. Its counts go to standard error, because requests go to standard output.
+/// Runs `drive`. Writes its counts to standard error, because it writes requests to standard output. Fails if not all
+/// frames were passed to the driver, or fewer frames than expected were received.
 pub(crate) fn run_drive(rt: &HostRuntime, job: &DriveJob<'_>) -> Result<(), Fault> {
     let (counts, is_all) = exchange(rt, job)?;
     let DriveCounts {

@@ -11,7 +11,7 @@ use scenario::Scenario;
 use std::alloc::AllocError;
 use std::fs::File;
 
-/// Whether a path is that of a file that a run reads: its scenario, or one of these traces.
+/// Returns whether a path is that of a file that a run reads: its scenario, or one of these traces.
 fn is_read(rt: &HostRuntime, path: &str, job: &RunJob<'_>, traces: &[String]) -> bool {
     for trace in traces {
         if is_same_file(rt, path, trace.as_str()) {
@@ -21,7 +21,7 @@ fn is_read(rt: &HostRuntime, path: &str, job: &RunJob<'_>, traces: &[String]) ->
     is_same_file(rt, path, job.scenario)
 }
 
-/// Whether a path is that of the file with this name in a folder.
+/// Returns whether a path is that of the file with this name in a folder.
 fn is_file_in(
     rt: &HostRuntime,
     path: &str,
@@ -32,7 +32,7 @@ fn is_file_in(
     Ok(is_same_file(rt, path, other.as_str()))
 }
 
-/// Whether a path is that of one of the files with these names in a folder.
+/// Returns whether a path is that of one of the files with these names in a folder.
 fn is_in_folder(
     rt: &HostRuntime,
     path: &str,
@@ -47,7 +47,7 @@ fn is_in_folder(
     Ok(false)
 }
 
-/// Whether a path is that of a socket's file in OUTDIR.
+/// Returns whether a path is that of a socket's file in OUTDIR.
 fn is_socket_file(
     rt: &HostRuntime,
     path: &str,
@@ -58,7 +58,8 @@ fn is_socket_file(
     is_in_folder(rt, path, job.directory, names.as_slice())
 }
 
-/// Whether a path is that of a wire's file in OUTDIR. False if the job doesn't ask for the files of wires.
+/// Returns whether a path is that of a wire's file in OUTDIR. Returns false if the job doesn't ask for the files of
+/// wires.
 fn is_wire_file(
     rt: &HostRuntime,
     path: &str,
@@ -69,7 +70,7 @@ fn is_wire_file(
     is_in_folder(rt, path, job.directory, names.as_slice())
 }
 
-/// Whether a path is that of a file that a run writes in OUTDIR.
+/// Returns whether a path is that of a file that a run writes in OUTDIR.
 fn is_written(
     rt: &HostRuntime,
     path: &str,
@@ -96,7 +97,7 @@ fn refuse_written(
     }
 }
 
-/// Opens the file at this path. Refuses a file that the run also reads, or writes in OUTDIR.
+/// Opens or creates the file at this path. Refuses a file that the run also reads, or writes in OUTDIR.
 fn create_unused(
     rt: &HostRuntime,
     path: &str,

@@ -27,23 +27,24 @@ pub(crate) enum Fault {
     Input(ReadError, String),
     /// Memory was refused while a trace was read.
     TraceMemory,
-    /// Standard input or a pipe has more bytes than are read.
+    /// Standard input or a pipe has more bytes than the program reads.
     Pipe,
     /// A file or standard output couldn't be written.
     Write,
-    /// The file at this path couldn't be opened or created.
+    /// The file at this path couldn't be opened or created, or the program doesn't accept it.
     Open(String),
-    /// The file of `--events`, at this path, is also one that the run reads, or another one that it writes.
+    /// The file of `--events`, at this path, is also a file that the run reads, or a file that the run writes in
+    /// OUTDIR.
     SameFile(String),
     /// A scenario was refused.
     Scenario(Refusal),
-    /// A scenario wasn't run to its end.
+    /// The plan of a scenario was refused, or the run of the scenario failed.
     Bench(BenchError),
     /// A server ended before its input did.
     Serve(ServeError),
-    /// `drive` ended before it was done.
+    /// `drive` failed.
     Drive(DriveError),
-    /// `drive` ended after turns without a frame, before all frames were sent and received.
+    /// `drive` ended before all frames were passed to the driver, or before the expected number, if any, was received.
     Fewer,
     /// The image of an EEPROM doesn't have 128 bytes.
     Image,
@@ -57,7 +58,7 @@ pub(crate) enum Fault {
     Memory,
 }
 
-/// The code of an input that was refused, or couldn't be read.
+/// Returns the code of an input that was refused or couldn't be read.
 fn input_code(error: ReadError) -> Code
     ensures { result.status ≡ status_of_input error }
 {
@@ -72,7 +73,7 @@ fn input_code(error: ReadError) -> Code
     }
 }
 
-/// The code of a faulty line of a scenario.
+/// Returns the code of a faulty line of a scenario.
 fn line_code(fault: LineFault) -> Code
     ensures { result.status ≡ 1 }
 {
@@ -87,7 +88,7 @@ fn line_code(fault: LineFault) -> Code
     }
 }
 
-/// The code of a plan that was refused.
+/// Returns the code of an error for which no network was made from a plan.
 fn plan_code(error: PlanError) -> Code
     ensures { result.status ≡ status_of_plan error }
 {
@@ -102,7 +103,7 @@ fn plan_code(error: PlanError) -> Code
     }
 }
 
-/// The code of a bus that stopped.
+/// Returns the code of a bus that stopped.
 fn bus_code(fault: BusFault) -> Code
     ensures { result.status ≡ status_of_bus fault }
 {
@@ -115,7 +116,7 @@ fn bus_code(fault: BusFault) -> Code
 }
 
 impl Fault {
-    /// The code of this fault.
+    /// Returns the code of this fault.
     pub(crate) fn code(&self) -> Code
         ensures { result.status ≡ status_of self.now }
     {
@@ -167,8 +168,8 @@ impl Display for Fault {
 }
 
 impl Fault {
-    /// The fault of a run whose `--events` names a file that it also uses otherwise. It is `Memory` if there is no
-    /// memory for the path.
+    /// Returns the fault of a run whose `--events` file is also a file that the run reads or writes in OUTDIR. It is
+    /// `Memory` if there is no memory for the path.
     pub(crate) fn same_file(alloc: Global, path: &str) -> Fault {
         match String::from_str(alloc, path) {
             Ok(path) => Fault::SameFile(path),
@@ -176,14 +177,14 @@ impl Fault {
         }
     }
 
-    /// Whether the files in OUTDIR are unchanged after a run that ended with this fault. A run writes them last, so
-    /// only a failed write (E67) changes them.
+    /// Returns whether existing files in OUTDIR are certainly unchanged after a run that ended with this fault. A run
+    /// writes these files after its last event, so they can change only if the fault is a failed write (E67).
     pub(crate) fn leaves_files(&self) -> bool {
         !matches!(self, Fault::Write | Fault::Bench(BenchError::Write(_)))
     }
 
-    /// The meaning of a fault of an input, with the path of the input and what a user can do. `None` for other faults,
-    /// and if there is no memory for this text.
+    /// Returns the meaning of a fault of an input and what a user can do, with the path of the input. `None` for other
+    /// faults, and if there is no memory for this text.
     pub(crate) fn advice(&self, alloc: Global) -> Option<String> {
         match self {
             Fault::Input(error, path) => {

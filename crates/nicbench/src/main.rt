@@ -29,7 +29,7 @@ use std::process::ExitCode;
 /// The exit status if the words are refused, or ask for help or the version.
 const USAGE: u8 = 2;
 
-/// The words that the program was called with.
+/// Returns the words that the program was called with.
 fn words(rt: &HostRuntime) -> Result<Vec<String>, LineError<'static>> {
     match env::args(rt) {
         Ok(args) => Ok(args.collect(rt.alloc())?),
@@ -53,8 +53,9 @@ fn refuse(rt: &HostRuntime, error: &LineError<'_>) -> ExitCode {
     }
 }
 
-/// Reports a fault of a job on standard error: its code, what to do if an input was refused, and whether the files in
-/// OUTDIR are unchanged. Returns the exit status, which is the fault's even if standard error accepts nothing.
+/// Reports a fault of a job on standard error: its code, and what to do if an input was refused. For `run`, also
+/// reports that existing files in OUTDIR are unchanged, if they are. Returns the exit status, which is the fault's even
+/// if standard error accepts nothing.
 fn report(rt: &HostRuntime, job: &Job<'_>, fault: &Fault) -> ExitCode {
     let _ = eprintln!(rt; "nicbench: {fault}");
     if let Some(advice) = fault.advice(rt.alloc()) {

@@ -13,7 +13,7 @@ use std::io;
 /// The path that means standard output.
 const STANDARD_OUTPUT: &str = "-";
 
-/// Writes the frames of a trace that pass to a sink.
+/// Writes to a sink the frames of a trace that pass.
 fn pass_trace<S: Sink>(
     rt: &HostRuntime,
     job: &PassJob<'_>,
@@ -30,7 +30,7 @@ fn pass_trace<S: Sink>(
     }
 }
 
-/// Renames the file with the frames that passed to OUT, and writes the line of counts to standard output.
+/// Finishes the file with the frames that passed, at the path OUT, and writes the line of counts to standard output.
 fn finish_pass(
     rt: &HostRuntime,
     path: &str,
@@ -43,7 +43,7 @@ fn finish_pass(
     Ok(())
 }
 
-/// Writes the frames of a trace that pass to a file, and the line of counts to standard output.
+/// Writes to a file the frames of a trace that pass, and to standard output the line of counts.
 fn pass_to_file(rt: &HostRuntime, job: &PassJob<'_>, trace: &Trace) -> Result<(), Fault>
     requires { HasVlanNumber job.now.filter }
 {
@@ -57,7 +57,7 @@ fn pass_to_file(rt: &HostRuntime, job: &PassJob<'_>, trace: &Trace) -> Result<()
     }
 }
 
-/// Writes the frames of a trace that pass to standard output, and the line of counts to standard error. A failed write
+/// Writes to standard output the frames of a trace that pass, and to standard error the line of counts. A failed write
 /// to standard error isn't an error.
 fn pass_to_standard_output(rt: &HostRuntime, job: &PassJob<'_>, trace: &Trace) -> Result<(), Fault>
     requires { HasVlanNumber job.now.filter }
@@ -67,7 +67,7 @@ fn pass_to_standard_output(rt: &HostRuntime, job: &PassJob<'_>, trace: &Trace) -
     Ok(())
 }
 
-/// Reads IN, and writes the frames that pass to OUT.
+/// Reads IN, and writes to OUT the frames that pass.
 pub(crate) fn run_pass(rt: &HostRuntime, job: &PassJob<'_>) -> Result<(), Fault>
     requires { HasVlanNumber job.now.filter }
 {

@@ -20,7 +20,7 @@ use std::io;
 /// The path that means standard output.
 const STANDARD_OUTPUT: &str = "-";
 
-/// The scenario with this text.
+/// Returns the scenario with this text.
 fn scenario_of(alloc: Global, text: &[u8]) -> Result<Scenario, Fault> {
     Ok(Scenario::read(alloc, text)?)
 }
@@ -78,7 +78,7 @@ fn push_socket_files(
     Ok(())
 }
 
-/// The name of the file of each socket, hosts in order and the sockets of each in order.
+/// Returns the name of the file of each socket, hosts in order and the sockets of each in order.
 pub(crate) fn socket_files(alloc: Global, plans: &[HostPlan]) -> Result<Vec<String>, AllocError>
     ensures { IfOk result (λ names. length names.items ≡ sockets_in plans.now) }
 {
@@ -89,8 +89,8 @@ pub(crate) fn socket_files(alloc: Global, plans: &[HostPlan]) -> Result<Vec<Stri
     Ok(names)
 }
 
-/// Appends the name of the file of a wire, `WIRE.pcap`. It is never the name of a socket's file: the name of a wire has
-/// no dot, and the name of a socket's file has two.
+/// Appends the name of the file of a wire, `WIRE.pcap`. In a valid plan, no socket's file has this name: a wire's name
+/// has no dot, and the name of a socket's file has two.
 fn push_wire_file(alloc: Global, wire: &str, names: &mut Vec<String>) -> Result<(), AllocError>
     ensures { OnOk result (length names.new.items ≡ length names.old.items + 1) }
 {
@@ -98,7 +98,7 @@ fn push_wire_file(alloc: Global, wire: &str, names: &mut Vec<String>) -> Result<
     Ok(())
 }
 
-/// The name of the file of each of these wires, in order.
+/// Returns the name of the file of each of these wires, in order.
 fn files_of_wires(alloc: Global, wires: &[&str]) -> Result<Vec<String>, AllocError>
     ensures { IfOk result (λ names. length names.items ≡ length wires.now) }
 {
@@ -109,8 +109,8 @@ fn files_of_wires(alloc: Global, wires: &[&str]) -> Result<Vec<String>, AllocErr
     Ok(names)
 }
 
-/// The name of the file of each wire, in the order in which the hosts first name the wires. No names if the job doesn't
-/// ask for these files.
+/// Returns the name of the file of each wire, in the order in which the hosts first name the wires. Returns no names if
+/// the job doesn't ask for these files.
 pub(crate) fn wire_files(
     alloc: Global,
     job: &RunJob<'_>,
@@ -125,7 +125,7 @@ pub(crate) fn wire_files(
     files_of_wires(alloc, found.as_slice())
 }
 
-/// A file for each socket, in a folder that must exist.
+/// Opens or creates a file for each socket, in a folder that must exist.
 fn create_socket_sinks(
     rt: &HostRuntime,
     directory: &str,
@@ -141,7 +141,7 @@ fn create_socket_sinks(
     Ok(sinks)
 }
 
-/// A file for each wire, if the job asks for them.
+/// Opens or creates a file for each wire, if the job asks for these files.
 fn create_wire_sinks(
     rt: &HostRuntime,
     job: &RunJob<'_>,
@@ -188,7 +188,7 @@ fn play_to_sinks<W: Sink>(
     }
 }
 
-/// Opens the files of wires, if the job asks for them. Then it plays a scenario, and writes the traces.
+/// Opens the files of wires, if the job asks for them. Then plays a scenario, and writes the traces.
 fn play_to_sockets(
     rt: &HostRuntime,
     job: &RunJob<'_>,
@@ -204,8 +204,8 @@ fn play_to_sockets(
     play_to_sinks(rt, job, scenario, traces, sinks, wire_sinks.as_mut_slice())
 }
 
-/// Opens the files in OUTDIR, plays a scenario, and writes the files. Those of the wires, if the job asks for them,
-/// follow those of the sockets.
+/// Opens the files in OUTDIR, plays a scenario, and writes the files. The files of sockets are written before those of
+/// wires, which are written only if the job asks for them.
 fn play(
     rt: &HostRuntime,
     job: &RunJob<'_>,
@@ -218,8 +218,8 @@ fn play(
     play_to_sockets(rt, job, scenario, traces, sinks.as_mut_slice())
 }
 
-/// Warns on standard error, once, if calls that the scenario asked for were refused. The exit status doesn't depend on
-/// this.
+/// Warns on standard error, once, if calls outside `auto` lines were refused. These refusals don't change the exit
+/// status.
 fn warn(rt: &HostRuntime, summary: &Summary) {
     let Refusals {
         sends,
@@ -257,7 +257,7 @@ fn play_to_standard_output(
     print_to_standard_output(rt, &summary)
 }
 
-/// Writes the lines of events to their file, if they were asked for.
+/// Writes the lines of events to their file, if the job asks for them.
 fn write_events<W: Sink>(summary: &Summary, file: &mut Option<W>) -> Result<(), WriteError>
     requires { IfSome file.old (λ sink. W.failures sink < u64.MAX) }
 {
@@ -274,7 +274,7 @@ fn print(rt: &HostRuntime, summary: &Summary) -> Result<(), Fault> {
     Ok(())
 }
 
-/// Writes the lines of events to a file, if they were asked for. The lines of hosts go to standard output.
+/// Writes the lines of events to a file, if the job asks for them, and the lines of hosts to standard output.
 fn print_with_file<W: Sink>(
     rt: &HostRuntime,
     summary: &Summary,
@@ -286,8 +286,8 @@ fn print_with_file<W: Sink>(
     print(rt, summary)
 }
 
-/// Plays a scenario, and writes the lines of events to a file that was opened before, if they were asked for. The lines
-/// of hosts go to standard output.
+/// Plays a scenario. Writes the lines of events to a file that was opened before, if the job asks for them, and the
+/// lines of hosts to standard output.
 fn play_with_file<W: Sink>(
     rt: &HostRuntime,
     job: &RunJob<'_>,
@@ -302,8 +302,8 @@ fn play_with_file<W: Sink>(
     print_with_file(rt, &summary, file)
 }
 
-/// Plays a scenario. The lines of events go to their file, if the job asks for them, and the lines of hosts to standard
-/// output.
+/// Plays a scenario. Writes the lines of events to their file, if the job asks for them, and the lines of hosts to
+/// standard output.
 fn play_to_file(
     rt: &HostRuntime,
     job: &RunJob<'_>,
@@ -332,14 +332,14 @@ fn play_scenario(
     }
 }
 
-/// Reads the traces that a scenario feeds, and plays it.
+/// Reads the traces that a scenario feeds, and plays the scenario.
 fn read_and_play(rt: &HostRuntime, job: &RunJob<'_>, scenario: &Scenario) -> Result<(), Fault> {
     let traces = read_traces(rt, scenario.trace_names())?;
     play_scenario(rt, job, scenario, traces.as_slice())
 }
 
 /// Reads SCENARIO and the traces that it feeds, plays the scenario, and writes its files. Prints a line for each host,
-/// and on request a line for each event.
+/// and on request a line for each event and drain.
 pub(crate) fn run_scenario(rt: &HostRuntime, job: &RunJob<'_>) -> Result<(), Fault> {
     let scenario = read_scenario(rt, job.scenario)?;
     read_and_play(rt, job, &scenario)

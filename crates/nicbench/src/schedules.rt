@@ -1,4 +1,4 @@
-//! The schedules of `serve`: the one that is played, and the one that is recorded.
+//! The schedules of `serve`: the schedule that is played, and the schedule that is recorded.
 
 use crate::fault::Fault;
 use command_line::ServeJob;
@@ -8,13 +8,13 @@ use std::fs::{File, OpenFile};
 use std::io::Write;
 use step_schedules::{Player, Schedule};
 
-/// The path that means standard input, from which requests are read.
+/// The path that means standard input. Requests are read from standard input.
 const STANDARD_INPUT: &str = "-";
 
 /// The first line of a recorded schedule.
 const COMMENT: &[u8] = b"# recorded by nicbench serve\n";
 
-/// Whether a schedule is for the adapter of this job.
+/// Returns whether a schedule is for the adapter of this job. A schedule without options is for every adapter.
 fn is_for_job(alloc: Global, schedule: &Schedule, job: &ServeJob<'_>) -> Result<bool, AllocError> {
     match &schedule.options {
         Some(options) => is_for(alloc, options.as_slice(), job),
@@ -22,7 +22,7 @@ fn is_for_job(alloc: Global, schedule: &Schedule, job: &ServeJob<'_>) -> Result<
     }
 }
 
-/// The schedule with this text, which must be for the adapter of this job.
+/// Returns the schedule with this text, which must be for the adapter of this job.
 fn schedule_of(alloc: Global, text: &[u8], job: &ServeJob<'_>) -> Result<Schedule, Fault> {
     let schedule = Schedule::parse(alloc, text)?;
     if is_for_job(alloc, &schedule, job)? {
@@ -32,7 +32,7 @@ fn schedule_of(alloc: Global, text: &[u8], job: &ServeJob<'_>) -> Result<Schedul
     }
 }
 
-/// Reads the bytes of a file. Standard input is refused.
+/// Reads the bytes of a file or a pipe with a path. The path `-` is refused.
 fn read_file(rt: &HostRuntime, path: &str) -> Result<Vec<u8>, FileError> {
     if path == STANDARD_INPUT {
         Err(FileError::open(rt.alloc(), path))
@@ -47,13 +47,13 @@ fn read_schedule(rt: &HostRuntime, path: &str, job: &ServeJob<'_>) -> Result<Sch
     schedule_of(rt.alloc(), bytes.as_slice(), job)
 }
 
-/// The player of the schedule at a path.
+/// Returns the player of the schedule at a path.
 fn playing(rt: &HostRuntime, path: &str, job: &ServeJob<'_>) -> Result<Player, Fault> {
     let schedule = read_schedule(rt, path, job)?;
     Ok(Player::playing(rt.alloc(), schedule)?)
 }
 
-/// The player that records, if the job asks for a record.
+/// Returns the player that records, if the job asks for a record.
 fn recording(alloc: Global, job: &ServeJob<'_>) -> Option<Player> {
     match job.record {
         Some(_) => Some(Player::recording(alloc)),
@@ -61,7 +61,7 @@ fn recording(alloc: Global, job: &ServeJob<'_>) -> Option<Player> {
     }
 }
 
-/// The player of a server, if the job asks for a schedule or a record.
+/// Returns the player of a server, if the job asks for a schedule or a record.
 pub(crate) fn player_of(rt: &HostRuntime, job: &ServeJob<'_>) -> Result<Option<Player>, Fault> {
     match job.schedule {
         Some(path) => Ok(Some(playing(rt, path, job)?)),
@@ -81,7 +81,8 @@ pub(crate) fn record_of(
     })
 }
 
-/// The text of the steps that were played, as a schedule. The options of the adapter in these words come first.
+/// Returns a schedule of the steps that were played. It begins with the options of the adapter in these words, if there
+/// are any.
 fn recorded(alloc: Global, words: &[String], player: &Player) -> Result<String, AllocError> {
     let options = adapter_options(alloc, words)?;
     if options.is_empty() {
@@ -91,7 +92,8 @@ fn recorded(alloc: Global, words: &[String], player: &Player) -> Result<String, 
     }
 }
 
-/// Stores the steps that were played, as a schedule. The options of the adapter in these words come first.
+/// Stores a schedule of the steps that were played: a comment, the options of the adapter in these words, and the
+/// steps.
 pub(crate) fn store<F: OpenFile + Write>(
     alloc: Global,
     file: &mut LateFile<F>,
@@ -105,7 +107,7 @@ pub(crate) fn store<F: OpenFile + Write>(
     Ok(())
 }
 
-/// Reports the deviations that weren't met.
+/// Reports the deviations that weren't met, on standard error. Fails if there is one.
 pub(crate) fn report_unmet(rt: &HostRuntime, player: &Player) -> Result<(), Fault> {
     let unmet = player.unmet(rt.alloc())?;
     if unmet.is_empty() {

@@ -16,7 +16,7 @@ use step_schedules::Player;
 /// The number of bytes of a file with the words of an EEPROM.
 const IMAGE_BYTES: usize = 128;
 
-/// The setting of the link that the options give.
+/// Returns the setting of the link in the options.
 fn link_of(link: ServeLink) -> Link
     ensures { result ≡ link_of link }
 {
@@ -26,7 +26,7 @@ fn link_of(link: ServeLink) -> Link
     }
 }
 
-/// The image in these bytes, the low byte of each word first, if there are 128 bytes.
+/// Returns the image in these bytes, the low byte of each word first; `None` if there aren't 128 bytes.
 fn image_in(bytes: &[u8]) -> Option<Image> {
     if bytes.len() != IMAGE_BYTES {
         return None;
@@ -38,7 +38,7 @@ fn image_in(bytes: &[u8]) -> Option<Image> {
     Some(Image::from_words(words))
 }
 
-/// The contents of the EEPROM that the job asks for.
+/// Returns the contents of the EEPROM that the job asks for.
 fn image_of(rt: &HostRuntime, image: ServeImage<'_>) -> Result<Image, Fault>
     ensures { IfOk result (IsImageFor image.entry) }
 {
@@ -53,7 +53,7 @@ fn image_of(rt: &HostRuntime, image: ServeImage<'_>) -> Result<Image, Fault>
     }
 }
 
-/// The options of the server, from the job.
+/// Returns the options of the server, from the job.
 fn options_of(job: &ServeJob<'_>, image: Image) -> ServeOptions
     ensures { result ≡ options_of job.now image }
 {
@@ -68,7 +68,8 @@ fn options_of(job: &ServeJob<'_>, image: Image) -> ServeOptions
     }
 }
 
-/// Serves: requests come from standard input, and their answers go to standard output. Returns the player after that.
+/// Serves: reads requests from standard input, and writes their answers to standard output. Returns the player after
+/// the last request.
 fn serve_input(
     rt: &HostRuntime,
     options: &ServeOptions,
@@ -87,7 +88,7 @@ fn serve_input(
     }
 }
 
-/// Stores the schedule that was recorded, and reports the deviations that weren't met.
+/// Stores the schedule that was recorded if there is a file for it, and reports the deviations that weren't met.
 fn finish(
     rt: &HostRuntime,
     words: &[String],

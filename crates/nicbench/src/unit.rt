@@ -2,7 +2,7 @@
 
 use pcap_bench::Unit;
 
-/// The unit with or without `--nanos`.
+/// Returns the unit with or without `--nanos`.
 pub(crate) fn unit_of(nanos: bool) -> Unit {
     if nanos { Unit::Nanos } else { Unit::Micros }
 }

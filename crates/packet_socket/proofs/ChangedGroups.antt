@@ -16,9 +16,9 @@ use Rattle.rx_engine.specs.GroupLists.{Removes}
 use Rattle.driver_law.proofs.Intervals.{joined-nothing}
 use Rattle.driver_law.specs.Calls.{IsRefilled, Moment, held_at}
 use Rattle.driver_law.specs.DriverState.{DriverState}
-use Rattle.joined_groups.specs.Groups.{ChangesJoined, SetsTable, with_groups, word_of}
-use Rattle.joined_groups.specs.declared.groups.GroupError.TheVariants.{GroupsFull, Joined, NotGroup, NotJoined}
-use Rattle.joined_groups.proofs.Numbers.{word_below}
+use Rattle.bring_up.specs.Groups.{ChangesJoined, SetsTable, with_groups, word_of}
+use Rattle.bring_up.specs.declared.groups.GroupError.TheVariants.{GroupsFull, Joined, NotGroup, NotJoined}
+use Rattle.bring_up.proofs.Numbers.{word_below}
 use Rattle.packet_socket.specs.HostActs.{IsGroupWrite, OnlyLastWrites, OverBus, SetsGroups}
 use Rattle.packet_socket.specs.HostCalls.{HostMoment, IsReadyHost, driver_at, host_at}
 use Rattle.packet_socket.specs.HostEffects.{GroupAnswer, JoinEffect, LeaveEffect, groups_act}

@@ -13,8 +13,8 @@ use Rattle.driver_law.specs.Calls.{DriverDid, DriverInWorld, FlowsTo}
 use Rattle.packet_socket.specs.HostActs.{ActKind, CallStages, Effect, Ends, HandlesInterrupt, HostAct, IsAccessOf, IsOfHost, MovesFrames}
 use Rattle.packet_socket.specs.HostActs.{PassesStages, SetsGroups, Then, accesses_in, changed_by}
 use Rattle.std.specs.Prelude.{Err, None, Ok, Option, Result, Some}
-use Rattle.joined_groups.specs.declared.groups.GroupError.TheVariants.{GroupsFull, NotGroup, NotJoined}
-use Rattle.joined_groups.specs.declared.groups.GroupError.TheVariants as errors
+use Rattle.bring_up.specs.declared.groups.GroupError.TheVariants.{GroupsFull, NotGroup, NotJoined}
+use Rattle.bring_up.specs.declared.groups.GroupError.TheVariants as errors
 use Rattle.packet_socket.specs.CallEffects.{EffectOf, Interrupting, Joining, Leaving, OfAnswer, Receiving, Request}
 use Rattle.packet_socket.specs.CallEffects.{Sending, interrupted_in, joined_in, left_in, received_in, sent_in}
 use Rattle.packet_socket.specs.declared.call.HostAnswer.{HostAnswer}

@@ -27,7 +27,7 @@ accesses_in Ends = []
 accesses_in (Then made Holds later) = made ++ accesses_in later
 
 -- The kind of a call: it handles an interrupt, sends or returns a frame, or changes the groups that the host has joined. The first access
--- of a call that handles an interrupt reads ICR. A call that makes no access counts as `MovesFrames`.
+-- of a call that handles an interrupt reads ICR. `no_act` has the kind `MovesFrames`.
 pub data ActKind : Type 0 where
   HandlesInterrupt : ActKind
   MovesFrames : ActKind
@@ -42,7 +42,7 @@ pub record HostAct : Type 1 where
   -- the frames that the call takes off the receive ring
   pub taken : List (List ℕ)
 
--- a call without accesses
+-- a call that makes no access and takes no frame
 abbrev pub no_act : HostAct
 no_act = record { stages = Ends; kind = MovesFrames; taken = [] }
 
@@ -50,8 +50,8 @@ no_act = record { stages = Ends; kind = MovesFrames; taken = [] }
 abbrev pub IsTailWrite : Counts → (offset value : ℕ) → Type 0
 IsTailWrite counts offset value = ((offset ≡ RDT) × (value < counts.rx)) ⊎ ((offset ≡ TDT) × (value < counts.tx))
 
--- The access may be one of a call that handles an interrupt or moves frames: a load, a store, a read of ICR or MPC, or
--- a write of RDT or TDT.
+-- The access may be one of a call that handles an interrupt or moves frames. Such an access is a load, a store, a read of ICR or MPC, or a
+-- write of RDT or TDT.
 abbrev pub IsOfDriver : Counts → Access → Type 0
 IsOfDriver counts (Reads offset value) = (offset ≡ ICR) ⊎ (offset ≡ MPC)
 IsOfDriver counts (Writes offset value) = IsTailWrite counts offset value
@@ -64,7 +64,7 @@ pub record IsGroupWord (offset : ℕ) : Type 0 where
   pub word : ℕ
   -- the table has such a word
   pub below : word < TABLE_WORDS
-  -- the offset is that word's
+  -- the offset is the one of this word
   pub is : offset ≡ MTA + REGISTER_BYTES * word
 
 -- The access is a write of a word of the group table.
@@ -129,8 +129,8 @@ PassesStages bus Ends old new past = (new ≡ old) × (past ≡ nothing)
 PassesStages bus (Then made Holds later) old new past =
     PassesStage bus made Holds old past (λ middle behind. PassesStages bus later middle new behind)
 
--- Between two moments, the host ran this act over a bus that obeys the law. Its sockets returned the frames `given`, and it accepted the
--- frames `accepted` for sending.
+-- Between two moments, the host ran the act `act` over a bus that obeys the law. The host's sockets returned the frames `given`, and the
+-- host accepted the frames `accepted` for sending.
 pub record OverBus {B : Type 0} (bus : Ghosts B) (up : Bool) (given : List Given) (accepted : List (List ℕ)) (old new : HostMoment B)
     (act : HostAct) : Type 0 where
   pub past : Past
@@ -147,13 +147,13 @@ pub record OverBus {B : Type 0} (bus : Ghosts B) (up : Bool) (given : List Given
   -- If no slot was staged before the call, no slot is staged after it.
   pub offered : old.host.driver.staged ≡ [] → new.host.driver.staged ≡ []
 
--- An effect states what a call does. It relates the host before the call (h), the host after the call (h'), and the
--- world before the call. `Runs act` states that the act was run.
+-- An effect states what a call does. The effect relates the host before the call (h), the host after the call (h'), and the world before
+-- the call. `Runs act` states that the act was run.
 abbrev pub Effect : Type 1
 Effect = (h h' : HostState) → (Runs : HostAct → Type 0) → World → Type 0
 
--- If the bus obeys the law, and the host is ready with its transmit side set up, the call has the effect `Does`. Its
--- sockets return the frames `given`, and it accepts the frames `accepted` for sending.
+-- If the bus obeys the law, and the host is ready with its transmit side set up, the call has the effect `Does`. The host's sockets return
+-- the frames `given`, and the host accepts the frames `accepted` for sending.
 abbrev pub CallsUp : {B : Type 0} → Ghosts B → List Given → (accepted : List (List ℕ)) → (old new : HostMoment B) → Effect → Type 0
 CallsUp bus given accepted old new Does =
     IsReadyHost bus true old → Does old.host new.host (OverBus bus true given accepted old new) (bus.world old.bus)

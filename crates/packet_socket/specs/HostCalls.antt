@@ -43,10 +43,10 @@ waiting_frame counts memory received = frame_of (waiting_pieces counts memory re
 abbrev pub driver_of : HostState → World → DriverState
 driver_of host world = holding (flat_map (waiting_pieces host.driver.layout world.memory) (all_of host.queues)) host.driver
 
--- The host is ready, with its transmit side set up or off: its driver is ready. Each queued frame has 60 to 1,518
--- bytes, and pieces that fit into their buffers.
+-- The host is ready, with its transmit side set up (`up`) or off: its driver is ready. Each queued frame has 60 to
+-- 1,518 bytes, and pieces that fit into their buffers.
 pub record HostReadyWith (up : Bool) (host : HostState) (world : World) : Type 0 where
-  -- each queued frame has a legal size
+  -- each queued frame has a legal size, and pieces that fit into their buffers
   pub sizes : AreFrames (all_of host.queues)
   -- the driver is ready; the queues hold the pieces of the queued frames
   pub ready : ReadyWith up (driver_of host world) world
@@ -98,11 +98,11 @@ pub record Accounts (h : HostState) (a : World) (h' : HostState) (b : World) (gi
   -- for each socket, no frame is lost, duplicated or reordered
   pub sockets : (socket : ℕ) → given_for socket given ++ held_for_socket h' socket b ≡ held_for_socket h socket a
       ++ socket_frames h.kinds socket stored
-  -- the count of unclaimed frames doesn't fall
+  -- the count of unclaimed frames doesn't decrease
   pub least : h.unclaimed ≤ h'.unclaimed
   -- only frames without a socket are counted as unclaimed
   pub most : unclaimed_in h' b ≤ unclaimed_in h a + without_socket h.kinds stored
-  -- each frame without a socket is counted, unless the count is at its greatest value
+  -- each frame without a socket is counted or still held, unless the count at the end is the greatest u64
   pub exactly : h'.unclaimed < count_limit - 1 → unclaimed_in h' b ≡ unclaimed_in h a + without_socket h.kinds stored
 
 -- A host with its world, at one point of a run.
@@ -144,7 +144,7 @@ did_both first later =
 -- beginning and at the end.
 pub record HostInterval (Holds : DriverInWorld → DriverInWorld → DriverDid → Past → Type 0) (old new : HostInWorld) (done : HostDid)
     (past : Past) : Type 0 where
-  -- each queued frame has a legal size
+  -- each queued frame has a legal size, and pieces that fit into their buffers
   pub sizes : AreFrames (all_of new.host.queues)
   -- what holds of the driver at the beginning and at the end
   pub driver : Holds (host_driver_in old) (host_driver_in new) done.driver past
@@ -263,7 +263,7 @@ pub record AreSorted (n : ℕ) (h h' : HostState) (taken : List (List HandedOut)
   pub count : length taken ≡ n
   -- each frame has at least one buffer, and no more buffers than the longest frame needs (`AreOfOneFrame`)
   pub groups : All AreOfOneFrame (map piece_numbers taken)
-  -- each frame has a legal size, and fills all its buffers except the last
+  -- each frame has a legal size, fills all its buffers except the last, and its last piece isn't empty
   pub each : All IsTaken taken
   -- each frame was queued or counted
   pub sorted : SortsFrames h h' (map received_of taken)

@@ -1,7 +1,6 @@
--- The effects of calls of a host, by their results. Each record is one way in which a call ends. It states when the
--- call has this result, the host after the call (h'), and the call's stages (`runs`). `Runs` is explained in
--- specs/HostActs. `world` is the adapter and memory before the call. A read of ICR clears the causes (13.4.17
--- "Interrupt Cause Read Register"); the rest is our choice.
+-- The effects of calls of a host, by their results. Each record is one way in which a call ends. The record states when the call has this
+-- result, the host after the call (h'), and the call's stages (`runs`). `Runs` is explained in specs/HostActs. `world` is the adapter and
+-- memory before the call. A read of ICR clears the causes (13.4.17 "Interrupt Cause Read Register"); the rest is our choice.
 use Rattle.std.specs.Prelude.{⊤, ◌≡◌, ◌≤◌, ◌<◌, ◌+◌, ◌-◌, ◌++◌, ◌∷◌, [], ℕ, Err, List, Ok, Result, length, map, take}
 use Rattle.std.specs.List.{Contains, concat}
 use Rattle.registers.specs.Bits.{HasBit, Meet}
@@ -20,9 +19,9 @@ use Rattle.bus.specs.declared.event.Access.{Access}
 use Rattle.bus.specs.declared.event.Access.TheVariants.{Reads}
 use Rattle.driver_law.specs.Calls.{HasNoForgottenWork, driver_in, frames_ended, send_accesses}
 use Rattle.driver_law.specs.DriverState.{HandedOut, next_receive, piece_numbers, with_owners}
-use Rattle.joined_groups.specs.Groups.{HasTable, SetsTable, with_groups}
-use Rattle.joined_groups.specs.declared.groups.GroupError.{GroupError}
-use Rattle.joined_groups.specs.declared.groups.GroupError.TheVariants.{GroupsFull, Joined, NotGroup, NotJoined}
+use Rattle.bring_up.specs.Groups.{HasTable, SetsTable, with_groups}
+use Rattle.bring_up.specs.declared.groups.GroupError.{GroupError}
+use Rattle.bring_up.specs.declared.groups.GroupError.TheVariants.{GroupsFull, Joined, NotGroup, NotJoined}
 use Rattle.driver.specs.HandlerSteps.{GrowsBy, IsLook, OnlyReceives, ReadsMisses, TakesAndOffers, offering_accesses, taking_accesses}
 use Rattle.driver.specs.Parts.{joined_frames}
 use Rattle.driver.specs.SendSteps.{SendAnswer, loads_to_free, with_transmit_slots}
@@ -188,10 +187,11 @@ pub record HandlesFrames (n : ℕ) (h h' : HostState) (Runs : HostAct → Type 0
   pub unclaimed : GrowsBy h.unclaimed h'.unclaimed (without_socket h.kinds (joined_frames taken))
   -- n is at least the number of frames that ended in finished slots when the call began
   pub least : length (frames_ended (driver_in h.driver world)) ≤ n
-  -- The buffers of the frames leave the ring, the slots of `rest` remain outstanding, and the staged slots and those of
-  -- `offered` are offered. The index of the oldest slot follows from the host being ready after the call.
+  -- The buffers of the frames leave the ring, the slots of `rest` remain outstanding, and the staged slots and those
+  -- of `offered` are offered. No run was bad. The index of the oldest slot follows from the host being ready after the
+  -- call.
   pub served : TakesAndOffers h.driver h'.driver (concat (map piece_numbers taken))
-  -- The outstanding transmit slots and the joined groups don't change.
+  -- The layout, the outstanding transmit slots, the setup and the joined groups don't change (`OnlyReceives`).
   pub only_receives : OnlyReceives h.driver h'.driver
   -- the number of descriptors that the last look loads
   pub loads : ℕ
@@ -230,7 +230,7 @@ groups_act h h' accesses = record {
 
 -- Ok of a join: the group is joined, and nothing else changes.
 pub record JoinsGroup (group : List ℕ) (h h' : HostState) (Runs : HostAct → Type 0) : Type 0 where
-  -- this is the address of a group
+  -- `group` is the address of a group
   pub group_is : IsGroup group
   -- the group isn't joined yet
   pub not_yet : ¬ Contains h.driver.groups group
@@ -247,7 +247,7 @@ pub record JoinsGroup (group : List ℕ) (h h' : HostState) (Runs : HostAct → 
 
 -- Ok of a leave: the group is no longer joined, and nothing else changes.
 pub record LeavesGroup (group : List ℕ) (h h' : HostState) (Runs : HostAct → Type 0) : Type 0 where
-  -- this is the address of a group
+  -- `group` is the address of a group
   pub group_is : IsGroup group
   -- the group was joined, and is no longer joined
   pub left : Removes group h.driver.groups h'.driver.groups

@@ -11,7 +11,7 @@ use Rattle.packet_socket.specs.declared.socket_kind.SocketKind.{SocketKind}
 abbrev pub queue_at : List (List Received) → ℕ → List Received
 queue_at queues socket = slice_index_or queues socket []
 
--- all queued frames
+-- the frames of all queues, those of the first queue first
 abbrev pub all_of : List (List Received) → List Received
 all_of [] = []
 all_of (queue ∷ later) = queue ++ all_of later
@@ -26,9 +26,9 @@ pub record SocketsState : Type 0 where
   -- the number of frames that no socket took; it saturates at the greatest u64
   pub unclaimed : ℕ
 
--- The state of a host: its driver, its sockets, and the frames queued for them.
+-- The state of a host: its driver, its sockets, the frames queued for them, and the count of frames without a socket.
 pub record HostState : Type 0 where
-  -- the driver's state, in which `handed_out` is empty
+  -- the driver's state; for a `Host`, `handed_out` is empty
   pub driver : DriverState
   -- the table of sockets
   pub kinds : List SocketKind

@@ -13,7 +13,8 @@ host_with driver sockets = record { driver = driver; kinds = sockets.kinds; queu
 abbrev pub host_inside : Inside → HostState
 host_inside host = host_with host.driver host.sockets
 
--- Each queue has room for all buffers. No buffer has two owners; the queues count as owners.
+-- There is a queue for each socket. Each queue has room for all buffers, and each queued frame has a legal size and
+-- pieces that fit into their buffers. No buffer has two owners; the queues count as owners.
 pub record AreOfHost (driver : DriverState) (sockets : SocketsState) : Type 0 where
   pub room : sockets.room ≡ driver.layout.buffers
   pub count : length sockets.queues ≡ length sockets.kinds

@@ -8,9 +8,9 @@ ghost use Rattle.packet_socket.specs.HostCalls.{host_at};
 
 use crate::Host;
 use crate::receive::RecvError;
+use bring_up::GroupError;
 use bus::Bus;
 use driver::{Handled, SendError};
-use joined_groups::GroupError;
 
 /// A call of a host, as a value.
 #[derive(Clone, Copy, Debug, Drop)]
@@ -27,7 +27,7 @@ pub enum HostCall<'a> {
     Leave([u8; 6]),
 }
 
-/// The answer of a call of a host. `F` is the type of a returned frame. For [`Host::call`], it is the frame's size in
+/// The answer of a call of a host. `F` is the type of a returned frame. For [`Host::call`], `F` is the frame's size in
 /// bytes.
 #[derive(Debug, Drop)]
 pub enum HostAnswer<F> {

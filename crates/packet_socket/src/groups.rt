@@ -7,15 +7,15 @@ ghost use Rattle.rx_engine.specs.Addresses.{IsGroup};
 ghost use Rattle.rx_engine.specs.GroupLists.{Removes};
 ghost use Rattle.bring_up.specs.declared.config.TheConstants.{MOST_GROUPS};
 ghost use Rattle.bus.specs.Keeping.{Keeps};
-ghost use Rattle.joined_groups.specs.Groups.{HasNumber};
-ghost use Rattle.joined_groups.specs.declared.groups.GroupError.TheVariants.{GroupsFull, Joined, NotGroup, NotJoined};
+ghost use Rattle.bring_up.specs.Groups.{HasNumber};
+ghost use Rattle.bring_up.specs.declared.groups.GroupError.TheVariants.{GroupsFull, Joined, NotGroup, NotJoined};
 ghost use Rattle.packet_socket.specs.HostActs.{CallsOver};
 ghost use Rattle.packet_socket.specs.HostCalls.{host_at};
 ghost use Rattle.packet_socket.specs.HostEffects.{JoinEffect, LeaveEffect, with_joined};
 
 use crate::Host;
+use bring_up::GroupError;
 use bus::Bus;
-use joined_groups::GroupError;
 
 impl Host {
     /// Joins a multicast group by [`Driver::join`](driver::Driver::join), so that frames to the group pass the receive
@@ -25,7 +25,7 @@ impl Host {
     ///
     /// E23 [`NotGroup`](GroupError::NotGroup) if the low bit of the address's first byte is clear, else E26
     /// [`Joined`](GroupError::Joined) if the group is joined already, else E24 [`GroupsFull`](GroupError::GroupsFull)
-    /// if 32 groups are joined. There is no access before an error.
+    /// if 32 groups are joined. If the call returns an error, it makes no access.
     pub fn join<B: Bus>(&mut self, bus: &mut B, group: [u8; 6]) -> Result<(), GroupError>
         ensures keeps { Keeps B.Bus bus.old bus.new }
 

@@ -55,7 +55,7 @@ impl Host {
     /// # Errors
     ///
     /// The errors of [`Driver::init`]. E10 also if the memory for the queues can't be allocated; there is no access
-    /// before this error. After each error the call may be made again.
+    /// before this error. After an error, the call may be made again.
     pub fn new<B: Bus>(
         alloc: Global,
         bus: &mut B,
@@ -82,7 +82,7 @@ impl Host {
         Ok(Host { driver, sockets })
     }
 
-    /// The places of the driver's rings and buffers. Calls that access memory need a bus with at least
+    /// Returns the places of the driver's rings and buffers. Calls that access memory need a bus with at least
     /// `layout().size()` bytes.
     pub fn layout(&self) -> Layout
         ensures { result ≡ self.now.driver.layout }
@@ -90,7 +90,7 @@ impl Host {
         self.driver.layout()
     }
 
-    /// The number of sockets.
+    /// Returns the number of sockets.
     pub fn socket_count(&self) -> usize
         ensures count { result ≡ length self.now.kinds }
         ensures queues { length self.now.queues ≡ length self.now.kinds }
@@ -98,8 +98,8 @@ impl Host {
         self.sockets.len()
     }
 
-    /// The number of frames queued for a socket, or 0 if there is no such socket. Each queued frame has a legal size,
-    /// and no buffer has two owners; the queues count as owners.
+    /// Returns the number of frames queued for a socket, or 0 if there is no such socket. Each queued frame has a
+    /// legal size, and pieces that fit into their buffers. No buffer has two owners; the queues count as owners.
     pub fn waiting(&self, socket: usize) -> usize
         ensures count { result ≡ length (queue_at self.now.queues socket) }
         ensures table { length self.now.queues ≡ length self.now.kinds }
@@ -110,15 +110,15 @@ impl Host {
         self.sockets.waiting(socket)
     }
 
-    /// The number of received frames that went to no socket; it saturates at the greatest `u64`.
+    /// Returns the number of received frames that went to no socket. The number saturates at the greatest `u64`.
     pub fn unclaimed(&self) -> u64
         ensures { result ≡ self.now.unclaimed }
     {
         self.sockets.unclaimed()
     }
 
-    /// The driver's sum of missed frames, and whether this sum is exact. If it isn't exact, more frames may have been
-    /// missed.
+    /// Returns the driver's sum of missed frames, and whether this sum is exact. A sum below 0xFFFF_FFFF is exact. If
+    /// the sum isn't exact, more frames may have been missed.
     pub fn missed(&self) -> (u64, bool)
         ensures sum { result.0 ≡ self.now.driver.missed }
         ensures exact { result.1 ≡ self.now.driver.exact }

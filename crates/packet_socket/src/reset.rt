@@ -10,7 +10,8 @@ use crate::Host;
 use bus::Bus;
 
 impl Host {
-    /// The place of the oldest outstanding slot of the receive ring.
+    /// Returns the place of the oldest outstanding slot of the receive ring, or of the next slot to be offered if no
+    /// slot is outstanding.
     pub fn oldest(&self) -> u16
         ensures { result ≡ self.now.driver.oldest_receive }
     {

@@ -40,7 +40,7 @@ impl Model for Sockets {
 }
 
 impl Sockets {
-    /// Sockets with empty queues, each with room for `room` frames.
+    /// Returns sockets with empty queues, each with room for `room` frames.
     pub(crate) fn new(
         alloc: Global,
         kinds: ArrayVec<SocketKind, MOST_SOCKETS>,
@@ -65,7 +65,7 @@ impl Sockets {
         })
     }
 
-    /// The number of sockets.
+    /// Returns the number of sockets.
     pub(crate) fn len(&self) -> usize
         ensures count { result ≡ length self.now.kinds }
         ensures queues { length self.now.queues ≡ length self.now.kinds }
@@ -73,7 +73,7 @@ impl Sockets {
         self.queues.len()
     }
 
-    /// The number of frames queued for a socket, or 0 if there is no such socket.
+    /// Returns the number of frames queued for a socket, or 0 if there is no such socket.
     pub(crate) fn waiting(&self, socket: usize) -> usize
         ensures { result ≡ length (queue_at self.now.queues socket) }
     {
@@ -83,14 +83,14 @@ impl Sockets {
         }
     }
 
-    /// The number of frames that no socket took.
+    /// Returns the number of frames that no socket took.
     pub(crate) fn unclaimed(&self) -> u64
         ensures { result ≡ self.now.unclaimed }
     {
         self.unclaimed
     }
 
-    /// Removes the oldest frame of a socket's queue, and returns it.
+    /// Removes and returns the oldest frame of a socket's queue. Returns `None` if the queue is empty.
     #[tactic(auto, using(crate::proofs::InsideQueues::others_stay))]
     pub(crate) fn next(&mut self, socket: usize) -> Option<Received>
         requires there { socket < length self.old.kinds }
@@ -110,8 +110,8 @@ impl Receiver for Sockets {
 
     ghost took = { Sorts };
 
-    /// Puts a frame at the end of its socket's queue. A frame without a socket is counted, and its buffers are returned
-    /// at once.
+    /// Puts a frame at the end of its socket's queue, if the queue has room. A frame without a socket is counted, and
+    /// its buffers are returned at once.
     fn take(&mut self, received: Received) -> Parts {
         let Some(socket) = socket_of(self.kinds.as_slice(), received.ether_type) else {
             self.unclaimed = self.unclaimed.saturating_add(1);

@@ -24,11 +24,11 @@ buffer_lies memory frame slot below size legal = let most = legal.most in omega 
 desc_lies : (memory : List ℕ) (slot : ℕ) → slot < slots → length memory ≡ 34816 → LiesIn memory (16 * slot) 16
 desc_lies memory slot below size = omega arith
 
--- a slot is the same or another one
+-- a slot is another slot
 abbrev IsOther : ℕ → ℕ → Type 0
 IsOther other slot = (other < slot) ⊎ (slot < other)
 
--- ---- a frame comes to the buffer of a slot
+-- ---- a frame is written to the buffer of a slot
 
 -- memory with the frame in the buffer, and with its descriptor written back
 abbrev pub with_frame : List ℕ → ℕ → List ℕ → List ℕ
@@ -158,11 +158,12 @@ kept_by_offer memory slot other buffer below size apart =
       | inr after ↦ inl (omega arith)
     ])
 
--- The descriptors below a bound name their buffers.
+-- The descriptors below a bound point to their buffers.
 abbrev pub NameBelow : List ℕ → ℕ → Type 0
 NameBelow memory bound = (k : ℕ) → k < bound → named_address memory (16 * k) ≡ buffer_at k
 
--- After the buffer of a slot is offered, its descriptor names this buffer, and the others name the same buffers as before.
+-- After the buffer of a slot is offered, its descriptor points to this buffer, and the other descriptors point to the same buffers as
+-- before.
 pub NameBelow-offered : (memory : List ℕ) (slot bound buffer : ℕ) → slot < slots → length memory ≡ 34816 → buffer ≡ buffer_at slot
     → ((k : ℕ) → k < bound → IsOther k slot → named_address memory (16 * k) ≡ buffer_at k)
     → NameBelow (with_offer memory slot buffer) bound

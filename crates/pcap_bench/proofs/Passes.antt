@@ -25,7 +25,7 @@ HaveFates-push keeps [] (u ∷ us) f t right is = absurd right
 HaveFates-push keeps (g ∷ gs) [] f t right is = absurd right
 HaveFates-push keeps (g ∷ gs) (u ∷ us) f t right is = (right.0, HaveFates-push keeps gs us f t right.1 is)
 
--- the kept frames of one frame: it or none
+-- the frame if it is kept, or no frame
 abbrev kept_of : ℕ → List ℕ → Fate → List Timed
 kept_of n f t = kept_from n (f ∷ []) (t ∷ [])
 

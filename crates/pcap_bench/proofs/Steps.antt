@@ -26,7 +26,7 @@ use Rattle.pcap_bench.proofs.Lanes.{NameBelow-offered, NameBuffers-finished}
 abbrev pub calm : AdapterState → ℕ → ℕ → AdapterState
 calm state head slot = record state { receive_kilobytes = 48; receiver = new_receiver; receive_ring = ring_at head slot }
 
--- The adapter of a lane is such an adapter.
+-- The adapter of a lane is calm.
 is_calm : (state : AdapterState) (head slot : ℕ) → state.receive_kilobytes ≡ 48 → state.receiver ≡ new_receiver
     → state.receive_ring ≡ ring_at head slot → state ≡ calm state head slot
 is_calm state head slot room idle ring =
@@ -38,7 +38,7 @@ calm_of : (lane : LaneState) → IsLane lane → IsWaiting lane → lane.adapter
 calm_of lane is waiting =
     is_calm lane.adapter lane.slot lane.slot is.room is.idle (is.ring ∙ ap (λ (head : ℕ). ring_at head lane.slot) waiting)
 
--- such an adapter, after a frame was stored
+-- a calm adapter, after a frame was stored
 abbrev pub with_stored : AdapterState → ℕ → List ℕ → AdapterState
 with_stored state slot frame = after_arrive Stored frame (calm state slot slot)
 

@@ -13,25 +13,27 @@ with_address None r = record r { ral = slice_set r.ral 0 0; rah = slice_set r.ra
 with_address (Some address) r = record r
     { ral = slice_set r.ral 0 (low_word address); rah = slice_set r.rah 0 (high_word address + 2 ^ 31) }
 
--- the table in which the word that has a number's bit has only this bit
+-- the table with a change of the word that contains a number's bit: only this bit of the word is 1
 abbrev pub with_bit : List ℕ → ℕ → List ℕ
 with_bit table number = slice_set table (number / 32) (2 ^ (number % 32))
 
--- MTA: the bit of the group's number, of bits 47 to 36 of its address
+-- MTA, if a group is given: in the word of the group's number, only this number's bit is 1. The number is bits 47 to 36 of the group's
+-- address.
 abbrev pub with_group : Option (List ℕ) → FilterRegisters → FilterRegisters
 with_group None r = r
 with_group (Some group) r = record r { mta = with_bit r.mta (group_number 4 group) }
 
--- VFTA: the bit of the VLAN's number
+-- VFTA, if a VLAN is given: in the word of the VLAN's number, only this number's bit is 1
 abbrev pub with_vlan : Option ℕ → FilterRegisters → FilterRegisters
 with_vlan None r = r
 with_vlan (Some number) r = record r { vfta = with_bit r.vfta number }
 
--- the registers with address, group and VLAN, and VET
+-- the registers for the options' address, group and VLAN; VET is `VLAN_TYPE`
 abbrev pub with_tables : PassFilter → FilterRegisters → FilterRegisters
 with_tables options r = record (with_vlan options.vlan (with_group options.group (with_address options.address r))) { vet = VLAN_TYPE }
 
--- RCTL: EN and BAM, with UPE and MPE if every address is accepted, and VFE if a VLAN is given
+-- RCTL: EN and BAM; also UPE and MPE if the first argument is true (every address is accepted), and VFE if the second is true (a VLAN is
+-- given)
 abbrev pub mode_bits : Bool → Bool → ℕ
 mode_bits true false = alone rctl_en + alone rctl_bam + alone rctl_upe + alone rctl_mpe
 mode_bits true true = alone rctl_en + alone rctl_bam + alone rctl_upe + alone rctl_mpe + alone rctl_vfe

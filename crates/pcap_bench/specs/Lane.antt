@@ -23,11 +23,12 @@ buffer_at slot = 18432 + 2048 * slot
 abbrev pub offered : ℕ → RxDesc
 offered buffer = record { address = buffer; length = 0; checksum = 0; status = status_of 0; errors = 0; special = 0 }
 
--- Each descriptor names the buffer of its slot.
+-- Each descriptor points to the buffer of its slot.
 abbrev pub NameBuffers : List ℕ → Type 0
 NameBuffers memory = (slot : ℕ) → slot < slots → named_address memory (16 * slot) ≡ buffer_at slot
 
--- RDBAL, RDBAH, RDLEN, RDH and RDT: the ring is at address 0, and the adapter owns it from the head up to the slot before the driver's.
+-- RDBAL, RDBAH, RDLEN, RDH and RDT: the ring of 8 descriptors is at address 0, and its tail is the slot before `slot`. So the adapter owns
+-- the slots from the head up to, but not including, that slot.
 abbrev pub ring_at : ℕ → ℕ → RingRegisters
 ring_at head slot = record { base_low = 0; base_high = 0; length_bytes = 16 * slots; head = head; tail = (slot + 7) % slots }
 
@@ -43,7 +44,8 @@ pub record IsReceiving (control : ℕ) : Type 0 where
   pub not_extended : ¬ (HasBit control rctl_bsex)
   pub size : field control rctl_bsize 2 ≡ 0
 
--- The invariant of a lane: its adapter receives, has room for frames and has none, and its ring is inside memory.
+-- The invariant of a lane: its adapter receives, and its receive packet buffer has 48 KB and is empty. The ring's tail is the slot before
+-- the driver's, memory has 34,816 bytes, and each descriptor points to its slot's buffer.
 pub record IsLane (lane : LaneState) : Type 0 where
   pub receiving : IsReceiving lane.adapter.filter.rctl
   pub room : lane.adapter.receive_kilobytes ≡ 48
@@ -53,11 +55,11 @@ pub record IsLane (lane : LaneState) : Type 0 where
   pub size : length lane.memory ≡ 34816
   pub buffers : NameBuffers lane.memory
 
--- The adapter waits for a frame for the driver's slot.
+-- The adapter's head is at the driver's slot.
 abbrev pub IsWaiting : LaneState → Type 0
 IsWaiting lane = lane.adapter.receive_ring.head ≡ lane.slot
 
--- the descriptor at the driver's slot, and the bytes that it names
+-- the descriptor at the driver's slot; the bytes at the descriptor's address, of the descriptor's length
 abbrev pub slot_desc : LaneState → RxDesc
 slot_desc lane = descriptor_at lane.memory (16 * lane.slot)
 

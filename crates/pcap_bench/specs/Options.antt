@@ -9,8 +9,9 @@ use Rattle.rx_engine.specs.declared.filter.TheConstants.{VLAN_TYPE}
 abbrev pub IsOpen : PassFilter → Type 0
 IsOpen options = (options.address ≡ None) × (options.group ≡ None)
 
--- The options' address is the only receive address, and their VLAN the only VLAN. The group table has one number: that of bits 47 to 36
--- of the options' group. Broadcast is accepted, and every address if neither an address nor a group is given.
+-- The only receive address is the given address, and the only number in the group table is bits 47 to 36 of the given group's address. If
+-- no address is given, there is no receive address; if no group is given, the group table is empty. If a VLAN is given, only its number is
+-- in the VLAN table; otherwise every VLAN is accepted. Broadcast is accepted, and every address if neither an address nor a group is given.
 abbrev pub filter_for : PassFilter → ReceiveFilter
 filter_for options = record {
   addresses = λ address. options.address ≡ Some address;
@@ -24,10 +25,10 @@ filter_for options = record {
   broadcasts = Unit {0};
 }
 
--- the filter for these options passes a padded frame
+-- the filter for these options passes this frame
 abbrev pub KeptBy : PassFilter → List ℕ → Type 0
 KeptBy options frame = Passes (filter_for options) frame
 
--- VLAN numbers have 12 bits.
+-- If a VLAN is given, its number has at most 12 bits.
 abbrev pub HasVlanNumber : PassFilter → Type 0
 HasVlanNumber options = IfSome options.vlan (λ n. n ≤ 4095)

@@ -21,13 +21,14 @@ pub data Fate : Type 0 where
   filtered : Fate
   kept : Fate
 
--- A frame below 14 or above 1,518 bytes is illegal. Another frame is padded to 60 bytes, and then kept or filtered.
+-- A frame below 14 or above 1,518 bytes is illegal. Another frame is kept if `keeps` holds of the frame padded to at least 60 bytes, else
+-- filtered.
 abbrev pub IsFate : Filter → List ℕ → Fate → Type 0
 IsFate keeps frame illegal = is_sendable frame ≡ false
 IsFate keeps frame filtered = (is_sendable frame ≡ true) × (keeps (padded frame) → ⊥)
 IsFate keeps frame kept = (is_sendable frame ≡ true) × keeps (padded frame)
 
--- Each frame has its fate.
+-- There are as many fates as frames, and each frame has the fate at its place.
 abbrev pub HaveFates : Filter → List (List ℕ) → List Fate → Type 0
 HaveFates keeps [] [] = ⊤
 HaveFates keeps [] (t ∷ ts) = ⊥
@@ -80,18 +81,18 @@ pub record WritesKept (unit : Unit) (keeps : Filter) (frames : List (List ℕ)) 
   -- the frames that are written are counted
   pub written_is : counts.written ≡ count_by is_kept fates
 
--- The first frames had their fates, and a beginning of the written form of those kept was written.
+-- The fates of some first frames, perhaps of all, were decided. A beginning of the written form of the kept frames among them was written.
 pub record StopsAmong (unit : Unit) (keeps : Filter) (frames : List (List ℕ)) (before after : Option (List ℕ)) : Type 0 where
   -- the number of frames whose fate was decided
   pub count : ℕ
   -- their fates
   pub fates : List Fate
-  -- each has the right fate
+  -- each of these frames has the right fate
   pub right : HaveFates keeps (take count frames) fates
-  -- a beginning of the written form of those kept was written
+  -- a beginning of the written form of the kept frames was written
   pub went : AppendsFront before after (written unit (kept_from 0 (take count frames) fates))
 
--- If memory is refused, nothing was written. If a write failed, the sink counts one failure more.
+-- If memory is refused, nothing was written, and the sink counts no failure. If a write failed, the sink counts one failure more.
 abbrev pub StopsBy : PassError → Option (List ℕ) → Option (List ℕ) → ℕ → ℕ → Type 0
 StopsBy Memory before after old new = (after ≡ before) × (new ≡ old)
 StopsBy Write before after old new = new ≡ old + 1

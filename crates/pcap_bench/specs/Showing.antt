@@ -23,11 +23,11 @@ address_text (first ∷ others) = pair first ++ flat_map colon_pair others
 abbrev pub source : List ℕ → List ℕ
 source frame = slice_range frame 6 12
 
--- the type: bytes 12 and 13, the higher one first
+-- the type: the digits of byte 12, and then those of byte 13
 abbrev pub type_text : List ℕ → List ℕ
 type_text frame = pair (slice_index frame 12) ++ pair (slice_index frame 13)
 
--- destination, source and type, if the frame has all 14 bytes of them
+-- destination, source and type, or `short` if the frame has fewer than 14 bytes
 abbrev pub header_text : List ℕ → List ℕ
 header_text frame =
     if nat_lt (length frame) 14 then codes " short"

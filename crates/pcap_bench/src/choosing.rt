@@ -12,10 +12,10 @@ use command_line::PassFilter;
 use registers::{GroupOffset, Rctl};
 use rx_engine::{AddressWords, TableBit, VLAN_TYPE, hash_of};
 
-/// RAH(0), which follows RAL(0).
+/// The offset of RAH(0), which follows RAL(0).
 const RAH: u32 = RAL + REGISTER_BYTES;
 
-/// Writes RAL(0) and RAH(0): the address, or 0 if there is none.
+/// Writes RAL(0) and RAH(0): the address with AV, or 0 if no address is given.
 fn write_address(adapter: &mut Adapter, address: &Option<[u8; 6]>)
     ensures written { adapter.new ≡ record adapter.old { filter = with_address address.now adapter.old.filter } }
     ensures address { IfSome address.now IsAddress }
@@ -28,7 +28,7 @@ fn write_address(adapter: &mut Adapter, address: &Option<[u8; 6]>)
     adapter.write(RAH, words.high);
 }
 
-/// Writes the word of a table that has the bit of a number. Only this bit is set in it.
+/// Writes the word of a table that contains the bit of a number. Only this bit of the word is 1.
 fn write_number(adapter: &mut Adapter, table: u32, number: u16)
     requires table { table ≤ VFTA }
     requires number { number ≤ 4095 }
@@ -38,7 +38,7 @@ fn write_number(adapter: &mut Adapter, table: u32, number: u16)
     adapter.write(table + REGISTER_BYTES * u32::from(place.word), place.mask);
 }
 
-/// Writes the word of MTA that has the bit of the group, if there is one.
+/// Writes the word of MTA that contains the bit of the group, if a group is given.
 fn write_group(adapter: &mut Adapter, group: &Option<[u8; 6]>)
     ensures { adapter.new ≡ record adapter.old { filter = with_group group.now adapter.old.filter } }
 {
@@ -47,7 +47,7 @@ fn write_group(adapter: &mut Adapter, group: &Option<[u8; 6]>)
     }
 }
 
-/// Writes the word of VFTA that has the bit of the VLAN, if there is one.
+/// Writes the word of VFTA that contains the bit of the VLAN, if a VLAN is given.
 fn write_vlan(adapter: &mut Adapter, vlan: Option<u16>)
     requires { IfSome vlan (λ number. number ≤ 4095) }
     ensures { adapter.new ≡ record adapter.old { filter = with_vlan vlan adapter.old.filter } }
@@ -57,8 +57,8 @@ fn write_vlan(adapter: &mut Adapter, vlan: Option<u16>)
     }
 }
 
-/// RCTL for these options: EN and BAM, also UPE and MPE if neither an address nor a group is given, and VFE if a VLAN
-/// is given.
+/// Returns RCTL for these options: EN and BAM. UPE and MPE are also set if neither an address nor a group is given, and
+/// VFE if a VLAN is given.
 pub fn mode_of(options: &PassFilter) -> Rctl
     ensures { result.0 ≡ mode_for options.now }
 {

@@ -25,15 +25,15 @@ use mdic_phy::Link;
 use std::alloc::{AllocError, Global};
 use std::marker::Model;
 
-/// The address in the EEPROM. The exact filter has this address until a driver writes another one.
+/// The address in the EEPROM. The exact filter has this address until another address is written.
 const OWN_ADDRESS: [u8; 6] = [0x02, 0, 0, 0, 0, 0x01];
 
 /// The mask of an address's low 32 bits.
 const LOW_WORD: u64 = 0xFFFF_FFFF;
 
 /// An adapter whose filter is set for a pass, the host's memory that it receives into, and the slot that its driver
-/// reads next. The ring has 8 descriptors, each with its buffer. The adapter owns all except the slot before the
-/// driver's.
+/// reads next. The ring has 8 descriptors, each with its buffer. If no frame waits for the driver, the adapter owns all
+/// slots except the slot before the driver's.
 #[derive(Drop)]
 pub struct ReceiveLane {
     adapter: Adapter,
@@ -80,7 +80,7 @@ fn finish_frame(adapter: &mut Adapter, memory: &mut HostMemory)
 }
 
 impl ReceiveLane {
-    /// A lane whose adapter receives the frames that these options accept.
+    /// Returns a lane whose adapter receives the frames that these options accept.
     ///
     /// # Errors
     ///
@@ -105,8 +105,8 @@ impl ReceiveLane {
         })
     }
 
-    /// A frame of 14 to 1,518 bytes arrives, padded with zeros to 60 bytes. Returns whether the adapter received it:
-    /// then the descriptor at the driver's slot is finished; otherwise nothing changes.
+    /// Lets a frame of 14 to 1,518 bytes arrive, padded with zeros to at least 60 bytes. Returns whether the adapter
+    /// received the frame. If so, the descriptor at the driver's slot is finished; otherwise the lane doesn't change.
     pub fn receive(&mut self, frame: &[u8]) -> bool
         requires sendable { IsTrue (is_sendable frame.now) }
         requires waiting { IsWaiting self.old }
@@ -123,7 +123,7 @@ impl ReceiveLane {
         self.arrive(frame)
     }
 
-    /// [`receive`](ReceiveLane::receive) for a frame of 60 to 1,518 bytes.
+    /// Does what [`receive`](ReceiveLane::receive) does, for a frame of 60 to 1,518 bytes.
     fn arrive(&mut self, frame: &[u8]) -> bool
         requires legal { IsLegal frame.now }
         requires waiting { IsWaiting self.old }
@@ -141,14 +141,14 @@ impl ReceiveLane {
         }
     }
 
-    /// The descriptor at the driver's slot.
+    /// Returns the descriptor at the driver's slot.
     pub fn descriptor(&self) -> RxDesc
         ensures { result ≡ slot_desc self.now }
     {
         load_desc(&self.memory, self.slot)
     }
 
-    /// The frame of the finished descriptor at the driver's slot, in place, in the host's memory.
+    /// Returns the frame of the finished descriptor at the driver's slot, in place, in the host's memory.
     pub fn received(&self) -> &[u8]
         requires { HasFrame self.now (slot_bytes self.now) }
         ensures { result.now ≡ slot_bytes self.now }

@@ -12,7 +12,7 @@ pub enum PassError {
     /// Memory was refused; nothing was written.
     #[error("out of memory")]
     Memory,
-    /// The sink failed during the call. It has only a beginning of the text.
+    /// The sink failed during the call. Only a beginning of the trace was written.
     #[error("the sink failed")]
     Write,
 }

@@ -18,7 +18,7 @@ use descriptors::{LONGEST_SENDABLE, SHORTEST_SENDABLE};
 use pcap_trace::{RecordWriter, Sink, Trace, Unit, WriteError};
 use std::alloc::Global;
 
-/// Whether a frame can be sent: whether it has 14 to 1,518 bytes.
+/// Returns whether a frame can be sent: whether it has 14 to 1,518 bytes.
 fn is_sendable(frame: &[u8]) -> bool
     ensures { result ≡ is_sendable frame.now }
 {
@@ -50,8 +50,8 @@ fn write_received<W: Sink>(
     Ok(())
 }
 
-/// Sends the frames of a trace to a lane, and writes those that its receive filter accepts. Only the file header waits
-/// in the writer.
+/// Sends the frames of a trace to a lane, and writes the frames that its receive filter accepts. Before the call, only
+/// the file header waits in the writer.
 fn pass_frames<W: Sink>(
     lane: &mut ReceiveLane,
     writer: &mut RecordWriter,
@@ -91,20 +91,21 @@ fn pass_frames<W: Sink>(
     Ok(counts)
 }
 
-/// Sends each frame of a trace that has a legal size to an adapter, padded with zeros to 60 bytes. Frames that its
-/// receive filter accepts reach the host's memory through a receive ring of 8 descriptors, and are written from there.
-/// A written frame's time in microseconds is its number among the frames of the trace, from 0; truncated packets don't
-/// count. The trace has its times in `unit`.
+/// Sends each frame of 14 to 1,518 bytes of a trace to an adapter, padded with zeros to at least 60 bytes. Frames that
+/// its receive filter accepts reach the host's memory through a receive ring of 8 descriptors, and are written from
+/// there. A written frame's time in microseconds is its number among the frames of the trace, from 0; truncated packets
+/// don't count. The trace has its times in `unit`.
 ///
-/// Frames below 14 or above 1,518 bytes are counted as illegal. The filter judges each of the others after padding. If
-/// an address is given, it is the only receive address. If a group is given, its hash is the only bit of MTA (RCTL.MO
-/// 00). If a VLAN is given, it is the only VLAN, with the VLAN type 0x8100. If neither an address nor a group is given,
-/// the filter accepts every address (UPE, MPE). It always accepts broadcast (BAM).
+/// Frames below 14 or above 1,518 bytes are counted as illegal. The filter checks each of the other frames after
+/// padding. If an address is given, it is the only receive address. If a group is given, its hash (RCTL.MO 00) selects
+/// the only bit of MTA that is 1. If a VLAN is given, it is the only VLAN, with the VLAN type 0x8100. If neither an
+/// address nor a group is given, the filter accepts every address (UPE, MPE). The filter always accepts the broadcast
+/// address (BAM).
 ///
 /// # Errors
 ///
 /// [`Memory`](PassError::Memory) if memory is refused, before anything is written. [`Write`](PassError::Write) if the
-/// sink fails during the call; then it has only a beginning of the text.
+/// sink fails during the call; then only a beginning of the trace was written.
 pub fn pass<W: Sink>(
     alloc: Global,
     trace: &Trace,

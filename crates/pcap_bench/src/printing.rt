@@ -9,13 +9,13 @@ use arrayvec::ArrayVec;
 use itoa::Buffer;
 use pcap_trace::{Sink, Trace, WriteError, write_all};
 
-/// Room for the longest line: five labels and numbers, of at most 60 bytes each, and `cut no` or `cut yes`.
+/// Room in bytes for the longest line: five labels with numbers, of at most 60 bytes each, and `cut no` or `cut yes`.
 const LONGEST_LINE: usize = 320;
 
 /// A line under construction.
 pub(crate) type Line = ArrayVec<u8, LONGEST_LINE>;
 
-/// Appends a label and a number.
+/// Appends a label of at most 20 bytes and a number: at most 60 bytes.
 pub(crate) fn push_field(line: &mut Line, label: &[u8], number: u64)
     requires label { length label.now ≤ 20 }
     requires room { length line.old.items + 60 ≤ 320 }
@@ -42,7 +42,7 @@ pub(crate) fn push_cut(line: &mut Line, cut: bool)
 ///
 /// # Errors
 ///
-/// [`Write`](WriteError::Write) if the sink fails; then it has only a beginning of the line.
+/// [`Write`](WriteError::Write) if the sink fails. Then only a beginning of the line was written.
 pub fn print_pass<W: Sink>(
     trace: &Trace,
     counts: &PassCounts,

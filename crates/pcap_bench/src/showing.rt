@@ -37,7 +37,7 @@ fn push_address(line: &mut Line, address: &[u8])
     }
 }
 
-/// Appends a frame's destination, source and type, or `short`.
+/// Appends a frame's destination, source and type, or `short` if the frame has fewer than 14 bytes.
 fn push_header(line: &mut Line, frame: &[u8])
     requires room { length line.old.items + 60 ≤ 320 }
     ensures text { line.new.items ≡ line.old.items ++ header_text frame.now }
@@ -69,7 +69,7 @@ fn write_frame<W: Sink>(sink: &mut W, number: u64, frame: &[u8]) -> Result<(), W
     write_all(sink, line.as_slice())
 }
 
-/// Writes the last line, with the number of frames.
+/// Writes the last line: the numbers of frames and of skipped packets, and whether the trace is cut off.
 fn write_end<W: Sink>(sink: &mut W, trace: &Trace, count: u64) -> Result<(), WriteError>
     requires countable { W.failures sink.old < u64.MAX }
     requires counted { count ≡ length trace.now.frames }
@@ -84,8 +84,8 @@ fn write_end<W: Sink>(sink: &mut W, trace: &Trace, count: u64) -> Result<(), Wri
     write_all(sink, line.as_slice())
 }
 
-/// Writes the lines of `show` to a sink, each ended by a line feed. The line of a frame is `N LEN DST SRC TYPE`, or
-/// `N LEN short` if it has fewer than 14 bytes. The last line is `frames F skipped K cut no` (or `cut yes`).
+/// Writes the lines of `show` to a sink, each ended by a line feed. The line of a frame is `N LEN DST SRC TYPE`, or `N
+/// LEN short` if the frame has fewer than 14 bytes. The last line is `frames F skipped K cut no` (or `cut yes`).
 ///
 /// N is the frame's number, from 0, and LEN is its length in bytes. DST and SRC are its addresses, as
 /// `02:00:00:00:00:01`, and TYPE is its bytes 12 and 13, as `0800`. The call allocates nothing, and writes one line at
@@ -93,7 +93,7 @@ fn write_end<W: Sink>(sink: &mut W, trace: &Trace, count: u64) -> Result<(), Wri
 ///
 /// # Errors
 ///
-/// [`Write`](WriteError::Write) if the sink fails; then it has only a beginning of the text.
+/// [`Write`](WriteError::Write) if the sink fails. Then only a beginning of the lines was written.
 pub fn show<W: Sink>(trace: &Trace, sink: &mut W) -> Result<(), WriteError>
     requires { W.failures sink.old < u64.MAX }
     ensures ok { OnOk result (Appends (W.taken sink.old) (W.taken sink.new) (shown trace.now)) }

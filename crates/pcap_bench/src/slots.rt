@@ -18,14 +18,14 @@ const BUFFERS_OF_SLOT: u16 = 8;
 /// The number of receive buffers of the layout.
 pub const BUFFERS: u16 = SLOTS * BUFFERS_OF_SLOT;
 
-/// The address of the descriptor of a slot.
+/// Returns the address of the descriptor of a slot.
 fn address_of(slot: u16) -> u64
     ensures { result ≡ 16 * slot }
 {
     RX_DESC_BYTES as u64 * u64::from(slot)
 }
 
-/// The descriptor of a slot.
+/// Returns the descriptor of a slot.
 pub fn load_desc(memory: &HostMemory, slot: u16) -> RxDesc
     requires slot { slot < slots }
     requires size { length memory.now ≡ 34816 }
@@ -35,7 +35,7 @@ pub fn load_desc(memory: &HostMemory, slot: u16) -> RxDesc
     RxDesc::from_bytes(bytes.first_chunk().unwrap())
 }
 
-/// Writes the descriptor of a slot, which offers a buffer.
+/// Writes a descriptor that points to the buffer at address `buffer`, without DD, into a slot.
 pub fn offer(memory: &mut HostMemory, slot: u16, buffer: u64)
     requires slot { slot < slots }
     requires size { length memory.old ≡ 34816 }
@@ -52,7 +52,7 @@ pub fn offer(memory: &mut HostMemory, slot: u16, buffer: u64)
     memory.store(address_of(slot), &desc.to_bytes()).unwrap();
 }
 
-/// Offers the buffers of a layout. The descriptor of each slot names eight consecutive buffers.
+/// Offers the buffers of a layout. The descriptor of each slot points to the first of eight consecutive buffers.
 pub fn offer_all(memory: &mut HostMemory, layout: &Layout)
     requires layout { layout.now ≡ record { rx = 8; tx = 8; buffers = 64 } }
     requires size { length memory.old ≡ 34816 }

@@ -11,12 +11,12 @@ use Rattle.std.proofs.lemmas.List.{drop-drop, take_at, length-take-le, length-dr
 use Rattle.std.proofs.lemmas.List.Edits.{length-between}
 use Rattle.std.proofs.Math.Seq.{take-add}
 
--- without its first bytes
+-- an interval of bytes without its first bytes
 pub slice_range-drop : (xs : List ℕ) (start end count : ℕ) → slice_range xs (start + count) end ≡ drop count (slice_range xs start end)
 slice_range-drop xs start end count =
     between_is xs (start + count) end ∙ sym (drop-drop count start (take end xs)) ∙ ap (drop count) (sym (between_is xs start end))
 
--- the bytes of the block come first, moved to the front
+-- the bytes of the block, moved to the front of its memory
 take-copy_within : (xs : List ℕ) (start end : ℕ) → start ≤ end → end ≤ length xs
     → take (end - start) (copy_within xs start end 0) ≡ slice_range xs start end
 take-copy_within xs start end order within =

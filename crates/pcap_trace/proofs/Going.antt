@@ -10,7 +10,7 @@ use Rattle.pcap_trace.specs.Format.{Order, Ending, oversized, ending_of, capture
 use Rattle.pcap_trace.specs.Reading.{HasOversized}
 use Rattle.pcap_trace.proofs.Bodies.{ReadsFirst, word-append, GoesOn, GoesOn-kept, GoesOn-skipped, GoesOn-ends}
 
--- the same for bytes that may be unknown
+-- `GoesOn` for bytes that may be unknown
 abbrev pub GoesOnKnown : Order → Option (List ℕ) → Option (List ℕ) → List (List ℕ) → ℕ → Type 0
 GoesOnKnown number None rest frames skipped = Unit {0}
 GoesOnKnown number (Some bytes) None frames skipped = ⊥
@@ -36,7 +36,7 @@ word-read number first at old new before after long r = ap (λ (t : List ℕ). n
 
 -- ---- a packet in the block
 
--- the bytes after it
+-- the bytes after the packet
 rest_behind : (n : ℕ) (held left : List ℕ) → 16 + n ≤ length held → drop n (drop 16 (held ++ left)) ≡ drop (16 + n) held ++ left
 rest_behind n held left long =
     ap (drop n) (drop-append-le 16 held left (omega arith)) ∙ drop-append-le n (drop 16 held) left (omega (arith, length-drop 16 held))

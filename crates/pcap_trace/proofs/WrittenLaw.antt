@@ -1,4 +1,4 @@
--- What is written is a trace of exactly these frames.
+-- The bytes written are a trace of exactly these frames.
 use Rattle.std.proofs.Common.{◌≡◌, ◌<◌, ◌^◌, ℕ, List, [], ◌∷◌, ◌++◌, Bool, true, false, length, drop, map, refl, sym, ap, subst, ◌∙◌}
 use Rattle.std.proofs.Common.{append-nil, arith}
 use Rattle.std.specs.List.{flat_map, AllByRecursion}
@@ -17,7 +17,7 @@ use Rattle.pcap_trace.specs.Format.{frame_of, IsShort, WrittenIsTrace, WrittenIs
 use Rattle.pcap_trace.proofs.Orders.{number_first, one_order}
 use Rattle.pcap_trace.proofs.Unique.{body_unique}
 
--- the packet that a frame is written as
+-- the packet of a written frame
 abbrev written_packet : Unit → Timed → Packet
 written_packet unit t = record { header = packet_header unit t.time (length t.frame); captured = t.frame }
 

@@ -12,7 +12,7 @@ use Rattle.pcap_trace.specs.declared.unit.Unit.TheVariants.{Micros, Nanos}
 abbrev pub Order : Type 0
 Order = ℕ → List ℕ → ℕ
 
--- The numbers of a trace are in the byte order of the machine that wrote it: the highest byte comes first, or the lowest.
+-- In `Big`, the highest byte of a number is first; in `Little`, the lowest byte. A trace has the byte order of the machine that wrote it.
 abbrev pub number_in : Endianness → Order
 number_in Big = big_number
 number_in Little = little_number
@@ -30,7 +30,8 @@ nanoseconds_magic = 0xA1B2_3C4D
 abbrev pub is_magic : ℕ → Bool
 is_magic n = (n == microseconds_magic) || (n == nanoseconds_magic)
 
--- 24 bytes: a magic number, version 2.4, two words and the snapshot length, which are ignored, and the link type, 1 for Ethernet
+-- The bytes begin with a file header of 24 bytes: a magic number, version 2.4, 12 bytes that are ignored, and link type 1, Ethernet. The
+-- ignored bytes are two words and the snapshot length.
 pub record IsFileHeader (number : Order) (bytes : List ℕ) : Type 0 where
   pub long_enough : 24 ≤ length bytes
   pub magic_is : IsTrue (is_magic (number 4 bytes))
@@ -40,7 +41,7 @@ pub record IsFileHeader (number : Order) (bytes : List ℕ) : Type 0 where
 
 -- ---- packets (pcap-savefile, "Packet Header")
 
--- a packet header of 16 bytes, and the bytes that were captured
+-- a packet header, and the bytes that were captured
 pub record Packet : Type 0 where
   pub header : List ℕ
   pub captured : List ℕ
@@ -52,7 +53,7 @@ captured_length number header = number 4 (drop 8 header)
 abbrev pub original_length : Order → List ℕ → ℕ
 original_length number header = number 4 (drop 12 header)
 
--- The most bytes of a packet. (libpcap's own limit on a snapshot)
+-- the maximum captured length of a packet, in bytes (libpcap's own limit on a snapshot)
 abbrev pub most_captured : ℕ
 most_captured = 262144
 
@@ -64,23 +65,24 @@ pub record IsPacket (number : Order) (p : Packet) : Type 0 where
 abbrev pub packet_bytes : Packet → List ℕ
 packet_bytes p = p.header ++ p.captured
 
--- A truncated packet is skipped. Of a packet that is longer than the original, all bytes are taken. (our choice)
+-- whether a packet is truncated: its captured length is below its original length (our choice: a captured length above it is accepted)
 abbrev pub is_partial : Order → Packet → Bool
 is_partial number p = nat_lt (captured_length number p.header) (original_length number p.header)
 
--- the frames: the bytes of the complete packets, in order
+-- the frames: the captured bytes of the packets that aren't truncated, in order
 abbrev pub frames_of : Order → List Packet → List (List ℕ)
 frames_of number [] = []
 frames_of number (p ∷ ps) = if is_partial number p then frames_of number ps else p.captured ∷ frames_of number ps
 
--- the number of skipped packets
+-- the number of truncated packets, which are skipped
 abbrev pub skipped_of : Order → List Packet → ℕ
 skipped_of number [] = 0
 skipped_of number (p ∷ ps) = if is_partial number p then suc (skipped_of number ps) else skipped_of number ps
 
 -- ---- the end of a file
 
--- After the last complete packet: nothing, the beginning of a packet, or a packet header with too large a captured length. (our choice)
+-- After the last complete packet: nothing, an incomplete packet, or a packet header with too large a captured length and any bytes. (our
+-- choice)
 pub data Ending : Type 0 where
   complete : Ending
   cut_off : Ending
@@ -93,7 +95,7 @@ IsRest number rest cut_off =
     ⊎ ((16 ≤ length rest) × (captured_length number rest ≤ most_captured) × (length rest < 16 + captured_length number rest))
 IsRest number rest oversized = (16 ≤ length rest) × (most_captured < captured_length number rest)
 
--- Complete packets, and a rest: their frames, the number of skipped packets, and how the file ends.
+-- These bytes are complete packets and a rest, with these frames, this number of skipped packets, and this ending.
 pub record IsBody (number : Order) (bytes : List ℕ) (frames : List (List ℕ)) (skipped : ℕ) (ending : Ending) : Type 0 where
   pub packets : List Packet
   pub rest : List ℕ
@@ -109,11 +111,12 @@ abbrev pub ending_of : Bool → Ending
 ending_of true = cut_off
 ending_of false = complete
 
--- These bytes are a trace of these frames, in this byte order, with this number of skipped packets; the last packet may be cut off.
+-- These bytes are a trace of these frames, in this byte order, with this number of skipped packets. `cut` is whether the last packet is cut
+-- off.
 abbrev pub IsTraceIn : Order → List ℕ → List (List ℕ) → ℕ → Bool → Type 0
 IsTraceIn number bytes frames skipped cut = IsFileHeader number bytes × IsBody number (drop 24 bytes) frames skipped (ending_of cut)
 
--- These bytes are a trace of these frames, in one of the two byte orders.
+-- These bytes are such a trace in one of the two byte orders.
 abbrev pub IsTrace : List ℕ → List (List ℕ) → ℕ → Bool → Type 0
 IsTrace bytes frames skipped cut = (order : Endianness) × IsTraceIn (number_in order) bytes frames skipped cut
 
@@ -129,7 +132,7 @@ pub record Timed : Type 0 where
 abbrev pub frame_of : Timed → List ℕ
 frame_of t = t.frame
 
--- a frame with its time, of a pair
+-- the frame with its time that a pair contains
 abbrev pub timed : ℕ × List ℕ → Timed
 timed p = record { time = p.0; frame = p.1 }
 
@@ -143,13 +146,13 @@ abbrev pub fraction_of : Unit → ℕ → ℕ
 fraction_of Micros time = time % 1000000
 fraction_of Nanos time = time % 1000000 * 1000
 
--- the file header of written traces: little-endian, with times in this unit, version 2.4, snapshot length 65,535,
+-- the file header of written traces: little-endian, with times in this unit, version 2.4, two words of value 0, snapshot length 65,535, and
 -- Ethernet
 unfoldable pub file_header : Unit → List ℕ
 file_header unit = little_bytes 4 (magic_of unit) ++ little_bytes 2 2 ++ little_bytes 2 4 ++ little_bytes 4 0 ++ little_bytes 4 0
     ++ little_bytes 4 65535 ++ little_bytes 4 1
 
--- the packet header of a written frame: seconds (their low 32 bits), the fraction in this unit, and the length twice
+-- the packet header of a written frame, little-endian: seconds (their low 32 bits), the fraction in this unit, and the length twice
 unfoldable pub packet_header : Unit → ℕ → ℕ → List ℕ
 packet_header unit time len = little_bytes 4 (time / 1000000 % 2 ^ 32) ++ little_bytes 4 (fraction_of unit time) ++ little_bytes 4 len
     ++ little_bytes 4 len
@@ -165,11 +168,13 @@ written unit ts = file_header unit ++ flat_map (packet_of unit) ts
 abbrev pub IsShort : Timed → Type 0
 IsShort t = length t.frame ≤ most_captured
 
--- What is written is a trace of exactly these frames: none skipped, not cut.
+-- If each frame has at most `most_captured` bytes, the bytes written are a trace of these frames: no packet is skipped, and the end isn't
+-- cut off.
 abbrev pub WrittenIsTrace : Type 0
 WrittenIsTrace = (unit : Unit) (ts : List Timed) → AllByRecursion IsShort ts → IsTrace (written unit ts) (map frame_of ts) 0 false
 
--- What is written is a trace of no other frames, and with no other values of `skipped` and `cut`.
+-- If each frame has at most `most_captured` bytes, the bytes written are a trace of no other frames, and with no other values of `skipped`
+-- and `cut`.
 abbrev pub WrittenIsNoOther : Type 0
 WrittenIsNoOther =
     (unit : Unit) (ts : List Timed) (frames : List (List ℕ)) (skipped : ℕ) (cut : Bool)

@@ -1,7 +1,7 @@
 -- Frames in one buffer, one after the other.
 use Rattle.std.specs.Prelude.{ℕ, List, [], ◌∷◌, take, drop}
 
--- Bytes cut into pieces of these lengths. (our choice)
+-- The first bytes, cut into pieces of these lengths. A piece is shorter if too few bytes are left. (our choice)
 abbrev pub cut : List ℕ → List ℕ → List (List ℕ)
 cut [] bytes = []
 cut (n ∷ ns) bytes = take n bytes ∷ cut ns (drop n bytes)

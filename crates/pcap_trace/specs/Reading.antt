@@ -7,8 +7,8 @@ use Rattle.pcap_trace.specs.declared.header.Endianness.{Endianness}
 use Rattle.pcap_trace.specs.declared.trace.Trace.{Trace}
 use Rattle.pcap_trace.specs.Format.{Order, number_in, is_magic, oversized, IsFileHeader, IsBody, IsTrace}
 
--- The fault of a file header whose numbers are in this byte order: the first that applies. (pcap-savefile, "File Header"; which one is
--- first: our choice)
+-- The fault of a file header whose numbers are in this byte order: the first that applies, or none. (pcap-savefile, "File Header"; which
+-- fault is first: our choice)
 abbrev pub header_fault : Order → List ℕ → Option ReadError
 header_fault number bytes =
     if nat_lt (length bytes) 24 then Some errors.Header
@@ -17,12 +17,13 @@ header_fault number bytes =
     else (if not (number 4 (drop 20 bytes) == 1) then Some errors.LinkType
     else None)))
 
--- The fault in either byte order: no magic number in either, or another fault in one. (our choice)
+-- The error is `Magic` if this is the file header's fault in both byte orders. Another error is the file header's fault in at least one
+-- byte order. (our choice)
 abbrev pub IsHeaderFault : List ℕ → ReadError → Type 0
 IsHeaderFault bytes errors.Magic = (order : Endianness) → header_fault (number_in order) bytes ≡ Some errors.Magic
 IsHeaderFault bytes e = (order : Endianness) × (header_fault (number_in order) bytes ≡ Some e)
 
--- After complete packets, a complete packet header has a captured length that is too large. (our choice)
+-- After complete packets, or at the beginning, a complete packet header has a captured length that is too large. (our choice)
 abbrev pub HasOversized : Order → List ℕ → Type 0
 HasOversized number bytes = (frames : List (List ℕ)) × (skipped : ℕ) × IsBody number bytes frames skipped oversized
 
@@ -41,7 +42,7 @@ is_of_bytes (Err errors.Memory) = false
 is_of_bytes (Err errors.Read) = false
 is_of_bytes _ = true
 
--- No other result that depends on the bytes fits them. (our choice)
+-- If the result depends on the bytes, no other result that depends on the bytes fits them. (our choice)
 abbrev pub IsOnlyAnswer : List ℕ → Result Trace ReadError → Type 0
 IsOnlyAnswer bytes r = is_of_bytes r ≡ true → (s : Result Trace ReadError) → is_of_bytes s ≡ true → IsAnswer bytes s → s ≡ r
 
@@ -50,7 +51,7 @@ abbrev pub TellsFailure : {T : Type 0} → Result T ReadError → ℕ → ℕ �
 TellsFailure (Err errors.Read) old new = new ≡ old + 1
 TellsFailure _ old new = new ≡ old
 
--- the errors that the bytes after the file header can have
+-- The error of reading these bytes, which follow the file header, is `Memory`, `Read`, or `Record` if a captured length is too large.
 abbrev pub IsBodyFault : Order → List ℕ → ReadError → Type 0
 IsBodyFault number bytes errors.Record = HasOversized number bytes
 IsBodyFault number bytes errors.Memory = ⊤

@@ -8,10 +8,10 @@ use crate::device::{DeviceError, Source};
 use std::alloc::{AllocError, Global};
 use std::marker::Model;
 
-/// The most bytes that one read asks for.
+/// The maximum number of bytes of one read.
 const CHUNK: usize = 65_536;
 
-/// Room for a chunk and one longest packet with its header.
+/// The block's room in bytes: for one read, and for a packet with the greatest captured length and its header.
 const ROOM: usize = 327_696;
 
 /// Bytes that were read from a source and not used yet. In contracts, the value is the list of these bytes.
@@ -32,7 +32,8 @@ impl Model for Block {
     ghost invariant = { λ b. (b.start ≤ b.end) × (b.end ≤ length b.bytes.items) × (length b.bytes.items ≡ 327696) };
 }
 
-/// Reads once into a slice, after its first `end` bytes, which don't change. Returns the number of bytes read.
+/// Reads at most 65,536 bytes once into a slice, after its first `end` bytes, which don't change. Returns the number of
+/// bytes read. If the slice has more than `end` bytes, 0 means that the source is at its end.
 fn read_behind<S: Source>(
     source: &mut S,
     bytes: &mut [u8],
@@ -55,7 +56,7 @@ fn read_behind<S: Source>(
 }
 
 impl Block {
-    /// An empty block. The call allocates 320 KiB.
+    /// Returns an empty block. The call allocates 327,696 bytes.
     ///
     /// # Errors
     ///
@@ -71,7 +72,7 @@ impl Block {
         })
     }
 
-    /// The bytes of the block.
+    /// Returns the bytes of the block.
     pub fn held(&self) -> &[u8]
         ensures { result.now ≡ self.now }
     {
@@ -86,8 +87,8 @@ impl Block {
         self.start += count;
     }
 
-    /// Moves the bytes to the front of the block's memory, and reads once from a source after them. There must be room
-    /// for one more byte.
+    /// Moves the bytes to the front of the block's memory, and reads once from a source into the memory after these
+    /// bytes. There must be room for at least one more byte.
     fn read_more<S: Source>(&mut self, source: &mut S) -> Result<usize, DeviceError>
         requires countable { S.failures source.old < u64.MAX }
         requires room { length self.old < ROOM }
@@ -107,7 +108,8 @@ impl Block {
         Ok(count)
     }
 
-    /// Reads from a source until the block has `want` bytes, at most 327,696, or the source is at its end.
+    /// Reads from a source until the block has at least `want` bytes, or the source is at its end. `want` is at most
+    /// 327,696.
     ///
     /// # Errors
     ///
@@ -129,7 +131,7 @@ impl Block {
         self.fill_slowly(source, want)
     }
 
-    /// [`fill`](Block::fill) if bytes are missing. A function of its own, so that `fill` can be inlined.
+    /// Does what [`fill`](Block::fill) does. A separate function for missing bytes, so that `fill` can be inlined.
     #[inline(never)]
     fn fill_slowly<S: Source>(&mut self, source: &mut S, want: usize) -> Result<(), DeviceError>
         requires countable { S.failures source.old < u64.MAX }

@@ -12,12 +12,12 @@ pub struct DeviceError;
 
 /// A source of bytes, such as a file or a slice.
 ///
-/// A call that takes a source requires that it has failed fewer than 2^64 - 1 times, so that its count can grow.
+/// A call that may read from a source requires that the source's count of failures is below 2^64 - 1.
 pub trait Source {
     /// The bytes that are left to read, if the source knows them.
     ghost left: { Self → Option (List ℕ) };
 
-    /// The most bytes that the source can still return.
+    /// The maximum number of bytes that the source can still return.
     ghost most: { Self → ℕ };
 
     /// The number of times the source has failed.
@@ -36,18 +36,19 @@ pub trait Source {
         ensures bytes { ReadConsumes (left self.old) (left self.new) result into.new }
         ensures failures { CountsFailures result (failures self.old) (failures self.new) };
 
-    /// The most bytes that the source can still return. A read lowers this number by at least the number of bytes read.
+    /// Returns the maximum number of bytes that the source can still return. A read lowers this number by at least the
+    /// number of bytes read.
     fn limit(&self) -> u64
         ensures { result ≡ most self.now };
 
-    /// The number of times the source has failed.
+    /// Returns the number of times the source has failed.
     fn failures(&self) -> u64
         ensures { result ≡ failures self.now };
 }
 
 /// A sink of bytes, such as a file or a vector.
 ///
-/// A call that takes a sink requires that it has failed fewer than 2^64 - 1 times, so that its count can grow.
+/// A call that may write to a sink requires that the sink's count of failures is below 2^64 - 1.
 pub trait Sink {
     /// The bytes that were written, if the sink knows them.
     ghost taken: { Self → Option (List ℕ) };
@@ -59,7 +60,7 @@ pub trait Sink {
     ///
     /// # Errors
     ///
-    /// [`DeviceError`] if the device fails. Then no byte is taken, and the number of failures grows by 1.
+    /// [`DeviceError`] if the device fails. Then the sink takes no byte, and the number of failures grows by 1.
     fn write(&mut self, bytes: &[u8]) -> Result<usize, DeviceError>
         requires { failures self.old < u64.MAX }
         ensures count { IfOk result (λ n. n ≤ length bytes.now) }
@@ -67,7 +68,7 @@ pub trait Sink {
         ensures bytes { WriteAppends (taken self.old) (taken self.new) result bytes.now }
         ensures failures { CountsFailures result (failures self.old) (failures self.new) };
 
-    /// The number of times the sink has failed.
+    /// Returns the number of times the sink has failed.
     fn failures(&self) -> u64
         ensures { result ≡ failures self.now };
 }

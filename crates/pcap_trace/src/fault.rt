@@ -8,10 +8,10 @@ use crate::device::DeviceError;
 use std::alloc::AllocError;
 use thiserror::Error;
 
-/// Why a trace was not read. A failed read returns no part of the trace.
+/// Why a trace was not read. A call that fails returns no part of the trace.
 ///
-/// The first four are faults of the file header (libpcap, "pcap-savefile", File Header), looked for in this order. If
-/// there are several, the first one is returned.
+/// The first four are faults of the file header (libpcap, "pcap-savefile", File Header). If a header has several
+/// faults, the first in this order is returned.
 #[derive(Clone, Copy, Debug, PartialEq, Eq, Error)]
 pub enum ReadError {
     /// The source has fewer than the 24 bytes of a file header.
@@ -57,7 +57,7 @@ impl From<DeviceError> for ReadError {
 /// Why a trace was not written.
 #[derive(Clone, Copy, Debug, PartialEq, Eq, Error)]
 pub enum WriteError {
-    /// The sink failed during the call. It has taken only a beginning of the bytes.
+    /// The sink failed during the call. The sink has taken only a beginning of the bytes.
     #[error("the sink failed")]
     Write,
 }

@@ -15,7 +15,7 @@ pub struct ReaderSource<R> {
 }
 
 impl<R: Read> ReaderSource<R> {
-    /// The first `limit` bytes of a reader, or all if it has fewer.
+    /// Returns a source of the first `limit` bytes of a reader, or of all bytes if the reader has fewer.
     pub fn new(reader: R, limit: u64) -> Self
         ensures left { ⟦<ReaderSource<R> as Source>⟧.left result ≡ first_of limit (R.remaining reader) }
         ensures most { ⟦<ReaderSource<R> as Source>⟧.most result ≡ limit }
@@ -59,7 +59,7 @@ impl<R: Read> Source for ReaderSource<R> {
     }
 }
 
-/// A writer as a sink. A write of some bytes is a failure if the writer takes none of them.
+/// A writer as a sink. A write fails if the writer fails, or takes no byte of a slice that isn't empty.
 ///
 /// The sink never flushes the writer: the owner of a buffered writer must flush it.
 #[derive(Drop)]
@@ -69,7 +69,7 @@ pub struct WriterSink<W> {
 }
 
 impl<W: Write> WriterSink<W> {
-    /// A sink over a writer, which has not failed yet.
+    /// Returns a sink over a writer. The sink's number of failures is 0.
     pub fn new(writer: W) -> Self
         ensures taken { ⟦<WriterSink<W> as Sink>⟧.taken result ≡ W.contents writer }
         ensures failures { ⟦<WriterSink<W> as Sink>⟧.failures result ≡ 0 }

@@ -6,7 +6,8 @@ ghost use Rattle.pcap_trace.specs.Frames.{cut};
 use std::alloc::{AllocError, Global};
 use std::marker::Model;
 
-/// A list of frames, each of any number of bytes below 2^32. In contracts, the value is the list of their bytes.
+/// A list of frames, each of any number of bytes below 2^32. In contracts, the value is the list of the frames, each as
+/// the list of its bytes.
 ///
 /// The frames are in one piece of memory, one after the other. Their lengths are in another, four bytes each.
 #[derive(Drop)]
@@ -24,7 +25,7 @@ impl Model for Frames {
 }
 
 impl Frames {
-    /// An empty list. It allocates nothing.
+    /// Returns an empty list. The call allocates nothing.
     pub fn new(alloc: Global) -> Self
         ensures { result ≡ [] }
     {
@@ -34,22 +35,22 @@ impl Frames {
         }
     }
 
-    /// The number of frames.
+    /// Returns the number of frames.
     pub fn len(&self) -> usize
         ensures { result ≡ length self.now }
     {
         self.lengths.len()
     }
 
-    /// Whether the list has no frames.
+    /// Returns whether the list has no frames.
     pub fn is_empty(&self) -> bool
         ensures { IsTrue result ↔ (self.now ≡ []) }
     {
         self.len() == 0
     }
 
-    /// Makes room for one more frame, of at most this number of bytes. The list doesn't change. The contract doesn't
-    /// state the size of the room.
+    /// Makes room for one more frame, of at most `bytes` bytes. The list doesn't change. The contract doesn't state the
+    /// size of the room.
     ///
     /// # Errors
     ///
@@ -78,7 +79,7 @@ impl Frames {
         Ok(())
     }
 
-    /// The frames, in order.
+    /// Returns the frames, in order.
     pub fn iter(&self) -> Iter<'_>
         ensures { result ≡ self.now }
     {
@@ -89,8 +90,8 @@ impl Frames {
     }
 }
 
-/// The frames of a [`Frames`] that are left, in order. In contracts, the value is their list. After its end, it always
-/// returns `None`.
+/// The frames of a [`Frames`] that are left, in order. In contracts, the value is the list of these frames. After the
+/// last frame, `next` always returns `None`.
 #[derive(Drop)]
 pub struct Iter<'a> {
     bytes: &'a [u8],
@@ -112,7 +113,7 @@ impl<'a> Iterator for Iter<'a> {
 
     ghost remaining = { λ s. at_most (length s) };
 
-    /// The next frame, complete, or `None` if no frame is left.
+    /// Returns the next frame, complete, or `None` if no frame is left.
     fn next(&mut self) -> Option<&'a [u8]> {
         let (length, rest) = self.lengths.split_first()?;
         let (frame, after) = self.bytes.split_at(*length as usize);

@@ -7,7 +7,7 @@ use crate::fault::ReadError;
 use crate::packet::{ETHERNET, FILE_HEADER, MAJOR, MICROSECONDS_MAGIC, MINOR, NANOSECONDS_MAGIC};
 use byteorder::{BigEndian, ByteOrder, LittleEndian};
 
-/// The order of the bytes of a number in a trace: that of the machine that wrote it.
+/// The order of the bytes of a number in a trace: the byte order of the machine that wrote the trace.
 #[derive(Clone, Copy)]
 pub enum Endianness {
     /// The highest byte first.
@@ -16,14 +16,14 @@ pub enum Endianness {
     Little,
 }
 
-/// Whether a word is one of the two magic numbers.
+/// Returns whether a word is one of the two magic numbers.
 fn is_magic(word: u32) -> bool
     ensures { result ≡ is_magic word }
 {
     word == MICROSECONDS_MAGIC || word == NANOSECONDS_MAGIC
 }
 
-/// Checks the file header that the bytes begin with; `T` is its byte order.
+/// Checks the file header that the bytes begin with, in the byte order `T`. Fails with the header's first fault.
 fn check_header<T: ByteOrder>(bytes: &[u8]) -> Result<(), ReadError>
     ensures { MatchResult result (λ _. header_fault T.number_of bytes.now ≡ None)
         (λ e. header_fault T.number_of bytes.now ≡ Some e) }
@@ -43,12 +43,13 @@ fn check_header<T: ByteOrder>(bytes: &[u8]) -> Result<(), ReadError>
     Ok(())
 }
 
-/// The byte order in which the file header at the front has no fault.
+/// Returns the byte order in which the file header at the front has no fault.
 ///
 /// # Errors
 ///
-/// The first of these that the header has: [`Header`](ReadError::Header), [`Magic`](ReadError::Magic),
-/// [`Version`](ReadError::Version) and [`LinkType`](ReadError::LinkType).
+/// The header's first fault of [`Header`](ReadError::Header), [`Magic`](ReadError::Magic),
+/// [`Version`](ReadError::Version) and [`LinkType`](ReadError::LinkType). `Magic` is returned only if neither byte
+/// order has a magic number.
 pub fn byte_order(bytes: &[u8]) -> Result<Endianness, ReadError>
     ensures ok { IfOk result (λ order. header_fault (number_in order) bytes.now ≡ None) }
     ensures fault { IfErr result (λ e. IsHeaderFault bytes.now e) }

@@ -1,8 +1,9 @@
 //! Packet traces of libpcap (its manual page "pcap-savefile", version 2.4): frames read from a [`Source`], and
 //! written to a [`Sink`].
 //!
-//! [`Trace::read`] reads a whole trace, [`Trace::write`] writes one, and [`RecordWriter`] writes one packet by packet
-//! in large blocks. Every failure of a device is returned, as [`ReadError::Read`] or [`WriteError::Write`].
+//! [`Trace::read`] reads a whole trace, [`Trace::write`] writes a whole trace, and [`RecordWriter`] writes a trace
+//! packet by packet, in large blocks. Every failure of a device is returned, as [`ReadError::Read`] or
+//! [`WriteError::Write`].
 #![tactic(auto)]
 
 mod block;

@@ -11,7 +11,7 @@ pub struct SliceSource<'a> {
 }
 
 impl<'a> SliceSource<'a> {
-    /// A source of these bytes.
+    /// Returns a source of these bytes.
     pub fn new(bytes: &'a [u8]) -> Self
         ensures left { ⟦<SliceSource<'a> as Source>⟧.left result ≡ Some bytes.now }
         ensures most { ⟦<SliceSource<'a> as Source>⟧.most result ≡ length bytes.now }
@@ -53,7 +53,7 @@ pub struct VecSink {
 }
 
 impl VecSink {
-    /// A sink to which nothing was written.
+    /// Returns a sink to which nothing was written.
     pub fn new(alloc: Global) -> Self
         ensures taken { ⟦<VecSink as Sink>⟧.taken result ≡ Some [] }
         ensures failures { ⟦<VecSink as Sink>⟧.failures result ≡ 0 }
@@ -64,7 +64,7 @@ impl VecSink {
         }
     }
 
-    /// The bytes that were written to the sink.
+    /// Returns the bytes that were written to the sink.
     pub fn bytes(&self) -> &[u8]
         ensures { ⟦<VecSink as Sink>⟧.taken self.now ≡ Some result.now }
     {

@@ -6,10 +6,10 @@ ghost use Rattle.pcap_trace.specs.Format.{file_header, fraction_of, magic_of, pa
 use crate::unit::Unit;
 use byteorder::{ByteOrder, LittleEndian};
 
-/// Bytes of a file header.
+/// The number of bytes of a file header.
 pub const FILE_HEADER: usize = 24;
 
-/// Bytes of a packet header.
+/// The number of bytes of a packet header.
 pub const PACKET_HEADER: usize = 16;
 
 /// The first word of a trace with times in seconds and microseconds.
@@ -36,7 +36,7 @@ const MICROSECONDS: u64 = 1_000_000;
 /// The number of nanoseconds in a microsecond.
 const NANOSECONDS: u64 = 1_000;
 
-/// The first word of a trace whose times have this unit.
+/// Returns the first word of a trace whose times have this unit.
 fn magic_of(unit: Unit) -> u32
     ensures { result ≡ magic_of unit }
 {
@@ -46,7 +46,7 @@ fn magic_of(unit: Unit) -> u32
     }
 }
 
-/// The part of a time, given in microseconds, that is less than a second, in this unit.
+/// Returns the part of a time, given in microseconds, that is less than a second, in this unit.
 fn fraction_of(unit: Unit, time: u64) -> u32
     ensures { result ≡ fraction_of unit time }
 {
@@ -57,7 +57,7 @@ fn fraction_of(unit: Unit, time: u64) -> u32
     }
 }
 
-/// The file header of written traces with this unit.
+/// Returns the file header of written traces with this unit.
 #[tactic(auto, unfolding(crate::specs::Format::file_header))]
 pub fn file_header(unit: Unit) -> [u8; FILE_HEADER]
     ensures { result ≡ file_header unit }
@@ -71,7 +71,8 @@ pub fn file_header(unit: Unit) -> [u8; FILE_HEADER]
     header
 }
 
-/// The packet header of a frame of `length` bytes, at a time in microseconds.
+/// Returns the packet header of a frame of `length` bytes. `time` is in microseconds, and `unit` is that of the
+/// fraction in the header.
 #[tactic(auto, unfolding(crate::specs::Format::packet_header))]
 pub fn packet_header(unit: Unit, time: u64, length: u32) -> [u8; PACKET_HEADER]
     ensures { result ≡ packet_header unit time length }

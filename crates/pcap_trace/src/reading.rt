@@ -15,7 +15,7 @@ use crate::trace::Trace;
 use byteorder::{BigEndian, ByteOrder, LittleEndian};
 use std::alloc::Global;
 
-/// The most bytes that a packet may have: libpcap's limit for a captured packet.
+/// The maximum captured length of a packet in bytes, which is libpcap's limit.
 const MOST_CAPTURED: u32 = 262_144;
 
 /// The two lengths in a packet header, in bytes.
@@ -25,7 +25,7 @@ struct Lengths {
     original: u32,
 }
 
-/// The lengths in the packet header at the front, or `None` if it isn't complete.
+/// Returns the lengths in the packet header at the front, or `None` if there are fewer than 16 bytes.
 fn packet_lengths<T: ByteOrder>(bytes: &[u8]) -> Option<Lengths>
     ensures short { IfNone result (length bytes.now < 16) }
     ensures whole { OnSome result (16 ≤ length bytes.now) }
@@ -41,7 +41,8 @@ fn packet_lengths<T: ByteOrder>(bytes: &[u8]) -> Option<Lengths>
     })
 }
 
-/// Reads the packets after the file header. It is compiled once for each byte order, which keeps the loop short.
+/// Reads the packets after the file header. The function is compiled once for each byte order, which keeps the loop
+/// short.
 #[inline(never)]
 fn read_body<T: ByteOrder, S: Source>(
     alloc: Global,
@@ -91,7 +92,7 @@ fn read_body<T: ByteOrder, S: Source>(
     })
 }
 
-/// [`read_body`] in this byte order.
+/// Does what [`read_body`] does, in this byte order.
 fn read_body_in<S: Source>(
     order: Endianness,
     alloc: Global,
@@ -116,10 +117,10 @@ fn read_body_in<S: Source>(
 }
 
 impl Trace {
-    /// Reads the trace that a source has left, up to its end: a trace file of libpcap version 2.4 (its manual page
-    /// "pcap-savefile"), big-endian or little-endian, with times in microseconds or nanoseconds, of link type
-    /// Ethernet. The snapshot length, the two words before it and all times are ignored. It allocates a block of
-    /// 320 KiB, which it frees at the end, and the frames.
+    /// Reads the trace that a source has left, up to its end. The trace is a file of libpcap version 2.4 (its manual
+    /// page "pcap-savefile"), big-endian or little-endian, with times in microseconds or nanoseconds, of link type
+    /// Ethernet. The snapshot length, the two words before it and all times are ignored. The call allocates a block of
+    /// 327,696 bytes, which it frees at the end, and the frames.
     ///
     /// # Errors
     ///
@@ -127,19 +128,19 @@ impl Trace {
     /// for in this order, and before any packet. [`Record`](ReadError::Record) is returned if, after complete packets,
     /// a complete packet header has a captured length above 262,144 bytes, whatever follows.
     /// [`Memory`](ReadError::Memory) is returned if memory is refused. A failure of the device is always
-    /// [`Read`](ReadError::Read). After an error, some bytes of the source are used up, and no other byte is lost.
+    /// [`Read`](ReadError::Read). After an error, some bytes of the source may be used up, and no other byte is lost.
     pub fn read<S: Source>(alloc: Global, source: &mut S) -> Result<Trace, ReadError>
         requires { S.failures source.old < u64.MAX }
 
-        // The result fits the bytes, and no other result does. `Memory` and `Read` state nothing about the bytes.
+        // The result fits the bytes. `Memory` and `Read` fit any bytes; of the other results, only one fits.
         ensures fits { IfSome (S.left source.old) (λ bytes. IsAnswer bytes result) }
         ensures only { IfSome (S.left source.old) (λ bytes. IsOnlyAnswer bytes result) }
 
-        // `Read` is returned exactly if the source failed.
+        // `Read` is returned if and only if the source failed.
         ensures failure { TellsFailure result (S.failures source.old) (S.failures source.new) }
         ensures end { OnOk result (IsAtEnd (S.left source.new)) }
 
-        // After any result, the bytes that are left are the last ones of those that were left before.
+        // After any result, the bytes that are left are the last of the bytes that were left before.
         ensures used { Uses (S.left source.old) (S.left source.new) }
     {
         let mut block = Block::new(alloc)?;

@@ -1,6 +1,6 @@
 //! The unit of the times that a trace is written with.
 
-/// The unit of the fractions of a second in a written trace. Callers give times in microseconds for both units.
+/// The unit of the fractions of a second in a written trace. Callers pass times in microseconds for both units.
 #[derive(Clone, Copy, Debug, PartialEq, Eq)]
 pub enum Unit {
     /// Microseconds.

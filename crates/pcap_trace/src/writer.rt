@@ -12,14 +12,14 @@ use crate::writing::write_all;
 use std::alloc::{AllocError, Global};
 use std::marker::Model;
 
-/// Bytes that go to the sink at once.
+/// The number of bytes of the block that waits for the sink.
 const BLOCK: usize = 65_536;
 
 /// Writes a trace packet by packet: little-endian, times in a [`Unit`], version 2.4, snapshot length 65,535, link
 /// type Ethernet (libpcap, "pcap-savefile"). All packets of a trace must have the unit of its file header.
 ///
-/// Bytes that wait for the sink are in a block of 64 KiB, which `new` allocates. A contract sees the writer as these
-/// bytes. [`RecordWriter::flush`] writes the last ones.
+/// Bytes that wait for the sink are in a block of 64 KiB, which `new` allocates. In contracts, the value is the list of
+/// these bytes. [`RecordWriter::flush`] writes the last bytes.
 #[derive(Drop)]
 pub struct RecordWriter {
     block: Vec<u8>,
@@ -37,7 +37,7 @@ impl Model for RecordWriter {
     ghost invariant = { λ w. (length w.block.items ≡ 65536) × (w.end ≤ 65536) };
 }
 
-/// A block of zeros.
+/// Returns a block of 65,536 zeros.
 fn new_block(alloc: Global) -> Result<Vec<u8>, AllocError>
     ensures { IfOk result (λ block. length block.items ≡ 65536) }
 {
@@ -64,7 +64,7 @@ fn put(block: &mut [u8], end: usize, bytes: &[u8]) -> usize
 }
 
 impl RecordWriter {
-    /// A writer in which the file header waits. The call allocates 64 KiB.
+    /// Returns a writer in which the file header waits. The call allocates 64 KiB.
     ///
     /// # Errors
     ///
@@ -77,7 +77,7 @@ impl RecordWriter {
         Ok(RecordWriter { block, end })
     }
 
-    /// Begins another trace: the file header waits, and nothing else. Bytes that waited before are dropped.
+    /// Begins another trace: only the file header waits. Bytes that waited before are dropped.
     pub fn begin(&mut self, unit: Unit)
         ensures { self.new ≡ file_header unit }
     {
@@ -85,12 +85,12 @@ impl RecordWriter {
     }
 
     /// Appends the packet of a frame of at most 1,518 bytes, at a time in microseconds. If the block has no room for
-    /// it, the bytes that wait go to the sink first.
+    /// the packet, the bytes that wait are first written to the sink.
     ///
     /// # Errors
     ///
-    /// [`Write`](WriteError::Write) if the sink fails. Then a beginning of the bytes that waited was written, and
-    /// all of them still wait, without this packet: another flush would write that beginning again.
+    /// [`Write`](WriteError::Write) if the sink fails. Then a beginning of the bytes that waited was written, and all
+    /// of these bytes still wait, without this packet. Another flush would write that beginning again.
     #[inline(always)]
     pub fn write<W: Sink>(
         &mut self,
@@ -132,8 +132,8 @@ impl RecordWriter {
     ///
     /// # Errors
     ///
-    /// [`Write`](WriteError::Write) if the sink fails. Then a beginning of the bytes that waited was written, and
-    /// all of them still wait: another flush would write that beginning again.
+    /// [`Write`](WriteError::Write) if the sink fails. Then a beginning of the bytes that waited was written, and all
+    /// of these bytes still wait. Another flush would write that beginning again.
     pub fn flush<W: Sink>(&mut self, sink: &mut W) -> Result<(), WriteError>
         requires { W.failures sink.old < u64.MAX }
         ensures ok { OnOk result (Appends (W.taken sink.old) (W.taken sink.new) self.old) }

@@ -11,7 +11,7 @@ use crate::trace::Trace;
 use crate::unit::Unit;
 use descriptors::Frame;
 
-/// Writes all of a slice to a sink, in as many writes as it takes.
+/// Writes all bytes of a slice to a sink, in as many writes as the sink needs.
 ///
 /// # Errors
 ///
@@ -44,14 +44,15 @@ fn write_packet<W: Sink>(sink: &mut W, unit: Unit, packet: &(u64, Frame)) -> Res
 }
 
 impl Trace {
-    /// Writes a trace file of these frames, each with its time in microseconds: libpcap version 2.4 (its manual page
-    /// "pcap-savefile"), little-endian, times in `unit` with the low 32 bits of the seconds, snapshot length 65,535,
-    /// link type Ethernet. Both lengths of a packet are those of its frame. It allocates nothing, and writes two slices
-    /// for each packet; [`RecordWriter`] writes large blocks.
+    /// Writes a trace file of these frames, each with its time in microseconds. The file has version 2.4 of libpcap's
+    /// format (its manual page "pcap-savefile"), is little-endian, and has snapshot length 65,535 and link type
+    /// Ethernet. It has times in `unit`, with the low 32 bits of the seconds. Both lengths of a packet are the length
+    /// of its frame. The call allocates nothing, and writes two slices for each packet; [`RecordWriter`] writes large
+    /// blocks.
     ///
     /// # Errors
     ///
-    /// [`Write`](WriteError::Write) if the sink fails; then it has only a beginning of the file.
+    /// [`Write`](WriteError::Write) if the sink fails. Then only a beginning of the file was written.
     pub fn write<W: Sink>(
         sink: &mut W,
         unit: Unit,

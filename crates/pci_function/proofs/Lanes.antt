@@ -1,4 +1,4 @@
--- Bytes of a dword, by a shift and a mask.
+-- A shift and a mask select bytes of a dword.
 use Rattle.std.proofs.Common.{◌≡◌, ℕ, ◌*◌, ◌^◌, ◌/◌, bit_and}
 use Rattle.std.proofs.lemmas.Nat.{and_mask}
 use Rattle.pci_function.specs.declared.port_width.PortWidth.{PortWidth}

@@ -10,11 +10,11 @@ size_of Byte = 1
 size_of Word = 2
 size_of Long = 4
 
--- The greatest number of a width: all its bits are 1.
+-- The greatest number of a width, whose bits are all 1.
 abbrev pub ones_of : PortWidth → ℕ
 ones_of width = 2 ^ (8 * size_of width) - 1
 
--- The number in the bytes from byte `first` on.
+-- The number in the bytes of this width from byte `first` on.
 abbrev pub bytes_at : ℕ → PortWidth → ℕ → ℕ
 bytes_at first width word = word / 2 ^ (8 * first) % 2 ^ (8 * size_of width)
 
@@ -22,7 +22,7 @@ bytes_at first width word = word / 2 ^ (8 * first) % 2 ^ (8 * size_of width)
 abbrev pub replaced : ℕ → List ℕ → List ℕ → List ℕ
 replaced first bytes old = take first old ++ bytes ++ drop (first + length bytes) old
 
--- The dword after the low bytes of a value have replaced its bytes from byte `first` on.
+-- The dword after the low bytes of a value have replaced its bytes of this width from byte `first` on.
 abbrev pub with_bytes : ℕ → PortWidth → ℕ → ℕ → ℕ
 with_bytes first width value word =
     let written : List ℕ = take (size_of width) (to_le_bytes w32 value) in

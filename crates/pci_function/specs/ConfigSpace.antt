@@ -19,11 +19,12 @@ pub record PciState : Type 0 where
 abbrev pub kept_command : ℕ → ℕ
 kept_command word = bit_and word 0x157
 
--- Bit 1 of the command register, Memory Space (6.2.2).
+-- Whether Memory Space, bit 1 of the command register, is set (6.2.2).
 abbrev pub has_memory_space : ℕ → Bool
 has_memory_space command = bit_and command 2 == 2
 
--- Base address register 0: the registers take 128 KB, so bits 16:0 are 0 (6.2.5.1 "Address Maps"; manual, 4.1).
+-- The value of base address register 0: bits 31:17 of an address. The registers occupy 128 KB, so bits 16:0 are 0 (6.2.5.1 "Address
+-- Maps"; manual, 4.1).
 abbrev pub base_of : ℕ → ℕ
 base_of address = bit_and address 0xFFFE0000
 
@@ -31,8 +32,8 @@ base_of address = bit_and address 0xFFFE0000
 abbrev pub interrupt_status : Bool → ℕ
 interrupt_status asserted = if asserted then 0x80000 else 0
 
--- The table of configuration space: the dword at an offset. `asserted` is whether the interrupt line is asserted. The other dwords are 0
--- (6.1; that the adapter has no capabilities, no ROM and no registers in I/O space is our choice).
+-- The table of configuration space: the dword at an offset. `asserted` is whether the interrupt line is asserted. Dwords that aren't in the
+-- table are 0 (6.1; that the adapter has no capabilities, no ROM and no registers in I/O space is our choice).
 abbrev pub config_word : PciState → Bool → ℕ → ℕ
 config_word function asserted offset =
     -- device ID and vendor ID
@@ -57,11 +58,11 @@ after_write_of offset word function =
     else if offset == 0x3C then record function { interrupt_line = bit_and word 0xFF }
     else function
 
--- A function whose firmware has enabled memory space and bus mastering (our choice). Until base address register 0 is written, the
--- registers may be at an address that this register can't show.
+-- A function whose firmware has enabled memory space and bus mastering (our choice). CONFIG_ADDRESS and the interrupt line register are
+-- 0. Until base address register 0 is written, the registers may be at an address that this register can't show.
 abbrev pub new_function : ℕ → PciState
 new_function registers = record { address = 0; command = 0x6; registers = registers; interrupt_line = 0 }
 
--- The address of the first register, while the function answers in memory space.
+-- The address of the first register, while the function answers in memory space. Otherwise there is no such address.
 abbrev pub registers_of : PciState → Option ℕ
 registers_of function = if has_memory_space function.command then Some function.registers else None

@@ -11,7 +11,7 @@ use Rattle.pci_function.specs.ConfigSpace.{PciState, after_write_of, config_word
 abbrev pub kept_address : ℕ → ℕ
 kept_address value = bit_and value 0x80FFFFFC
 
--- The number in the `width` bits from the bit `lowest` on.
+-- The number in the `width` bits from bit `lowest` on.
 abbrev pub field : ℕ → ℕ → ℕ → ℕ
 field address lowest width = address / 2 ^ lowest % 2 ^ width
 
@@ -24,38 +24,41 @@ selects_function address =
 abbrev pub offset_in : ℕ → ℕ
 offset_in address = bit_and address 0xFC
 
--- CONFIG_ADDRESS is accessed by four bytes at CF8h. Accesses of fewer bytes don't reach it.
+-- CONFIG_ADDRESS is accessed by four bytes at CF8h. Accesses of fewer bytes don't reach CONFIG_ADDRESS.
 abbrev pub is_address_port : ℕ → PortWidth → Bool
 is_address_port port width = port == 0xCF8 && size_of width == 4
 
--- The first byte of the selected dword that an access of CONFIG_DATA reads or writes. All bytes of the access must be inside the dword, and
--- the dword must be one of the adapter's.
+-- The first byte of the selected dword that an access of CONFIG_DATA reads or writes. `None` if a byte of the access isn't inside the
+-- dword, or the dword isn't one of the adapter's.
 abbrev pub first_byte : ℕ → PortWidth → ℕ → Option ℕ
 first_byte port width address =
     if nat_le 0xCFC port && nat_le (port + size_of width) 0xD00 && selects_function address then Some (port - 0xCFC)
     else None
 
--- What a read of bytes of the selected dword returns. If nothing answers, all bits are 1 (6.1 "Configuration Space Organization").
+-- What a read of bytes of the selected dword returns. If nothing answers, all bits of the result are 1 (6.1 "Configuration Space
+-- Organization").
 abbrev pub data_answer : Option ℕ → PortWidth → Bool → PciState → ℕ
 data_answer (Some first) width asserted function =
     bytes_at first width (config_word function asserted (offset_in function.address))
 data_answer None width asserted function = ones_of width
 
--- What a read of a port returns. If the port is neither CONFIG_ADDRESS nor one of CONFIG_DATA, all bits are 1.
+-- What a read of a port returns. If the access is neither of CONFIG_ADDRESS nor of bytes of the adapter's selected dword, all bits of the
+-- result are 1.
 abbrev pub answer_at : ℕ → PortWidth → Bool → PciState → ℕ
 answer_at port width asserted function =
     if is_address_port port width then function.address
     else data_answer (first_byte port width function.address) width asserted function
 
--- A write of bytes of the selected dword doesn't change the other bytes of this dword. Interrupt Status can't be written, so the value of
--- the interrupt line doesn't matter.
+-- The state after a write of bytes of the selected dword, whose other bytes don't change. If nothing answers, the write is ignored.
+-- Interrupt Status can't be written, so the value of the interrupt line doesn't matter.
 abbrev pub after_data : Option ℕ → PortWidth → ℕ → PciState → PciState
 after_data (Some first) width value function =
     let offset = offset_in function.address in
     after_write_of offset (with_bytes first width value (config_word function false offset)) function
 after_data None width value function = function
 
--- A write of a port. If the port is neither CONFIG_ADDRESS nor one of CONFIG_DATA, the write is ignored.
+-- The state after a write of a port. If the access is neither of CONFIG_ADDRESS nor of bytes of the adapter's selected dword, the write
+-- is ignored.
 abbrev pub after_write : ℕ → PortWidth → ℕ → PciState → PciState
 after_write port width value function =
     if is_address_port port width then record function { address = kept_address value }

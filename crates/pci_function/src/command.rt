@@ -50,14 +50,14 @@ impl Flags for Command {
 }
 
 impl Command {
-    /// The register after a write of this dword at 04h.
+    /// Returns the register after a write of this dword at 04h.
     pub(crate) fn kept(word: u32) -> Command
         ensures { result.0 ≡ kept_command word }
     {
         Command::from_bits_truncate(word)
     }
 
-    /// Whether the device answers in memory space.
+    /// Returns whether the device answers in memory space.
     pub(crate) fn has_memory_space(self) -> bool
         ensures { result ≡ has_memory_space self.0 }
     {

@@ -15,14 +15,14 @@ const DEVICE: u32 = 4;
 pub(crate) struct ConfigAddress(pub u32);
 
 impl ConfigAddress {
-    /// The port's contents after a write of this value.
+    /// Returns the port's contents after a write of this value.
     pub(crate) fn kept(value: u32) -> ConfigAddress
         ensures { result.0 ≡ kept_address value }
     {
         ConfigAddress(value & KEPT)
     }
 
-    /// Whether accesses of the data port are enabled, and the numbers select the adapter.
+    /// Returns whether accesses of CONFIG_DATA are enabled, and the numbers select the adapter.
     pub(crate) fn selects_function(self) -> bool
         ensures { result ≡ selects_function self.0 }
     {
@@ -33,7 +33,7 @@ impl ConfigAddress {
         is_enabled && bus == 0 && device == DEVICE && function == 0
     }
 
-    /// The offset of the dword in configuration space.
+    /// Returns the offset of the selected dword in configuration space, in bytes.
     pub(crate) fn offset(self) -> u8
         ensures { result ≡ offset_in self.0 }
     {

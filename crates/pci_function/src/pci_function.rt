@@ -20,7 +20,7 @@ const DATA_PORT: u16 = 0xCFC;
 /// Device ID 100Eh and vendor ID 8086h.
 const IDENTITY: u32 = 0x100E_8086;
 
-/// The status register as it is read: DEVSEL timing medium, capable of 66 MHz.
+/// The status register while the interrupt line is deasserted: DEVSEL timing medium, capable of 66 MHz.
 const STATUS: u32 = 0x0220_0000;
 
 /// The bit of the status register that is set while the interrupt line is asserted.
@@ -35,7 +35,7 @@ const SUBSYSTEM_IDENTITY: u32 = 0x001E_8086;
 /// Max_Lat 0, Min_Gnt 255, and interrupt pin 1, INTA#.
 const INTERRUPT_PIN: u32 = 0x00FF_0100;
 
-/// The bits of base address register 0 that can be written: the registers take 128 KB.
+/// The bits of base address register 0 that can be written: the registers occupy 128 KB.
 const BASE_BITS: u64 = 0xFFFE_0000;
 
 /// Function 0 of device 4 of bus 0: the adapter as a PCI device.
@@ -73,7 +73,8 @@ impl PciFunction {
     ghost use Rattle.pci_function.specs.ConfigSpace.{after_write_of, config_word, new_function, registers_of};
     ghost use Rattle.pci_function.specs.Ports.{after_write};
 
-    /// A function whose registers begin at this address. Memory space and bus mastering are enabled, as firmware does.
+    /// Returns a function whose registers begin at this address. Memory space and bus mastering are enabled, as after
+    /// firmware has enabled them. CONFIG_ADDRESS and the interrupt line register are 0.
     pub fn new(registers: u64) -> PciFunction
         ensures { result ≡ new_function registers }
     {
@@ -99,7 +100,8 @@ impl PciFunction {
         }
     }
 
-    /// Writes an I/O port. Of the value, only the low bytes are used: one, two or four, by the width.
+    /// Writes the low bytes of the value to an I/O port: one, two or four bytes, by the width. If nothing answers,
+    /// nothing changes.
     pub fn write_port(&mut self, port: u16, width: PortWidth, value: u32)
         ensures { self.new ≡ after_write port width value self.old }
     {
@@ -113,8 +115,8 @@ impl PciFunction {
         }
     }
 
-    /// The address of the adapter's first register. `None` while memory space is disabled: then no address is that of a
-    /// register.
+    /// Returns the address of the adapter's first register. Returns `None` while memory space is disabled: then no
+    /// address is that of a register.
     pub fn registers(&self) -> Option<u64>
         ensures { result ≡ registers_of self.now }
     {
@@ -125,8 +127,8 @@ impl PciFunction {
         }
     }
 
-    /// The first byte of the dword that an access of the data port reads or writes; `None` if the access isn't for this
-    /// function.
+    /// Returns the number of the first byte that an access of CONFIG_DATA reads or writes in the selected dword.
+    /// Returns `None` if the access isn't inside the four ports of CONFIG_DATA, or isn't for this function.
     fn first_byte(&self, port: u16, width: PortWidth) -> Option<usize>
         ensures { result ≡ first_byte port width self.now.address }
     {
@@ -140,7 +142,7 @@ impl PciFunction {
         Some(first)
     }
 
-    /// The dword at an offset in configuration space.
+    /// Returns the dword at an offset in configuration space.
     fn word(&self, offset: u8, asserted: bool) -> u32
         ensures { result ≡ config_word self.now asserted offset }
     {
@@ -155,7 +157,7 @@ impl PciFunction {
         }
     }
 
-    /// Writes the dword at an offset in configuration space.
+    /// Writes the dword at an offset in configuration space. Bits that can't be written don't change.
     fn set_word(&mut self, offset: u8, word: u32)
         ensures { self.new ≡ after_write_of offset word self.old }
     {
@@ -168,14 +170,14 @@ impl PciFunction {
     }
 }
 
-/// Interrupt Status, bit 3 of the status register, as a bit of the dword at 04h.
+/// Returns Interrupt Status, bit 3 of the status register, as a bit of the dword at 04h.
 fn interrupt_status(asserted: bool) -> u32
     ensures { result ≡ interrupt_status asserted }
 {
     if asserted { INTERRUPT_STATUS } else { 0 }
 }
 
-/// Whether an access is for CONFIG_ADDRESS, which only accesses of four bytes reach.
+/// Whether an access is one of CONFIG_ADDRESS, which only accesses of four bytes at CF8h reach.
 fn is_address_port(port: u16, width: PortWidth) -> bool
     ensures { result ≡ is_address_port port width }
 {

@@ -15,7 +15,7 @@ pub enum PortWidth {
 }
 
 impl PortWidth {
-    /// The number of bytes.
+    /// Returns the number of bytes.
     pub(crate) fn size(self) -> usize
         ensures { result ≡ size_of self }
     {
@@ -26,7 +26,7 @@ impl PortWidth {
         }
     }
 
-    /// The greatest number of this width: all its bits are 1.
+    /// Returns the greatest number of this width, whose bits are all 1.
     pub(crate) fn ones(self) -> u32
         ensures { result ≡ ones_of self }
     {
@@ -37,7 +37,7 @@ impl PortWidth {
         }
     }
 
-    /// The bytes of a dword from byte `first` on, as a number.
+    /// Returns the bytes of this width in a dword from byte `first` on, as a number.
     #[tactic(auto, using(crate::proofs::Lanes::masked))]
     pub(crate) fn bytes_of(self, word: u32, first: usize) -> u32
         requires { first + size_of self ≤ 4 }
@@ -46,7 +46,7 @@ impl PortWidth {
         word >> (8 * first) & self.ones()
     }
 
-    /// A dword with its bytes from byte `first` on replaced by the low bytes of a value.
+    /// Returns a dword whose bytes of this width from byte `first` on are replaced by the low bytes of a value.
     pub(crate) fn replaced_in(self, word: u32, first: usize, value: u32) -> u32
         requires { first + size_of self ≤ 4 }
         ensures { result ≡ with_bytes first self value word }

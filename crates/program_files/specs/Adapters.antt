@@ -18,13 +18,13 @@ texts words = map (λ (word : Bor Text). word.now) words
 abbrev pub serve_words : List Text → List Text
 serve_words options = codes "nicbench" ∷ codes "serve" ∷ options
 
--- Both images are of the same address, or of the file with the same path.
+-- Both images are of the same address, or of files with the same path.
 abbrev pub AreSameImage : ServeImage → ServeImage → Type 0
 AreSameImage (Address address) (Address other) = address ≡ other
 AreSameImage (File path) (File other) = path.now ≡ other.now
 AreSameImage _ _ = ⊥
 
--- Two jobs have the same adapter: the same options but for the seed and the files of schedules.
+-- Two jobs have the same adapter: all options are the same, but the seed and the files of schedules may differ.
 pub record HaveSameAdapter (job other : ServeJob) : Type 0 where
   pub memory : job.memory ≡ other.memory
   pub registers : job.registers ≡ other.registers
@@ -33,7 +33,7 @@ pub record HaveSameAdapter (job other : ServeJob) : Type 0 where
   pub kilobytes : job.receive_kilobytes ≡ other.receive_kilobytes
   pub missed : job.missed ≡ other.missed
 
--- a job of `serve` that has the adapter of this job
+-- The second job is one of `serve`, and has the adapter of the first job.
 abbrev pub HasAdapterOf : ServeJob → Job → Type 0
 HasAdapterOf job (Serve asked) = HaveSameAdapter asked job
 HasAdapterOf job (Pass asked) = ⊥
@@ -41,8 +41,8 @@ HasAdapterOf job (Run asked) = ⊥
 HasAdapterOf job (Show asked) = ⊥
 HasAdapterOf job (Drive asked) = ⊥
 
--- The result is true if the words define the adapter of the job. It is false if the words or a value in them are invalid, or if the words
--- define another adapter or another job.
+-- The result is true only if the words define the adapter of the job. It is false only if the words or a value in them are invalid, or if
+-- the words define another adapter, or a job of another subcommand.
 abbrev pub IsAnswer : List Text → ServeJob → Bool → Type 0
 IsAnswer words job true = (asked : Job) × IsAskedBy words asked × HasAdapterOf job asked
 IsAnswer words job false =

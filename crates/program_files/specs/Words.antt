@@ -4,25 +4,25 @@ use Rattle.std.specs.List.{before_first, position_or_len}
 use Rattle.std.specs.Str.{bytes_eq}
 use Rattle.clap.specs.Words.{Text}
 
--- an option that isn't one of the adapter
+-- whether a word is an option of `serve` that isn't one of the adapter; its value is the next word
 abbrev pub is_run_option : Text → Bool
 is_run_option word = bytes_eq word (codes "--schedule") || bytes_eq word (codes "--record") || bytes_eq word (codes "--seed")
 
 abbrev pub is_equals_sign : ℕ → Bool
 is_equals_sign byte = byte == 0x3D
 
--- an option that isn't one of the adapter, and its value, joined by `=`
+-- whether a word is an option that isn't one of the adapter, and its value, joined by `=`
 abbrev pub has_run_option : Text → Bool
 has_run_option word =
     if nat_lt (position_or_len is_equals_sign word) (length word) then is_run_option (before_first is_equals_sign word) else false
 
--- the word, or nothing if it is an option that isn't one of the adapter, or the value of one
+-- the word, or nothing if it is an option that isn't one of the adapter, or the value of such an option
 abbrev pub option_in : (is_value : Bool) → Text → List Text
 option_in is_value word =
     if not is_value && not (is_run_option word) && not (has_run_option word) then word ∷ [] else []
 
--- Of these words, those that are options of the adapter. `is_value` is whether the first word is the value of another
--- option.
+-- The words that are options of the adapter or their values. `is_value` is whether the first word is the value of an option that isn't one
+-- of the adapter.
 abbrev pub options_in : (is_value : Bool) → List Text → List Text
 options_in is_value [] = []
 options_in is_value (word ∷ rest) = option_in is_value word ++ options_in (not is_value && is_run_option word) rest

@@ -8,20 +8,22 @@ use std::alloc::{AllocError, AllocFailed, Global};
 /// Why an input or an output can't be used.
 #[derive(Drop)]
 pub enum FileError {
-    /// The file at this path can't be opened or created.
+    /// The file at this path can't be opened or created, or the program doesn't accept it, such as a device as an
+    /// input.
     Open(String),
     /// The input at this path isn't a trace, or can't be read.
     Input(ReadError, String),
     /// Memory was refused while a trace was read.
     TraceMemory,
-    /// Standard input or a pipe has more bytes than are read.
+    /// Standard input or a pipe has more than 1 GiB.
     Pipe,
-    /// Memory was refused otherwise.
+    /// Memory was refused at another place.
     Memory,
 }
 
 impl FileError {
-    /// The error for a path whose file can't be opened or created. It is `Memory` if there is no memory for the path.
+    /// Returns the error for a path whose file can't be opened or created. It is `Memory` if there is no memory for the
+    /// path.
     pub fn open(alloc: Global, path: &str) -> FileError {
         match String::from_str(alloc, path) {
             Ok(path) => FileError::Open(path),
@@ -29,8 +31,8 @@ impl FileError {
         }
     }
 
-    /// The error for a path whose input isn't a trace, or can't be read. It is `Memory` if there is no memory for the
-    /// path.
+    /// Returns the error for a path whose input isn't a trace, or can't be read. It is `TraceMemory` if memory was
+    /// refused while the trace was read, and `Memory` if there is no memory for the path.
     pub(crate) fn input(alloc: Global, error: ReadError, path: &str) -> FileError {
         match (error, String::from_str(alloc, path)) {
             (ReadError::Memory, _) => FileError::TraceMemory,

@@ -14,10 +14,10 @@ use std::rt::Files;
 /// The path that means standard input.
 const STANDARD_INPUT: &str = "-";
 
-/// The path of the file that is standard input, if it is one.
+/// The path whose metadata are those of standard input.
 const STANDARD_INPUT_FILE: &str = "/dev/stdin";
 
-/// The most bytes that standard input or a pipe may have: 1 GiB.
+/// The maximum number of bytes of standard input or a pipe: 1 GiB.
 const MOST_PIPED: u64 = 1 << 30;
 
 /// A file as a sink.
@@ -26,13 +26,13 @@ pub type FileSink<F> = WriterSink<LateFile<F>>;
 /// An input that was opened.
 #[derive(Drop)]
 enum Opened<F> {
-    /// A file, and its length then.
+    /// A file, and its length in bytes when it was opened.
     File(F, u64),
     /// All bytes of standard input or of a pipe.
     Piped(Vec<u8>),
 }
 
-/// Reads all bytes of the input at a path, up to a limit.
+/// Reads at most `limit` bytes of the input at a path.
 fn read_up_to<S: Read + Drop>(
     alloc: Global,
     path: &str,
@@ -47,7 +47,7 @@ fn read_up_to<S: Read + Drop>(
     }
 }
 
-/// Reads standard input or a pipe to its end, which has to come within [`MOST_PIPED`] bytes.
+/// Reads standard input or a pipe to its end. Fails if there are more than [`MOST_PIPED`] bytes.
 fn read_pipe<S: Read + Drop>(alloc: Global, path: &str, reader: S) -> Result<Vec<u8>, FileError> {
     let bytes = read_up_to(alloc, path, reader, MOST_PIPED + 1)?;
     if bytes.len() as u64 > MOST_PIPED {
@@ -76,7 +76,7 @@ enum Kind {
     Device,
 }
 
-/// The kind of an input.
+/// Returns the kind of an input.
 fn kind_of(metadata: &Metadata) -> Kind {
     let kind = metadata.file_type();
     if kind.is_file() {
@@ -90,7 +90,8 @@ fn kind_of(metadata: &Metadata) -> Kind {
     }
 }
 
-/// Opens an input with a path. A pipe is read to its end. A device may have no end, so it is refused.
+/// Opens an input with a path. A pipe is read to its end. A folder is refused, and so is a device, which may have no
+/// end.
 fn open_input<R: Files + AllocGlobal>(rt: &R, path: &str) -> Result<Opened<R::File>, FileError> {
     let (file, metadata) = open_path(rt, path)?;
     match kind_of(&metadata) {
@@ -124,7 +125,7 @@ fn trace_of<R: Watched + Files + AllocGlobal>(
     }
 }
 
-/// Reads a trace.
+/// Reads a trace from the input at a path.
 pub fn read_trace<R: Files + Input + Watched + AllocGlobal>(
     rt: &R,
     path: &str,
@@ -147,7 +148,7 @@ pub fn read_bytes<R: Files + Input + AllocGlobal>(
     }
 }
 
-/// Reads the first bytes of an input, up to a limit. Standard input and pipes are read to their end.
+/// Reads the first bytes of a file, up to a limit, or all bytes of standard input or of a pipe.
 pub fn read_front<R: Files + Input + AllocGlobal>(
     rt: &R,
     path: &str,
@@ -159,7 +160,7 @@ pub fn read_front<R: Files + Input + AllocGlobal>(
     }
 }
 
-/// Opens a file for writing. A file that doesn't exist is created; an existing one keeps its bytes until the first new
+/// Opens a file for writing. A file that doesn't exist is created; an existing file keeps its bytes until the first new
 /// byte is written.
 pub fn create_file<R: Files + AllocGlobal>(
     rt: &R,
@@ -171,7 +172,7 @@ pub fn create_file<R: Files + AllocGlobal>(
     }
 }
 
-/// Opens a file as a sink. A file that doesn't exist is created; an existing one keeps its bytes until the first new
+/// Opens a file as a sink. A file that doesn't exist is created; an existing file keeps its bytes until the first new
 /// byte is written.
 pub fn create<R: Files + AllocGlobal>(rt: &R, path: &str) -> Result<FileSink<R::File>, FileError>
     ensures { IfOk result (λ sink. ⟦<FileSink<R::File> as Sink>⟧.failures sink ≡ 0) }
@@ -179,7 +180,8 @@ pub fn create<R: Files + AllocGlobal>(rt: &R, path: &str) -> Result<FileSink<R::
     Ok(WriterSink::new(create_file(rt, path)?))
 }
 
-/// A file with this name in a folder, as a sink. A name with a slash is refused: its file would be in another folder.
+/// Opens or creates a file with this name in a folder, as a sink. Refuses a name with a slash: its file would be in
+/// another folder.
 fn create_in<R: Files + AllocGlobal>(
     rt: &R,
     directory: &str,
@@ -194,7 +196,7 @@ fn create_in<R: Files + AllocGlobal>(
     create(rt, path.as_str())
 }
 
-/// A file for each of these names in a folder, in order.
+/// Opens or creates a file for each of these names in a folder, in order.
 pub fn create_all<R: Files + AllocGlobal>(
     rt: &R,
     directory: &str,
@@ -219,7 +221,7 @@ pub fn find_folder<R: Files + AllocGlobal>(rt: &R, path: &str) -> Result<(), Fil
     }
 }
 
-/// The kind and the size of an input or an output. Links are followed.
+/// Returns the metadata of the file at a path, or of standard input if the path is `-`. Links are followed.
 fn metadata_of<R: Files>(rt: &R, path: &str) -> io::Result<Metadata> {
     if path == STANDARD_INPUT {
         return fs::metadata(rt, STANDARD_INPUT_FILE);
@@ -227,7 +229,7 @@ fn metadata_of<R: Files>(rt: &R, path: &str) -> io::Result<Metadata> {
     fs::metadata(rt, path)
 }
 
-/// Whether the path of an output and another path are of the same plain file.
+/// Returns whether the path of an output and another path lead to the same plain file.
 pub fn is_same_file<R: Files>(rt: &R, output: &str, other: &str) -> bool {
     match (fs::metadata(rt, output), metadata_of(rt, other)) {
         (Ok(one), Ok(two)) => one.is_file() && one.dev() == two.dev() && one.ino() == two.ino(),

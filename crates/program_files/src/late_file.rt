@@ -3,8 +3,8 @@
 use std::fs::OpenFile;
 use std::io::{self, Write};
 
-/// A file that is written from its beginning. Its old bytes are dropped just before the first new byte is written, so a
-/// program that ends earlier doesn't change the file.
+/// A file that is written from its beginning. Its old bytes are dropped just before the first write, so a program that
+/// ends earlier doesn't change the file.
 #[derive(Drop)]
 pub struct LateFile<F> {
     file: F,
@@ -12,7 +12,7 @@ pub struct LateFile<F> {
 }
 
 impl<F: OpenFile> LateFile<F> {
-    /// A file that was opened for writing, and not truncated.
+    /// Returns a `LateFile` over a file that was opened for writing, and not truncated.
     pub fn new(file: F) -> LateFile<F> {
         LateFile {
             file,

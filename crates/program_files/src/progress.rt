@@ -6,7 +6,7 @@ use std::io::{self, IsTerminal, Read};
 /// The shortest file whose progress is reported: 256 MiB.
 const LONG_FILE: u64 = 1 << 28;
 
-/// The number of reports for a long file.
+/// The number of steps of a long file. The end of each step except the last is reported.
 const STEPS: u64 = 10;
 
 /// The smallest number of fed frames for which the start of a run is reported.
@@ -16,7 +16,7 @@ const MEBIBYTE: u64 = 1 << 20;
 
 /// Standard error, and whether it is a terminal.
 pub trait Watched: Eprint {
-    /// Whether standard error is a terminal.
+    /// Returns whether standard error is a terminal.
     fn is_watched(&self) -> bool;
 }
 
@@ -37,7 +37,7 @@ pub(crate) struct ReportingReader<'a, R, F> {
 }
 
 impl<'a, R: Watched, F> ReportingReader<'a, R, F> {
-    /// A file of this length, in bytes.
+    /// Returns a reader of a file that has this length in bytes.
     pub(crate) fn new(rt: &'a R, file: F, length: u64) -> ReportingReader<'a, R, F> {
         ReportingReader {
             rt,
@@ -48,7 +48,7 @@ impl<'a, R: Watched, F> ReportingReader<'a, R, F> {
         }
     }
 
-    /// This number of further bytes was read.
+    /// Counts further bytes that were read. If progress is reported, reports when the end of a step is reached.
     fn count(&mut self, bytes: u64) {
         let step = self.length / STEPS + 1;
         let before = self.done / step;
@@ -68,7 +68,7 @@ impl<R: Watched, F: Read> Read for ReportingReader<'_, R, F> {
     }
 }
 
-/// The frames of all traces.
+/// Returns the number of frames of all traces. The number saturates.
 fn frames_of(traces: &[Trace]) -> u64 {
     let mut frames: u64 = 0;
     for trace in traces {

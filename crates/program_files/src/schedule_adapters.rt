@@ -6,7 +6,7 @@ ghost use Rattle.program_files.specs.Adapters as spec;
 use command_line::{Job, LineError, ServeJob, line};
 use std::alloc::{AllocError, Global};
 
-/// Whether two jobs have the same adapter.
+/// Returns whether two jobs have the same adapter.
 fn is_same_adapter(job: &ServeJob<'_>, other: &ServeJob<'_>) -> bool
     ensures { IsTrue result ↔ spec.HaveSameAdapter job.now other.now }
 {
@@ -18,7 +18,7 @@ fn is_same_adapter(job: &ServeJob<'_>, other: &ServeJob<'_>) -> bool
         && job.missed == other.missed
 }
 
-/// Whether a job is one of `serve` with the adapter of this job.
+/// Returns whether a job is one of `serve` with the adapter of this job.
 fn has_adapter_of(asked: &Job<'_>, job: &ServeJob<'_>) -> bool
     ensures { IsTrue result ↔ spec.HasAdapterOf job.now asked.now }
 {
@@ -28,7 +28,7 @@ fn has_adapter_of(asked: &Job<'_>, job: &ServeJob<'_>) -> bool
     }
 }
 
-/// The words of `serve` with these options.
+/// Returns the words of `serve` with these options.
 fn serve_words<'a>(alloc: Global, options: &'a [String]) -> Result<Vec<&'a str>, AllocError>
     ensures { IfOk result (λ words. spec.texts words.items ≡ spec.serve_words (map string_bytes options.entry.now)) }
 {
@@ -41,7 +41,7 @@ fn serve_words<'a>(alloc: Global, options: &'a [String]) -> Result<Vec<&'a str>,
     Ok(words)
 }
 
-/// The result for words that are refused with this error: false, unless memory was refused.
+/// Returns false if words are refused with this error. Fails if the error is that memory was refused.
 fn answer_to(error: &LineError<'_>) -> Result<bool, AllocError>
     ensures { IfOk result (λ answer. (answer ≡ false) × (error.now ≢ Memory)) }
 {
@@ -51,7 +51,7 @@ fn answer_to(error: &LineError<'_>) -> Result<bool, AllocError>
     }
 }
 
-/// Whether these options are for the adapter of this job. Fails only if memory was refused.
+/// Returns whether these options are for the adapter of this job. Fails only if memory was refused.
 pub fn is_for(alloc: Global, options: &[String], job: &ServeJob<'_>) -> Result<bool, AllocError>
     ensures { IfOk result (spec.IsAnswer (spec.serve_words (map string_bytes options.now)) job.now) }
 {

@@ -4,14 +4,14 @@ ghost use Rattle.program_files.specs.Words as spec;
 
 use std::alloc::{AllocError, Global};
 
-/// Whether a word is an option of `serve` that isn't an option of the adapter, with its value in the next word.
+/// Returns whether a word is an option of `serve` that isn't an option of the adapter, with its value in the next word.
 fn is_run_option(word: &str) -> bool
     ensures { result ≡ spec.is_run_option word.now }
 {
     word == "--schedule" || word == "--record" || word == "--seed"
 }
 
-/// Whether a word is an option of `serve` that isn't one of the adapter, and its value, joined by `=`.
+/// Returns whether a word is an option of `serve` that isn't an option of the adapter, and its value, joined by `=`.
 fn has_run_option(word: &str) -> bool
     ensures { result ≡ spec.has_run_option word.now }
 {
@@ -21,7 +21,7 @@ fn has_run_option(word: &str) -> bool
     }
 }
 
-/// Of these words, those that are options of the adapter.
+/// Returns the words that are options of the adapter or their values.
 fn options_in(alloc: Global, words: &[String]) -> Result<Vec<String>, AllocError>
     ensures { IfOk result (λ options. map string_bytes options.items
         ≡ spec.options_in false (map string_bytes words.now)) }
@@ -39,7 +39,8 @@ fn options_in(alloc: Global, words: &[String]) -> Result<Vec<String>, AllocError
     Ok(options)
 }
 
-/// The words that are options of the adapter, in order. The first two words are the program and `serve`.
+/// Returns the words that are options of the adapter or their values, in order. The first two words are the program and
+/// `serve`.
 pub fn adapter_options(alloc: Global, words: &[String]) -> Result<Vec<String>, AllocError>
     ensures { IfOk result (λ options. map string_bytes options.items
         ≡ spec.adapter_options (map string_bytes words.now)) }

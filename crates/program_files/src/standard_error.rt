@@ -2,14 +2,14 @@
 
 use std::io::{self, ErrorKind, Write};
 
-/// Standard error, for a writer of text.
+/// Standard error as a writer of text. A write of bytes that aren't UTF-8 fails.
 #[derive(Clone, Copy)]
 pub struct StandardError<'a, R> {
     rt: &'a R,
 }
 
 impl<'a, R: Eprint> StandardError<'a, R> {
-    /// The standard error of this runtime.
+    /// Returns a writer to the standard error of this runtime.
     pub fn new(rt: &'a R) -> StandardError<'a, R> {
         StandardError { rt }
     }

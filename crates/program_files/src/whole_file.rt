@@ -1,4 +1,4 @@
-//! An output file that is never incomplete.
+//! An output file that gets all its new bytes at once, if it can be replaced.
 ghost use Rattle.std.specs.Prelude.{◌≡◌, IfOk};
 
 use crate::file_error::FileError;
@@ -10,7 +10,7 @@ use std::io::ErrorKind;
 use std::os::unix::fs::MetadataExt;
 use std::rt::Files;
 
-/// The most names that are tried for a part.
+/// The maximum number of names that are tried for a part.
 const MOST_PARTS: u32 = 100;
 
 /// An output that was opened.
@@ -20,7 +20,7 @@ const MOST_PARTS: u32 = 100;
 /// if the program is killed.
 #[derive(Drop)]
 pub struct WholeFile<F> {
-    /// Takes the new bytes.
+    /// The sink for the new bytes.
     pub sink: FileSink<F>,
     /// The path of the part; `None` if the output is written in place.
     part: Option<String>,
@@ -31,7 +31,7 @@ pub struct WholeFile<F> {
 enum NewFile<F> {
     /// The file was made.
     Made(F),
-    /// There is a file with this name.
+    /// A file with this name already exists.
     Taken,
     /// No file with this name can be made.
     Refused,
@@ -50,7 +50,7 @@ fn new_file<R: Files>(rt: &R, name: &str) -> NewFile<R::File> {
     }
 }
 
-/// Makes a part, which is a new file, and returns it with its path. Returns `None` if it can't be made.
+/// Makes a part, which is a new file, and returns the part with its path. Returns `None` if no part can be made.
 fn new_part<R: Files + AllocGlobal>(
     rt: &R,
     path: &str,
@@ -69,8 +69,8 @@ fn new_part<R: Files + AllocGlobal>(
     Ok(None)
 }
 
-/// Sets the permissions of a part to those of the file that it replaces. Returns whether the part has them and the same
-/// owner.
+/// Sets the permissions of a part to those of the file that it replaces, if both have the same owner and group. Returns
+/// whether the permissions were set.
 fn take_after<F: OpenFile>(part: &F, old: &Metadata) -> bool {
     let Ok(new) = part.metadata() else {
         return false;
@@ -79,7 +79,8 @@ fn take_after<F: OpenFile>(part: &F, old: &Metadata) -> bool {
     is_same && part.set_permissions(old.permissions()).is_ok()
 }
 
-/// Makes a part that can replace this file.
+/// Makes a part with the owner, the group and the permissions of the file that it replaces. Returns `None` if no such
+/// part can be made.
 fn part_like<R: Files + AllocGlobal>(
     rt: &R,
     path: &str,
@@ -96,7 +97,7 @@ fn part_like<R: Files + AllocGlobal>(
 }
 
 impl<F: OpenFile + std::io::Write + Drop> WholeFile<F> {
-    /// An output that is written into a part.
+    /// Returns an output that is written into a part.
     fn beside(file: F, name: String) -> WholeFile<F>
         ensures { ⟦<FileSink<F> as Sink>⟧.failures result.sink ≡ 0 }
     {
@@ -106,7 +107,7 @@ impl<F: OpenFile + std::io::Write + Drop> WholeFile<F> {
         }
     }
 
-    /// An output that is written in place.
+    /// Returns an output that is written in place.
     fn in_place(sink: FileSink<F>) -> WholeFile<F>
         requires { ⟦<FileSink<F> as Sink>⟧.failures sink ≡ 0 }
         ensures { ⟦<FileSink<F> as Sink>⟧.failures result.sink ≡ 0 }
@@ -114,11 +115,12 @@ impl<F: OpenFile + std::io::Write + Drop> WholeFile<F> {
         WholeFile { sink, part: None }
     }
 
-    /// Must be called after all bytes were written: the output gets the new bytes.
+    /// Must be called after all bytes were written. Renames the part, if there is one, to the output.
     ///
     /// # Errors
     ///
-    /// [`Write`](WriteError::Write) if the part can't be renamed. Then the output is unchanged.
+    /// [`Write`](WriteError::Write) if the part can't be renamed. Then the output is unchanged, and the part is removed
+    /// if it can be removed.
     pub fn finish<R: Files>(self, rt: &R, path: &str) -> Result<(), WriteError> {
         let WholeFile { sink: _, part } = self;
         let Some(part) = part else {
@@ -131,8 +133,8 @@ impl<F: OpenFile + std::io::Write + Drop> WholeFile<F> {
         Err(WriteError::Write)
     }
 
-    /// Must be called if not all bytes were written: removes the part. An output that is written in place keeps the
-    /// bytes that were written.
+    /// Must be called if not all bytes were written. Removes the part, if there is one. An output that is written in
+    /// place keeps the bytes that were written.
     pub fn abandon<R: Files>(self, rt: &R) {
         let WholeFile { sink: _, part } = self;
         if let Some(part) = part {
@@ -141,7 +143,7 @@ impl<F: OpenFile + std::io::Write + Drop> WholeFile<F> {
     }
 }
 
-/// A plain file with one name, which can be replaced by a part.
+/// Opens a plain file with one name. Its new bytes are written into a part, or in place if no part can be made.
 fn open_replaceable<R: Files + AllocGlobal>(
     rt: &R,
     path: &str,
@@ -168,7 +170,7 @@ fn create_in_place<R: Files + AllocGlobal>(
     Ok(WholeFile::in_place(create(rt, path)?))
 }
 
-/// Creates an output that doesn't exist.
+/// Creates an output that doesn't exist. Its bytes are written into a part, or in place if no part can be made.
 fn create_new<R: Files + AllocGlobal>(rt: &R, path: &str) -> Result<WholeFile<R::File>, FileError>
     ensures { IfOk result (λ file. ⟦<FileSink<R::File> as Sink>⟧.failures file.sink ≡ 0) }
 {
@@ -180,7 +182,7 @@ fn create_new<R: Files + AllocGlobal>(rt: &R, path: &str) -> Result<WholeFile<R:
 
 /// Opens an output. A plain file with one name keeps its bytes until [`finish`](WholeFile::finish), and a new file gets
 /// its name then. Any other output is written in place, as by [`create`]: a link, a file with several names, a device
-/// or a pipe. A file for which no part with its owner and permissions can be made is written in place, too.
+/// or a pipe. A file for which no part with its owner, group and permissions can be made is written in place, too.
 pub fn create_whole<R: Files + AllocGlobal>(
     rt: &R,
     path: &str,

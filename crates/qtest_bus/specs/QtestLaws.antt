@@ -1,4 +1,5 @@
--- Accesses of two consecutive intervals are accesses of both together.
+-- Laws of `IsSameBus` and `AsksAll`: each holds of no access, and of two consecutive intervals joined if it holds of both. What `Asks`
+-- states of one access implies what `AsksAll` and `StaysWhole` state.
 use Rattle.std.proofs.Common.{◌++◌, ◌∷◌, [], ℕ, refl, sym, subst, ◌∙◌}
 use Rattle.std.specs.Io.KnownBytes.{Appends}
 use Rattle.std.proofs.KnownBytes.{Appends-nil, Appends-trans}
@@ -32,7 +33,7 @@ asks_on a b c one two = record {
       (subst (λ (r : ℕ). Appends b.written c.written (requests_of r two.accesses)) one.same.registers (two.asked none)));
 }
 
--- One access is a list of one access.
+-- After one access, `AsksAll` holds with the list of this access.
 pub asks_one : (access : Access) (a b : QtestState) → Asks access a b → AsksAll a b
 asks_one access a b one = record {
   same = one.same;
@@ -40,6 +41,6 @@ asks_one access a b one = record {
   asked = λ none. subst (Appends a.written b.written) (sym (append-nil (request_of a.registers access))) (one.asked none);
 }
 
--- One access changes none of the properties of the bus in `StaysWhole`.
+-- One access preserves the properties of the bus that `StaysWhole` states.
 pub keeps_one : (access : Access) (a b : QtestState) → Asks access a b → StaysWhole memory_size AsksAll is_never is_never a b
 keeps_one access a b one = record { extent = one.same.memory; lent_stays = asks_one access a b one; honest = λ is. is; lively = λ is. is }

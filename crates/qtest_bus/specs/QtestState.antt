@@ -8,24 +8,24 @@ use Rattle.qtest_bus.specs.declared.bus_fault.BusFault.{BusFault}
 pub record QtestState : Type 0 where
   -- the address of the first register
   pub registers : ℕ
-  -- the number of bytes of memory, which begins at address 0
+  -- the size of memory in bytes; memory begins at address 0
   pub memory : ℕ
-  -- whether the interrupt line is asserted, by the last line that reported it
+  -- whether the interrupt line is asserted, as the last `IRQ` line reported; false before the first one
   pub asserted : Bool
-  -- why the bus stopped, if it did
+  -- why the bus stopped, or none if it hasn't stopped
   pub fault : Option BusFault
-  -- the bytes that were written to the program, if contracts know them
+  -- the bytes that were written to the program, if they are visible to contracts
   pub written : Option (List ℕ)
 
 abbrev pub memory_size : QtestState → ℕ
 memory_size bus = bus.memory
 
--- Nothing is known of the other program. So the bus never counts as one that obeys the bus law, or that plays a tick of EEPROM and PHY
--- before each access.
+-- Contracts know nothing about the other program. So the bus never counts as a bus that obeys the bus law, or that plays ticks of the
+-- EEPROM and the PHY before each access.
 abbrev pub is_never : QtestState → Type 0
 is_never bus = ⊥
 
--- The address of the registers and the size of memory are the same, and a fault that is known remains known.
+-- The address of the registers and the size of memory are the same, and a bus that has stopped remains stopped.
 pub record IsSameBus (old new : QtestState) : Type 0 where
   pub registers : new.registers ≡ old.registers
   pub memory : new.memory ≡ old.memory
@@ -35,14 +35,14 @@ pub record IsSameBus (old new : QtestState) : Type 0 where
 abbrev pub HasAsked : (old new : QtestState) → Type 0
 HasAsked old new = new ≡ record old { asserted = new.asserted; written = new.written }
 
--- One access. If no fault is known after the access, exactly the request of this access was written.
+-- One access. If the bus hasn't stopped after the access, exactly the request of this access was written.
 pub record Asks (access : Access) (old new : QtestState) : Type 0 where
   pub same : IsSameBus old new
   pub asked : new.fault ≡ None → Appends old.written new.written (request_of old.registers access)
-  -- After a fault nothing is written, and nothing is read.
+  -- If the bus had stopped before the access, nothing changes.
   pub stopped : OnSome old.fault (new ≡ old)
 
--- Some accesses. If no fault is known after these accesses, exactly their requests were written, in order.
+-- Some accesses, perhaps none. If the bus hasn't stopped after these accesses, exactly their requests were written, in order.
 pub record AsksAll (old new : QtestState) : Type 0 where
   pub same : IsSameBus old new
   pub accesses : List Access

@@ -6,11 +6,11 @@ use Rattle.hex.specs.Hex.{encode_lower}
 use Rattle.bus.specs.declared.event.Access.{Access}
 use Rattle.bus.specs.declared.event.Access.TheVariants.{Loads, Reads, Stores, Writes}
 
--- a number in 16 hexadecimal digits, after a space
+-- a space, 0x, and a number in 16 lower-case hexadecimal digits
 unfoldable pub number_text : ℕ → List ℕ
 number_text number = codes " 0x" ++ encode_lower (to_be_bytes w64 number)
 
--- the address of a register; the registers begin at `registers`
+-- the address of the register at an offset, modulo 2^64; the registers begin at the address `registers`
 abbrev pub register_address : (registers offset : ℕ) → ℕ
 register_address registers offset = (registers + offset) % 2 ^ 64
 

@@ -14,29 +14,29 @@ const DONE: &[u8] = b"OK";
 /// The beginning of an answer with a number or with bytes.
 const BYTES: &[u8] = b"OK 0x";
 
-/// The number of bytes of a register's value in an answer, each two hexadecimal digits: the value has 64 bits.
+/// The size of a register's value in an answer, in bytes. Each byte has two hexadecimal digits.
 const VALUE_BYTES: usize = 8;
 
-/// The reader of answers, and the level of the interrupt line as the lines before the answers reported it.
+/// The reader of answers, and the level of the interrupt line that the last `IRQ` line reported.
 #[derive(Drop)]
 pub(crate) struct Answers<R> {
     pub(crate) input: R,
-    /// The line that was read last, without its end.
+    /// The line that was read last, without its line feed.
     pub(crate) line: Vec<u8>,
     pub(crate) asserted: bool,
 }
 
 /// The kind of a line.
 enum Line {
-    /// The interrupt line was asserted, or deasserted.
+    /// Whether the interrupt line is asserted now.
     Interrupt(bool),
-    /// A frame that was put on the wire or arrived, or a line of a log.
+    /// A report about a frame that was put on the wire or arrived, or a line of the log.
     Report,
-    /// An answer.
+    /// Any other line, which is an answer.
     Answer,
 }
 
-/// The kind of a line.
+/// Returns the kind of a line.
 fn kind_of(line: &[u8]) -> Line {
     if line.starts_with(b"IRQ raise ") {
         Line::Interrupt(true)
@@ -52,8 +52,8 @@ fn kind_of(line: &[u8]) -> Line {
     }
 }
 
-/// Fills `into` from the digits in an answer. Returns whether the answer has exactly two digits for each byte of
-/// `into`; if not, `into` doesn't change.
+/// Fills `into` from the digits in an answer. Returns `false` if the answer isn't `OK 0x` and exactly two digits for
+/// each byte of `into`.
 fn take_bytes(answer: &[u8], into: &mut [u8]) -> bool
     ensures length { length into.new ≡ length into.old }
 {
@@ -78,7 +78,8 @@ impl<R: BufRead> Answers<R> {
         }
     }
 
-    /// Reads lines up to an answer, and stores the level of the interrupt line.
+    /// Reads lines up to and including the next answer. Stores each level of the interrupt line that `IRQ` lines
+    /// report.
     fn next(&mut self) -> Result<(), BusFault> {
         for _count in 0..u64::MAX {
             self.read_line()?;
@@ -91,7 +92,7 @@ impl<R: BufRead> Answers<R> {
         Err(BusFault::Read)
     }
 
-    /// Reads the answer to a write.
+    /// Reads the answer to a write, which must be `OK`.
     pub(crate) fn done(&mut self) -> Result<(), BusFault> {
         self.next()?;
         if self.line.as_slice() == DONE {
@@ -101,7 +102,8 @@ impl<R: BufRead> Answers<R> {
         }
     }
 
-    /// Reads the answer to a read of bytes, and fills `into` with the bytes.
+    /// Reads the answer to a read of bytes, and fills `into` with the bytes. The answer must have two digits for each
+    /// byte.
     pub(crate) fn bytes(&mut self, into: &mut [u8]) -> Result<(), BusFault>
         ensures length { length into.new ≡ length into.old }
     {
@@ -113,7 +115,7 @@ impl<R: BufRead> Answers<R> {
         }
     }
 
-    /// Reads the answer to a read of a register: 16 digits, of which the first eight must be 0.
+    /// Reads the answer to a read of a register, which must have 16 digits, of which the first eight are 0.
     pub(crate) fn value(&mut self) -> Result<u32, BusFault> {
         let mut bytes = [0; VALUE_BYTES];
         self.bytes(&mut bytes)?;

@@ -14,10 +14,10 @@ pub enum BusFault {
     /// Memory for a request or an answer was refused.
     #[error("out of memory")]
     Memory,
-    /// A line isn't the answer to its request.
+    /// A line that must be an answer isn't an answer to its request.
     #[error("a line isn't the answer to its request")]
     Answer,
-    /// The answers ended before the answer to a request, or reading them failed.
+    /// Before the end of the answer's line, the input ended or a read failed.
     #[error("no answer can be read")]
     Read,
     /// Writing a request failed.
@@ -26,7 +26,7 @@ pub enum BusFault {
 }
 
 impl BusFault {
-    /// Why reading a line failed.
+    /// Returns the fault for an error of reading a line: `Memory` if memory was refused, or else `Read`.
     pub(crate) fn of_reading(error: io::Error) -> BusFault {
         if error.kind() == ErrorKind::OutOfMemory {
             BusFault::Memory

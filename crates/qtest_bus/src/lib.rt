@@ -1,7 +1,6 @@
 //! A bus to an adapter in another program: requests and answers of QEMU's qtest protocol, one on each line.
 //!
-//! The adapter may be QEMU's, that of `nicbench serve`, or any other that answers `readl`, `writel`, `read` and
-//! `write`.
+//! The program may be QEMU, `nicbench serve`, or any other program that answers `readl`, `writel`, `read` and `write`.
 #![tactic(auto)]
 
 mod answers;

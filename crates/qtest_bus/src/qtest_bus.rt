@@ -17,10 +17,12 @@ use std::marker::Model;
 
 /// A bus to an adapter in another program, which answers requests of QEMU's qtest protocol, one on each line.
 ///
-/// Each access is one request: `readl` or `writel` for a register, `read` or `write` for bytes of memory. Other lines
-/// before an answer (`IRQ ..`, `frame ..`, `arrived ..`, `# ..`) are skipped; a line with `IRQ` reports the level of
-/// the interrupt line. At the first fault the bus stops: the access that failed and all later accesses read zeros, and
-/// nothing more is written.
+/// Each access is one request: `readl` or `writel` for a register, `read` or `write` for bytes of memory. Before an
+/// answer, lines `IRQ raise ..` and `IRQ lower ..` report the level of the interrupt line, and lines `frame ..`,
+/// `arrived ..` and `#..` are skipped. Any other line is an answer.
+///
+/// At the first fault, the bus stops: if the access that failed or a later access reads, it reads zeros. No later
+/// access writes a request.
 #[derive(Drop)]
 pub struct QtestBus<R: BufRead, W: Write> {
     requests: Requests<W>,
@@ -44,9 +46,11 @@ impl<R: BufRead, W: Write> Model for QtestBus<R, W> {
 }
 
 impl<R: BufRead, W: Write> QtestBus<R, W> {
-    /// A bus to a program. Requests are written to `output`, and answers are read from `input`. The registers begin at
-    /// the address `registers`, and a driver may use `memory` bytes from address 0. The interrupt line counts as
-    /// deasserted. The writer shouldn't have a buffer, because nothing flushes it.
+    /// Returns a bus to a program. Requests are written to `output`, and answers are read from `input`.
+    ///
+    /// The registers begin at the address `registers`, and a driver may use `memory` bytes from address 0. The
+    /// interrupt line counts as deasserted until an `IRQ` line reports it. Pass an unbuffered writer, because the bus
+    /// never flushes the writer.
     pub fn new(alloc: Global, input: R, output: W, registers: u64, memory: u64) -> QtestBus<R, W>
         ensures { result ≡ record {
           registers = registers;
@@ -72,21 +76,22 @@ impl<R: BufRead, W: Write> QtestBus<R, W> {
         }
     }
 
-    /// Whether the interrupt line is asserted, as the last `IRQ` line reported.
+    /// Whether the interrupt line is asserted, as the last `IRQ` line reported. Returns `false` before the first `IRQ`
+    /// line.
     pub fn is_asserted(&self) -> bool
         ensures { result ≡ self.now.asserted }
     {
         self.answers.asserted
     }
 
-    /// Why the bus stopped, if it did.
+    /// Returns why the bus stopped, or `None` if it hasn't stopped.
     pub fn fault(&self) -> Option<BusFault>
         ensures { result ≡ self.now.fault }
     {
         self.fault
     }
 
-    /// Reads a register. If this fails, the bus stops.
+    /// Reads a register. If this fails, the bus stops. Returns 0 if the bus has stopped.
     fn read_register(&mut self, offset: u32) -> u32
         ensures { Asks (Reads offset result) self.old self.new }
     {
@@ -102,7 +107,7 @@ impl<R: BufRead, W: Write> QtestBus<R, W> {
         }
     }
 
-    /// Asks for the value of a register.
+    /// Writes the request for the value of a register, and reads the answer.
     fn ask_register(&mut self, offset: u32) -> Result<u32, BusFault>
         requires { self.old.fault ≡ None }
         ensures same { HasAsked self.old self.new }
@@ -113,7 +118,7 @@ impl<R: BufRead, W: Write> QtestBus<R, W> {
         self.answers.value()
     }
 
-    /// Writes a register. If this fails, the bus stops.
+    /// Writes a register. If this fails, the bus stops. Does nothing if the bus has stopped.
     fn write_register(&mut self, offset: u32, value: u32)
         ensures { Asks (Writes offset value) self.old self.new }
     {
@@ -125,7 +130,7 @@ impl<R: BufRead, W: Write> QtestBus<R, W> {
         }
     }
 
-    /// Asks to write a register.
+    /// Writes the request to write a register, and reads the answer.
     fn ask_write(&mut self, offset: u32, value: u32) -> Result<(), BusFault>
         requires { self.old.fault ≡ None }
         ensures same { HasAsked self.old self.new }
@@ -136,7 +141,7 @@ impl<R: BufRead, W: Write> QtestBus<R, W> {
         self.answers.done()
     }
 
-    /// Loads bytes of memory. If this fails, the bus stops, and the bytes are zeros.
+    /// Loads bytes of memory. If this fails, the bus stops. Fills `into` with zeros if the bus has stopped.
     fn load_bytes(&mut self, address: u64, into: &mut [u8])
         ensures asks { Asks (Loads address (length into.old)) self.old self.new }
         ensures length { length into.new ≡ length into.old }
@@ -151,7 +156,7 @@ impl<R: BufRead, W: Write> QtestBus<R, W> {
         }
     }
 
-    /// Asks for bytes of memory.
+    /// Writes the request for bytes of memory, and reads the answer.
     fn ask_bytes(&mut self, address: u64, into: &mut [u8]) -> Result<(), BusFault>
         requires { self.old.fault ≡ None }
         ensures same { HasAsked self.old self.new }
@@ -163,7 +168,7 @@ impl<R: BufRead, W: Write> QtestBus<R, W> {
         self.answers.bytes(into)
     }
 
-    /// Stores bytes to memory. If this fails, the bus stops.
+    /// Stores bytes in memory. If this fails, the bus stops. Does nothing if the bus has stopped.
     fn store_bytes(&mut self, address: u64, bytes: &[u8])
         ensures { Asks (Stores address bytes.now) self.old self.new }
     {
@@ -175,7 +180,7 @@ impl<R: BufRead, W: Write> QtestBus<R, W> {
         }
     }
 
-    /// Asks to store bytes to memory.
+    /// Writes the request to store bytes in memory, and reads the answer.
     fn ask_store(&mut self, address: u64, bytes: &[u8]) -> Result<(), BusFault>
         requires { self.old.fault ≡ None }
         ensures same { HasAsked self.old self.new }
@@ -196,7 +201,7 @@ impl<R: BufRead, W: Write> Bus for QtestBus<R, W> {
 
     ghost extent = { memory_size };
 
-    // Nothing is known of the other program.
+    // Contracts know nothing about the other program.
     ghost honest = { is_never };
 
     ghost lively = { is_never };
@@ -205,7 +210,8 @@ impl<R: BufRead, W: Write> Bus for QtestBus<R, W> {
 
     ghost happened = { λ a b past. ⊤ };
 
-    // The value that was lent is the connection to the other program. Only requests for accesses are written to it.
+    // The connection to the other program counts as lent. Until the bus stops, only requests for accesses are written
+    // to this connection.
     ghost lent_stays = { AsksAll };
 
     ghost composes = { record {

@@ -12,7 +12,7 @@ use std::io::Write;
 /// The number of hexadecimal digits of a number in a request.
 const DIGITS: usize = 16;
 
-/// Appends a number, after a space.
+/// Appends a space, `0x`, and a number in 16 hexadecimal digits.
 #[tactic(auto, unfolding(crate::specs::Requests::number_text))]
 fn push_number(text: &mut Vec<u8>, number: u64) -> Result<(), AllocError>
     ensures { OnOk result (text.new.items ≡ text.old.items ++ number_text number) }
@@ -23,7 +23,7 @@ fn push_number(text: &mut Vec<u8>, number: u64) -> Result<(), AllocError>
     text.extend_from_slice(&digits)
 }
 
-/// The program that answers: the writer of its requests, and the address of its registers.
+/// The writer of requests, and the address of the registers in the program that answers.
 #[derive(Drop)]
 pub(crate) struct Requests<W> {
     pub(crate) output: W,
@@ -32,7 +32,7 @@ pub(crate) struct Requests<W> {
 }
 
 impl<W: Write> Requests<W> {
-    /// Writes a request, with one call of the writer if this call takes the whole request.
+    /// Writes a request. Makes only one call of the writer if this call takes the whole request.
     fn send(&mut self, request: &[u8]) -> Result<(), BusFault>
         ensures sent { OnOk result (Appends (W.contents self.old.output) (W.contents self.new.output) request.now) }
         ensures registers { self.new.registers ≡ self.old.registers }
@@ -40,14 +40,14 @@ impl<W: Write> Requests<W> {
         self.output.write_all(request).map_err(|_| BusFault::Write)
     }
 
-    /// The address of the register at an offset.
+    /// Returns the address of the register at an offset in bytes, modulo 2^64.
     fn address_of(&self, offset: u32) -> u64
         ensures { result ≡ (self.now.registers + offset) % 2 ^ 64 }
     {
         self.registers.wrapping_add(u64::from(offset))
     }
 
-    /// Asks for the value of a register.
+    /// Writes the request for the value of a register.
     pub(crate) fn read(&mut self, offset: u32) -> Result<(), BusFault>
         ensures sent { OnOk result (Appends (W.contents self.old.output) (W.contents self.new.output)
             (request_of self.old.registers (Reads offset 0))) }
@@ -59,7 +59,7 @@ impl<W: Write> Requests<W> {
         self.send(text.as_slice())
     }
 
-    /// Asks to write a register.
+    /// Writes the request to write a register.
     pub(crate) fn write(&mut self, offset: u32, value: u32) -> Result<(), BusFault>
         ensures sent { OnOk result (Appends (W.contents self.old.output) (W.contents self.new.output)
             (request_of self.old.registers (Writes offset value))) }
@@ -72,7 +72,7 @@ impl<W: Write> Requests<W> {
         self.send(text.as_slice())
     }
 
-    /// Asks for bytes of memory.
+    /// Writes the request for bytes of memory.
     pub(crate) fn load(&mut self, address: u64, size: usize) -> Result<(), BusFault>
         ensures sent { OnOk result (Appends (W.contents self.old.output) (W.contents self.new.output)
             (request_of self.old.registers (Loads address size))) }
@@ -85,7 +85,7 @@ impl<W: Write> Requests<W> {
         self.send(text.as_slice())
     }
 
-    /// Asks to write bytes of memory.
+    /// Writes the request to store bytes in memory.
     pub(crate) fn store(&mut self, address: u64, bytes: &[u8]) -> Result<(), BusFault>
         ensures sent { OnOk result (Appends (W.contents self.old.output) (W.contents self.new.output)
             (request_of self.old.registers (Stores address bytes.now))) }

@@ -14,11 +14,11 @@ is_set value place = value / 2 ^ place % 2 == 1
 abbrev pub field : ℕ → ℕ → ℕ → ℕ
 field value lowest width = value / 2 ^ lowest % 2 ^ width
 
--- The places of either set.
+-- The places that are in at least one of the two sets.
 abbrev pub union : ℕ → ℕ → ℕ
 union a b = bit_or a b
 
--- The places of both sets.
+-- The places that are in both sets.
 abbrev pub intersection : ℕ → ℕ → ℕ
 intersection a b = bit_and a b
 
@@ -34,7 +34,7 @@ Meet a b = 0 < bit_and a b
 abbrev pub IsSubset : ℕ → ℕ → Type 0
 IsSubset a b = bit_and a b ≡ a
 
--- A bit is 1 in the union of two sets if and only if it is 1 in one of them.
+-- A bit is 1 in the union of two sets if and only if it is 1 in at least one of them.
 abbrev pub UnionByPlaces : Type 0
 UnionByPlaces = (a b place : ℕ) → HasBit (union a b) place ↔ (HasBit a place ⊎ HasBit b place)
 

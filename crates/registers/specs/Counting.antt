@@ -1,4 +1,4 @@
--- Statistics counters (13.7 "Statistics Registers"): numbers that stick at their greatest value.
+-- Statistics counters (13.7 "Statistics Registers"): numbers that saturate at their greatest value.
 use Rattle.std.specs.Prelude.{ℕ}
 
 -- The greatest value of a counter of 32 bits.

@@ -1,5 +1,5 @@
--- The bits of each register that a write stores. Their places are those of chapter 13, "Register Descriptions", of Intel's "PCI/PCI-X
--- Family of Gigabit Ethernet Controllers Software Developer's Manual". That the other bits read 0 is our choice.
+-- The bits of each register that a write stores. The places of these bits are those of chapter 13, "Register Descriptions", of Intel's
+-- "PCI/PCI-X Family of Gigabit Ethernet Controllers Software Developer's Manual". The other bits read 0 (our choice).
 use Rattle.std.specs.Prelude.{ℕ, bit_and}
 
 -- CTRL (13.4.1 "Device Control Register"): FD 0, ASDE 5, SLU 6, VME 30. RST 26 resets the adapter and isn't stored.
@@ -24,7 +24,7 @@ transmit_control_mask = 0x003FFFFA
 abbrev pub all_causes : ℕ
 all_causes = 0x2D7
 
--- The causes that a written word names.
+-- The causes whose bits are 1 in a written word.
 abbrev pub causes_of : ℕ → ℕ
 causes_of written = bit_and written all_causes
 

@@ -55,7 +55,7 @@ rctl_bsize = 16
 abbrev pub rctl_vfe : ℕ
 rctl_vfe = 18
 
--- Buffer size extension: while it is set, RxData is a fault if there is a frame to move (our choice).
+-- Buffer size extension: while it is set, each RxData that has something to do is a fault (our choice).
 abbrev pub rctl_bsex : ℕ
 rctl_bsex = 25
 
@@ -87,7 +87,7 @@ rah_av = 31
 abbrev pub txdw : ℕ
 txdw = 0
 
--- Transmit queue empty: the last descriptor was taken.
+-- Transmit queue empty: the last offered descriptor was taken, so that TDH equals TDT.
 abbrev pub txqe : ℕ
 txqe = 1
 
@@ -95,7 +95,7 @@ txqe = 1
 abbrev pub lsc : ℕ
 lsc = 2
 
--- Receive descriptor minimum threshold: the free descriptors became half the ring.
+-- Receive descriptor minimum threshold: the number of offered descriptors decreased to half of the ring.
 abbrev pub rxdmt0 : ℕ
 rxdmt0 = 4
 

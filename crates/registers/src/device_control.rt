@@ -51,29 +51,29 @@ impl Flags for Ctrl {
 }
 
 impl Ctrl {
-    /// The bits of a word written to CTRL that have a name here, including RST.
+    /// Returns the bits of a word written to CTRL that are flags of `Ctrl`, including RST.
     pub fn written(value: u32) -> Ctrl
         ensures { result.0 ≡ bit_and value written_control_mask }
     {
         Ctrl::from_bits_truncate(value)
     }
 
-    /// The value of CTRL after a write of this word, unless RST is set: then the write is a reset ([`Ctrl::resets`]).
-    /// RST isn't stored.
+    /// Returns the value of CTRL after a write of this word, if RST is clear in the word. If RST is set, the write is
+    /// a reset ([`Ctrl::resets`]). RST isn't stored.
     pub fn kept(value: u32) -> Ctrl
         ensures { result.0 ≡ bit_and value control_mask }
     {
         Ctrl::written(value).difference(Ctrl::RST)
     }
 
-    /// Whether RST is set in the written word.
+    /// Returns whether RST is set in the written word.
     pub fn resets(self) -> bool
         ensures { IsTrue result ↔ HasBit self.0 ctrl_rst }
     {
         self.contains(Ctrl::RST)
     }
 
-    /// Whether SLU is set. While SLU is clear, STATUS shows no link.
+    /// Returns whether SLU is set. While SLU is clear, STATUS shows no link.
     pub fn sets_link_up(self) -> bool
         ensures { IsTrue result ↔ HasBit self.0 ctrl_slu }
     {
@@ -135,7 +135,7 @@ impl Status {
     /// The code of 1000 Mb/s in SPEED.
     const MBPS_1000: Status = Status(2 << 6);
 
-    /// The value of STATUS: full duplex at 1000 Mb/s while `link_up`, else 0.
+    /// Returns the value of STATUS: link up, full duplex and 1000 Mb/s if `link_up` is true, else 0.
     pub fn of_link(link_up: bool) -> Status
         ensures { result.0 ≡ (if link_up then status_of_link_up else 0) }
     {
@@ -146,14 +146,14 @@ impl Status {
         }
     }
 
-    /// Whether LU is set.
+    /// Returns whether LU is set.
     pub fn is_link_up(self) -> bool
         ensures { IsTrue result ↔ HasBit self.0 status_lu }
     {
         self.contains(Status::LU)
     }
 
-    /// The link speed, SPEED (bits 7:6).
+    /// Returns the link speed, SPEED (bits 7:6).
     pub fn speed(self) -> Speed
         ensures { result ≡ speed_of (field self.0 status_speed 2) }
     {

@@ -24,7 +24,7 @@ bitflag_items! {
         const RXDMT0 = 1 << 4;
         /// Receiver overrun.
         const RXO = 1 << 6;
-        /// Receiver timer: a frame was received.
+        /// Receiver timer: the last descriptor of a frame was written back.
         const RXT0 = 1 << 7;
         /// MDI/O access complete.
         const MDAC = 1 << 9;
@@ -55,7 +55,7 @@ impl Flags for Cause {
 }
 
 impl Cause {
-    /// The causes that a written word names; its other bits are ignored.
+    /// Returns the causes whose bits are 1 in a written word. The word's other bits are ignored.
     pub fn kept(value: u32) -> Cause
         ensures { result.0 ≡ causes_of value }
     {
@@ -86,7 +86,7 @@ impl Model for Causes {
 
 #[tactic(auto, using(crate::specs::Laws::subsets))]
 impl Causes {
-    /// No cause is recorded and the mask is empty, as after a reset.
+    /// Returns the state after a reset: no cause is recorded, and the mask is empty.
     pub fn new() -> Causes
         ensures { result ≡ record { recorded = 0; mask = 0 } }
     {
@@ -103,7 +103,7 @@ impl Causes {
         self.set(cause.bits());
     }
 
-    /// A read of ICR: returns all recorded causes, in the mask or not, and clears them.
+    /// Reads ICR: returns all recorded causes, in the mask or not, and clears them.
     pub fn read(&mut self) -> u32
         ensures answer { result ≡ self.old.recorded }
         ensures cleared { self.new ≡ record self.old { recorded = 0 } }
@@ -114,35 +114,35 @@ impl Causes {
         recorded.bits()
     }
 
-    /// A write of ICR: clears each cause whose bit is 1, in the mask or not. The other causes don't change.
+    /// Writes ICR: clears each cause whose bit is 1 in the word, in the mask or not. The other causes don't change.
     pub fn clear_written(&mut self, value: u32)
         ensures { self.new ≡ record self.old { recorded = difference self.old.recorded (causes_of value) } }
     {
         self.recorded = self.recorded.difference(Cause::kept(value));
     }
 
-    /// A write of ICS: records the causes that the word names, in the mask or not.
+    /// Writes ICS: records the causes whose bits are 1 in the word, in the mask or not.
     pub fn set(&mut self, value: u32)
         ensures { self.new ≡ record self.old { recorded = union self.old.recorded (causes_of value) } }
     {
         self.recorded = self.recorded.union(Cause::kept(value));
     }
 
-    /// A write of IMS: adds the causes that the word names to the mask.
+    /// Writes IMS: adds the causes whose bits are 1 in the word to the mask.
     pub fn mask(&mut self, value: u32)
         ensures { self.new ≡ record self.old { mask = union self.old.mask (causes_of value) } }
     {
         self.mask = self.mask.union(Cause::kept(value));
     }
 
-    /// A write of IMC: removes the causes that the word names from the mask.
+    /// Writes IMC: removes the causes whose bits are 1 in the word from the mask.
     pub fn unmask(&mut self, value: u32)
         ensures { self.new ≡ record self.old { mask = difference self.old.mask (causes_of value) } }
     {
         self.mask = self.mask.difference(Cause::kept(value));
     }
 
-    /// The recorded causes, without clearing them.
+    /// Returns the recorded causes, without clearing them.
     pub fn recorded(&self) -> u32
         ensures answer { result ≡ self.now.recorded }
         ensures causes_alone { IsSubset result all_causes }
@@ -150,7 +150,7 @@ impl Causes {
         self.recorded.bits()
     }
 
-    /// A read of IMS: returns the mask.
+    /// Reads IMS: returns the mask.
     pub fn masked(&self) -> u32
         ensures answer { result ≡ self.now.mask }
         ensures causes_alone { IsSubset result all_causes }
@@ -158,7 +158,7 @@ impl Causes {
         self.mask.bits()
     }
 
-    /// Whether the interrupt line is asserted: exactly while a recorded cause is in the mask.
+    /// Returns whether the interrupt line is asserted: exactly while a recorded cause is in the mask.
     pub fn line(&self) -> bool
         ensures { IsTrue result ↔ Meet self.now.recorded self.now.mask }
     {

@@ -4,8 +4,8 @@ ghost use Rattle.registers.specs.Bits.{UnionByPlaces, IntersectionByPlaces, Diff
 ghost use Rattle.registers.specs.Bits.{SubsetByPlaces, EmptyByPlaces, SameByPlaces};
 
 /// The law of sets of bits. The contracts of this crate treat the bits of a register that are 1 as a set of places.
-/// They use union, intersection, difference, `Meet` and `IsSubset`, which are defined by arithmetic. The law states
-/// these operations place by place, and that registers with the same places are equal.
+/// The contracts use union, intersection, difference, `Meet` and `IsSubset`, which are defined by arithmetic. The law
+/// states these operations place by place, and that registers with the same places are equal.
 ///
 /// The function does nothing: its contract is the law.
 pub fn sets_of_places()

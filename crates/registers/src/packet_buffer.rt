@@ -49,7 +49,7 @@ impl Model for PacketBufferAllocation {
 impl PacketBufferAllocation {
     ghost use Rattle.registers.specs.PacketBuffer.{IsAllocation};
 
-    /// The allocation after power-on: 48 kilobytes for the receive part.
+    /// Returns the allocation after power-on: 48 kilobytes for the receive part.
     pub fn new() -> Self
         ensures { result ≡ 48 }
     {
@@ -58,7 +58,8 @@ impl PacketBufferAllocation {
         }
     }
 
-    /// A write of PBA: RXA is set if it is an even number from 2 to 48; any other write is ignored (our choice).
+    /// Writes PBA: stores RXA, bits 15:0 of the value, if RXA is an even number from 2 to 48. Any other write is
+    /// ignored (our choice).
     pub fn write(&mut self, value: u32)
         ensures { self.new ≡ allocation_written value self.old }
     {
@@ -68,7 +69,7 @@ impl PacketBufferAllocation {
         }
     }
 
-    /// The value of PBA: RXA, and the kilobytes of the transmit part in the upper half.
+    /// Returns the value of PBA: RXA, and the kilobytes of the transmit part in the upper half.
     pub fn read(&self) -> u32
         ensures shown { result ≡ allocation_shown self.now }
         ensures allocation { IsAllocation self.now }
@@ -77,7 +78,7 @@ impl PacketBufferAllocation {
         transmit_kilobytes << TXA_SHIFT | self.receive_kilobytes
     }
 
-    /// The size of the receive part in bytes: at most 49,152.
+    /// Returns the size of the receive part in bytes: at most 49,152.
     pub fn bytes(&self) -> u32
         ensures room { result ≡ self.now * 1024 }
         ensures fits { result ≤ 49152 }

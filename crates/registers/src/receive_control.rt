@@ -81,8 +81,8 @@ pub enum GroupOffset {
 impl GroupOffset {
     ghost use Rattle.registers.specs.ReceiveControl.{shift_of};
 
-    /// The number of places by which bits 47:32 of the address are shifted down, so that the number is in the low 12
-    /// bits.
+    /// Returns the number of places by which bits 47:32 of the address are shifted down, so that the group's number is
+    /// in the low 12 bits.
     pub fn shift(self) -> u32
         ensures { result ≡ shift_of self }
     {
@@ -98,56 +98,56 @@ impl GroupOffset {
 impl Rctl {
     ghost use Rattle.registers.specs.ReceiveControl.{group_offset_of, buffer_size_of};
 
-    /// The value of RCTL after a write of this word.
+    /// Returns the value of RCTL after a write of this word.
     pub fn kept(value: u32) -> Rctl
         ensures { result.0 ≡ bit_and value receive_control_mask }
     {
         Rctl::from_bits_truncate(value)
     }
 
-    /// Whether EN is set: frames are received.
+    /// Returns whether EN is set, so that frames are received.
     pub fn is_enabled(self) -> bool
         ensures { IsTrue result ↔ HasBit self.0 rctl_en }
     {
         self.contains(Rctl::EN)
     }
 
-    /// Whether UPE is set: every individual address is accepted.
+    /// Returns whether UPE is set: every individual address is accepted.
     pub fn accepts_all_individuals(self) -> bool
         ensures { IsTrue result ↔ HasBit self.0 rctl_upe }
     {
         self.contains(Rctl::UPE)
     }
 
-    /// Whether MPE is set: every group address is accepted, broadcast among them.
+    /// Returns whether MPE is set: every group address is accepted, broadcast among them.
     pub fn accepts_all_groups(self) -> bool
         ensures { IsTrue result ↔ HasBit self.0 rctl_mpe }
     {
         self.contains(Rctl::MPE)
     }
 
-    /// Whether BAM is set: the broadcast address is accepted.
+    /// Returns whether BAM is set: the broadcast address is accepted.
     pub fn accepts_broadcast(self) -> bool
         ensures { IsTrue result ↔ HasBit self.0 rctl_bam }
     {
         self.contains(Rctl::BAM)
     }
 
-    /// Whether VFE is set: a tagged frame passes only if the VLAN table contains its VLAN number.
+    /// Returns whether VFE is set: a tagged frame passes only if the VLAN table contains its VLAN number.
     pub fn filters_vlans(self) -> bool
         ensures { IsTrue result ↔ HasBit self.0 rctl_vfe }
     {
         self.contains(Rctl::VFE)
     }
 
-    /// Whether BSEX is set. By the manual, BSIZE then selects larger buffers.
+    /// Returns whether BSEX is set. By the manual, BSIZE then selects larger buffers.
     pub fn extends_buffer_size(self) -> bool
         ensures { IsTrue result ↔ HasBit self.0 rctl_bsex }
     {
         self.contains(Rctl::BSEX)
     }
 
-    /// Which bits of a group address are its number: MO (bits 13:12).
+    /// Returns which bits of a group address are its number, by MO (bits 13:12).
     pub fn group_offset(self) -> GroupOffset
         ensures { result ≡ group_offset_of (field self.0 rctl_mo 2) }
     {
@@ -159,7 +159,7 @@ impl Rctl {
         }
     }
 
-    /// The size of a receive buffer in bytes that BSIZE (bits 17:16) selects while BSEX is clear.
+    /// Returns the size of a receive buffer in bytes that BSIZE (bits 17:16) selects while BSEX is clear.
     pub fn buffer_size(self) -> u16
         ensures { result ≡ buffer_size_of (field self.0 rctl_bsize 2) }
     {

@@ -6,8 +6,8 @@ ghost use Rattle.registers.specs.Counting.{greatest_count};
 use std::marker::Model;
 use std::mem;
 
-/// A statistics counter of 32 bits, such as MPC, GPRC, GPTC or RNBC (13.7 "Statistics Registers"). It sticks at
-/// 0xFFFF_FFFF, and a read clears it.
+/// A statistics counter of 32 bits, such as MPC, GPRC, GPTC or RNBC (13.7 "Statistics Registers"). The counter
+/// saturates at 0xFFFF_FFFF, and a read clears the counter.
 #[derive(Clone, Copy, PartialEq, Eq, Debug)]
 pub struct Counter {
     count: u32,
@@ -24,14 +24,14 @@ impl Model for Counter {
 }
 
 impl Counter {
-    /// A counter at 0, as after a reset.
+    /// Returns a counter at 0, as after a reset.
     pub fn new() -> Counter
         ensures { result ≡ 0 }
     {
         Counter::at(0)
     }
 
-    /// A counter at this value.
+    /// Returns a counter at this value.
     pub fn at(count: u32) -> Counter
         ensures { result ≡ count }
     {
@@ -45,7 +45,7 @@ impl Counter {
         self.count = self.count.saturating_add(1);
     }
 
-    /// A read of the register: returns the count, and clears it.
+    /// Reads the register: returns the count, and clears the counter.
     pub fn read(&mut self) -> u32
         ensures answer { result ≡ self.old }
         ensures cleared { self.new ≡ 0 }
@@ -53,7 +53,7 @@ impl Counter {
         mem::take(&mut self.count)
     }
 
-    /// The count, without clearing it.
+    /// Returns the count, without clearing the counter.
     pub fn value(&self) -> u32
         ensures answer { result ≡ self.now }
         ensures fits { self.now ≤ greatest_count }

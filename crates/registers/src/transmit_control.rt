@@ -47,21 +47,21 @@ impl Flags for Tctl {
 }
 
 impl Tctl {
-    /// The value of TCTL after a write of this word.
+    /// Returns the value of TCTL after a write of this word.
     pub fn kept(value: u32) -> Tctl
         ensures { result.0 ≡ bit_and value transmit_control_mask }
     {
         Tctl::from_bits_truncate(value)
     }
 
-    /// Whether EN is set: frames are taken from the transmit ring.
+    /// Returns whether EN is set, so that frames are taken from the transmit ring.
     pub fn is_enabled(self) -> bool
         ensures { IsTrue result ↔ HasBit self.0 tctl_en }
     {
         self.contains(Tctl::EN)
     }
 
-    /// Whether PSP is set: short frames are padded.
+    /// Returns whether PSP is set, so that short frames are padded.
     pub fn pads_short_packets(self) -> bool
         ensures { IsTrue result ↔ HasBit self.0 tctl_psp }
     {

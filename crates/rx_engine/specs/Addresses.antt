@@ -33,7 +33,7 @@ low_word address =
 abbrev pub high_word : List ℕ → ℕ
 high_word address = slice_index address 4 + slice_index address 5 * 2 ^ 8
 
--- An address is 6 bytes.
+-- The list is an address: 6 bytes, each below 256.
 pub record IsAddress (address : List ℕ) : Type 0 where
   -- The address has six bytes.
   pub size : length address ≡ 6

@@ -18,16 +18,16 @@ use Rattle.rx_engine.specs.Writing.{with_number, NoAddressAtFirst, AddressIsAdde
 pub record SameVlans (a b : ReceiveFilter) : Type 0 where
   -- Both filters pass frames of every VLAN, or neither does.
   pub every_vlan : a.every_vlan ↔ b.every_vlan
-  -- Both filters contain the same VLAN numbers.
+  -- Both filters contain the same VLAN numbers below 4,096.
   pub numbers : (number : ℕ) → number < 4096 → a.vlans number ↔ b.vlans number
   -- The same type marks a tagged frame.
   pub vlan_type : a.vlan_type ≡ b.vlan_type
 
--- Two filters contain the same addresses, groups and VLANs, and have the same switches.
+-- Two filters contain the same addresses and groups, compute group numbers and treat VLANs in the same way, and have the same modes.
 pub record SameSets (a b : ReceiveFilter) : Type 0 where
   -- Both filters contain the same receive addresses.
   pub addresses : (address : List ℕ) → a.addresses address ↔ b.addresses address
-  -- Both filters contain the same group numbers.
+  -- Both filters contain the same group numbers below 4,096.
   pub groups : (number : ℕ) → number < 4096 → a.groups number ↔ b.groups number
   -- Both filters take the same bits of an address as its group number.
   pub shift : a.shift ≡ b.shift
@@ -110,7 +110,7 @@ pub HasTableBit-zeros : NoNumberAtFirst
 HasTableBit-zeros n number set =
     HasBit-zero (number % 32) (subst (λ (word : ℕ). HasBit word (number % 32)) (slice_index-zeros n (number / 32)) set)
 
--- Exactly one bit of a power of two is 1.
+-- In the number 2 ^ `power`, the bit at place `power` is 1, and every other bit is 0.
 HasBit-power : (power place : ℕ) → HasBit (2 ^ power) place ↔ (place ≡ power)
 HasBit-power power place = (
   (λ set. elim (cases_eq place power) [
@@ -164,7 +164,7 @@ six_items : (xs : List ℕ) → length xs ≡ 6
 six_items (a ∷ b ∷ c ∷ d ∷ e ∷ f ∷ []) size = refl
 six_items _ size = absurd (omega arith)
 
--- The entry with the two words of an address, and AV, holds the address.
+-- The entry with the two words of an address, and AV, contains the address.
 pub entry_address-words : (address : List ℕ) → IsAddress address → entry_address (low_word address) (high_word address + 2 ^ 31) ≡ address
 entry_address-words address is =
     let b0 = is.bytes 0 in

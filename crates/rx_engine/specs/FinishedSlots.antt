@@ -11,19 +11,19 @@ use Rattle.rx_engine.specs.Held.{piece_of}
 use Rattle.rx_engine.specs.Pieces.{Piece}
 use Rattle.rx_engine.specs.Slots.{done_slots, is_done}
 
--- The area that the address and the length of a finished descriptor name.
+-- The area that the address and the length of the descriptor at an address define.
 abbrev pub named : List ℕ → ℕ → Area
 named memory descriptor = record {
   address = (descriptor_at memory descriptor).address;
   size = (descriptor_at memory descriptor).length;
 }
 
--- The piece in a finished slot. It is the last piece of its frame if EOP is set (3.2.3.1).
+-- The piece in a finished slot. The piece is the last piece of its frame if and only if EOP is set (3.2.3.1).
 abbrev pub piece_in : List ℕ → ℕ → Piece
 piece_in memory descriptor =
     piece_of (is_set (status_bits (descriptor_at memory descriptor).status) eop) (bytes_in memory (named memory descriptor))
 
--- Of `left` slots from a place on, the slots before the first one that isn't done.
+-- Of `left` slots from a place on, the descriptor addresses of the slots before the first one that isn't done.
 abbrev pub done_from : List ℕ → Ring → ℕ → ℕ → List ℕ
 done_from memory ring place left = take_while (is_done memory) (map (address_of ring) (slots_from (count_of ring) place left))
 
@@ -39,7 +39,7 @@ outstanding_count ring oldest = distance_of ring oldest ring.tail
 abbrev pub finished_in : List ℕ → Ring → ℕ → List Piece
 finished_in memory ring oldest = map (piece_in memory) (done_slots memory ring oldest)
 
--- The bytes that a slot names are inside memory.
+-- The area that the address and the length of a descriptor define is inside memory.
 abbrev pub NamesMemory : List ℕ → ℕ → Type 0
 NamesMemory memory descriptor = LiesIn memory (named memory descriptor).address (named memory descriptor).size
 

@@ -24,8 +24,8 @@ finished_bytes n ends = little_bytes 2 n ++ 0 ∷ 0 ∷ finished_status ends ∷
 abbrev pub engine_after_done : Receiver → Receiver
 engine_after_done engine = record engine { work = None }
 
--- Memory after a done step: bytes 8 to 15 of the descriptor in progress are written. If memory ends before the end of the descriptor,
--- nothing is written.
+-- Memory after a done step: bytes 8 to 15 of the descriptor in progress are written. If no piece is in progress, or memory ends before
+-- the end of the descriptor, nothing is written.
 abbrev pub memory_after_done : Option Work → List ℕ → List ℕ
 memory_after_done None memory = memory
 memory_after_done (Some work) memory =
@@ -33,15 +33,15 @@ memory_after_done (Some work) memory =
     then with_bytes memory (work.descriptor + 8) (finished_bytes work.length work.ends)
     else memory
 
--- The n bytes at the address that a descriptor names are inside memory, and apart from this descriptor.
+-- The n bytes at the address in a descriptor are inside memory, and apart from this descriptor.
 pub record StandsApart (memory : List ℕ) (descriptor n : ℕ) : Type 0 where
   -- The bytes are in memory.
   pub place : LiesIn memory (named_address memory descriptor) n
   -- The bytes don't overlap the descriptor.
   pub apart : AreApart (area_at (named_address memory descriptor) n) (descriptor_area descriptor)
 
--- The descriptor at an address is finished with a piece of a frame: DD is set, EOP shows whether the frame ends in the piece, there is no
--- error, and address and length name the piece.
+-- The descriptor at an address is finished with a piece of a frame. DD is set, EOP shows whether the frame ends in the piece, and there is
+-- no error. The address and the length are those of the piece.
 pub record IsFinished (memory : List ℕ) (descriptor : ℕ) (ends : Bool) (piece : List ℕ) : Type 0 where
   -- DD is set (3.2.3.1).
   pub done : HasBit (status_bits (descriptor_at memory descriptor).status) dd
@@ -51,5 +51,5 @@ pub record IsFinished (memory : List ℕ) (descriptor : ℕ) (ends : Bool) (piec
   pub has_no_errors : (descriptor_at memory descriptor).errors ≡ 0
   -- The length is the number of bytes of the piece.
   pub length : (descriptor_at memory descriptor).length ≡ length piece
-  -- The address and the length name the bytes of the piece.
+  -- The bytes of this length at the descriptor's address are the piece.
   pub bytes : bytes_at memory (named_address memory descriptor) (descriptor_at memory descriptor).length ≡ piece

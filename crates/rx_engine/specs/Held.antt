@@ -1,5 +1,5 @@
--- The frames between the wire and the driver (our choice): frames in finished slots that the driver hasn't taken, in progress, and in the
--- packet buffer.
+-- The frames between the wire and the driver (our choice). These frames are in finished slots that the driver hasn't taken, in the slot in
+-- progress, and in the packet buffer.
 use Rattle.std.specs.Prelude.{◌≡◌, ◌++◌, ℕ, Bool, true, false, List, [], ◌∷◌, length, take, Option, None, Some}
 use Rattle.std.specs.Option.{ForSome}
 use Rattle.dma_memory.specs.Areas.{Area, area_at, descriptor_area, AreApart, ChangesOnly}
@@ -18,7 +18,7 @@ use Rattle.rx_engine.specs.declared.data.Data.{Data}
 use Rattle.rx_engine.specs.declared.data.Data.TheVariants as answers
 use Rattle.rx_engine.specs.declared.engine.Work.{Work}
 
--- The bytes of the piece in progress, at the address that its descriptor names.
+-- The bytes of the piece in progress, at the address in its descriptor.
 abbrev pub bytes_of_work : List ℕ → Work → List ℕ
 bytes_of_work memory work = bytes_at memory (named_address memory work.descriptor) work.length
 
@@ -41,16 +41,16 @@ in_slots memory finished engine = finished ++ in_work memory engine.work
 abbrev pub held : List ℕ → List Piece → Receiver → List (List ℕ)
 held memory finished engine = frames_of (in_slots memory finished engine) ++ engine.buffer
 
--- After the last end of a frame, the slots contain the moved bytes of the packet buffer's oldest frame.
+-- The pieces in slots after the last end of a frame, joined, are the moved bytes of the packet buffer's oldest frame.
 abbrev pub HasBegun : List ℕ → List Piece → Receiver → Type 0
 HasBegun memory finished engine = begun_of (in_slots memory finished engine) ≡ take engine.moved (oldest engine.buffer)
 
--- The frames held afterwards are those from before, followed by these frames. The slots contain the moved bytes of the oldest frame.
+-- The frames held afterwards are the earlier ones, followed by `more`. The slots meet `HasBegun`.
 pub record Holds (before after : List (List ℕ)) (more : List (List ℕ)) (memory : List ℕ) (finished : List Piece)
     (engine : Receiver) : Type 0 where
-  -- The frames afterwards are those from before, followed by the additional ones.
+  -- The frames held afterwards are the earlier ones, followed by `more`.
   pub frames : after ≡ before ++ more
-  -- The slots contain the moved bytes of the oldest frame.
+  -- The pieces after the last end of a frame are the moved bytes of the oldest frame.
   pub begun : HasBegun memory finished engine
 
 -- A stored frame is added after the others. Any other fate doesn't change the frames held.
@@ -60,15 +60,16 @@ ArrivalGrowsHeld =
     → Holds (held memory finished engine) (held memory finished (after_arrival fate frame engine)) (kept fate frame)
     memory finished (after_arrival fate frame engine)
 
--- The step had a piece to move, and a place for the piece in memory that is apart from the piece's descriptor.
+-- The step has a piece to move, and can move the piece to a place that is apart from the piece's descriptor. `last` is whether the frame
+-- ends in the piece.
 pub record MovesApart (control : ℕ) (ring : Ring) (engine : Receiver) (memory : List ℕ) (last : Bool) : Type 0 where
-  -- The outcome of the step isn't `Nothing`.
+  -- There is a piece to move, so the outcome of the step isn't `Nothing`.
   pub has : HasFrameToMove control ring engine
-  -- The outcome of the step isn't `Fault`.
+  -- The piece can be moved, so the outcome of the step isn't `Fault`.
   pub can : CanMove control ring memory (length (next_piece control engine))
-  -- Whether the frame ends in the piece.
+  -- `last` is whether the frame ends in the piece.
   pub last_is : is_last control engine ≡ last
-  -- The buffer doesn't overlap its descriptor.
+  -- The destination of the piece doesn't overlap the descriptor.
   pub apart : AreApart (area_at (named_address memory (address_of ring ring.head)) (length (next_piece control engine)))
       (descriptor_area (address_of ring ring.head))
 
@@ -79,8 +80,9 @@ MovesBy (answers.Part low) control ring engine memory = MovesApart control ring 
 MovesBy (answers.Moved low) control ring engine memory = MovesApart control ring engine memory true
 MovesBy answers.Fault control ring engine memory = Unit {0}
 
--- A data step doesn't change the frames held: the next piece of the packet buffer's oldest frame becomes the piece in progress. After its
--- last piece, the frame is removed from the packet buffer. The pieces in finished slots are the same before and after.
+-- A data step doesn't change the frames held, if a piece that it moves is apart from the piece's descriptor. A moved piece of the packet
+-- buffer's oldest frame becomes the piece in progress. After its last piece, the frame is removed from the packet buffer. The pieces in
+-- finished slots are the same before and after.
 abbrev pub DataKeepsHeld : Type 0
 DataKeepsHeld =
     (control : ℕ) (ring : Ring) (engine : Receiver) (memory : List ℕ) (finished : List Piece) (answer : Data)
@@ -100,7 +102,8 @@ pub record Finishes (memory : List ℕ) (finished : List Piece) (engine : Receiv
       (engine_after_done engine))
       [] (memory_after_done engine.work memory) (finished ++ piece_of work.ends (bytes_of_work memory work) ∷ []) (engine_after_done engine)
 
--- If the piece in progress is apart from its descriptor, a done step doesn't change the frames held. The piece is then a finished piece.
+-- If the piece in progress and its descriptor are inside memory and apart, a done step doesn't change the frames held. The piece is then
+-- a finished piece.
 abbrev pub DoneKeepsHeld : Type 0
 DoneKeepsHeld =
     (engine : Receiver) (memory : List ℕ) (finished : List Piece) → IsReceiver engine → HasBegun memory finished engine

@@ -48,7 +48,7 @@ apart_behind : (at : ℕ) (area : Area) → AreApart area (descriptor_area at) �
 apart_behind at area (inl before) = inr (omega arith)
 apart_behind at area (inr after) = inl (omega arith)
 
--- A piece written apart from the descriptor at the head is the piece in progress.
+-- If a piece is written to the address in a descriptor, apart from this descriptor, the piece in progress has the bytes of the piece.
 pub bytes_of_work-moved : (memory piece : List ℕ) (at : ℕ) (ends : Bool) → LiesIn memory (named_address memory at) (length piece)
     → AreApart (area_at (named_address memory at) (length piece)) (descriptor_area at)
     → bytes_of_work (with_bytes memory (named_address memory at) piece)
@@ -109,7 +109,7 @@ slots-free memory finished work none = ap (λ (there : Option Work). finished ++
 piece-full : (size moved : ℕ) (frame : List ℕ) → size < length frame - moved → length (take size (drop moved frame)) ≡ size
 piece-full size moved frame more = omega (arith, length-take size (drop moved frame), length-drop moved frame)
 
--- A data step doesn't change the frames held.
+-- A data step doesn't change the frames held, if a piece that it moves is apart from the piece's descriptor.
 pub held-after_data : DataKeepsHeld
 held-after_data control ring engine memory finished Nothing begun moves = record {
   frames = sym (append-nil (held memory finished engine));
@@ -187,13 +187,13 @@ rx_desc_of-finished front n ends eight short =
     let special : little_number 2 (drop 14 whole) ≡ 0 = ap (little_number 2) (sym (drop-drop 6 8 whole) ∙ ap (drop 6) behind) in
     same_fields _ _ _ _ _ _ _ _ _ _ _ _ address length checksum status errors special
 
--- The address that a descriptor names is in its first eight bytes.
+-- The buffer address of a descriptor is in its first eight bytes.
 named_address-front : (memory : List ℕ) (at : ℕ) → named_address memory at ≡ little_number 8 (bytes_at memory at 8)
 unfolding rx_desc_of
 named_address-front memory at = little_from-take 0 8 16 (drop at memory) (omega arith)
     ∙ sym (little_from-take 0 8 8 (drop at memory) (omega arith))
 
--- After bytes 8 to 15 of a finished descriptor are written, it names the same buffer, and its other fields are the written ones.
+-- After bytes 8 to 15 of a finished descriptor are written, its buffer address is the same, and its other fields are the written ones.
 pub descriptor_at-finished : (memory : List ℕ) (at n : ℕ) (ends : Bool) → n < 2 ^ 16 → LiesIn memory at 16
     → descriptor_at (with_bytes memory (at + 8) (finished_bytes n ends)) at
     ≡ record {
@@ -225,7 +225,7 @@ ended-set : (ends : Bool) → is_set (finished_status ends) 1 ≡ ends
 ended-set true = refl
 ended-set false = refl
 
--- If a descriptor is apart from its piece, it is finished with this piece after it is written back.
+-- If a descriptor and its piece are inside memory and apart, the descriptor is finished with this piece after its write-back.
 pub written_back-finished : (memory : List ℕ) (at n : ℕ) (ends : Bool) → n < 2 ^ 16 → LiesIn memory at 16 → StandsApart memory at n
     → IsFinished (with_bytes memory (at + 8) (finished_bytes n ends)) at ends (bytes_at memory (named_address memory at) n)
 written_back-finished memory at n ends short lies stands =
@@ -252,7 +252,7 @@ memory_after_done-lies memory work lies =
     ap (λ (test : Bool). if test then with_bytes memory (work.descriptor + 8) (finished_bytes work.length work.ends) else memory)
     (le-leb (work.descriptor + 16) (length memory) (omega arith))
 
--- A done step makes the piece in progress a finished piece.
+-- If the piece in progress and its descriptor are inside memory and apart, a done step makes the piece a finished piece.
 pub held-after_done : DoneKeepsHeld
 held-after_done engine memory finished sound begun work is lies stands =
     let most : work.length ≤ 1518 = sound.most work is in

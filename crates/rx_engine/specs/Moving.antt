@@ -13,13 +13,13 @@ use Rattle.rx_engine.specs.declared.data.Data.{Data}
 use Rattle.rx_engine.specs.declared.engine.Work.{Work}
 use Rattle.rx_engine.specs.declared.data.Data.TheVariants.{Nothing, Part, Moved, Fault}
 
--- If RCTL is this word, there is a frame to move, and a descriptor for its next piece.
+-- With this value of RCTL, a data step has a piece to move: RCTL.EN is set, the engine is ready, and a descriptor is offered.
 pub record HasFrameToMove (control : ℕ) (ring : Ring) (engine : Receiver) : Type 0 where
   -- RCTL.EN is set (13.4.22).
   pub enabled : HasBit control rctl_en
-  -- The engine is running, no piece is in progress, and a frame is in the packet buffer.
+  -- No fault has stopped the data step, no piece is in progress, and a frame is in the packet buffer.
   pub ready : IsReady engine
-  -- At least one descriptor is offered: RDH isn't RDT.
+  -- At least one descriptor is offered: RDH and RDT differ.
   pub offered : ring.head ≢ ring.tail
 
 -- The size of a receive buffer in bytes, by RCTL.BSIZE.
@@ -38,7 +38,7 @@ next_piece control engine = take (buffer_bytes control) (drop engine.moved (olde
 abbrev pub is_last : ℕ → Receiver → Bool
 is_last control engine = nat_le (left_bytes engine) (buffer_bytes control)
 
--- If RCTL is this word, a piece of n bytes can be moved. Otherwise the step is a fault (our choice).
+-- With this value of RCTL, a piece of n bytes can be moved. Otherwise the step is a fault (our choice).
 pub record CanMove (control : ℕ) (ring : Ring) (memory : List ℕ) (n : ℕ) : Type 0 where
   -- RDH and RDT are indices of descriptors in the ring.
   pub indices : HasValidIndices ring
@@ -49,7 +49,7 @@ pub record CanMove (control : ℕ) (ring : Ring) (memory : List ℕ) (n : ℕ) :
   -- RCTL.BSEX is 0.
   pub not_extended : ¬ (HasBit control rctl_bsex)
 
--- The number of free descriptors, from head to tail, is half the ring (13.4.22, RDMTS 00).
+-- Whether exactly half of the ring's descriptors are offered (13.4.22, RDMTS 00).
 abbrev pub is_half_offered : Ring → Bool
 is_half_offered ring = 2 * distance_of ring ring.head ring.tail == count_of ring
 
@@ -67,25 +67,27 @@ IsMoved (Part low) = ⊥
 IsMoved (Moved low) = ⊤
 IsMoved Fault = ⊥
 
--- If the step moved a piece, the fact is true for its `low`: whether the free descriptors are now half the ring.
+-- If the step moved a piece, the fact is true for its `low`: whether exactly half of the ring's descriptors are now offered.
 abbrev pub IfMoved : Data → (Bool → Type 0) → Type 0
 IfMoved Nothing fact = ⊤
 IfMoved (Part low) fact = fact low
 IfMoved (Moved low) fact = fact low
 IfMoved Fault fact = ⊤
 
--- The next piece, in progress with the descriptor at the head.
+-- The next piece as the piece in progress, with the address of the descriptor at the head.
 abbrev pub work_at : ℕ → Ring → Receiver → Bool → Work
 work_at control ring engine ends =
     record { descriptor = address_of ring ring.head; length = length (next_piece control engine); ends = ends }
 
--- The engine after a piece is in progress. If the frame ends in the piece, the frame is removed from the packet buffer.
+-- The engine after `work` has become the piece in progress. If the frame ends in the piece, the frame is removed from the packet buffer.
+-- Otherwise the bytes of the piece are added to the moved bytes.
 abbrev pub begun_with : Work → Receiver → Receiver
 begun_with work engine = if work.ends then record engine { buffer = drop 1 engine.buffer; moved = 0; work = Some work }
     else record engine { moved = engine.moved + work.length; work = Some work }
 
--- The engine after a step with this answer. After `Part` or `Moved`, the piece is in progress. After `Moved`, its frame is removed from the
--- packet buffer. After `Fault`, the data step is stopped.
+-- The engine after a step with this answer. After `Part` or `Moved`, the piece is in progress. After `Part`, its bytes are added to the
+-- moved bytes. After `Moved`, its frame is removed from the packet buffer. After `Fault`, the data step is stopped. `Nothing` changes
+-- nothing.
 abbrev pub engine_after_data : Data → ℕ → Ring → Receiver → Receiver
 engine_after_data Nothing control ring engine = engine
 engine_after_data (Part low) control ring engine = record engine {
@@ -106,7 +108,7 @@ ring_after_data (Part low) ring = record ring { head = next_of ring ring.head }
 ring_after_data (Moved low) ring = record ring { head = next_of ring ring.head }
 ring_after_data Fault ring = ring
 
--- The memory after a step with this answer: a piece that was moved is in the buffer that the descriptor at the head names.
+-- The memory after a step with this answer: a piece that was moved is in the buffer that the descriptor at the head points to.
 abbrev pub memory_after_data : Data → ℕ → Ring → Receiver → List ℕ → List ℕ
 memory_after_data Nothing control ring engine memory = memory
 memory_after_data (Part low) control ring engine memory = with_bytes memory (named_address memory (address_of ring ring.head))

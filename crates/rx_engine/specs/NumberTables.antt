@@ -19,6 +19,6 @@ pub record HasNumbers (table numbers : List ℕ) : Type 0 where
   -- The bit of a number is 1 if and only if the number is in the list.
   pub bits : (number : ℕ) → number < table_numbers → HasTableBit table number ↔ Contains numbers number
 
--- The numbers of groups if RCTL.MO is 00.
+-- The numbers of these groups in the group table, if RCTL.MO is 00.
 abbrev pub numbers_of_groups : List (List ℕ) → List ℕ
 numbers_of_groups groups = map (group_number (shift_of Bits47To36)) groups

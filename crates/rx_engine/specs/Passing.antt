@@ -2,7 +2,7 @@
 use Rattle.std.specs.Prelude.{◌≡◌, ◌≢◌, ◌⊎◌, ℕ, List}
 use Rattle.rx_engine.specs.Addresses.{destination, IsGroup, IsIndividual, broadcast, group_number, ether_type, vlan_number}
 
--- The sets of a receive filter, and its switches.
+-- The sets of a receive filter, and its modes.
 pub record ReceiveFilter : Type 1 where
   -- The receive addresses, of 6 bytes each.
   pub addresses : List ℕ → Type 0
@@ -23,7 +23,8 @@ pub record ReceiveFilter : Type 1 where
   -- The broadcast address is accepted.
   pub broadcasts : Type 0
 
--- The filter accepts an address. The group table is used only for group addresses, including the broadcast address (our choice).
+-- The filter accepts an address: it is a receive address, or the group table, UPE, MPE or BAM accepts it. The group table is used only
+-- for group addresses, including the broadcast address (our choice).
 unfoldable pub AcceptsAddress : ReceiveFilter → List ℕ → Type 0
 AcceptsAddress filter address =
     filter.addresses address
@@ -39,7 +40,7 @@ AcceptsGroup filter address =
     ⊎ (((address ≡ broadcast) × filter.broadcasts)
     ⊎ filter.groups (group_number filter.shift address))
 
--- The filter accepts the VLAN of a frame. It accepts each frame without a tag.
+-- The filter accepts a frame if the VLAN filter is off, the frame has no tag, or the filter contains the frame's VLAN number.
 unfoldable pub AcceptsVlan : ReceiveFilter → List ℕ → Type 0
 AcceptsVlan filter frame =
     filter.every_vlan
@@ -50,5 +51,5 @@ AcceptsVlan filter frame =
 pub record Passes (filter : ReceiveFilter) (frame : List ℕ) : Type 0 where
   -- The filter accepts the frame's destination address.
   pub address : AcceptsAddress filter (destination frame)
-  -- The filter accepts the frame's VLAN, or the frame has none.
+  -- The VLAN filter is off, or accepts the frame's VLAN, or the frame has no tag.
   pub vlan : AcceptsVlan filter frame

@@ -20,7 +20,7 @@ begun-append begun [] later = refl
 begun-append begun (Part bytes ∷ first) later = begun-append (begun ++ bytes) first later
 begun-append begun (Last bytes ∷ first) later = begun-append [] first later
 
--- No frame ends in a list of parts, and the bytes after the last end are all their bytes.
+-- No frame ends in a list of parts, and the bytes after the last end are all bytes of the parts.
 pub frames-parts : (begun : List ℕ) (seen : List (List ℕ)) → frames_from begun (parts seen) ≡ []
 frames-parts begun [] = refl
 frames-parts begun (bytes ∷ seen) = frames-parts (begun ++ bytes) seen

@@ -15,7 +15,7 @@ frames_from begun [] = []
 frames_from begun (Part bytes ∷ later) = frames_from (begun ++ bytes) later
 frames_from begun (Last bytes ∷ later) = (begun ++ bytes) ∷ frames_from [] later
 
--- The bytes after the last end of a frame: the beginning of a frame that doesn't end in these pieces.
+-- The bytes after the last end of a frame. If no frame ends in these pieces: `begun`, followed by their bytes.
 abbrev pub begun_from : List ℕ → List Piece → List ℕ
 begun_from begun [] = begun
 begun_from begun (Part bytes ∷ later) = begun_from (begun ++ bytes) later
@@ -25,7 +25,7 @@ begun_from begun (Last bytes ∷ later) = begun_from [] later
 abbrev pub frames_of : List Piece → List (List ℕ)
 frames_of pieces = frames_from [] pieces
 
--- The bytes after the last end of a frame, joined.
+-- The bytes after the last end of a frame, joined, or all bytes if no frame ends in these pieces.
 abbrev pub begun_of : List Piece → List ℕ
 begun_of pieces = begun_from [] pieces
 
@@ -46,7 +46,8 @@ pub record IsLastSize (size n : ℕ) : Type 0 where
   -- The piece fits into a buffer.
   pub most : n ≤ size
 
--- A piece of a frame that is cut into buffers of one size: it fills its buffer, unless it is the last.
+-- A piece of a frame that is cut into buffers of one size. The last piece of a frame has at least one byte and fits into a buffer; any
+-- other piece fills its buffer.
 abbrev pub IsCut : ℕ → Piece → Type 0
 IsCut size (Part bytes) = length bytes ≡ size
 IsCut size (Last bytes) = IsLastSize size (length bytes)

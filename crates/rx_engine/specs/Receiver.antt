@@ -16,16 +16,16 @@ pub record Receiver : Type 0 where
   -- Whether a fault has stopped the data step.
   pub stopped : Bool
 
--- An engine that holds no frame, and that no fault has stopped.
+-- An engine with an empty packet buffer and no piece in progress, which no fault has stopped.
 abbrev pub new_receiver : Receiver
 new_receiver = record { buffer = []; moved = 0; work = None; stopped = false }
 
--- The oldest frame of a packet buffer that isn't empty.
+-- The oldest frame of a packet buffer, or no bytes if the buffer is empty.
 abbrev pub oldest : List (List ℕ) → List ℕ
 oldest [] = []
 oldest (frame ∷ frames) = frame
 
--- The engine can begin with the next piece of its oldest frame.
+-- The engine has a next piece: no fault has stopped the data step, no piece is in progress, and a frame is in the packet buffer.
 pub record IsReady (engine : Receiver) : Type 0 where
   -- No fault has stopped the data step.
   pub running : engine.stopped ≡ false
@@ -34,8 +34,7 @@ pub record IsReady (engine : Receiver) : Type 0 where
   -- A frame is in the packet buffer.
   pub frames : engine.buffer ≢ []
 
--- What is true of every engine after any steps: its frames occupy at most 48 kilobytes, each has a legal length, and a piece in
--- progress isn't empty.
+-- The invariant of the receive engine: limits of its frames, of the moved bytes of the oldest frame, and of the piece in progress.
 pub record IsReceiver (engine : Receiver) : Type 0 where
   -- The frames in the packet buffer occupy at most 48 kilobytes.
   pub room : occupied_by engine.buffer ≤ most_room

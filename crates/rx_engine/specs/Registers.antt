@@ -32,14 +32,14 @@ byte k number = number / 256 ^ k % 256
 abbrev pub entry_address : ℕ → ℕ → List ℕ
 entry_address low high = byte 0 low ∷ byte 1 low ∷ byte 2 low ∷ byte 3 low ∷ byte 0 high ∷ byte 1 high ∷ []
 
--- An entry whose AV is set holds this address.
+-- The entry contains this address, and its AV is set.
 pub record HoldsAddress (low high : ℕ) (address : List ℕ) : Type 0 where
   -- AV is set in RAH.
   pub valid : HasBit high rah_av
-  -- The address is that of the entry.
+  -- The address is the one in the entry.
   pub equal : address ≡ entry_address low high
 
--- One of the 16 entries holds this address.
+-- One of the 16 entries is valid and contains this address.
 abbrev pub HasEntry : List ℕ → List ℕ → List ℕ → Type 0
 HasEntry ral rah address = (n : ℕ) × (n < 16) × HoldsAddress (slice_index ral n) (slice_index rah n) address
 

@@ -2,15 +2,15 @@
 -- "13.4.16 Packet Buffer Allocation", but not what a frame occupies).
 use Rattle.std.specs.Prelude.{◌≤◌, ◌<◌, ◌+◌, ◌*◌, ◌/◌, ℕ, List, length, sum_by}
 
--- The bytes that a frame of n bytes occupies: n, rounded up to a multiple of 16, and 16 more.
+-- The number of bytes that a frame of n bytes occupies: n, rounded up to a multiple of 16, and 16 more.
 abbrev pub cost_of_length : ℕ → ℕ
 cost_of_length n = (n + 15) / 16 * 16 + 16
 
--- The bytes that a frame occupies.
+-- The number of bytes that a frame occupies.
 abbrev pub cost : List ℕ → ℕ
 cost frame = cost_of_length (length frame)
 
--- The bytes that all these frames occupy.
+-- The number of bytes that all these frames occupy.
 abbrev pub occupied_by : List (List ℕ) → ℕ
 occupied_by frames = sum_by cost frames
 

@@ -1,5 +1,5 @@
 -- The slots of a descriptor ring as a driver counts them, from its oldest slot on ("3.2.6 Receive Descriptor Queue Structure", "3.4
--- Transmit Descriptor Ring Structure"). The address of its descriptor identifies a slot.
+-- Transmit Descriptor Ring Structure"). A slot is identified by the address of its descriptor.
 use Rattle.std.specs.Prelude.{ℕ, Bool, List, map, slice_index, take_while}
 use Rattle.dma_memory.specs.HostMemory.{bytes_at}
 use Rattle.registers.specs.Bits.{is_set}
@@ -15,10 +15,10 @@ offered ring = map (address_of ring) (offered_places ring)
 abbrev pub outstanding : Ring → ℕ → List ℕ
 outstanding ring oldest = offered (record ring { head = oldest })
 
--- The descriptor at an address is done: DD, bit 0 of its byte 12 (3.2.3.1, 3.3.3.2).
+-- Whether the descriptor at an address is done: DD, bit 0 of its byte 12, is set (3.2.3.1, 3.3.3.2).
 abbrev pub is_done : List ℕ → ℕ → Bool
 is_done memory descriptor = is_set (slice_index (bytes_at memory descriptor 16) 12) dd
 
--- The done slots before the first outstanding slot that isn't done, the oldest first.
+-- The outstanding slots before the first one that isn't done, the oldest first.
 abbrev pub done_slots : List ℕ → Ring → ℕ → List ℕ
 done_slots memory ring oldest = take_while (is_done memory) (outstanding ring oldest)

@@ -10,7 +10,7 @@ abbrev pub with_number : List ℕ → ℕ → List ℕ
 with_number table number =
     slice_set table (number / 32) (union (slice_index table (number / 32)) (2 ^ (number % 32)))
 
--- Registers that are all 0 hold no address.
+-- Registers that are all 0 contain no valid address.
 abbrev pub NoAddressAtFirst : Type 0
 NoAddressAtFirst = (n : ℕ) (address : List ℕ) → ¬ (HasEntry (replicate n 0) (replicate n 0) address)
 

@@ -28,7 +28,7 @@ pub struct AddressWords {
 }
 
 impl AddressWords {
-    /// The words of the valid entry that holds an address.
+    /// Returns the words of the valid entry that contains an address.
     pub fn of(address: &[u8; 6]) -> AddressWords
         ensures low { result.low ≡ low_word address.now }
         ensures high { result.high ≡ high_word address.now + alone rah_av }
@@ -42,9 +42,9 @@ impl AddressWords {
     }
 }
 
-/// The number of an address in the group table: 12 of the last 16 bits of the address, selected by RCTL.MO (13.5.1
-/// "Multicast Table Array"). The number divided by 32 is the index of a word of the table. The remainder is the place
-/// of a bit in this word.
+/// Returns the number of an address in the group table: 12 of the last 16 bits of the address, selected by RCTL.MO
+/// (13.5.1 "Multicast Table Array"). The number divided by 32 is the index of a word of the table. The remainder is
+/// the place of a bit in this word.
 pub fn hash_of(mo: GroupOffset, address: &[u8; 6]) -> u16
     ensures { result ≡ group_number (shift_of mo) address.now }
 {
@@ -52,7 +52,7 @@ pub fn hash_of(mo: GroupOffset, address: &[u8; 6]) -> u16
     (last >> mo.shift()) % NUMBERS
 }
 
-/// The destination of a frame.
+/// Returns the destination of a frame.
 pub(crate) fn destination_of(frame: &[u8]) -> [u8; 6]
     requires { 16 ≤ length frame.now }
     ensures { result ≡ destination frame.now }
@@ -60,21 +60,21 @@ pub(crate) fn destination_of(frame: &[u8]) -> [u8; 6]
     [frame[0], frame[1], frame[2], frame[3], frame[4], frame[5]]
 }
 
-/// Whether the address is a group address.
+/// Returns whether the address is a group address.
 pub(crate) fn is_group(address: &[u8; 6]) -> bool
     ensures { IsTrue result ↔ IsGroup address.now }
 {
     address[0] % 2 == 1
 }
 
-/// Whether the address is the broadcast address.
+/// Returns whether the address is the broadcast address.
 pub(crate) fn is_broadcast(address: &[u8; 6]) -> bool
     ensures { IsTrue result ↔ (address.now ≡ broadcast) }
 {
     *address == BROADCAST
 }
 
-/// Whether a receive address register pair is valid and holds this address.
+/// Returns whether a receive address register pair is valid and contains this address.
 fn holds_address(low: u32, high: u32, address: &[u8; 6]) -> bool
     ensures { IsTrue result ↔ HoldsAddress low high address.now }
 {
@@ -82,7 +82,7 @@ fn holds_address(low: u32, high: u32, address: &[u8; 6]) -> bool
     low == words.low && high % 0x1_0000 == words.high % 0x1_0000 && has_bit(high, 31)
 }
 
-/// Whether one of the 16 register pairs is valid and holds this address.
+/// Returns whether one of the 16 register pairs is valid and contains this address.
 pub(crate) fn has_entry(
     ral: &[u32; RECEIVE_ADDRESSES],
     rah: &[u32; RECEIVE_ADDRESSES],
@@ -95,7 +95,7 @@ pub(crate) fn has_entry(
         .any(|(low, high)| holds_address(*low, *high, address))
 }
 
-/// The type of a frame: bytes 12 and 13, the higher one first.
+/// Returns the type of a frame: bytes 12 and 13, the higher one first.
 pub(crate) fn ether_type_of(frame: &[u8]) -> u16
     requires { 16 ≤ length frame.now }
     ensures { result ≡ ether_type frame.now }
@@ -103,7 +103,7 @@ pub(crate) fn ether_type_of(frame: &[u8]) -> u16
     u16::from_be_bytes([frame[12], frame[13]])
 }
 
-/// The VLAN number in bytes 14 and 15 of a tagged frame.
+/// Returns the VLAN number in bytes 14 and 15 of a tagged frame.
 pub(crate) fn vlan_number_of(frame: &[u8]) -> u16
     requires { 16 ≤ length frame.now }
     ensures { result ≡ vlan_number frame.now }

@@ -25,30 +25,30 @@ pub enum Data {
     Nothing,
     /// A piece of the oldest frame is in memory and in progress. More pieces of this frame follow.
     Part {
-        /// Whether the number of free descriptors is now half the ring ("13.4.17 Interrupt Cause Read Register",
+        /// Whether exactly half of the ring's descriptors are now offered ("13.4.17 Interrupt Cause Read Register",
         /// RXDMT0).
         low: bool,
     },
     /// The last piece of the oldest frame is in memory and in progress.
     Moved {
-        /// Whether the number of free descriptors is now half the ring, as for `Part`.
+        /// Whether exactly half of the ring's descriptors are now offered, as for `Part`.
         low: bool,
     },
     /// The engine moved no piece, and moves none until a reset (our choice).
     Fault,
 }
 
-/// Writes the next piece of the packet buffer's oldest frame to the buffer that the descriptor at the head names. The
-/// piece is the rest of the frame, but at most the number of bytes that RCTL.BSIZE selects. The piece is then in
+/// Writes the next piece of the packet buffer's oldest frame to the buffer that the descriptor at the head points to.
+/// The piece is the rest of the frame, but at most the number of bytes that RCTL.BSIZE selects. The piece is then in
 /// progress, and the head advances ("3.2.6 Receive Descriptor Queue Structure"). After its last piece, the frame is
 /// removed from the packet buffer.
 ///
 /// Returns `Nothing` if RCTL.EN is 0, a fault has stopped the engine, a piece is in progress, the packet buffer is
 /// empty, or head equals tail.
 ///
-/// Otherwise returns `Fault` if head or tail isn't a slot of the ring, if the descriptor or the place of the piece
-/// isn't in memory, or if RCTL.BSEX is set. A fault changes neither memory nor ring nor packet buffer. After a fault,
-/// this step does nothing until a reset (our choice).
+/// Otherwise returns `Fault` if head or tail isn't a slot of the ring, or if RCTL.BSEX is set. Also returns `Fault` if
+/// the descriptor or the destination of the piece isn't inside memory. A fault changes neither memory nor ring nor
+/// packet buffer. After a fault, `rx_data` returns `Nothing` until a reset (our choice).
 pub fn rx_data(
     engine: &mut RxEngine,
     ring: &mut Ring,
@@ -105,21 +105,22 @@ pub fn rx_data(
     }
 }
 
-/// Whether [`rx_data`] has a frame to move: it would not return `Nothing`.
+/// Returns whether [`rx_data`] has a frame to move, so that it wouldn't return `Nothing`.
 pub fn has_frame_to_move(engine: &RxEngine, ring: &Ring, control: Rctl) -> bool
     ensures { IsTrue result ↔ HasFrameToMove control.0 ring.now engine.now }
 {
     engine.left().is_some() && control.is_enabled() && ring.head != ring.tail
 }
 
-/// Whether `left` bytes, the rest of a frame, fit into a buffer of `size` bytes: the next piece is then the last one.
+/// Returns whether `left` bytes, the rest of a frame, fit into a buffer of `size` bytes, so that the next piece is the
+/// last one.
 fn is_last_piece(left: usize, size: usize) -> bool
     ensures { result ≡ nat_le left size }
 {
     left <= size
 }
 
-/// Writes a piece to the buffer that the descriptor at the head names. Returns the address of this descriptor, or
+/// Writes a piece to the buffer that the descriptor at the head points to. Returns the address of this descriptor, or
 /// `None` exactly if the step is a fault, which doesn't change memory.
 fn store_piece(ring: &Ring, control: Rctl, memory: &mut HostMemory, piece: &[u8]) -> Option<u64>
     ensures can { IsSome result ↔ CanMove control.0 ring.now memory.old (length piece.now) }
@@ -143,7 +144,8 @@ fn store_piece(ring: &Ring, control: Rctl, memory: &mut HostMemory, piece: &[u8]
     }
 }
 
-/// The address that the descriptor at an address names, or `None` exactly if that descriptor isn't in memory.
+/// Returns the buffer address in the descriptor at an address, or `None` exactly if that descriptor isn't inside
+/// memory.
 fn buffer_named_at(memory: &HostMemory, descriptor: u64) -> Option<u64>
     ensures lies { IsSome result ↔ LiesIn memory.now descriptor 16 }
     ensures value { IfSome result (λ address. address ≡ named_address memory.now descriptor) }
@@ -152,7 +154,7 @@ fn buffer_named_at(memory: &HostMemory, descriptor: u64) -> Option<u64>
     Some(RxDesc::from_bytes(bytes.first_chunk()?).address)
 }
 
-/// Whether the number of free descriptors, from head to tail, is half the ring.
+/// Returns whether exactly half of the ring's descriptors are offered, from head up to, but not including, tail.
 fn is_half_offered(ring: &Ring) -> bool
     requires { HasValidIndices ring.now }
     ensures { result ≡ is_half_offered ring.now }

@@ -31,8 +31,8 @@ pub enum Done {
 /// Writes back the descriptor of the piece in progress ("3.2.3 Receive Descriptor Format"): the length of the piece,
 /// DD, no error, and EOP if the frame ends in this piece. Returns `Nothing` if no piece is in progress.
 ///
-/// If `memory` has the same size as in the call of [`rx_data`](crate::rx_data), the descriptor is inside it. If memory
-/// ends before the end of the descriptor, nothing is written.
+/// If `memory` has the same size as in the call of [`rx_data`](crate::rx_data), the descriptor is inside memory. If
+/// memory ends before the end of the descriptor, nothing is written.
 pub fn rx_done(engine: &mut RxEngine, memory: &mut HostMemory) -> Done
     ensures nothing { (result ≡ Done.Nothing) ↔ (engine.old.work ≡ None) }
     ensures engine { engine.new ≡ engine_after_done engine.old }
@@ -56,7 +56,7 @@ pub fn rx_done(engine: &mut RxEngine, memory: &mut HostMemory) -> Done
     Done::Done
 }
 
-/// The status of a finished descriptor: DD, and EOP if its frame ends in this descriptor.
+/// Returns the status of a finished descriptor: DD, and EOP if its frame ends in this descriptor.
 fn status(ends: bool) -> RxStatus
     ensures { result ≡ status_of (finished_status ends) }
 {
@@ -67,7 +67,7 @@ fn status(ends: bool) -> RxStatus
     }
 }
 
-/// Writes bytes 8 to 15 of the descriptor at an address, which is then finished with a piece of this length.
+/// Writes bytes 8 to 15 of the descriptor at an address. The descriptor is then finished with a piece of this length.
 fn write_back(memory: &mut HostMemory, descriptor: u64, length: u16, ends: bool)
     requires { LiesIn memory.old descriptor 16 }
     ensures memory { memory.new ≡ with_bytes memory.old (descriptor + 8) (finished_bytes length ends) }

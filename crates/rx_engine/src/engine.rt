@@ -15,7 +15,8 @@ use std::marker::Model;
 /// The maximum number of frames in the receive packet buffer: 48 kilobytes have room for 614 frames of 60 bytes.
 pub const MOST_FRAMES: u16 = 614;
 
-/// The number of bytes of memory for frames. It is more than 48 kilobytes, so that a push seldom has to move frames.
+/// The number of bytes of memory for frames. This number is more than 48 kilobytes, so that a push seldom has to move
+/// frames.
 const QUEUE_BYTES: usize = 65_536;
 
 /// The number of bytes that a frame occupies is a multiple of this number.
@@ -62,7 +63,7 @@ impl RxEngine {
     ghost use Rattle.rx_engine.specs.Receiver.{new_receiver, IsReceiver, IsReady, oldest};
     ghost use Rattle.rx_engine.specs.Moving.{begun_with, left_bytes};
 
-    /// An engine that holds no frame.
+    /// Returns an engine with an empty packet buffer and no piece in progress.
     ///
     /// # Errors
     ///
@@ -91,7 +92,7 @@ impl RxEngine {
         self.stopped = false;
     }
 
-    /// The number of frames in the packet buffer. A frame counts until its last piece is moved.
+    /// Returns the number of frames in the packet buffer. A frame is counted until its last piece is moved.
     pub fn buffered(&self) -> u16
         ensures count { result ≡ length self.now.buffer }
         ensures fits { result ≤ MOST_FRAMES }
@@ -100,7 +101,7 @@ impl RxEngine {
         self.buffer.len()
     }
 
-    /// The frame of the packet buffer with this index, without a copy. The oldest frame has index 0.
+    /// Returns the frame of the packet buffer with this index, without a copy. The oldest frame has index 0.
     pub fn frame_at(&self, index: usize) -> &[u8]
         requires { index < length self.now.buffer }
         ensures frame { slice_get self.now.buffer index ≡ Some result.now }
@@ -109,8 +110,8 @@ impl RxEngine {
         self.buffer.frame_at(index)
     }
 
-    /// The number of bytes of the packet buffer that its frames occupy. A frame occupies its bytes until its last piece
-    /// is moved.
+    /// Returns the number of bytes of the packet buffer that its frames occupy. A frame occupies these bytes until its
+    /// last piece is moved.
     pub fn occupied(&self) -> u32
         ensures occupied { result ≡ occupied_by self.now.buffer }
         ensures fits { result ≤ most_room }
@@ -119,7 +120,7 @@ impl RxEngine {
         self.occupied
     }
 
-    /// The piece in progress, if there is one.
+    /// Returns the piece in progress, if there is one.
     pub fn work(&self) -> Option<&Work>
         ensures work { option_copied result ≡ self.now.work }
         ensures sound { IsReceiver self.now }
@@ -137,7 +138,7 @@ impl RxEngine {
         self.buffer.feed(hasher);
     }
 
-    /// Appends a frame of a legal length to the packet buffer, which has room for it.
+    /// Appends a frame of a legal length to the packet buffer. The packet buffer must have room for the frame.
     pub(crate) fn store(&mut self, frame: &[u8])
         requires room { occupied_by self.old.buffer + cost frame.now ≤ most_room }
         requires legal { IsLegal frame.now }
@@ -148,8 +149,8 @@ impl RxEngine {
         self.buffer.push(frame);
     }
 
-    /// The bytes of the packet buffer's oldest frame that aren't moved yet. `None` if the engine can't move them: a
-    /// fault has stopped it, a piece is in progress, or there is no frame.
+    /// Returns the bytes of the packet buffer's oldest frame that aren't moved yet. Returns `None` if a fault has
+    /// stopped the engine, a piece is in progress, or there is no frame.
     pub(crate) fn left(&self) -> Option<&[u8]>
         ensures ready { IsSome result ↔ IsReady self.now }
         ensures left { IfSome result (λ bytes. bytes.now ≡ drop self.now.moved (oldest self.now.buffer)) }
@@ -206,7 +207,7 @@ impl RxEngine {
         self.work = None;
     }
 
-    /// Stops the engine after a fault: it moves no piece until a reset.
+    /// Stops the engine after a fault: the engine moves no piece until a reset.
     pub(crate) fn stop(&mut self)
         ensures stopped { self.new ≡ record self.old { stopped = true } }
         ensures sound { IsReceiver self.new }
@@ -227,8 +228,8 @@ fn feed_work<H: Hasher>(work: Option<Work>, hasher: &mut H)
     }
 }
 
-/// The number of bytes of the packet buffer that a frame of this length occupies (our choice): its length, rounded up
-/// to a multiple of 16, and 16 more.
+/// Returns the number of bytes of the packet buffer that a frame of this length occupies (our choice): its length,
+/// rounded up to a multiple of 16, and 16 more.
 pub(crate) fn cost(length: usize) -> u32
     requires { length ≤ 65535 }
     ensures { result ≡ cost_of_length length }

@@ -26,10 +26,10 @@ pub const TABLE_WORDS: usize = 128;
 /// The VLAN type of IEEE 802.1Q, for VET: bytes 12 and 13 of a tagged frame.
 pub const VLAN_TYPE: u16 = 0x8100;
 
-/// The bits of RAH that a write changes and a read shows: address bytes 4 and 5, and AV.
+/// The bits of RAH that a write stores and a read returns: address bytes 4 and 5, and AV.
 const ADDRESS_HIGH_BITS: u32 = 0x8000_FFFF;
 
-/// The receive filter: its registers, and the frames that pass. It allocates no memory.
+/// The receive filter: its registers, which determine the frames that pass. No call allocates memory.
 #[derive(Clone, PartialEq, Eq, Debug, Drop)]
 pub struct Filter {
     ral: [u32; RECEIVE_ADDRESSES],
@@ -52,7 +52,7 @@ impl Model for Filter {
 }
 
 impl Filter {
-    /// A filter whose registers are all 0: no frame passes.
+    /// Returns a filter whose registers are all 0: no frame passes.
     pub fn new() -> Filter
         ensures { result ≡ record {
           ral = replicate RECEIVE_ADDRESSES 0;
@@ -73,7 +73,7 @@ impl Filter {
         }
     }
 
-    /// A write of RAL(n), address bytes 0 to 3 of entry `n` (13.5.2). `n` is below 16.
+    /// Writes RAL(n), address bytes 0 to 3 of entry `n` (13.5.2). `n` is below 16.
     pub fn write_ral(&mut self, n: usize, value: u32)
         requires { n < RECEIVE_ADDRESSES }
         ensures { self.new ≡ record self.old { ral = slice_set self.old.ral n value } }
@@ -81,8 +81,8 @@ impl Filter {
         self.ral[n] = value;
     }
 
-    /// A write of RAH(n), address bytes 4 and 5 of entry `n` in bits 15:0 and AV in bit 31 (13.5.3); the other bits
-    /// aren't kept. `n` is below 16.
+    /// Writes RAH(n), address bytes 4 and 5 of entry `n` in bits 15:0 and AV in bit 31 (13.5.3). The other bits aren't
+    /// stored. `n` is below 16.
     pub fn write_rah(&mut self, n: usize, value: u32)
         requires { n < RECEIVE_ADDRESSES }
         ensures { self.new ≡ record self.old { rah = slice_set self.old.rah n (bit_and value address_high_mask) } }
@@ -90,7 +90,7 @@ impl Filter {
         self.rah[n] = value & ADDRESS_HIGH_BITS;
     }
 
-    /// A write of word `i` of MTA, the group table (13.5.1). `i` is below 128.
+    /// Writes word `i` of MTA, the group table (13.5.1). `i` is below 128.
     pub fn write_mta(&mut self, i: usize, value: u32)
         requires { i < TABLE_WORDS }
         ensures { self.new ≡ record self.old { mta = slice_set self.old.mta i value } }
@@ -98,7 +98,7 @@ impl Filter {
         self.mta[i] = value;
     }
 
-    /// A write of word `i` of VFTA, the VLAN table (13.5.4). `i` is below 128.
+    /// Writes word `i` of VFTA, the VLAN table (13.5.4). `i` is below 128.
     pub fn write_vfta(&mut self, i: usize, value: u32)
         requires { i < TABLE_WORDS }
         ensures { self.new ≡ record self.old { vfta = slice_set self.old.vfta i value } }
@@ -106,21 +106,21 @@ impl Filter {
         self.vfta[i] = value;
     }
 
-    /// A write of RCTL, which stores only the bits that the register has (13.4.22).
+    /// Writes RCTL: stores the register's kept bits of the value (13.4.22).
     pub fn write_rctl(&mut self, value: u32)
         ensures { self.new ≡ record self.old { rctl = bit_and value receive_control_mask } }
     {
         self.rctl = Rctl::kept(value);
     }
 
-    /// A write of VET, the VLAN type (13.4.11).
+    /// Writes VET, the VLAN type (13.4.11).
     pub fn write_vet(&mut self, value: u16)
         ensures { self.new ≡ record self.old { vet = value } }
     {
         self.vet = value;
     }
 
-    /// A read of RAL(n). `n` is below 16.
+    /// Returns RAL(n). `n` is below 16.
     pub fn ral(&self, n: usize) -> u32
         requires { n < RECEIVE_ADDRESSES }
         ensures { result ≡ slice_index self.now.ral n }
@@ -128,7 +128,7 @@ impl Filter {
         self.ral[n]
     }
 
-    /// A read of RAH(n). `n` is below 16.
+    /// Returns RAH(n). `n` is below 16.
     pub fn rah(&self, n: usize) -> u32
         requires { n < RECEIVE_ADDRESSES }
         ensures { result ≡ slice_index self.now.rah n }
@@ -136,7 +136,7 @@ impl Filter {
         self.rah[n]
     }
 
-    /// A read of word `i` of MTA. `i` is below 128.
+    /// Returns word `i` of MTA. `i` is below 128.
     pub fn mta(&self, i: usize) -> u32
         requires { i < TABLE_WORDS }
         ensures { result ≡ slice_index self.now.mta i }
@@ -144,7 +144,7 @@ impl Filter {
         self.mta[i]
     }
 
-    /// A read of word `i` of VFTA. `i` is below 128.
+    /// Returns word `i` of VFTA. `i` is below 128.
     pub fn vfta(&self, i: usize) -> u32
         requires { i < TABLE_WORDS }
         ensures { result ≡ slice_index self.now.vfta i }
@@ -152,14 +152,14 @@ impl Filter {
         self.vfta[i]
     }
 
-    /// A read of RCTL.
+    /// Returns RCTL.
     pub fn rctl(&self) -> Rctl
         ensures { result.0 ≡ self.now.rctl }
     {
         self.rctl
     }
 
-    /// A read of VET.
+    /// Returns VET.
     pub fn vet(&self) -> u16
         ensures { result ≡ self.now.vet }
     {
@@ -178,7 +178,8 @@ impl Filter {
         self.vfta.hash(hasher);
     }
 
-    /// Whether a frame of at least 16 bytes passes: its destination and its VLAN are accepted (3.2.1 and chapter 9).
+    /// Returns whether a frame of at least 16 bytes passes: its destination and its VLAN are accepted (3.2.1 and
+    /// chapter 9).
     pub fn passes(&self, frame: &[u8]) -> bool
         requires { 16 ≤ length frame.now }
         ensures { IsTrue result ↔ Passes (filter_of self.now) frame.now }
@@ -186,7 +187,7 @@ impl Filter {
         self.accepts_address(&destination_of(frame)) && self.accepts_vlan(frame)
     }
 
-    /// Whether a destination is accepted.
+    /// Returns whether the filter accepts a destination address.
     fn accepts_address(&self, address: &[u8; 6]) -> bool
         ensures { IsTrue result ↔ AcceptsAddress (filter_of self.now) address.now }
     {
@@ -198,7 +199,7 @@ impl Filter {
         accepted || has_entry(&self.ral, &self.rah, address)
     }
 
-    /// Whether the filter accepts a group address by MPE, BAM or the group table.
+    /// Returns whether the filter accepts a group address by MPE, BAM or the group table.
     #[tactic(auto, unfolding(crate::specs::Registers::filter_of, crate::specs::Passing::AcceptsGroup))]
     fn accepts_group(&self, address: &[u8; 6]) -> bool
         ensures { IsTrue result ↔ AcceptsGroup (filter_of self.now) address.now }
@@ -208,7 +209,7 @@ impl Filter {
             || has_table_bit(&self.mta, hash_of(self.rctl.group_offset(), address))
     }
 
-    /// Whether the VLAN filter accepts a frame. It accepts each frame without a tag.
+    /// Returns whether VFE is clear, the frame has no tag, or VFTA contains the frame's VLAN number.
     #[tactic(auto, unfolding(crate::specs::Registers::filter_of, crate::specs::Passing::AcceptsVlan))]
     fn accepts_vlan(&self, frame: &[u8]) -> bool
         requires { 16 ≤ length frame.now }

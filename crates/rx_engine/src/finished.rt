@@ -40,21 +40,21 @@ pub fn append_piece(
     }
 }
 
-/// Whether a descriptor is done.
+/// Returns whether a descriptor is done: DD is set.
 fn shows_done(desc: &RxDesc) -> bool
     ensures { result ≡ is_set (status_bits desc.now.status) dd }
 {
     desc.status.contains(RxStatus::DD)
 }
 
-/// Whether a frame ends in the descriptor's piece.
+/// Returns whether a frame ends in the descriptor's piece: EOP is set.
 fn shows_end(desc: &RxDesc) -> bool
     ensures { result ≡ is_set (status_bits desc.now.status) eop }
 {
     desc.status.contains(RxStatus::EOP)
 }
 
-/// The descriptor in a slot of a ring.
+/// Returns the descriptor in a slot of a ring.
 fn descriptor_in(memory: &HostMemory, ring: &Ring, place: u16) -> Option<RxDesc>
     requires ring { LiesWhole memory.now ring.now }
     requires place { place < count_of ring.now }
@@ -71,7 +71,8 @@ fn descriptor_in(memory: &HostMemory, ring: &Ring, place: u16) -> Option<RxDesc>
     Some(RxDesc::from_bytes(&bytes))
 }
 
-/// The piece in a slot of a ring, if the slot is done.
+/// Returns the bytes of the piece in a slot of a ring, and whether a frame ends in the piece; `None` if the slot isn't
+/// done.
 fn finished_piece<'a>(memory: &'a HostMemory, ring: &Ring, place: u16) -> Option<(&'a [u8], bool)>
     requires ring { LiesWhole memory.now ring.now }
     requires place { place < count_of ring.now }
@@ -95,7 +96,8 @@ fn finished_piece<'a>(memory: &'a HostMemory, ring: &Ring, place: u16) -> Option
     Some((piece, shows_end(&desc)))
 }
 
-/// The bytes of the piece in progress, at the address that its descriptor names.
+/// Returns the bytes of the piece in progress, at the address in its descriptor. The descriptor and the piece must be
+/// inside memory.
 pub fn bytes_in_progress<'a>(memory: &'a HostMemory, work: &Work) -> Option<&'a [u8]>
     requires descriptor { LiesIn memory.now work.now.descriptor 16 }
     requires piece { LiesIn memory.now (named_address memory.now work.now.descriptor) work.now.length }
@@ -108,8 +110,10 @@ pub fn bytes_in_progress<'a>(memory: &'a HostMemory, work: &Work) -> Option<&'a 
     memory.view(address, usize::from(work.length)).ok()
 }
 
-/// Appends the frames that end in the finished slots of a ring, from slot `oldest` on. Stores the bytes after the last
-/// end of a frame in `begun`. Both the list and `begun` must have room for them.
+/// Appends the frames that end in the finished slots of a ring, from slot `oldest` on. The first piece continues the
+/// frame whose beginning is in `begun`. Afterwards `begun` contains the beginning of the frame that doesn't end in
+/// these slots. The ring and its finished pieces must be inside memory. The list must have room for these frames, and
+/// `begun` for the bytes of each.
 pub fn append_finished(
     memory: &HostMemory,
     ring: &Ring,

@@ -4,13 +4,16 @@ ghost use Rattle.rx_engine.specs.Held.{ArrivalGrowsHeld, DataKeepsHeld, DoneKeep
 ghost use Rattle.rx_engine.specs.Held.{OtherBytesLeaveSlots};
 
 /// Laws of the frames that a host and its engine hold. First come the frames that end in finished slots or in the slot
-/// in progress, each with its pieces joined. The frames in the packet buffer follow. After the last end of a frame, the
-/// slots always contain the moved bytes of the packet buffer's oldest frame.
+/// in progress, each with its pieces joined. The frames in the packet buffer follow. The pieces in slots after the
+/// last end of a frame, joined, are the moved bytes of the packet buffer's oldest frame.
 /// - `arrival`: a stored frame is added after the others.
-/// - `data`: a data step doesn't change the frames held, if the place of the piece is apart from its descriptor.
-/// - `done`: a done step makes the piece in progress a finished one, if the piece is apart from its descriptor.
+/// - `data`: a data step doesn't change the frames held, if the destination of the piece is apart from the piece's
+///   descriptor.
+/// - `done`: a done step makes the piece in progress a finished piece, and doesn't change the frames held, if the
+///   piece and its descriptor are inside memory and apart.
 /// - `others`: a write apart from the piece in progress and its descriptor doesn't change the piece.
-/// - `finished`: a finished descriptor remains finished with its piece while only bytes apart from both change.
+/// - `finished`: a finished descriptor remains finished with the same piece while no byte of the descriptor or the
+///   piece changes.
 ///
 /// The function does nothing: its contract is the laws.
 pub fn frames_held_by_the_receive_engine()

@@ -22,7 +22,7 @@ pub struct TableBit {
 }
 
 impl TableBit {
-    /// The place of a number's bit (13.5.1, 13.5.4). The number is below 4,096.
+    /// Returns the place of a number's bit (13.5.1, 13.5.4). The number is below 4,096.
     pub fn of(number: u16) -> TableBit
         requires { number < 4096 }
         ensures word { result.word ≡ number / 32 }
@@ -35,7 +35,7 @@ impl TableBit {
     }
 }
 
-/// Whether the bit at this place of a word is 1.
+/// Returns whether the bit at this place of a word is 1.
 pub(crate) fn has_bit(word: u32, place: u32) -> bool
     requires { place < 32 }
     ensures { IsTrue result ↔ HasBit word place }
@@ -43,7 +43,7 @@ pub(crate) fn has_bit(word: u32, place: u32) -> bool
     (word >> place) % 2 == 1
 }
 
-/// Whether the bit of this number is 1 in a table of words of 32 bits.
+/// Returns whether the bit of this number is 1 in a table of words of 32 bits.
 #[tactic(auto, using(registers::specs::Laws::contains_bit))]
 pub(crate) fn has_table_bit(table: &[u32; TABLE_WORDS], number: u16) -> bool
     requires { number < 4096 }

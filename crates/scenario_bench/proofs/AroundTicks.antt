@@ -1,10 +1,11 @@
--- What a call of groups says in the midst of what its ticks say: no count has it, no socket returns it, and no wire gets it.
+-- The happenings of a join or a leave, between those of its ticks. They change no count, and have no frame that a socket returns or that is
+-- put on a wire.
 use Rattle.std.proofs.Common.{◌≡◌, ◌∙◌, ◌++◌, [], ℕ, List, Ok, Err, Option, Some, None, option_map, slice_get, refl, sym, ap}
 use Rattle.std.specs.List.{flat_map, fold}
 use Rattle.std.proofs.lemmas.Grind.{flat_map-append}
 use Rattle.std.proofs.lemmas.List.Sums.{fold-append}
-use Rattle.delivery.specs.DeliveryLaws.{IsBetween}
-use Rattle.delivery.specs.Happenings.{Happening}
+use Rattle.host_calls.specs.DeliveryLaws.{IsBetween}
+use Rattle.host_calls.specs.Happenings.{Happening}
 use Rattle.network_plan.specs.Answers.{FrameAnswer}
 use Rattle.network_plan.specs.declared.reply.Answer.TheVariants as answer
 use Rattle.wire.specs.Runs.{joined_of, left_by_answer}

@@ -6,7 +6,7 @@ use Rattle.std.specs.Prelude.{unwrap_or}
 use Rattle.std.proofs.Math.Seq.{take-append_seam}
 use Rattle.std.proofs.lemmas.List.{length-append, length-map}
 use Rattle.std.proofs.lemmas.Option.{slice_get-map, slice_get_within}
-use Rattle.delivery.specs.Happenings.{Accepted, Given, Happening, given}
+use Rattle.host_calls.specs.Happenings.{Accepted, Given, Happening, given}
 use Rattle.packet_socket.specs.HostState.{HostState}
 use Rattle.pcap_trace.specs.Format.{Timed}
 use Rattle.pcap_trace.specs.declared.unit.Unit.{Unit}
@@ -80,14 +80,14 @@ one_told first plans play told more plan one has plan_there tells is = record {
       ];
 }
 
--- The record after a run that began with an empty one.
+-- The record after a run that began with an empty record.
 
 at-replicate : {X : Type 0} → (n k : ℕ) (x : X) → k < n → slice_get (replicate n x) k ≡ Some x
 at-replicate zero k x below = absurd (omega (arith, below))
 at-replicate (suc n) zero x below = refl
 at-replicate (suc n) (suc k) x below = at-replicate n k x (omega (arith, below))
 
--- each host has its numbers
+-- each host has its counts
 pub tally_at : (plans : List HostPlan) (said : List Said) (a b : Play) (begun : Begins plans a) (played : HasPlayed said a b) (k : ℕ)
     → k < length plans → slice_get b.record.hosts.items k ≡ Some (tally_of k (history played.acts))
 tally_at plans said a b begun played k below =
@@ -223,7 +223,7 @@ pub tells_as : (hosts plans : List HostPlan) (b : Play) (told : List HostSummary
     → TellTallies (length plans) plans b told
 tells_as hosts plans b told is tells = subst (λ (hs : List HostPlan). TellTallies (length hs) hs b told) is tells
 
--- a summary is that of the record, with these summaries of hosts
+-- a summary contains the refused calls and the lines of the record, and these summaries of hosts
 pub record IsOfPlay (play : Play) (told : List HostSummary) (summary : Summary) : Type 0 where
   pub hosts : summary.hosts.items ≡ told
   pub refusals : summary.refusals ≡ play.record.log.refusals
@@ -237,7 +237,7 @@ still-recorded : (wires : ℕ) (more : List KeptFrame) (first puts : Option (Lis
 still-recorded wires more None puts new is = subst (AreRecorded wires) (sym is) new
 still-recorded wires more (Some old) puts new is = subst (AreRecorded wires) (sym is) tt
 
--- what the record of a run has of wires is what was put
+-- the recorded frames of wires are those that were put
 same-puts : (more old : List KeptFrame) (puts : Option (List KeptFrame)) → old ≡ []
     → puts ≡ option_map (λ (old : List KeptFrame). old ++ more) (Some old) → unwrap_or puts [] ≡ more
 same-puts more old puts none is =
@@ -286,7 +286,7 @@ module _ (scenario : Scenario) (traces : List (List (List ℕ))) (first play : P
   hosts-told {summary} of_play = hosts_tell plans said first play summary.hosts.items begins has.played
       (subst (λ (told : List HostSummary). TellTallies (length plans) plans play told) (sym of_play.hosts) has.tells)
 
-  -- the record of answers is that of a run that began with an empty one
+  -- the record of answers is that of a run that began with an empty record
   log-is : (events : Bool) → first.record.log ≡ new_log (map plan_name plans) events
       → play.record.log ≡ logged 0 has.played.noted.logged.entries (new_log (map plan_name plans) events)
   log-is events log =
@@ -368,7 +368,7 @@ module _ (scenario : Scenario) (traces : List (List (List ℕ))) (first play : P
 
 -- Nothing was written.
 
--- memory was refused before an event: the record has its number
+-- memory was refused before an event, whose number the record has
 stopped-before : (scenario : Scenario) (all : List Said) (a b : Play) (done : ℕ) → Begins scenario.plan.hosts.items a
     → HasPlayedFront all a b → done ≡ b.record.number → StopsBefore scenario all done
 stopped-before scenario all a b done begun front is =
@@ -391,7 +391,7 @@ module _ (unit : Unit) (scenario : Scenario) (traces : List (List (List ℕ))) (
   unmade errors.Memory stops = untouched
   unmade (errors.Write error) stops = absurd stops
 
-  -- not all was played
+  -- memory was refused while events were played
   pub unplayed : (a b : Play) (error : BenchError) → Begins scenario.plan.hosts.items a
       → StopsWithin (scenario_events scenario traces) a b error → Stops unit scenario traces error sinks
   unplayed a b (errors.Plan error) begun stops = absurd stops

@@ -6,8 +6,8 @@ use Rattle.std.proofs.lemmas.Option.{slice_get_cases, slice_get_within}
 use Rattle.circular_buffer.proofs.Places.{slice_get-some}
 use Rattle.packet_socket.specs.HostCalls.{Given as GivenFrame}
 use Rattle.stations.specs.Stations.{wire_at, world_at}
-use Rattle.delivery.proofs.Waiting.{wires-stay}
-use Rattle.delivery.specs.Happenings.{Happening}
+use Rattle.host_calls.proofs.Waiting.{wires-stay}
+use Rattle.host_calls.specs.Happenings.{Happening}
 use Rattle.network_plan.specs.declared.event.Event.{Event}
 use Rattle.network_plan.specs.declared.reply.Reply.{Reply}
 use Rattle.scenario.specs.SoFar.{Said, event_of}

@@ -8,7 +8,7 @@ use Rattle.std.proofs.lemmas.List.{map-append}
 use Rattle.std.proofs.lemmas.List.Sums.{fold-append}
 use Rattle.std.specs.List.{fold}
 use Rattle.packet_socket.specs.HostCalls.{Given as GivenFrame}
-use Rattle.delivery.specs.Happenings.{Given, Happening, Moved}
+use Rattle.host_calls.specs.Happenings.{Given, Happening, Moved}
 use Rattle.wire.specs.DrainedNetworks.{said_of_drain}
 use Rattle.scenario_bench.specs.Acts.{Act, Drained, history}
 use Rattle.scenario_bench.specs.EventLines.{place_at}
@@ -71,7 +71,7 @@ lone-entry (entry ∷ []) act number log is =
 lone-entry (entry ∷ next ∷ later) act number log is =
     absurd (no-acts next.1 (acts_in later) (rest-acts entry.1 act (next.1 ∷ acts_in later) [] is))
 
--- So the record of a drain doesn't depend on the number of moved frames.
+-- The record of a drain doesn't depend on the number of moved frames.
 pub noted_moves : (host buffered : ℕ) (frames : List GivenFrame) (a b : Record) → AreNoted (Drained host 0 frames ∷ []) a b
     → AreNoted (Drained host buffered frames ∷ []) a b
 noted_moves host buffered frames a b noted = record {

@@ -3,10 +3,10 @@ use Rattle.std.proofs.Common.{◌≡◌, ◌==◌, ◌&&◌, ◌++◌, ◌∷◌
 use Rattle.std.proofs.Common.{length, map, replicate, suc, zero}
 use Rattle.std.proofs.Common.{if◌then◌else◌, refl, sym, ap, subst, ◌∙◌, append-nil}
 use Rattle.std.proofs.lemmas.Grind.{flat_map-append}
-use Rattle.delivery.proofs.ToldAround.{around_ticks}
-use Rattle.delivery.specs.Happenings.{Disabled, Enabled, Given, GivenUp, Happening, Moved}
-use Rattle.delivery.specs.Happenings.{tick_happenings, lone_tick_happenings, tick_happenings_around, outcome_happenings}
-use Rattle.delivery.specs.Happenings.{tick_happenings_where}
+use Rattle.host_calls.proofs.ToldAround.{around_ticks}
+use Rattle.host_calls.specs.Happenings.{Disabled, Enabled, Given, GivenUp, Happening, Moved}
+use Rattle.host_calls.specs.Happenings.{tick_happenings, lone_tick_happenings, tick_happenings_around, outcome_happenings}
+use Rattle.host_calls.specs.Happenings.{tick_happenings_where}
 use Rattle.network_plan.specs.declared.event.Event.{Event}
 use Rattle.network_plan.specs.declared.event.Event.TheVariants as event
 use Rattle.network_plan.specs.Answers.{FrameAnswer}
@@ -68,7 +68,7 @@ given-accepted n host frame (answer.Sent (Ok u)) = refl
 given-accepted n host frame (answer.Sent (Err error)) = refl
 given-accepted n host frame _ = refl
 
--- A call of groups returns no frame.
+-- A join or a leave returns no frame.
 gives-by-ticks : (n : ℕ) (middle : List Happening) → AreQuiet middle → (ticks : List Tick) (outcomes : List Numbered)
     → returned_in n (tick_happenings_around middle ticks outcomes) ≡ []
 gives-by-ticks n middle quiet ticks outcomes =
@@ -129,7 +129,7 @@ given-said n (event.Leave host group ticks) reply =
     gives-by-ticks n (left_by_answer host group reply.answer) (leaves_quiet host group reply.answer) ticks.items reply.outcomes.list
 given-said n (event.Tick one) reply = given-alone n one reply.outcomes.list
 
--- A socket returned a frame, or none did.
+-- Answers with a frame that a socket returned, and answers without.
 
 pub returned_none : (returned : List KeptFrame) → FramesGrow [] returned returned
 returned_none returned = sym (append-nil returned)

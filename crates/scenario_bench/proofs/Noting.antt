@@ -4,7 +4,7 @@ use Rattle.std.proofs.Common.{slice_get, slice_set, option_map, if◌then◌else
 use Rattle.std.proofs.lemmas.Bool.Decides.{eqb_tells}
 use Rattle.std.proofs.lemmas.Option.{slice_get_within}
 use Rattle.circular_buffer.proofs.Places.{slice_get-set_other, slice_get-set_same}
-use Rattle.delivery.specs.Happenings.{Moved, outcome_happenings}
+use Rattle.host_calls.specs.Happenings.{Moved, outcome_happenings}
 use Rattle.adapter.specs.Outcomes.{FrameOutcome}
 use Rattle.adapter.specs.declared.outcome.Outcome.TheVariants as outcome
 use Rattle.scenario_bench.specs.RecordingLaws.{stays}

@@ -52,7 +52,7 @@ played_join said later a b c one two = record {
   noted = notes_join one.acts two.acts a.record b.record c.record one.noted two.noted;
 }
 
--- The number of the scenario's line is another one.
+-- The number of the scenario's line changes.
 
 abbrev pub lined : Play → (line : ℕ) → Play
 lined a line = record a { «record» = record a.record { line = line } }
@@ -74,7 +74,7 @@ played_lined said line a b has = record {
   noted = noted-lined has.acts line a b has.noted;
 }
 
--- The refusals that commands asked for are other ones.
+-- The numbers of refused calls without those of `auto` commands change.
 pub played_counted : (said : List Said) (asked : Refusals) (a b : Play) → HasPlayed said a b → HasPlayed said a (record b { asked = asked })
 played_counted said asked a b has = record { acts = has.acts; are = has.are; leads = has.leads; noted = has.noted }
 
@@ -126,7 +126,7 @@ drained host steps before frames slice a b drains none same noted =
 
 -- Memory was refused.
 
--- before one of these events, and those before it are recorded
+-- before one of these events; the events before it are recorded
 pub front_played : (events : List Event) (done : ℕ) (a b : Play) → done < length events
     → RunTold RecordsReplies (take done events) a.lan b.lan a.record b.record → b.record.failed ≡ false
     → HasPlayedFront (map event_of events) a b
@@ -138,7 +138,7 @@ front_played events done a b left told sound = record {
   played = played (take done events) a b told sound;
 }
 
--- among a part of these events and drains, and those before it were played
+-- among a part of these events and drains; those before this part were played
 pub stops_behind : (all before said later : List Said) (a b c : Play) (error : BenchError) → all ≡ before ++ (said ++ later)
     → HasPlayed before a b → StopsWithin said b c error → StopsWithin all a c error
 stops_behind all before said later a b c (errors.Plan error) is has stops = absurd stops
@@ -157,9 +157,9 @@ stops_behind all before said later a b c (errors.Run stopped) is has (front, num
 stops_behind all before said later a b c errors.Memory is has stops = stops
 stops_behind all before said later a b c (errors.Write error) is has stops = absurd stops
 
--- What is played one by one.
+-- Lists of which each item's events are played in order.
 
--- The first of these were played, and the others are left.
+-- The events of the first items were played, and the other items are left.
 pub record HasFed (X : Type 0) (events : X → List Said) (all rest : List X) (a b : Play) : Type 0 where
   pub done : List X
   pub parts : all ≡ done ++ rest
@@ -185,7 +185,7 @@ all_fed X events all rest a b has is =
     subst (λ (xs : List X). HasPlayed (flat_map events xs) a b)
     (sym (has.parts ∙ ap (λ (r : List X). has.done ++ r) is ∙ append-nil has.done)) has.played
 
--- memory was refused among the events of the next of these
+-- memory was refused among the events of the next item
 pub fed_stops : (X : Type 0) (events : X → List Said) (all rest later : List X) (one : X) (a b c : Play) (error : BenchError)
     → HasFed X events all rest a b → rest ≡ one ∷ later → StopsWithin (events one) b c error → StopsWithin (flat_map events all) a c error
 fed_stops X events all rest later one a b c error has is stops =
@@ -193,7 +193,7 @@ fed_stops X events all rest later one a b c error has is stops =
     (ap (flat_map events) (has.parts ∙ ap (λ (r : List X). has.done ++ r) is) ∙ flat_map-append events has.done (one ∷ later))
     has.played stops
 
--- This many words are left to draw.
+-- `left` words are left to draw.
 pub record HasDrawn (event : ℕ → Said) (words : List ℕ) (left : ℕ) (generator : Lcg) (a b : Play) : Type 0 where
   pub done : List ℕ
   pub parts : words ≡ done ++ words_from left generator
@@ -244,7 +244,7 @@ draw_stops event words left word generator later said a b c error has some is sa
     ∙ map-append event has.done (word ∷ words_from (left - 1) later)
     ∙ ap (λ (s : Said). map event has.done ++ s ∷ map event (words_from (left - 1) later)) (sym said_is)) has.played stops
 
--- a frame was sent, and what follows was run
+-- a frame was sent, and the events after the send were run
 pub sent : (hosts : List Host) (sender : ℕ) (frame : List ℕ) (one : Said) (events : List Event) (a b c : Play)
     → one ≡ Sends sender frame [] → HasPlayed (one ∷ []) a b
     → map event_of events ≡ behind_send hosts sender (pieces_for (length frame)) → HasPlayed (map event_of events) b c
@@ -262,7 +262,7 @@ send_stops hosts sender frame one a b error is stops =
     stops_behind (fed hosts sender frame) [] (one ∷ []) behind a a b error (ap (λ (s : Said). s ∷ behind) (sym is)) (played_none a)
     stops
 
--- memory was refused in what follows
+-- memory was refused among the events after a send
 pub behind_stops : (hosts : List Host) (sender : ℕ) (frame : List ℕ) (one : Said) (events : List Event) (a b c : Play)
     (error : BenchError) → one ≡ Sends sender frame [] → HasPlayed (one ∷ []) a b
     → map event_of events ≡ behind_send hosts sender (pieces_for (length frame)) → StopsWithin (map event_of events) b c error
@@ -279,13 +279,13 @@ fed-frames : (hosts : List Host) (sender : ℕ) (traces : List Trace) (place : �
 fed-frames hosts sender traces place found is =
     ap (λ (o : Option (List (List ℕ))). unwrap_or o []) (slice_get-map frames_of traces place ∙ ap (option_map frames_of) is)
 
--- what holds of the events of a command holds of another name of it
+-- what holds for the events of a command holds for those of an equal command
 pub of_same : (Holds : List Said → Type 0) (hosts : List Host) (traces : List (List (List ℕ))) (one other : Command) → one ≡ other
     → Holds (events_of hosts traces (said_of other)) → Holds (events_of hosts traces (said_of one))
 of_same Holds hosts traces one other is holds =
     subst Holds (sym (ap (λ (c : Command). events_of hosts traces (said_of c)) is)) holds
 
--- what holds of these events holds of the command that has them
+-- the events of a command that is one event
 as-event : (hosts : List Host) (traces : List (List (List ℕ))) (one : Event)
     → event_of one ∷ [] ≡ events_of hosts traces (event_of one)
 as-event hosts traces (event.Send host frame ticks) = refl

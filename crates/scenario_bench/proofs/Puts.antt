@@ -23,7 +23,7 @@ use Rattle.scenario_bench.specs.Puts.{frames_on_wire, wire_names, wire_texts, wi
 use Rattle.scenario_bench.specs.WireLists.{names_in}
 use Rattle.scenario_bench.specs.declared.kept.FrameInfo.{FrameInfo}
 
--- A frame more.
+-- One more frame.
 
 -- one more frame, whose bytes follow the others
 frames-more : (infos : List FrameInfo) (bytes : List ℕ) (info : FrameInfo) (frame : List ℕ) → sum_by length_in infos ≡ length bytes
@@ -57,7 +57,8 @@ put_more puts info frame infos more bytes longer is all size more_is longer_is =
 
 -- Writing.
 
--- The first of the frames that pass the test were written or wait; these are left, and these are their bytes.
+-- The first of the frames that pass the test were written or wait in the block. `infos` are the frames that are left, and `bytes` are their
+-- bytes.
 pub record HasKept (unit : Unit) (test : ℕ → ℕ → Bool) (all : List KeptFrame) (infos : List FrameInfo) (bytes : List ℕ)
     (before now : Option (List ℕ)) (waiting : List ℕ) : Type 0 where
   pub front : List Timed
@@ -126,7 +127,7 @@ module _ (test : ℕ → ℕ → Bool) where
             (goes-more before now later waiting more (written unit has.front) (packet_of unit one) has.goes went grown);
       }
 
-  -- a frame that doesn't pass the test is passed over
+  -- a frame that doesn't pass the test is skipped
   pub puts-passed : (unit : Unit) (all : List KeptFrame) (info : FrameInfo) (infos list : List FrameInfo) (bytes rest : List ℕ)
       (before now : Option (List ℕ)) (waiting : List ℕ)
       → list ≡ info ∷ infos → rest ≡ drop info.length bytes → test info.host info.socket ≡ false

@@ -1,4 +1,4 @@
--- What a record makes of what it is told, in two intervals and at the end of an event.
+-- How a record changes over two intervals, and at the end of an event.
 use Rattle.std.proofs.Common.{◌≡◌, ◌==◌, ◌⊎◌, ◌++◌, ◌∷◌, [], ℕ, arith, inl, inr, length, Bool, true, false, Err}
 use Rattle.std.proofs.Common.{Global, List, None, Ok, Option, Some, Vec, map}
 use Rattle.std.proofs.Common.{if◌then◌else◌, option_map, slice_get, refl, sym, ap, subst, ◌∙◌, append-nil}
@@ -9,11 +9,11 @@ use Rattle.stations.specs.Outcomes.{note_of}
 use Rattle.stations.specs.ToldTicks.{TickTold}
 use Rattle.stations.specs.declared.outcomes.Numbered.{Numbered}
 use Rattle.stations.specs.declared.tick.Tick.{Tick}
-use Rattle.delivery.proofs.ToldAround.{around_ticks}
-use Rattle.delivery.specs.Happenings.{Accepted, Disabled, Enabled, Given, GivenUp, Happening, Put, Reached}
-use Rattle.delivery.specs.Happenings.{tick_host, tick_happenings, lone_tick_happenings}
-use Rattle.delivery.specs.Happenings.{tick_happenings_around}
-use Rattle.delivery.specs.Happenings.{outcome_happenings}
+use Rattle.host_calls.proofs.ToldAround.{around_ticks}
+use Rattle.host_calls.specs.Happenings.{Accepted, Disabled, Enabled, Given, GivenUp, Happening, Put, Reached}
+use Rattle.host_calls.specs.Happenings.{tick_host, tick_happenings, lone_tick_happenings}
+use Rattle.host_calls.specs.Happenings.{tick_happenings_around}
+use Rattle.host_calls.specs.Happenings.{outcome_happenings}
 use Rattle.network_plan.specs.Answers.{FrameAnswer}
 use Rattle.network_plan.specs.declared.event.Event.{Event}
 use Rattle.network_plan.specs.declared.event.Event.TheVariants as event
@@ -44,7 +44,7 @@ first a b list others same = cc
 rest : (a b : Tick) (list : List Tick) (others : List Tick) → b ∷ others ≡ a ∷ list → others ≡ list
 rest a b list others same = cc
 
--- What happens in an event: by its ticks, and by its answer, in the one order or the other.
+-- The happenings of an event: those of its ticks and those of its answer, in either order.
 
 counts-commute : (a b : Bool) (one : Passage) (tally : Tally)
     → (if a then counted_once passage.Accepted (if b then counted_once one tally else tally) else
@@ -100,7 +100,7 @@ grows-as : (list : List Happening) (host : ℕ) (frame : List ℕ) (k : ℕ) (fo
 grows-as list host frame k None = refl
 grows-as list host frame k (Some tally) = ap (λ (t : Tally). Some t) (accepted-first k host frame list tally)
 
--- What a reset gave up is counted last, and said in the midst of what its ticks say.
+-- What a reset gave up is counted last, but is listed between the happenings of its ticks.
 
 grown-twice : (n m x : ℕ) → grown_by n (grown_by m x) ≡ grown_by m (grown_by n x)
 grown-twice n m x = omega arith
@@ -177,7 +177,7 @@ none-more : (list : List Happening) (a b c : List Tally) → TalliesGrow list a 
 none-more list a b c ticks none =
     subst (λ (happened : List Happening). TalliesGrow happened a c) (append-nil list) (grows_join list [] a b c ticks none)
 
--- an accepted frame is counted last, and said first
+-- an accepted frame is counted last, but is listed first
 accepted-last : (list : List Happening) (host : ℕ) (frame : List ℕ) (one : FrameAnswer) (a b c : List Tally) → TalliesGrow list a b
     → TalliesGrow (accepted_by_answer host frame one) b c → TalliesGrow (accepted_by_answer host frame one ++ list) a c
 accepted-last list host frame (answer.Sent (Ok u)) a b c ticks sent = λ k.
@@ -196,7 +196,7 @@ alone one (tick_happenings ∷ next ∷ later) same =
     let none : next.tick ∷ map tick_in later ≡ [] = rest one tick_happenings.tick [] (next.tick ∷ map tick_in later) same in
     absurd (cc)
 
--- a call of groups is said in the midst of what its ticks say, and changes no count
+-- a join or a leave is listed between the happenings of its ticks, and changes no count
 around-grows : (middle : List Happening) → AreQuiet middle → (list : List Tick) (outcomes : List Numbered) (happened : List Happening)
     (a b c : List Tally) → tick_happenings list outcomes ≡ happened → TalliesGrow happened a b → TalliesGrow [] b c
     → TalliesGrow (tick_happenings_around middle list outcomes) a c
@@ -326,7 +326,7 @@ event-puts number (event.Leave host group list) reply ticks of_ticks outcomes or
 event-puts number (event.Tick one) reply ticks of_ticks outcomes order =
     sym (ap (put_frames_in number) (ap (lone_tick_happenings one) outcomes ∙ alone one ticks of_ticks))
 
--- A socket returns what the answer says.
+-- The frames that sockets return are those in answers.
 
 given-up-gives : (number host : ℕ) (one : FrameAnswer) → returned_in number (given_up_of host one) ≡ []
 given-up-gives number host (answer.Reset sending holding on_after) = refl

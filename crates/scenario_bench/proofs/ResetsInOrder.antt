@@ -1,4 +1,4 @@
--- The replies of a run tell their outcomes in order.
+-- The replies of a run have their outcomes in order.
 use Rattle.std.proofs.Common.{◌≡◌, ◌<◌, ◌+◌, ◌++◌, ◌∷◌, [], ℕ, List, None, Option, Some, map}
 use Rattle.std.proofs.Common.{inl, inr, sym, ap, subst, ◌∙◌, arith}
 use Rattle.std.proofs.lemmas.Option.{slice_get_cases}
@@ -10,8 +10,8 @@ use Rattle.stations.specs.AtomicSteps.{AtomicStep, tick_of}
 use Rattle.stations.specs.Stations.{StationState}
 use Rattle.stations.specs.declared.tick.Tick.{Tick}
 use Rattle.packet_socket.specs.HostState.{HostState}
-use Rattle.delivery.proofs.Telling.{told-steps, told-without_go}
-use Rattle.delivery.specs.Happenings.{Disabled, Enabled, GivenUp, Happening, happened_in, tick_happenings}
+use Rattle.host_calls.proofs.Telling.{told-steps, told-without_go}
+use Rattle.host_calls.specs.Happenings.{Disabled, Enabled, GivenUp, Happening, happened_in, tick_happenings}
 use Rattle.network_plan.specs.Answers.{FrameAnswer}
 use Rattle.network_plan.specs.declared.event.Event.{Event}
 use Rattle.network_plan.specs.declared.event.Event.TheVariants as event
@@ -42,7 +42,7 @@ given-up-is host (answer.Reset sending holding on_after) found is =
     (some-same (record { sending = sending.items; holding = holding.items; on_after = on_after }) found is)
 given-up-is host _ found is = none-some found is
 
--- the ticks of steps tell what the steps did
+-- the outcomes of the ticks are what the steps did
 steps-tell : (host : ℕ) (ticks : List Tick) (steps : List AtomicStep) (a b : List StationState) → LeadsTo host steps a b
     → without_go is_go (map tick_of steps) ≡ without_go is_go ticks → tick_happenings ticks (noted_of 0 steps) ≡ happened_in steps
 steps-tell host ticks steps a b leads played =
@@ -50,7 +50,7 @@ steps-tell host ticks steps a b leads played =
     ∙ ap (λ (list : List Tick). tick_happenings list (noted_of 0 steps)) (sym played)
     ∙ told-without_go (map tick_of steps) (noted_of 0 steps) ∙ told-steps host 0 steps a b leads
 
--- a reset of a host that is there
+-- a reset of a host that exists
 host-tells : (host : ℕ) (ticks : List Tick) (reply : Reply) (steps : List AtomicStep) (h h' : HostState) (a b : List StationState)
     → AnswersReset host ticks reply.answer steps (connected h a) (connected h' b) → LeadsTo host steps a b
     → without_go is_go (map tick_of steps) ≡ without_go is_go ticks → reply.outcomes.list ≡ noted_of 0 steps

@@ -6,7 +6,7 @@ use Rattle.std.proofs.lemmas.List.{length-append}
 use Rattle.std.proofs.lemmas.List.Sums.{sum_by_push}
 use Rattle.std.specs.List.{flat_map, fold, list_any}
 use Rattle.rx_engine.specs.declared.arrival.Fate.TheVariants as fate
-use Rattle.delivery.specs.Happenings.{
+use Rattle.host_calls.specs.Happenings.{
   Accepted,
   Given,
   GivenUp,
@@ -19,8 +19,8 @@ use Rattle.delivery.specs.Happenings.{
   put_in_one,
   reached,
 }
-use Rattle.delivery.specs.Happenings.{reached_by, stored, stored_by}
-use Rattle.delivery.specs.Lists.{holding_in_one, sending_in_one}
+use Rattle.host_calls.specs.Happenings.{reached_by, stored, stored_by}
+use Rattle.host_calls.specs.Lists.{holding_in_one, sending_in_one}
 use Rattle.scenario_bench.specs.Acts.{Act}
 use Rattle.scenario_bench.specs.Given.{next_number}
 use Rattle.scenario_bench.specs.Summaries.{all_given, as_told, count_given, off_by, resets}
@@ -28,7 +28,7 @@ use Rattle.scenario_bench.specs.Tallies.{counted_once, grown_by, no_tally, numbe
 use Rattle.scenario_bench.specs.declared.tally.Passage.TheVariants as passage
 use Rattle.scenario_bench.specs.declared.tally.Tally.{Tally}
 
--- these numbers in a summary, and whether there was a reset
+-- the tally with these numbers, each at most the greatest, and whether there was a reset
 abbrev pub numbers : (a p r s g t h o : ℕ) → Bool → Tally
 numbers a p r s g t h o b = record {
   accepted = as_told a;
@@ -42,7 +42,7 @@ numbers a p r s g t h o b = record {
   is_reset = b;
 }
 
--- the numbers of the k-th host, by its lists
+-- the counts of the k-th host, as the lengths of its lists
 abbrev pub tally_of : ℕ → List Happening → Tally
 tally_of k happened = numbers (length (accepted k happened)) (length (put k happened)) (length (reached k happened))
     (length (stored k happened)) (all_given k happened) (length (flat_map (sending_in_one k) happened))
@@ -107,7 +107,7 @@ tally-behind k done one =
     (sym (grows-by (stored_by k) done one)) (sym (sum_by_push (count_given k) done one)) (sym (grows-by (sending_in_one k) done one))
     (sym (grows-by (holding_in_one k) done one)) (sym (grows-by (off_by k) done one)) (any-push (resets k) done one)
 
--- A number grows by one or more, or stays.
+-- Numbers that grow by one or more, or don't change.
 
 more : (a : ℕ) → next_number (as_told a) ≡ as_told (a + 1)
 more a = omega arith
@@ -147,7 +147,7 @@ counts-put false frame a p r s g t h o b = as-is a p r s g t h o b
 abbrev none-of : Bool → List (List ℕ)
 none-of c = if c then [] else []
 
--- it is reached by a frame that it doesn't store
+-- a frame reaches the host, which doesn't store it
 counts-reached : (c : Bool) (frame : List ℕ) (a p r s g t h o : ℕ) (b : Bool)
     → (if c then counted_once passage.Reached (numbers a p r s g t h o b) else numbers a p r s g t h o b) ≡ numbers (a + 0) (p + 0) (r +
     length (if c then frame ∷ [] else [])) (s + length (none-of c)) (g + 0) (t + 0) (h + 0) (o + 0) (b || false)
@@ -242,6 +242,6 @@ counted-all k done (one ∷ rest) =
     ap (λ (t : Tally). fold (tallied_by k) t rest) (one-counted k done one ∙ tally-behind k done one)
     ∙ counted-all k (done ++ one ∷ []) rest ∙ ap (tally_of k) (append_assoc done (one ∷ []) rest)
 
--- The record after a run that began with an empty one is that of the lists.
+-- After a run that began with an empty record, the counts are the lengths of the lists.
 pub noted-lists : (k : ℕ) (happened : List Happening) → fold (tallied_by k) no_tally happened ≡ tally_of k happened
 noted-lists k happened = counted-all k [] happened

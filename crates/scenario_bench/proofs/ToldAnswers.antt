@@ -1,4 +1,4 @@
--- What the summary tells of answers, by the record.
+-- The numbers of refused calls and the lines in the summary, by the record.
 use Rattle.std.proofs.Common.{◌≡◌, ◌++◌, ◌∷◌, [], ℕ, Bool, true, false, List, Some, None, map, option_map}
 use Rattle.std.proofs.Common.{if◌then◌else◌, length, refl, sym, ap, ◌∙◌, append_assoc, append-nil}
 use Rattle.std.specs.List.{flat_map, fold}

@@ -42,7 +42,7 @@ none_written unit texts old = record {
   others = λ k past. refl;
 }
 
--- what a sink is before its text, it was at first
+-- a sink whose text isn't written yet is unchanged
 pub as_before : (unit : Unit) (place : ℕ) (texts : List (List Timed)) (old new : List SinkState) (now : SinkState)
     → AreWritten unit place texts old new
     → slice_get new place ≡ Some now → slice_get old place ≡ Some now

@@ -4,7 +4,7 @@ use Rattle.std.specs.List.{flat_map}
 use Rattle.packet_socket.specs.HostState.{HostState}
 use Rattle.packet_socket.specs.HostCalls.{Given as GivenFrame}
 use Rattle.stations.specs.Stations.{world_at}
-use Rattle.delivery.specs.Happenings.{Happening}
+use Rattle.host_calls.specs.Happenings.{Happening}
 use Rattle.network_plan.specs.declared.event.Event.{Event}
 use Rattle.network_plan.specs.declared.reply.Reply.{Reply}
 use Rattle.wire.specs.DrainedNetworks.{NetworkDrains, said_of_drain}
@@ -13,7 +13,8 @@ use Rattle.host_calls.specs.Networks.{IsHost, NetworkState}
 use Rattle.wire.specs.Runs.{EventRuns, said}
 use Rattle.scenario.specs.SoFar.{Drains, Said, event_of}
 
--- an event with its reply, or the drain of a host, with the number of frames in its packet buffer before, and the frames that it returned
+-- An event with its reply, or the drain of a host. `buffered` is the number of frames in the host's receive packet buffer before the drain,
+-- and `given` are the frames that the drain returned.
 pub data Act : Type 0 where
   Ran : (event : Event) (reply : Reply) → Act
   Drained : (host buffered : ℕ) (given : List GivenFrame) → Act
@@ -38,9 +39,9 @@ abbrev pub act_of : Act → Said
 act_of (Ran event reply) = event_of event
 act_of (Drained host buffered given) = Drains host
 
--- A host was drained, and returned these frames. Before, `buffered` frames were in its packet buffer.
+-- A host was drained, and returned these frames. Before the drain, `buffered` frames were in its receive packet buffer.
 pub record DrainRuns (old : NetworkState) (host buffered : ℕ) (given : List GivenFrame) (new : NetworkState) : Type 0 where
-  -- the frames in its receive packet buffer before
+  -- the number of frames in the host's receive packet buffer before the drain
   pub buffer : buffered ≡ length (world_at old.stations host).adapter.receiver.buffer
   -- the number of steps of the drain
   pub steps : ℕ
@@ -52,7 +53,7 @@ abbrev pub ActRuns : NetworkState → Act → NetworkState → Type 0
 ActRuns old (Ran event reply) new = EventRuns old event reply new
 ActRuns old (Drained host buffered given) new = DrainRuns old host buffered given new
 
--- There is a state between each act and the next.
+-- The acts lead from the first state to the last, with a state between each act and the next.
 abbrev pub ActsRun : NetworkState → List Act → NetworkState → Type 0
 ActsRun old [] new = new ≡ old
 ActsRun old (act ∷ acts) new = (middle : NetworkState) × ActRuns old act middle × ActsRun middle acts new
@@ -61,8 +62,8 @@ ActsRun old (act ∷ acts) new = (middle : NetworkState) × ActRuns old act midd
 pub record ActsLead (old : NetworkState) (acts : List Act) (new : NetworkState) : Type 0 where
   -- each act leads from one state to the next
   pub states : ActsRun old acts new
-  -- there are as many hosts as before
+  -- the number of hosts didn't change
   pub hosts : length new.hosts ≡ length old.hosts
-  -- the equations of delivery hold of each host over all acts
+  -- the equations of delivery hold for each host over all acts
   pub delivers : (k : ℕ) (h h' : HostState) → IsHost old k h → IsHost new k h'
       → MeetsEquations k (history acts) old.stations new.stations h h'

@@ -19,17 +19,17 @@ use Rattle.scenario_bench.specs.Puts.{wire_names, wire_texts}
 use Rattle.scenario_bench.specs.RunLogs.{acts_in}
 use Rattle.scenario_bench.specs.Summaries.{TellsAnswers, TellsHosts, as_told}
 
--- The network of the plan was made, and these events and drains were done on it, in order: the delivery theorem holds for them.
+-- The network of the plan was made, and these events and drains were done on the network, in order. The delivery theorem holds for them.
 pub record PlaysEvents (scenario : Scenario) (said : List Said) : Type 0 where
   -- the network that was made
   pub made : NetworkState
   -- the network is the one of the plan
   pub by_plan : IsLanAnswer scenario.plan.hosts.items (Ok made)
-  -- what was done, with its answers
+  -- the acts that were done, with their answers
   pub acts : List Act
-  -- these acts are the events and drains
+  -- the acts are those of these events and drains
   pub are : map act_of acts ≡ said
-  -- the network afterwards
+  -- the network after these acts
   pub behind : NetworkState
   -- the delivery theorem
   pub leads : ActsLead made acts behind
@@ -42,25 +42,25 @@ scenario_events scenario traces = all_events (hosts_of scenario.plan.hosts.items
 abbrev pub PlaysScenario : Scenario → (traces : List (List (List ℕ))) → Type 0
 PlaysScenario scenario traces = PlaysEvents scenario (scenario_events scenario traces)
 
--- Of these events and drains, only those before one of them were done. `done` is their number, up to the greatest of 64
--- bits.
+-- Only the first of these events and drains were done, and at least one wasn't done. `done` is the number of those that were done; it
+-- saturates at 2^64 - 1.
 pub record StopsBefore (scenario : Scenario) (said : List Said) (done : ℕ) : Type 0 where
   -- the number of those that were done
   pub first : ℕ
-  -- at least one was left
+  -- at least one wasn't done
   pub left : first < length said
-  -- the number in the error
+  -- the number in the error is this number, which saturates
   pub number : done ≡ as_told first
-  -- the events and drains before it were done
+  -- the first ones were done
   pub plays : PlaysEvents scenario (take first said)
 
--- the frames of each socket, hosts in order and their sockets in order
+-- the frames that each socket returned, hosts in order and the sockets of each host in order
 abbrev pub texts_of : {scenario : Scenario} → {said : List Said} → PlaysEvents scenario said → List (List Timed)
 texts_of {scenario} played =
     map (λ (place : ℕ × ℕ). given_from place.0 place.1 0 played.acts)
     (sockets_from 0 (hosts_of scenario.plan.hosts.items))
 
--- the trace of each wire: the frames that were put on it, in order, with the numbers of their events
+-- the trace of each wire: the frames that were put on the wire, in order, with the numbers of their events
 abbrev pub wire_texts_of : {scenario : Scenario} → {said : List Said} → PlaysEvents scenario said → List (List Timed)
 wire_texts_of {scenario} played =
     let hosts = hosts_of scenario.plan.hosts.items in
@@ -95,25 +95,25 @@ pub record FailsAmong (unit : Unit) (text : List Timed) (old new : SinkState) : 
 
 -- The first `count` sinks have also taken their whole text; the others have taken nothing.
 pub record AreWritten (unit : Unit) (count : ℕ) (texts : List (List Timed)) (old new : List SinkState) : Type 0 where
-  -- there are as many sinks as before
+  -- the number of sinks didn't change
   pub sinks : length new ≡ length old
-  -- the first ones have taken their text
+  -- the first ones have taken their whole text
   pub whole : (k : ℕ) (text : List Timed) (before after : SinkState) → k < count → slice_get texts k ≡ Some text
       → slice_get old k ≡ Some before
       → slice_get new k ≡ Some after → TakesText unit text before after
   -- the others are unchanged
   pub others : (k : ℕ) → count ≤ k → slice_get new k ≡ slice_get old k
 
--- The sinks before this one have also taken their whole text, this sink has taken a beginning of its own text, and
--- those after it have taken nothing.
+-- The sinks before sink `failed` have also taken their whole text. This sink has taken a beginning of its own text, and the sinks after it
+-- have taken nothing.
 pub record AreWrittenUpTo (unit : Unit) (failed : ℕ) (texts : List (List Timed)) (old new : List SinkState) : Type 0 where
-  -- there are as many sinks as before
+  -- the number of sinks didn't change
   pub sinks : length new ≡ length old
   -- the sink that failed exists
   pub sink : failed < length old
   -- this sink has a text
   pub there : failed < length texts
-  -- the sinks before it have taken their text
+  -- the sinks before it have taken their whole text
   pub whole : (k : ℕ) (text : List Timed) (before after : SinkState) → k < failed → slice_get texts k ≡ Some text
       → slice_get old k ≡ Some before
       → slice_get new k ≡ Some after → TakesText unit text before after
@@ -123,14 +123,15 @@ pub record AreWrittenUpTo (unit : Unit) (failed : ℕ) (texts : List (List Timed
   -- the sinks after it are unchanged
   pub others : (k : ℕ) → failed < k → slice_get new k ≡ slice_get old k
 
--- The summary has the refused calls and, on request, the lines of the events of the run. The line numbers are those of the scenario's text.
+-- The summary has the numbers of refused calls and, on request, the lines of the run's events and drains, each with some line number. Only
+-- tests show that these are the line numbers in the scenario's text.
 pub record TellsRun {scenario : Scenario} {said : List Said} (events : Bool) (played : PlaysEvents scenario said) (summary : Summary)
     : Type 0 where
-  -- each act with the number of its line
+  -- each act with a line number
   pub entries : List (ℕ × Act)
-  -- these are the acts that were done
+  -- the acts are those that were done
   pub are : acts_in entries ≡ played.acts
-  -- the summary has the refused calls among these acts, and on request their lines
+  -- the summary has the numbers of refused calls among these acts, and on request the lines of these acts
   pub tells : TellsAnswers (hosts_of scenario.plan.hosts.items) events entries summary
 
 -- the sinks of sockets, and those of wires, before the bench and after it
@@ -154,19 +155,19 @@ sinks_of taken failures old new wires_old wires_new = record {
   wires_new = states_of taken failures wires_new;
 }
 
--- Nothing was written to any sink, and none failed.
+-- Nothing was written to any sink, and no sink failed.
 abbrev pub AreUntouched : BenchSinks → Type 0
 AreUntouched sinks = (sinks.new ≡ sinks.old) × (sinks.wires_new ≡ sinks.wires_old)
 
--- Each sink of a socket has its text, and so has each sink of a wire.
+-- Each sink of a socket and each sink of a wire has also taken its whole text.
 pub record AreAllWritten (unit : Unit) (socket_texts wire_texts : List (List Timed)) (sinks : BenchSinks) : Type 0 where
   -- the sinks of sockets
   pub texts : AreWritten unit (length sinks.old) socket_texts sinks.old sinks.new
   -- the sinks of wires
   pub wires : AreWritten unit (length sinks.wires_old) wire_texts sinks.wires_old sinks.wires_new
 
--- A sink failed: one of a socket, and the sinks of wires have taken nothing; or one of a wire, and each socket's sink has taken its whole
--- text.
+-- A sink failed. If it is a socket's sink, the sinks of wires have taken nothing. If it is a wire's sink, each socket's sink has taken its
+-- whole text.
 abbrev pub IsFailedSink : Unit → (texts wire_texts : List (List Timed)) → BenchSinks → Type 0
 IsFailedSink unit texts wire_texts sinks =
     (((failed : ℕ) × AreWrittenUpTo unit failed texts sinks.old sinks.new) × (sinks.wires_new ≡ sinks.wires_old))
@@ -180,21 +181,22 @@ StopsWriting unit texts wires (errors.Run stopped) sinks = ⊥
 StopsWriting unit texts wires errors.Memory sinks = AreUntouched sinks
 StopsWriting unit texts wires (errors.Write error) sinks = IsFailedSink unit texts wires sinks
 
--- If the result is Ok, each sink contains the frames of its socket or of its wire, and the summary contains the counts of the hosts and of
--- the answers.
+-- If the result is Ok, each sink has taken the frames of its socket or of its wire. The summary contains the counts of the hosts and of the
+-- answers.
 pub record Benches (unit : Unit) (scenario : Scenario) (traces : List (List (List ℕ))) (events : Bool) (summary : Summary)
     (sinks : BenchSinks)
     : Type 0 where
   -- the scenario was played
   pub plays : PlaysScenario scenario traces
-  -- each sink has the frames of its socket or of its wire
+  -- each sink has taken the frames of its socket or of its wire
   pub texts : AreAllWritten unit (texts_of plays) (wire_texts_of plays) sinks
   -- the summaries of the hosts
   pub tells : TellsHosts (hosts_of scenario.plan.hosts.items) (history plays.acts) plays.behind summary.hosts.items
   -- the counts of refused calls, and the lines of events
   pub answers : TellsRun events plays summary
 
--- At an error nothing was written, except if a sink failed. If memory was refused before an event, those before it were done.
+-- If the result is an error other than that of a failed sink, nothing was written. If memory was refused before an event, the events and
+-- drains before it were done.
 abbrev pub Stops : Unit → (scenario : Scenario) → (traces : List (List (List ℕ))) → BenchError → BenchSinks → Type 0
 Stops unit scenario traces (errors.Plan error) sinks = IsLanAnswer scenario.plan.hosts.items (Err error) × AreUntouched sinks
 Stops unit scenario traces (errors.Run stopped) sinks =

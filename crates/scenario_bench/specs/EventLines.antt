@@ -27,17 +27,17 @@ pub record Place : Type 0 where
 abbrev pub place_text : Place → List ℕ
 place_text place = numbered [] place.number ++ numbered (codes " line ") place.line
 
--- `EVENT line LINE CALL ANSWER accesses N`, and the event's ticks with their outcomes
+-- `EVENT line LINE CALL ANSWER accesses N`, the event's ticks with their outcomes, and a line feed
 abbrev pub event_line : (names : List (List ℕ)) → Place → Event → (accesses : ℕ) → FrameAnswer → (outcomes : List ℕ) → List ℕ
 event_line names place event accesses answer outcomes =
     place_text place ++ event_text names event ++ answer_text answer ++ numbered (codes " accesses ") accesses ++ outcomes ++ codes "\n"
 
--- `EVENT line LINE drain HOST ok N`: this many frames were returned
+-- `EVENT line LINE drain HOST ok N`: N frames were returned
 abbrev pub drain_line : (names : List (List ℕ)) → Place → (host count : ℕ) → List ℕ
 drain_line names place host count =
     place_text place ++ (codes " drain " ++ name_at names host) ++ numbered (codes " ok ") count ++ codes "\n"
 
--- The i-th outcome of a call belongs to the i-th of its ticks that is played.
+-- The i-th outcome of a call belongs to the i-th tick that is played in the call.
 abbrev pub paired : List Tick → List Numbered → List TickTold
 paired [] outcomes = []
 paired (tick ∷ ticks) [] = []
@@ -53,7 +53,7 @@ act_line names place (Ran event reply) =
     event_line names place event reply.accesses reply.answer (flat_map (text_of names) (told_in event reply))
 act_line names place (Drained host buffered given) = drain_line names place host (length given)
 
--- the place of an event with this number, of this line
+-- the place of an event with this number, on the line with this number
 abbrev pub place_at : (number line : ℕ) → Place
 place_at number line = record { number = number; line = line }
 
@@ -65,13 +65,13 @@ lines_from names number (entry ∷ entries) =
 
 -- A log.
 
--- a log: the names of the hosts, the text of the ticks so far of the event that is played, and the lines of the events before it
+-- a log: the names of the hosts, the ticks so far of the event that is played, and the lines of the events and drains before this event
 pub record LogState : Type 0 where
   -- the names of the hosts
   pub names : List (List ℕ)
-  -- the outcomes of the ticks of the event that is played
+  -- the ticks so far of the event that is played, with their outcomes
   pub outcomes : List ℕ
-  -- the lines of the events before it
+  -- the lines of the events and drains before this event
   pub text : List ℕ
 
 abbrev pub no_lines : (names : List (List ℕ)) → LogState

@@ -16,23 +16,23 @@ use Rattle.stations.specs.declared.tick.Tick.{Tick}
 use Rattle.stations.specs.declared.tick.Tick.TheVariants.{Deliver, Go, Step}
 use Rattle.scenario.specs.SoFar.{Host, Said, Draws, Feeds, Interrupts, Receives, Sends, Ticks}
 
--- the number of receive buffers that a frame of this size needs after it is padded; one if it is too long for `send`
+-- the number of receive buffers that a frame of this size needs after it is padded; 1 if the frame is too long for `send`
 abbrev pub pieces_for : (size : ℕ) → ℕ
 pieces_for size = if nat_le size longest_frame then div_ceil (max size shortest_frame) receive_buffer_bytes else 1
 
--- A host moves this number of pieces of a frame to its memory.
+-- A host's adapter moves this number of pieces of a frame to the host's memory.
 abbrev pub moves_at : (host pieces : ℕ) → List Said
 moves_at host zero = []
 moves_at host (suc pieces) = Ticks (Step host RxData) ∷ Ticks (Step host RxDone) ∷ moves_at host pieces
 
--- A frame is delivered to a host, moved to memory in this number of pieces, the interrupt is handled, and each socket is asked once, in
--- order.
+-- A frame is delivered to a host, and moved to memory in this number of pieces. Then the interrupt is handled, and each socket is asked
+-- once, in order.
 abbrev pub arrival_at : (pieces host sockets : ℕ) → List Said
 arrival_at pieces host sockets =
     Ticks (Deliver host) ∷ moves_at host pieces
     ++ Interrupts host [] ∷ map (λ socket. Receives host socket []) (range_with_len 0 sockets)
 
--- The arrivals of a frame at each other host on the sender's wire. The first of these hosts has this number.
+-- The arrivals of a frame at each other host on the sender's wire. `number` is the number of the first host in the list.
 abbrev pub arrivals_from : (pieces number sender : ℕ) (wire : List ℕ) → List Host → List Said
 arrivals_from pieces number sender wire [] = []
 arrivals_from pieces number sender wire (host ∷ hosts) =
@@ -43,7 +43,7 @@ arrivals_from pieces number sender wire (host ∷ hosts) =
 abbrev pub wire_name_of : List Host → ℕ → List ℕ
 wire_name_of hosts host = unwrap_or (option_map (λ (one : Host). one.wire) (slice_get hosts host)) []
 
--- After a send, the frame is put onto the wire, and arrives at each other host on it, in order.
+-- After a send, the frame is put onto the wire, and arrives at each other host on the wire, in order.
 abbrev pub behind_send : List Host → (sender pieces : ℕ) → List Said
 behind_send hosts sender pieces =
     Ticks (Step sender TxTake) ∷ Ticks (Step sender TxPut) ∷ arrivals_from pieces 0 sender (wire_name_of hosts sender) hosts
@@ -73,7 +73,7 @@ address_of hosts host = unwrap_or (option_map (λ (one : Host). address_bytes on
 abbrev pub late_frame : (host : ℕ) → List Tick
 late_frame host = Go ∷ Step host RxData ∷ Step host RxDone ∷ []
 
--- the event of this kind at a host; there are eight kinds
+-- the event of this kind at a host; each number from 7 on is the last kind
 abbrev pub event_of_kind : (kind host : ℕ) (address : List ℕ) → Said
 event_of_kind kind host address =
     if kind == 0 then Ticks (Step host TxTake)
@@ -85,13 +85,13 @@ event_of_kind kind host address =
     else if kind == 6 then Receives host 0 []
     else Sends host (broadcast_of address) []
 
--- A word's low three bits choose the kind, the others the host.
+-- A word's low three bits choose the kind, and the other bits, modulo the number of hosts, choose the host.
 abbrev pub event_drawn : List Host → (word : ℕ) → Said
 event_drawn hosts word =
     let host = word / 8 % length hosts in
     event_of_kind (word % 8) host (address_of hosts host)
 
--- the events of a command, or its drain; traces are numbered as the scenario numbers them
+-- the events of a command, or its drain; `traces` are the traces of the scenario's `feed` lines, in order
 abbrev pub events_of : List Host → (traces : List (List (List ℕ))) → Said → List Said
 events_of hosts traces (Feeds sender trace) = flat_map (fed hosts sender) (unwrap_or (slice_get traces trace) [])
 events_of hosts traces (Draws count start) = map (event_drawn hosts) (words_drawn count start)

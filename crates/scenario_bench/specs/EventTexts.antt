@@ -8,8 +8,8 @@ use Rattle.driver.specs.declared.interrupt.Handled.{Handled}
 use Rattle.driver.specs.declared.interrupt.Handled.TheVariants as handled
 use Rattle.driver.specs.declared.transmit.SendError.{SendError}
 use Rattle.driver.specs.declared.transmit.SendError.TheVariants as send
-use Rattle.joined_groups.specs.declared.groups.GroupError.{GroupError}
-use Rattle.joined_groups.specs.declared.groups.GroupError.TheVariants as group
+use Rattle.bring_up.specs.declared.groups.GroupError.{GroupError}
+use Rattle.bring_up.specs.declared.groups.GroupError.TheVariants as group
 use Rattle.network_plan.specs.Answers.{FrameAnswer}
 use Rattle.network_plan.specs.declared.event.Event.{Event}
 use Rattle.network_plan.specs.declared.event.Event.TheVariants as event
@@ -25,7 +25,7 @@ use Rattle.stations.specs.declared.tick.Tick.TheVariants as tick
 abbrev pub numbered : (label : List ℕ) → ℕ → List ℕ
 numbered label number = label ++ decimal number
 
--- the name of a host, by the names of all
+-- the name of a host in a list of names, or an empty name if the host isn't in the list
 abbrev pub name_at : List (List ℕ) → ℕ → List ℕ
 name_at names host = unwrap_or (slice_get names host) []
 
@@ -90,7 +90,7 @@ sent_word (Err send.TooShort) = codes " E20 TooShort"
 sent_word (Err send.TooLong) = codes " E21 TooLong"
 sent_word (Err send.RingFull) = codes " E22 RingFull"
 
--- the word for a recv that returned no frame, by the reason
+-- the words for a recv that returned no frame
 abbrev pub recv_word : RecvError → List ℕ
 recv_word recv.Empty = codes " E30 Empty"
 recv_word recv.NoSocket = codes " E31 NoSocket"

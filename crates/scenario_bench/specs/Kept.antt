@@ -1,9 +1,9 @@
--- The frames that adapters put on wires, and those that sockets return, in a run, each with the number of its event (our choice).
+-- The frames that adapters put on wires and that sockets return in a run, each with the number of its event or drain (our choice).
 use Rattle.std.specs.Prelude.{◌≡◌, ◌==◌, ◌&&◌, ◌++◌, ◌∷◌, [], ℕ, Bool, true, false, List, Option, if◌then◌else◌, map, option_map}
 use Rattle.std.specs.List.{flat_map}
 use Rattle.adapter.specs.declared.outcome.Outcome.{Outcome}
 use Rattle.adapter.specs.declared.outcome.Outcome.TheVariants as outcome
-use Rattle.delivery.specs.Happenings.{Given, Happening, Put}
+use Rattle.host_calls.specs.Happenings.{Given, Happening, Put}
 use Rattle.pcap_trace.specs.Format.{Timed}
 use Rattle.scenario_bench.specs.Acts.{Act, said_in}
 use Rattle.scenario_bench.specs.Given.{next_number, numbered_frame}
@@ -21,7 +21,7 @@ pub record KeptFrame : Type 0 where
 abbrev pub kept_frame : (host socket number : ℕ) → List ℕ → KeptFrame
 kept_frame host socket number frame = record { host = host; socket = socket; frame = numbered_frame number frame }
 
--- the frame of a happening, if it was put; the number is that of its event
+-- the frame of a happening, if an adapter put the frame; `number` is the event's number
 abbrev pub put_frame_in : (number : ℕ) → Happening → List KeptFrame
 put_frame_in number (Put host frame) = kept_frame host 0 number frame ∷ []
 put_frame_in number one = []
@@ -30,7 +30,7 @@ put_frame_in number one = []
 abbrev pub put_frames_in : (number : ℕ) → List Happening → List KeptFrame
 put_frames_in number happened = flat_map (put_frame_in number) happened
 
--- the frame of a happening, if a socket returned it; the number is that of its event
+-- the frame of a happening, if a socket returned the frame; `number` is the event's number
 abbrev pub returned_frame_in : (number : ℕ) → Happening → List KeptFrame
 returned_frame_in number (Given host socket frame) = kept_frame host socket number frame ∷ []
 returned_frame_in number one = []
@@ -57,17 +57,17 @@ abbrev pub frames_where : (test : (host socket : ℕ) → Bool) → List KeptFra
 frames_where test [] = []
 frames_where test (one ∷ others) = (if test one.host one.socket then one.frame ∷ [] else []) ++ frames_where test others
 
--- whether a frame of a host and a socket is one of this host and this socket
+-- whether `host` and `socket` are the numbers k and s
 abbrev pub is_of_socket : (k s : ℕ) → (host socket : ℕ) → Bool
 is_of_socket k s host socket = (k == host) && (s == socket)
 
--- for each of these sockets, the frames among these that it returned, in order
+-- for each of these sockets, the frames in `returned` that the socket returned, in order
 abbrev pub socket_texts : List KeptFrame → (sockets : List (ℕ × ℕ)) → List (List Timed)
 socket_texts returned sockets = map (λ (place : ℕ × ℕ). frames_where (is_of_socket place.0 place.1) returned) sockets
 
 -- Recorded frames.
 
--- whether a frame was put
+-- whether an outcome is that a frame was put
 abbrev pub is_put : {F : Type 0} → Outcome F → Bool
 is_put (outcome.Put frame) = true
 is_put one = false
@@ -76,6 +76,6 @@ is_put one = false
 abbrev pub FramesGrow : List KeptFrame → (old new : List KeptFrame) → Type 0
 FramesGrow more old new = new ≡ old ++ more
 
--- If a record has a list of frames that were put, these are appended to it.
+-- If a record has a list of frames that were put, these frames are appended to the list. Otherwise it still has no list.
 abbrev pub PutsGrow : List KeptFrame → (old new : Option (List KeptFrame)) → Type 0
 PutsGrow more old new = new ≡ option_map (λ (puts : List KeptFrame). puts ++ more) old

@@ -55,14 +55,15 @@ pub record HasPlayedFront (said : List Said) (old new : Play) : Type 0 where
   pub some : 0 < length left
   pub played : HasPlayed first old new
 
--- Memory was refused among these events and drains. If it was before an event, `done` is the number that the record has for this event.
+-- Memory was refused among these events and drains. If memory was refused before an event, `done` is the number of this event in the
+-- record.
 abbrev pub StopsWithin : List Said → (old new : Play) → BenchError → Type 0
 StopsWithin said old new (errors.Plan error) = ⊥
 StopsWithin said old new (errors.Run stopped) = HasPlayedFront said old new × (stopped.done ≡ new.record.number)
 StopsWithin said old new errors.Memory = Unit {0}
 StopsWithin said old new (errors.Write error) = ⊥
 
--- The events after a send, if they are made, are those after a send of this host.
+-- If the events after a send are made, they are those after a send of this host.
 abbrev pub AreOfSender : List Host → (sender : ℕ) → EventsAfterSend → Type 0
 AreOfSender hosts sender behind = IfSome behind.pieces (λ made. map event_of behind.list.items ≡ behind_send hosts sender made)
 
@@ -81,7 +82,7 @@ pub record TellsTally (plan : HostPlan) (tally : Tally) (host : HostState) (worl
   pub resets : told.given_up ≡ resets_in tally
   pub counts : (told.missed ≡ missed_count host world) × (IsTrue told.exact ↔ IsExact host world) × (told.unclaimed ≡ host.unclaimed)
 
--- These are the summaries of the first hosts of a plan, this many.
+-- These are the summaries of the first hosts of a plan. `first` is their number.
 pub record TellTallies (first : ℕ) (plans : List HostPlan) (play : Play) (told : List HostSummary) : Type 0 where
   pub count : length told ≡ first
   pub each : (k : ℕ) (plan : HostPlan) (tally : Tally) (host : HostState) (one : HostSummary) → slice_get plans k ≡ Some plan
@@ -96,7 +97,7 @@ pub record HasPlayedScenario (scenario : Scenario) (traces : List (List (List �
   pub played : HasPlayed (scenario_events scenario traces) old new
   pub tells : TellTallies (length scenario.plan.hosts.items) scenario.plan.hosts.items new hosts
 
--- No frame is recorded yet. Frames that are put are recorded if this many traces of wires are to be written, unless it is 0.
+-- No frame is recorded yet. Frames that are put will be recorded if `wires`, the number of traces of wires to write, isn't 0.
 abbrev pub IsNewRecord : (wires : ℕ) → Option (List KeptFrame) → Type 0
 IsNewRecord wires None = wires ≡ 0
 IsNewRecord wires (Some puts) = puts ≡ []

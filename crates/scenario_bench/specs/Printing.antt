@@ -30,6 +30,6 @@ host_fields host =
 abbrev pub host_line : HostSummary → List ℕ
 host_line host = string_bytes host.name ++ host_fields host
 
--- the lines of a run, one a host
+-- the lines of a run, one line for each host
 abbrev pub summary_text : Summary → List ℕ
 summary_text summary = flat_map host_line summary.hosts.items

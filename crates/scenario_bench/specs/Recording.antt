@@ -1,7 +1,7 @@
 -- How the record of a run changes with each call of its observer (our choice).
 use Rattle.std.specs.Prelude.{◌≡◌, ◌⊎◌, ◌++◌, ◌∷◌, [], ℕ, List, false, length}
 use Rattle.std.specs.List.{flat_map, fold}
-use Rattle.delivery.specs.Happenings.{Disabled, Enabled, Happening, tick_happenings}
+use Rattle.host_calls.specs.Happenings.{Disabled, Enabled, Happening, tick_happenings}
 use Rattle.network_plan.specs.Answers.{FrameAnswer}
 use Rattle.network_plan.specs.declared.event.Event.{Event}
 use Rattle.network_plan.specs.declared.event.Event.TheVariants as event
@@ -16,7 +16,7 @@ use Rattle.scenario_bench.specs.RunLogs.{log_ended, log_heard}
 use Rattle.scenario_bench.specs.Tallies.{AreNoted, TalliesGrow, given_up_of}
 use Rattle.scenario_bench.specs.declared.record.Record.{Record}
 
--- The outcomes of these ticks are recorded, and the frames that they put, unless memory was refused for a frame.
+-- The outcomes of these ticks are counted. The frames that they put and their texts are recorded, unless memory was refused.
 pub record HearsTicks (old new : Record) (ticks : List TickTold) : Type 0 where
   pub before : new.failed ≡ false → old.failed ≡ false
   pub number : new.number ≡ old.number
@@ -32,7 +32,7 @@ answered (event.Recv host socket ticks) answer = given_by_answer host socket ans
 answered (event.Reset host ticks) answer = given_up_of host answer
 answered one answer = []
 
--- These happenings are recorded, unless memory was refused.
+-- These happenings are counted. The frames that sockets returned are recorded, unless memory was refused.
 pub record NotesAnswer (happened : List Happening) (old new : Record) : Type 0 where
   pub number : new.number ≡ old.number
   pub puts : new.puts ≡ old.puts
@@ -41,7 +41,7 @@ pub record NotesAnswer (happened : List Happening) (old new : Record) : Type 0 w
   pub hosts : TalliesGrow happened old.hosts.items new.hosts.items
   pub returned : new.failed ≡ false → FramesGrow (returned_in old.number happened) old.returned new.returned
 
--- The line of an event is recorded, and its answer is counted, unless memory was refused.
+-- The line of an event is recorded, and its answer is counted if it is a refusal, unless memory was refused.
 pub record NotesLine (event : Event) (accesses : ℕ) (answer : FrameAnswer) (old new : Record) : Type 0 where
   pub number : new.number ≡ old.number
   pub hosts : new.hosts.items ≡ old.hosts.items
@@ -50,7 +50,7 @@ pub record NotesLine (event : Event) (accesses : ℕ) (answer : FrameAnswer) (ol
   pub before : new.failed ≡ false → old.failed ≡ false
   pub log : new.failed ≡ false → new.log ≡ log_ended (place_at old.number old.line) event accesses answer old.log
 
--- The happenings of a reset: those of its ticks, in order, and between them those of the reset itself.
+-- The happenings of a reset: the happenings of its ticks, in order, and between them the happenings of the reset itself.
 pub record TellsReset (host : ℕ) (given_up ticked happened : List Happening) : Type 0 where
   pub early : List Happening
   pub stopping : List Happening
@@ -59,7 +59,7 @@ pub record TellsReset (host : ℕ) (given_up ticked happened : List Happening) :
   pub ticks : ticked ≡ early ++ (stopping ++ (resting ++ later))
   pub all : happened ≡ early ++ Disabled host ∷ (stopping ++ (given_up ++ (resting ++ Enabled host ∷ later)))
 
--- A reply has its outcomes in order. This is a condition only for a reset of a host that exists.
+-- A reply has its outcomes in order. This restricts only the reply to a reset of a host that exists.
 abbrev pub IsInOrder : Event → Reply → Type 0
 IsInOrder (event.Reset host ticks) reply =
     ((said (event.Reset host ticks) reply ≡ tick_happenings ticks.items reply.outcomes.list) × (given_up_of host reply.answer ≡ []))
@@ -77,7 +77,7 @@ pub record RecordsRun (events : List Event) (replies : List Reply) (old new : Re
   pub before : old.failed ≡ false
   pub noted : AreNoted (ran events replies) old new
 
--- Events and their replies are recorded, if the replies tell their outcomes in order, unless memory was refused.
+-- Events and their replies are recorded if the replies have their outcomes in order, unless memory was refused.
 pub record RecordsReplies (old new : Record) (events : List Event) (replies : List Reply) : Type 0 where
   pub each : length replies ≡ length events
   pub recorded : new.failed ≡ false → AreInOrder events replies → RecordsRun events replies old new

@@ -6,7 +6,7 @@ use Rattle.std.specs.List.{flat_map, fold}
 use Rattle.std.proofs.lemmas.Grind.{flat_map-append}
 use Rattle.std.proofs.lemmas.List.{map-append}
 use Rattle.std.proofs.lemmas.List.Sums.{fold-append}
-use Rattle.delivery.specs.Happenings.{Happening}
+use Rattle.host_calls.specs.Happenings.{Happening}
 use Rattle.network_plan.specs.declared.event.Event.{Event}
 use Rattle.network_plan.specs.declared.reply.Reply.{Reply}
 use Rattle.stations.specs.ToldTicks.{ComposesTold, TickTold}
@@ -115,7 +115,7 @@ noted_none a = record {
   logged = record { entries = []; are = refl; log = refl };
 }
 
--- What the record is told.
+-- Ticks and events of two intervals.
 
 pub ticks_compose : ComposesTold HearsTicks
 ticks_compose = record {
@@ -149,7 +149,7 @@ ticks_compose = record {
   };
 }
 
--- as many replies as events
+-- the acts of two lists, if the first list has the same number of replies as of events
 ran-join : (events later : List Event) (replies others : List Reply) → length replies ≡ length events
     → ran (events ++ later) (replies ++ others) ≡ ran events replies ++ ran later others
 ran-join [] later [] others same = refl
@@ -158,7 +158,7 @@ ran-join (one ∷ events) later [] others same = absurd (omega (arith, same))
 ran-join (one ∷ events) later (reply ∷ replies) others same =
     ap (λ (acts : List Act). Ran one reply ∷ acts) (ran-join events later replies others (omega (arith, same)))
 
--- Replies tell their outcomes in order in two lists, one after the other.
+-- If the replies of two lists together have their outcomes in order, so do the replies of each list.
 order-first : (events later : List Event) (replies others : List Reply) → length replies ≡ length events
     → AreInOrder (events ++ later) (replies ++ others) → AreInOrder events replies × AreInOrder later others
 order-first [] later [] others same order = (tt, order)

@@ -15,12 +15,12 @@ use Rattle.scenario_bench.specs.declared.record.Record.{Record}
 use Rattle.scenario_bench.specs.declared.run_log.RunLog.{RunLog}
 use Rattle.scenario_bench.specs.declared.summary.Refusals.{Refusals}
 
--- nothing was refused
+-- no call was refused
 abbrev pub no_refusals : Refusals
 no_refusals = record { sends = 0; groups = 0; sockets = 0 }
 
--- The counts of refused calls after an answer: a send, a join or a leave that was refused, or a socket that doesn't
--- exist.
+-- The numbers of refused calls after an answer. An answer counts if it refuses a send, a join or a leave, or if it reports that a socket
+-- doesn't exist.
 abbrev pub refusals_behind : Refusals → FrameAnswer → Refusals
 refusals_behind count (answer.Sent (Err error)) = record count { sends = next_number count.sends }
 refusals_behind count (answer.Joined (Err error)) = record count { groups = next_number count.groups }
@@ -28,12 +28,12 @@ refusals_behind count (answer.Left (Err error)) = record count { groups = next_n
 refusals_behind count (answer.Received (Err recv.NoSocket)) = record count { sockets = next_number count.sockets }
 refusals_behind count one = count
 
--- the refusals after an act
+-- the numbers of refused calls after an act
 abbrev pub refusals_by : Refusals → Act → Refusals
 refusals_by count (Ran event reply) = refusals_behind count reply.answer
 refusals_by count (Drained host buffered given) = count
 
--- these refused calls, and those between two later counts
+-- these numbers of refused calls plus the differences between two later counts; each number saturates
 abbrev pub with_later : (earlier before after : Refusals) → Refusals
 with_later earlier before after = record {
   sends = min (earlier.sends + (after.sends - before.sends)) greatest_number;
@@ -41,7 +41,7 @@ with_later earlier before after = record {
   sockets = min (earlier.sockets + (after.sockets - before.sockets)) greatest_number;
 }
 
--- The refused calls that commands asked for, after this command. The events of `auto` are drawn, so theirs don't count.
+-- The numbers of refused calls without those of `auto` commands, after this command.
 abbrev pub asked_after : (asked : Refusals) → Said → (before after : Refusals) → Refusals
 asked_after asked (Draws count start) before after = asked
 asked_after asked said before after = with_later asked before after
@@ -81,7 +81,7 @@ logged number (entry ∷ entries) log =
 abbrev pub acts_in : List (ℕ × Act) → List Act
 acts_in entries = map (λ (entry : ℕ × Act). entry.1) entries
 
--- These acts were recorded. The numbers of their lines are those that the record was given.
+-- These acts were recorded, each with some line number.
 pub record AreLogged (acts : List Act) (old new : Record) : Type 0 where
   pub entries : List (ℕ × Act)
   pub are : acts_in entries ≡ acts

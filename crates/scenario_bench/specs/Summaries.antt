@@ -2,8 +2,8 @@
 use Rattle.std.specs.Prelude.{◌≡◌, ◌↔◌, ℕ, IsTrue, List, Some, length, min, slice_get, string_bytes, sum_by}
 use Rattle.std.specs.Prelude.{◌==◌, ◌∷◌, [], Bool, false, None, Option, if◌then◌else◌, map, option_map}
 use Rattle.std.specs.List.{flat_map, fold, list_any}
-use Rattle.delivery.specs.Happenings.{Happening, Given, GivenUp, Reached, accepted, of_host, put, reached, stored}
-use Rattle.delivery.specs.Lists.{holding_in_one, sending_in_one}
+use Rattle.host_calls.specs.Happenings.{Happening, Given, GivenUp, Reached, accepted, of_host, put, reached, stored}
+use Rattle.host_calls.specs.Lists.{holding_in_one, sending_in_one}
 use Rattle.rx_engine.specs.declared.arrival.Fate.TheVariants as fate
 use Rattle.packet_socket.specs.HostState.{HostState}
 use Rattle.adapter.specs.World.{World}
@@ -23,21 +23,21 @@ use Rattle.scenario_bench.specs.declared.summary.Summary.{Summary}
 abbrev pub as_told : ℕ → ℕ
 as_told number = min number greatest_number
 
--- the number of frames that the sockets of a host returned
+-- the number of frames that sockets of the k-th host returned in a happening: 1 or 0
 abbrev pub count_given : ℕ → Happening → ℕ
 count_given k (Given host socket frame) = if k == host then 1 else 0
 count_given k one = 0
 
--- the number of frames that all sockets of a host returned
+-- the number of frames that sockets of the k-th host returned
 abbrev pub all_given : ℕ → List Happening → ℕ
 all_given k happened = sum_by (count_given k) happened
 
--- a frame that reached the k-th host while its receive side was disabled
+-- the frame of a happening, if it reached the k-th host while the host's receive side was disabled
 abbrev pub off_by : ℕ → Happening → List (List ℕ)
 off_by k (Reached host frame fate.Off) = of_host k host (frame ∷ [])
 off_by k one = []
 
--- whether the k-th host was reset
+-- whether a happening is `GivenUp` at the k-th host
 abbrev pub resets : ℕ → Happening → Bool
 resets k (GivenUp host sending holding) = k == host
 resets k one = false
@@ -58,7 +58,7 @@ pub record TellsFrames (k : ℕ) (happened : List Happening) (told : HostSummary
   pub accepted : told.accepted ≡ as_told (length (accepted k happened))
   -- the frames that its adapter put on the wire
   pub put : told.put ≡ as_told (length (put k happened))
-  -- the frames that reached it
+  -- the frames that reached its adapter
   pub reached : told.reached ≡ as_told (length (reached k happened))
   -- the frames that its adapter stored
   pub stored : told.stored ≡ as_told (length (stored k happened))
@@ -78,20 +78,18 @@ pub record TellsHost (k : ℕ) (plan : Host) (happened : List Happening) (host :
   pub missed : told.missed ≡ missed_count host world
   -- whether this count is exact
   pub exact : IsTrue told.exact ↔ IsExact host world
-  -- the frames without a socket
+  -- the received frames that no socket took
   pub unclaimed : told.unclaimed ≡ host.unclaimed
 
 -- The summaries of the hosts of the plan, in order.
 pub record TellsHosts (plans : List Host) (happened : List Happening) (network : NetworkState) (told : List HostSummary) : Type 0 where
-  -- one for each host
+  -- one summary for each host
   pub count : length told ≡ length plans
-  -- each is that of its host
+  -- each summary is that of its host
   pub each : (k : ℕ) (plan : Host) (host : HostState) (one : HostSummary) → slice_get plans k ≡ Some plan → IsHost network k host
       → slice_get told k ≡ Some one → TellsHost k plan happened host (world_at network.stations k) one
 
--- The summary of the answers of these acts, each with the number of its line in the scenario: the numbers of refused calls, and on request
--- a
--- line for each act.
+-- The summary of the answers of these acts: the numbers of refused calls, and on request a line for each act. Each act has a line number.
 pub record TellsAnswers (plans : List Host) (events : Bool) (entries : List (ℕ × Act)) (told : Summary) : Type 0 where
   -- the numbers of refused calls
   pub refusals : told.refusals ≡ fold refusals_by no_refusals (acts_in entries)

@@ -5,7 +5,7 @@ use Rattle.std.specs.Prelude.{slice_get}
 use Rattle.std.specs.List.{fold}
 use Rattle.rx_engine.specs.declared.arrival.Fate.{Fate}
 use Rattle.rx_engine.specs.declared.arrival.Fate.TheVariants as fate
-use Rattle.delivery.specs.Happenings.{Happening, Accepted, Put, Reached, Given, GivenUp as HasGivenUp}
+use Rattle.host_calls.specs.Happenings.{Happening, Accepted, Put, Reached, Given, GivenUp as HasGivenUp}
 use Rattle.network_plan.specs.Answers.{FrameAnswer}
 use Rattle.network_plan.specs.declared.reply.Answer.TheVariants as answer
 use Rattle.adapter.specs.Outcomes.{FrameOutcome}
@@ -39,7 +39,7 @@ passage_by fate.Stored = passage.Stored
 passage_by fate.Off = passage.Off
 passage_by _ = passage.Reached
 
--- a number that grows by this many, up to the greatest
+-- this number plus `more`, up to the greatest
 abbrev pub grown_by : (more : ℕ) → ℕ → ℕ
 grown_by more number = min (number + more) greatest_number
 
@@ -62,7 +62,7 @@ abbrev pub given_up_of : (host : ℕ) → FrameAnswer → List Happening
 given_up_of host (answer.Reset sending holding on_after) = HasGivenUp host sending.items holding.items ∷ []
 given_up_of host one = []
 
--- what a happening adds to the k-th host's numbers
+-- the k-th host's counts after a happening
 abbrev pub tallied_by : ℕ → Tally → Happening → Tally
 tallied_by k tally (Accepted host frame) = counted_at k host passage.Accepted tally
 tallied_by k tally (Put host frame) = counted_at k host passage.Put tally
@@ -86,14 +86,14 @@ no_tally = record {
 
 -- The record of events and drains.
 
--- The host's numbers grow by what happened to its frames.
+-- The k-th host's counts after these happenings.
 abbrev pub tally_behind : List Happening → ℕ → Tally → Tally
 tally_behind happened k tally = fold (tallied_by k) tally happened
 
 abbrev pub TalliesGrow : List Happening → (old new : List Tally) → Type 0
 TalliesGrow happened old new = (k : ℕ) → slice_get new k ≡ option_map (tally_behind happened k) (slice_get old k)
 
--- the number after these acts
+-- the number of the event after these acts
 abbrev pub number_behind : ℕ → List Act → ℕ
 number_behind number acts = fold (λ n act. next_number n) number acts
 
@@ -107,16 +107,16 @@ pub record AreNoted (acts : List Act) (old new : Record) : Type 0 where
 
 -- Changes of counts by the parts of an act.
 
--- one passage at a host is counted
+-- one passage at a host was counted
 abbrev pub TallyCounts : (host : ℕ) → Passage → (old new : List Tally) → Type 0
 TallyCounts host one old new = (k : ℕ) → slice_get new k ≡ option_map (counted_at k host one) (slice_get old k)
 
--- a reset of a host gave up these numbers of frames
+-- the numbers of frames that a reset of a host gave up were counted
 abbrev pub TallyGivesUp : (host sending holding : ℕ) → (old new : List Tally) → Type 0
 TallyGivesUp host sending holding old new =
     (k : ℕ) → slice_get new k ≡ option_map (given_up_at k host sending holding) (slice_get old k)
 
--- the passage in an outcome, if there is one
+-- what `passage_of` finds: the passage in an outcome, if there is one
 abbrev pub IsPassage : FrameOutcome → Option Passage → Type 0
 IsPassage (outcome.Put frame) found = found ≡ Some passage.Put
 IsPassage (outcome.Delivered frame one) found = found ≡ Some (passage_by one)

@@ -11,14 +11,14 @@ use std::alloc::AllocError;
 pub enum BenchError {
     /// The scenario's plan was refused. Nothing was written.
     Plan(PlanError),
-    /// Before an event, memory was refused for the frames that it may return or put on wires. Nothing was written.
-    /// `done` is the number of events and drains that were done, up to the greatest `u64`. So `done` is the time that
-    /// frames of this event would have in the traces.
+    /// Memory was refused before an event. Nothing was written. `done` is the number of events and drains that were
+    /// done before this event; it saturates at the greatest `u64`. So `done` is the time that frames of this event
+    /// would have in the traces.
     Run(Stopped),
-    /// Memory was refused elsewhere. Nothing was written.
+    /// Memory was refused at another place. Nothing was written.
     Memory,
-    /// A sink failed. The sinks before it have their whole text, this sink has a beginning of its own text, and the
-    /// sinks after it have nothing.
+    /// A sink failed. The sinks before this sink have their whole text. This sink has a beginning of its own text, and
+    /// the sinks after it are unchanged.
     Write(WriteError),
 }
 

@@ -21,7 +21,7 @@ pub(crate) struct DrainedFrames {
 }
 
 impl DrainedFrames {
-    /// An empty list. Allocates no memory.
+    /// Returns an empty list. Allocates no memory.
     pub(crate) fn new(alloc: Global) -> DrainedFrames
         ensures { result.list.items ≡ [] }
     {
@@ -30,7 +30,7 @@ impl DrainedFrames {
         }
     }
 
-    /// Removes all frames, and makes room for this many. Allocates only if the room isn't enough.
+    /// Removes all frames, and makes room for `room` frames. Allocates only if the list has less room.
     pub(crate) fn make_room(&mut self, room: usize) -> Result<(), AllocError>
         ensures none { self.new.list.items ≡ [] }
         ensures room { OnOk result (room ≤ vec_capacity self.new.list - length self.new.list.items) }

@@ -10,15 +10,16 @@ use stations::Tick;
 use std::alloc::{AllocError, Global};
 use std::marker::Model;
 
-/// Room for a tick with its outcome, in bytes: more than the longest name, two numbers and the words take.
+/// Room for a tick with its outcome, in bytes: more than the bytes of the longest name, two numbers and the words.
 const LONGEST_TOLD: usize = 96;
 
-/// Room for the rest of a line, in bytes.
+/// Room for a line without its ticks, in bytes.
 const LONGEST_REST: usize = 192;
 
-/// A line for each event or drain that was played, in order. During an event, also the outcomes of its ticks so far.
+/// A line for each event or drain that was played, in order. During an event, the log also contains the outcomes of the
+/// event's ticks so far.
 ///
-/// In contracts it is a `LogState`: the names of the hosts, the outcomes, and the lines.
+/// In contracts, the value is a `LogState`: the names of the hosts, the outcomes, and the lines.
 #[derive(Drop)]
 pub struct EventLog {
     names: Vec<String>,
@@ -36,7 +37,7 @@ impl Model for EventLog {
     ghost view = { log_state_of };
 }
 
-/// The names of hosts, in order.
+/// Returns the names of hosts, in order.
 fn names_of(alloc: Global, plans: &[HostPlan]) -> Result<Vec<String>, AllocError>
     ensures { IfOk result (λ names. map string_bytes names.items ≡ map plan_name plans.now) }
 {
@@ -57,7 +58,7 @@ impl EventLog {
     ghost use Rattle.scenario_bench.specs.EventLines.{drain_logged, end_logged, no_lines, place_at, tick_logged};
     ghost use Rattle.scenario_bench.specs.EventLogView.{plan_name};
 
-    /// A log of these hosts without lines.
+    /// Returns a log of these hosts without lines.
     pub(crate) fn new(alloc: Global, plans: &[HostPlan]) -> Result<EventLog, AllocError>
         ensures { IfOk result (λ log. log ≡ no_lines (map plan_name plans.now)) }
     {
@@ -68,7 +69,7 @@ impl EventLog {
         })
     }
 
-    /// Makes room for the line of an event with this many ticks.
+    /// Makes room for the line of an event with `ticks` ticks.
     #[inline(never)]
     pub(crate) fn reserve(&mut self, ticks: usize) -> Result<(), AllocError>
         ensures { self.new ≡ self.old }
@@ -100,7 +101,7 @@ impl EventLog {
         )
     }
 
-    /// Appends the line of the event with this number. `line` is the number of its line in the scenario.
+    /// Appends the line of the event with this number. `line` is the number of the event's line in the scenario.
     #[inline(never)]
     pub(crate) fn end(
         &mut self,
@@ -130,7 +131,7 @@ impl EventLog {
         Ok(())
     }
 
-    /// Appends the line of the drain with this number, at which a host returned `count` frames.
+    /// Appends the line of the drain with this number, in which a host returned `count` frames.
     pub(crate) fn drain(
         &mut self,
         number: u64,
@@ -150,8 +151,9 @@ impl EventLog {
         )
     }
 
-    /// Writes the lines to a sink: `EVENT line LINE CALL ANSWER accesses N`, and for each tick ` @N TICK OUTCOME`,
-    /// whose N is the number of accesses before the tick. Allocates no memory.
+    /// Writes the lines to a sink. The line of an event is `EVENT line LINE CALL ANSWER accesses N`, followed by ` @N
+    /// TICK OUTCOME` for each tick, whose N is the number of accesses before the tick. The line of a drain is `EVENT
+    /// line LINE drain HOST ok N`. Allocates no memory.
     ///
     /// # Errors
     ///

@@ -6,9 +6,9 @@ ghost use Rattle.scenario_bench.specs.EventLines as lines;
 ghost use Rattle.scenario_bench.specs.EventTexts as texts;
 
 use adapter::{Fate, Outcome, StepKind};
+use bring_up::GroupError;
 use driver::{Handled, SendError};
 use itoa::Buffer;
-use joined_groups::GroupError;
 use network_plan::{Answer, Event};
 use packet_socket::RecvError;
 use stations::Tick;
@@ -23,7 +23,7 @@ fn push_number(text: &mut Vec<u8>, label: &[u8], number: u64) -> Result<(), Allo
     text.extend_from_slice(buffer.format(number).as_bytes())
 }
 
-/// The name of a host, or an empty name if there is no such host.
+/// Returns the name of a host, or an empty name if there is no such host.
 fn name_of(names: &[String], host: usize) -> &[u8]
     ensures { result.now ≡ texts.name_at (map string_bytes names.now) host }
 {
@@ -47,7 +47,7 @@ fn push_host(
     text.extend_from_slice(name_of(names, host))
 }
 
-/// The word for a step, as in scenarios.
+/// Returns the word for a step, as scenarios spell it.
 fn step_word(kind: StepKind) -> &'static [u8]
     ensures { result.now ≡ texts.step_word kind }
 {
@@ -61,7 +61,7 @@ fn step_word(kind: StepKind) -> &'static [u8]
     }
 }
 
-/// Appends a tick, as in scenarios.
+/// Appends a tick, as scenarios spell it.
 fn push_tick(text: &mut Vec<u8>, names: &[String], tick: Tick) -> Result<(), AllocError>
     ensures { OnOk result
         (text.new.items ≡ text.old.items ++ texts.tick_text (map string_bytes names.now) tick) }
@@ -73,7 +73,7 @@ fn push_tick(text: &mut Vec<u8>, names: &[String], tick: Tick) -> Result<(), All
     }
 }
 
-/// The word for a fate.
+/// Returns the word for a fate.
 fn fate_word(fate: Fate) -> &'static [u8]
     ensures { result.now ≡ texts.fate_word fate }
 {
@@ -122,8 +122,8 @@ pub(crate) fn push_told(
     push_outcome(text, outcome, frame)
 }
 
-/// Appends an event, as in scenarios, but with the size of a frame in place of its bytes, and without a group's address
-/// and without ticks.
+/// Appends an event as scenarios spell it, but without the address of a group and without ticks. The size of a frame
+/// replaces its bytes. For an event that is a tick, appends only the word `tick`.
 fn push_event(text: &mut Vec<u8>, names: &[String], event: &Event) -> Result<(), AllocError>
     ensures { OnOk result
         (text.new.items ≡ text.old.items ++ texts.event_text (map string_bytes names.now) event.now) }
@@ -145,7 +145,7 @@ fn push_event(text: &mut Vec<u8>, names: &[String], event: &Event) -> Result<(),
     }
 }
 
-/// The words for the result of a send.
+/// Returns the words for the result of a send.
 fn sent_word(sent: Result<(), SendError>) -> &'static [u8]
     ensures { result.now ≡ texts.sent_word sent }
 {
@@ -157,7 +157,7 @@ fn sent_word(sent: Result<(), SendError>) -> &'static [u8]
     }
 }
 
-/// The words for a recv that returned no frame.
+/// Returns the words for a recv that returned no frame.
 fn recv_word(error: RecvError) -> &'static [u8]
     ensures { result.now ≡ texts.recv_word error }
 {
@@ -167,7 +167,7 @@ fn recv_word(error: RecvError) -> &'static [u8]
     }
 }
 
-/// The words for the result of a join or a leave.
+/// Returns the words for the result of a join or a leave.
 fn group_word(changed: Result<(), GroupError>) -> &'static [u8]
     ensures { result.now ≡ texts.group_word changed }
 {
@@ -217,7 +217,7 @@ fn push_answer(text: &mut Vec<u8>, answer: &Answer<()>, frame: &[u8]) -> Result<
     }
 }
 
-/// Appends the number of an event, and that of its line in the scenario.
+/// Appends the number of an event, and the number of its line in the scenario.
 fn push_place(text: &mut Vec<u8>, number: u64, line: u64) -> Result<(), AllocError>
     ensures { OnOk result (text.new.items ≡ text.old.items ++ lines.place_text (lines.place_at number line)) }
 {
@@ -225,8 +225,8 @@ fn push_place(text: &mut Vec<u8>, number: u64, line: u64) -> Result<(), AllocErr
     push_number(text, b" line ", line)
 }
 
-/// Appends the line of the event with this number. `line` is the number of its line in the scenario, and `outcomes` the
-/// text of its ticks.
+/// Appends the line of the event with this number. `line` is the number of the event's line in the scenario, and
+/// `outcomes` is the text of the event's ticks.
 pub(crate) fn push_line(
     text: &mut Vec<u8>,
     names: &[String],
@@ -250,8 +250,8 @@ pub(crate) fn push_line(
     text.extend_from_slice(b"\n")
 }
 
-/// Appends the line of the drain with this number, at which a host returned `count` frames. `line` is the number of its
-/// line in the scenario.
+/// Appends the line of the drain with this number, in which a host returned `count` frames. `line` is the number of the
+/// drain's line in the scenario.
 pub(crate) fn push_drain(
     text: &mut Vec<u8>,
     names: &[String],

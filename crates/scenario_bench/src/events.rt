@@ -17,7 +17,7 @@ use std::alloc::{AllocError, Global};
 /// The number of bytes of a broadcast without data: two addresses and the type (IEEE 802.3, 3.1.1).
 const HEADER: usize = 14;
 
-/// The event in which a host asks a socket for a frame, without ticks.
+/// Returns the event in which a host asks a socket for a frame, without ticks.
 fn recv_event(alloc: Global, host: usize, socket: usize) -> Event
     ensures { event_of result ≡ Receives host socket [] }
 {
@@ -28,15 +28,15 @@ fn recv_event(alloc: Global, host: usize, socket: usize) -> Event
     }
 }
 
-/// The event of a step outside calls.
+/// Returns the event of a step outside calls.
 fn step_event(host: usize, kind: StepKind) -> Event
     ensures { event_of result ≡ Ticks (ticks.Step host kind) }
 {
     Event::Tick(Tick::Step(host, kind))
 }
 
-/// The number of receive buffers that a frame of this size needs after it is padded; one if the frame is too short or
-/// too long for `send` (E20, E21).
+/// Returns the number of receive buffers that a frame of this size needs after it is padded. Returns 1 if the frame is
+/// too short or too long for `send` (E20, E21).
 pub(crate) fn pieces_of(size: usize) -> usize
     ensures { result ≡ lists.pieces_for size }
 {
@@ -68,8 +68,8 @@ fn push_moves(host: usize, pieces: usize, events: &mut Vec<Event>) -> Result<(),
     Ok(())
 }
 
-/// Appends the events that deliver a frame to a host, move it to memory in this number of pieces, handle the interrupt,
-/// and ask each socket once.
+/// Appends the events that deliver a frame to a host, and move the frame to memory in this number of pieces. Then
+/// appends an interrupt, and a recv of each socket.
 fn push_arrival(
     alloc: Global,
     pieces: usize,
@@ -93,7 +93,7 @@ fn push_arrival(
     Ok(())
 }
 
-/// The name of a host's wire, or an empty name if there is no such host.
+/// Returns the name of a host's wire, or an empty name if there is no such host.
 pub(crate) fn wire_of(plans: &[HostPlan], host: usize) -> &str
     ensures { result.now ≡ lists.wire_name_of (hosts_of plans.now) host }
 {
@@ -103,9 +103,8 @@ pub(crate) fn wire_of(plans: &[HostPlan], host: usize) -> &str
     }
 }
 
-/// Appends the events by which a sender's frame arrives at each other host on its wire, in order: the delivery, the
-/// steps that move its pieces, an interrupt, and a recv of each socket. If memory is refused, some of the events may be
-/// appended.
+/// Appends the events by which a sender's frame arrives at each other host on its wire, in order. If memory is refused,
+/// some of the events may have been appended.
 fn push_arrivals(
     alloc: Global,
     plans: &[HostPlan],
@@ -125,8 +124,8 @@ fn push_arrivals(
     Ok(())
 }
 
-/// Replaces the events by those after the send of a fed frame: it is put on the wire, and arrives in this number of
-/// pieces at each other host.
+/// Replaces the events by those after the send of a fed frame. The frame is put on the wire, and arrives at each other
+/// host on the wire in this number of pieces.
 fn set_behind_send(
     alloc: Global,
     plans: &[HostPlan],
@@ -154,7 +153,7 @@ pub(crate) struct EventsAfterSend {
 }
 
 impl EventsAfterSend {
-    /// A list without events.
+    /// Returns a list without events.
     pub(crate) fn new(alloc: Global) -> EventsAfterSend
         ensures { result.pieces ≡ None }
     {
@@ -189,7 +188,7 @@ impl EventsAfterSend {
     }
 }
 
-/// A broadcast from this EEPROM's address, without data, of the type for experiments (IEEE 802).
+/// Returns a broadcast from this EEPROM's address, without data, with the EtherType for experiments (IEEE 802).
 fn broadcast_of(image: &Image) -> [u8; HEADER]
     ensures { result ≡ lists.broadcast_of (address_bytes image.now) }
 {
@@ -199,7 +198,8 @@ fn broadcast_of(image: &Image) -> [u8; HEADER]
     ]
 }
 
-/// Memory for events that are run one at a time. An event uses the memory of the event before it.
+/// Memory for events that are run one at a time. Sends use one memory for their frame, interrupts use another for their
+/// ticks.
 #[derive(Drop)]
 pub(crate) struct EventMemory {
     pub(crate) alloc: Global,
@@ -208,7 +208,7 @@ pub(crate) struct EventMemory {
 }
 
 impl EventMemory {
-    /// An empty memory, which allocates nothing.
+    /// Returns an empty memory, which allocates nothing.
     pub(crate) fn new(alloc: Global) -> EventMemory {
         EventMemory {
             alloc,
@@ -217,7 +217,7 @@ impl EventMemory {
         }
     }
 
-    /// Takes the memory of an event that was run.
+    /// Takes the memory of a send or an interrupt that was run. Other events have no memory to take.
     #[inline(always)]
     pub(crate) fn take_back(&mut self, event: &mut Event) {
         match event {
@@ -227,7 +227,7 @@ impl EventMemory {
         }
     }
 
-    /// The event in which a host sends these bytes, without ticks.
+    /// Returns the event in which a host sends these bytes, without ticks.
     pub(crate) fn send_event(&mut self, host: usize, bytes: &[u8]) -> Result<Event, AllocError>
         ensures { IfOk result (λ event. event_of event ≡ Sends host bytes.now []) }
     {
@@ -241,8 +241,8 @@ impl EventMemory {
         })
     }
 
-    /// The event in which a host handles an interrupt, and its adapter finishes a frame after the handler's first
-    /// access.
+    /// Returns the event in which a host handles an interrupt, and its adapter finishes a frame after the handler's
+    /// first access.
     fn late_interrupt(&mut self, host: usize) -> Result<Event, AllocError>
         ensures { IfOk result (λ event. event_of event ≡ Interrupts host (lists.late_frame host)) }
     {
@@ -254,7 +254,7 @@ impl EventMemory {
         Ok(Event::Interrupt { host, ticks })
     }
 
-    /// The event that a random word draws: its low three bits choose the kind, the others the host.
+    /// Returns the event that a random word draws. The word's low three bits choose the kind, the other bits the host.
     pub(crate) fn drawn(&mut self, plans: &[HostPlan], word: u32) -> Result<Event, AllocError>
         requires { 0 < length plans.now }
         ensures { IfOk result (λ event. event_of event ≡ lists.event_drawn (hosts_of plans.now) word) }
@@ -263,8 +263,8 @@ impl EventMemory {
         self.event_of_kind(word % 8, host, &plans[host].image)
     }
 
-    /// The event of one of the eight kinds that `auto` draws, at a host with this EEPROM. Each number from 7 on is the
-    /// last kind. An event that needs memory takes it from here.
+    /// Returns the event of one of the eight kinds that `auto` draws, at a host with this EEPROM. Each number from 7 on
+    /// is the last kind, a send. A send or an interrupt uses this memory.
     fn event_of_kind(&mut self, kind: u32, host: usize, image: &Image) -> Result<Event, AllocError>
         ensures { IfOk result (λ event. event_of event ≡ lists.event_of_kind kind host (address_bytes image.now)) }
     {

@@ -14,15 +14,15 @@ struct FrameInfo {
     host: usize,
     /// The socket that returned the frame; 0 if an adapter put it.
     socket: usize,
-    /// The number of the event in which this happened.
+    /// The number of the event or drain in which this happened.
     number: u64,
     /// The number of the frame's bytes.
     length: usize,
 }
 
-/// Frames in order, each with its host, its socket and the number of its event.
+/// Frames in order, each with its host, its socket and the number of its event or drain.
 ///
-/// In contracts it is the list of them.
+/// In contracts, the value is the list of these frames.
 #[derive(Drop)]
 pub(crate) struct KeptFrames {
     infos: Vec<FrameInfo>,
@@ -46,9 +46,9 @@ impl Model for KeptFrames {
 /// Which frames belong to a trace.
 #[derive(Clone, Copy, Drop)]
 pub(crate) enum Wanted<'a> {
-    /// Those that this socket of this host returned.
+    /// The frames that a socket returned: the host's number, then the socket's.
     Socket(usize, usize),
-    /// Those of hosts on the wire of this name.
+    /// The frames of hosts on the wire with this name.
     Wire(&'a [HostPlan], &'a str),
 }
 
@@ -56,7 +56,7 @@ impl Wanted<'_> {
     ghost use Rattle.std.specs.Prelude.{◌≡◌};
     ghost use Rattle.scenario_bench.specs.Wanted.{wants};
 
-    /// Whether a frame of this host and this socket belongs to the trace.
+    /// Returns whether a frame of this host and this socket belongs to the trace.
     fn wants(&self, host: usize, socket: usize) -> bool
         ensures { result ≡ wants self.now host socket }
     {
@@ -79,7 +79,7 @@ impl KeptFrames {
     ghost use Rattle.scenario_bench.specs.Wanted.{wants};
     ghost use Rattle.scenario_bench.specs.WireLists.{names_in};
 
-    /// An empty list. Allocates no memory.
+    /// Returns an empty list. Allocates no memory.
     pub(crate) fn new(alloc: Global) -> Self
         ensures { result ≡ [] }
     {
@@ -89,7 +89,7 @@ impl KeptFrames {
         }
     }
 
-    /// Makes room for this many more frames. The frames don't change.
+    /// Makes room for `count` more frames. The frames in the list don't change.
     ///
     /// # Errors
     ///
@@ -129,8 +129,8 @@ impl KeptFrames {
         Ok(())
     }
 
-    /// Writes the wanted frames as a trace, with times in this unit. The time of each in microseconds is the number of
-    /// its event.
+    /// Writes the wanted frames as a trace, with times in this unit. The time of each frame in microseconds is the
+    /// number of its event or drain.
     ///
     /// # Errors
     ///
@@ -162,13 +162,13 @@ impl KeptFrames {
         writer.flush(sink)
     }
 
-    /// Writes to each sink the frames that its socket returned, as a trace. A socket is given as the number of its host
-    /// and its own number.
+    /// Writes to each sink the frames that its socket returned, as a trace. An item of `sockets` is the number of a
+    /// socket's host and the socket's number.
     ///
     /// # Errors
     ///
     /// E67 [`Write`](WriteError::Write) if a sink fails: the sinks before it have their whole trace, this sink has a
-    /// beginning of its own, and the sinks after it have nothing.
+    /// beginning of its own, and the sinks after it are unchanged.
     #[tactic(auto, using(crate::proofs::Writing::none_written))]
     pub(crate) fn write_sockets<W: Sink>(
         &self,
@@ -201,7 +201,7 @@ impl KeptFrames {
     /// # Errors
     ///
     /// E67 [`Write`](WriteError::Write) if a sink fails: the sinks before it have their whole trace, this sink has a
-    /// beginning of its own, and the sinks after it have nothing.
+    /// beginning of its own, and the sinks after it are unchanged.
     #[tactic(auto, using(crate::proofs::Writing::none_written))]
     pub(crate) fn write_wires<W: Sink>(
         &self,

@@ -37,7 +37,7 @@ use scenario::{Command, Scenario};
 use std::alloc::{AllocError, Global};
 use wire::Lan;
 
-/// The number of the line at this place, or 0 if there is none.
+/// Returns the line number at this place, or 0 if `lines` is shorter.
 fn line_at(lines: &[u64], place: usize) -> u64 {
     match lines.get(place) {
         Some(line) => *line,
@@ -51,12 +51,12 @@ struct Play {
     lan: Lan,
     record: Record,
     drained: DrainedFrames,
-    /// The refused calls so far that commands asked for; those of events that were drawn don't count.
+    /// The numbers of calls that were refused so far, without those of `auto` commands.
     asked: Refusals,
 }
 
-/// The refused calls that commands asked for, after this command. `before` and `after` are all refused calls before and
-/// after this command.
+/// Returns the numbers of refused calls without those of `auto` commands, after this command. `before` and `after`
+/// count all refused calls before and after this command.
 fn asked_after(asked: Refusals, command: &Command, before: Refusals, after: Refusals) -> Refusals
     ensures { result ≡ asked_after asked (said_of command.now) before after }
 {
@@ -68,7 +68,7 @@ fn asked_after(asked: Refusals, command: &Command, before: Refusals, after: Refu
 
 impl Play {
     /// Initializes the hosts of a plan. Frames that adapters put are recorded unless `wires`, the number of traces of
-    /// wires to write, is 0. If `events` is true, a line is recorded for each event.
+    /// wires to write, is 0. If `events` is true, a line is recorded for each event and drain.
     fn new(alloc: Global, plan: &Plan, wires: usize, events: bool) -> Result<Play, BenchError>
         ensures ok { IfOk result (Begins plan.now.hosts.items) }
         ensures puts { IfOk result (λ play. IsNewRecord wires play.record.puts) }
@@ -87,8 +87,8 @@ impl Play {
         })
     }
 
-    /// Runs these events, and records their outcomes and answers. If memory is refused before an event, the error has
-    /// the number of events and drains that are recorded.
+    /// Runs these events, and records their outcomes and answers. If memory is refused before an event, the error
+    /// contains the number of events and drains done before the event.
     #[inline(always)]
     fn run(&mut self, events: &[Event]) -> Result<(), BenchError>
         ensures ok { OnOk result (HasPlayed (map event_of events.now) self.old self.new) }
@@ -107,7 +107,7 @@ impl Play {
         }
     }
 
-    /// Drains a host, and records the frames that it returned. Makes room for them first.
+    /// Makes room for the frames of a drain, drains a host, and records the frames that the host returned.
     #[tactic(auto, using(crate::proofs::PlayedEvents::drained))]
     fn drain(&mut self, host: usize) -> Result<(), BenchError>
         ensures ok { OnOk result (HasPlayed (Drains host ∷ []) self.old self.new) }
@@ -119,7 +119,7 @@ impl Play {
         Ok(())
     }
 
-    /// Runs an event, and takes its memory back.
+    /// Runs an event, and takes the event's memory back.
     #[inline(always)]
     fn run_one(&mut self, memory: &mut EventMemory, event: Event) -> Result<(), BenchError>
         ensures ok { OnOk result (HasPlayed (event_of event ∷ []) self.old self.new) }
@@ -131,7 +131,8 @@ impl Play {
         ran
     }
 
-    /// Sends a frame from a host, and lets it arrive at the other hosts on its wire.
+    /// Runs the events of `feed` for one frame: its send, and the events by which it arrives at the other hosts on the
+    /// wire.
     fn feed_frame(
         &mut self,
         memory: &mut EventMemory,
@@ -151,7 +152,7 @@ impl Play {
         self.run(behind.list.as_slice())
     }
 
-    /// Sends each frame of a trace from a host, and lets it arrive at the other hosts on its wire.
+    /// Runs the events of `feed` for each frame of a trace, in order.
     #[tactic(auto, using(crate::proofs::PlayedEvents::all_fed))]
     fn feed(
         &mut self,
@@ -172,7 +173,7 @@ impl Play {
         Ok(())
     }
 
-    /// Draws events, and runs them.
+    /// Draws `count` events, and runs each of them. `start` is the seed.
     #[tactic(auto, using(crate::proofs::PlayedEvents::all_drawn, crate::proofs::PlayedEvents::none_drawn))]
     fn draw(
         &mut self,
@@ -197,7 +198,7 @@ impl Play {
         Ok(())
     }
 
-    /// Runs the events of a command, or its drain.
+    /// Runs the events of a command, or its drain. Runs no event for a `feed` if its trace isn't in `traces`.
     fn command(
         &mut self,
         memory: &mut EventMemory,
@@ -224,7 +225,8 @@ impl Play {
         }
     }
 
-    /// Runs the events and drains of these commands, in order. The lines of events have the numbers of these lines.
+    /// Runs the events and drains of these commands, in order. `lines` contains the line number of each command, which
+    /// the lines of its events contain.
     #[tactic(auto, using(crate::proofs::PlayedEvents::none_fed, crate::proofs::PlayedEvents::all_ran))]
     fn commands(
         &mut self,
@@ -252,7 +254,7 @@ impl Play {
         Ok(())
     }
 
-    /// The summary of a host.
+    /// Returns the summary of a host.
     fn host_summary(
         &self,
         alloc: Global,
@@ -281,7 +283,7 @@ impl Play {
         })
     }
 
-    /// The summaries of all hosts.
+    /// Returns the summaries of all hosts.
     #[tactic(auto, using(crate::proofs::Benching::none_told))]
     fn host_summaries(
         &self,
@@ -299,7 +301,8 @@ impl Play {
         Ok(hosts)
     }
 
-    /// The summary of the run, with these summaries of its hosts. The lines of events are moved out of the record.
+    /// Returns the summary of the run, with these summaries of its hosts. The lines of events are moved out of the
+    /// record.
     fn summary(&mut self, hosts: Vec<HostSummary>) -> Summary
         ensures hosts { result.hosts ≡ hosts }
         ensures refusals { result.refusals ≡ self.old.record.log.refusals }
@@ -334,8 +337,8 @@ impl Play {
         Ok(hosts)
     }
 
-    /// Writes to each sink the frames of its socket, and then to each of `wire_sinks` those that were put on its wire.
-    /// `sockets` and `names` are those of the plan.
+    /// Writes to each sink the frames of its socket, and then to each of `wire_sinks` the frames that were put on its
+    /// wire. `sockets` are the sockets of the plan, and `names` the names of its wires.
     fn write_traces<W: Sink>(
         &self,
         plan: &Plan,
@@ -354,10 +357,12 @@ impl Play {
         requires countable { All (λ (sink : W). W.failures sink < u64.MAX) sinks.old }
         requires wires_countable { All (λ (sink : W). W.failures sink < u64.MAX) wire_sinks.old }
         ensures ok { OnOk result
-            (AreAllWritten unit (socket_texts_in plan.now.hosts.items self.now) (wire_texts_in plan.now.hosts.items self.now)
+            (AreAllWritten unit (socket_texts_in plan.now.hosts.items self.now)
+            (wire_texts_in plan.now.hosts.items self.now)
             (sinks_of W.taken W.failures sinks.old sinks.new wire_sinks.old wire_sinks.new)) }
         ensures err { OnErr result
-            (IsFailedSink unit (socket_texts_in plan.now.hosts.items self.now) (wire_texts_in plan.now.hosts.items self.now)
+            (IsFailedSink unit (socket_texts_in plan.now.hosts.items self.now)
+            (wire_texts_in plan.now.hosts.items self.now)
             (sinks_of W.taken W.failures sinks.old sinks.new wire_sinks.old wire_sinks.new)) }
     {
         self.record
@@ -372,7 +377,8 @@ impl Play {
         }
     }
 
-    /// Writes to each sink the frames of its socket, and then to each of `wire_sinks` those that were put on its wire.
+    /// Writes to each sink the frames of its socket, and then to each of `wire_sinks` the frames that were put on its
+    /// wire.
     fn write<W: Sink>(
         &self,
         alloc: Global,
@@ -387,10 +393,12 @@ impl Play {
         requires countable { All (λ (sink : W). W.failures sink < u64.MAX) sinks.old }
         requires wires_countable { All (λ (sink : W). W.failures sink < u64.MAX) wire_sinks.old }
         ensures ok { OnOk result
-            (AreAllWritten unit (socket_texts_in plan.now.hosts.items self.now) (wire_texts_in plan.now.hosts.items self.now)
+            (AreAllWritten unit (socket_texts_in plan.now.hosts.items self.now)
+            (wire_texts_in plan.now.hosts.items self.now)
             (sinks_of W.taken W.failures sinks.old sinks.new wire_sinks.old wire_sinks.new)) }
         ensures err { IfErr result (λ error.
-            StopsWriting unit (socket_texts_in plan.now.hosts.items self.now) (wire_texts_in plan.now.hosts.items self.now) error
+            StopsWriting unit (socket_texts_in plan.now.hosts.items self.now)
+            (wire_texts_in plan.now.hosts.items self.now) error
             (sinks_of W.taken W.failures sinks.old sinks.new wire_sinks.old wire_sinks.new)) }
     {
         let plans = plan.hosts.as_slice();
@@ -432,7 +440,7 @@ impl Play {
     }
 }
 
-/// An empty list for the frames that adapters put; `None` if no traces of wires are to be written.
+/// Returns an empty list for the frames that adapters put; `None` if `wires` is 0.
 fn new_puts(alloc: Global, wires: usize) -> Option<KeptFrames>
     ensures { IsNewRecord wires result }
 {
@@ -443,22 +451,22 @@ fn new_puts(alloc: Global, wires: usize) -> Option<KeptFrames>
 }
 
 /// Plays a scenario: makes the network of its plan, and runs its events and drains in order. Then it writes to each
-/// sink the frames that its socket returned, as a trace (libpcap, "pcap-savefile"), and to each of `wire_sinks` the
-/// frames that were put on its wire. The time of a frame is the number of its event or drain, in microseconds, which is
-/// written in `unit`. Events and drains are numbered from 0, up to the greatest `u64`.
+/// sink the frames that its socket returned, as a trace (libpcap, "pcap-savefile"). It writes to each of `wire_sinks`
+/// the frames that were put on its wire. The time of a frame in microseconds is the number of its event or drain. The
+/// trace has this time in `unit`. Events and drains are numbered from 0; the numbers saturate at the greatest `u64`.
 ///
-/// Pass a trace for each name of [`Scenario::trace_names`], a sink for each socket, hosts in order and the sockets of
-/// each in order, and a sink for each wire of [`wires`](crate::wires) or none, in the same order. If `events` is true,
-/// the summary has a line for each event and drain.
+/// Pass a trace for each name of [`Scenario::trace_names`], and a sink for each socket, hosts in order and the sockets
+/// of each host in order. Pass in `wire_sinks` a sink for each wire of [`wires`](crate::wires), in order, or for only
+/// the first wires, or no sinks. If `events` is true, the summary has a line for each event and drain.
 ///
 /// # Errors
 ///
 /// [`Plan`](BenchError::Plan) if the plan is refused (E40 to E46). [`Run`](BenchError::Run) (E47) if memory is refused
-/// before an event, also for the frames that it may put if there are sinks of wires: `done` is the number of events and
-/// drains before it, which were done. As the numbers of events, it is at most the greatest `u64`.
-/// [`Memory`](BenchError::Memory) (E57) if memory is refused elsewhere. At these nothing was written.
-/// [`Write`](BenchError::Write) (E67) if a sink failed: the sinks before it have their whole text, it has a beginning
-/// of its own, and those after it have nothing. The sinks of sockets come before those of wires.
+/// before an event: `done` is the number of events and drains before it, which were done. `done` saturates at the
+/// greatest `u64`. [`Memory`](BenchError::Memory) (E57) if memory is refused at another place. After each of these
+/// errors, nothing was written. [`Write`](BenchError::Write) (E67) if a sink failed: the sinks before it have their
+/// whole text, it has a beginning of its own, and the sinks after it are unchanged. The sinks of sockets are written
+/// before those of wires.
 pub fn bench<W: Sink>(
     alloc: Global,
     scenario: &Scenario,

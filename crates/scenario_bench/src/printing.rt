@@ -9,7 +9,7 @@ use arrayvec::ArrayVec;
 use itoa::Buffer;
 use pcap_trace::{Sink, WriteError, write_all};
 
-/// Room for the part of a line after a name: ten labels and numbers, of at most 60 bytes each, and a word.
+/// Room in bytes for the part of a line after a name: ten labels with numbers, of at most 60 bytes each, and a word.
 const LONGEST_LINE: usize = 700;
 
 /// The part of a line after a name.
@@ -28,7 +28,7 @@ fn push_field(line: &mut Line, label: &[u8], number: u64)
     line.try_extend_from_slice(digits).unwrap();
 }
 
-/// Appends whether the number of missed frames is exact.
+/// Appends a word that states whether the number of missed frames is exact.
 fn push_exact(line: &mut Line, exact: bool)
     requires room { length line.old.items + 8 ≤ 700 }
     ensures text { line.new.items ≡ line.old.items ++ exact_word exact }
@@ -52,7 +52,7 @@ fn push_resets(line: &mut Line, given_up: Option<GivenUp>)
     push_field(line, b" off ", given_up.off);
 }
 
-/// The part of a host's line after its name.
+/// Returns the part of a host's line after its name.
 fn fields_of(host: &HostSummary) -> Line
     ensures { result.items ≡ host_fields host.now }
 {
@@ -81,9 +81,9 @@ fn print_host<W: Sink>(host: &HostSummary, sink: &mut W) -> Result<(), WriteErro
     write_all(sink, fields_of(host).as_slice())
 }
 
-/// Writes the program's lines of a run to a sink, one a host: `NAME accepted A put P reached R stored S missed M exact
-/// given G unclaimed U`, with `atleast` for `exact` if more were missed, and with ` givenup T R off O` at its end if
-/// the host was reset. Each ends with a line feed. Allocates no memory.
+/// Writes the program's lines of a run to a sink, one line for each host: `NAME accepted A put P reached R stored S
+/// missed M exact given G unclaimed U`. `atleast` replaces `exact` if more frames may have been missed. The line of a
+/// host that was reset has ` givenup T R off O` at its end. Each line ends with a line feed. Allocates no memory.
 ///
 /// # Errors
 ///

@@ -1,7 +1,8 @@
-//! The record of a run: counts for each host, the frames that each socket returned, and those that were put on wires.
+//! The record of a run: counts for each host, the frames that each socket returned, and the frames that were put on
+//! wires.
 ghost use Rattle.std.specs.Prelude.{◌≡◌, ◌≤◌, ◌++◌, ◌∷◌, [], ℕ, List, IfOk, OnOk, length, map, replicate};
 ghost use Rattle.adapter.specs.Outcomes.{with_frame};
-ghost use Rattle.delivery.specs.Happenings.{tick_host, outcome_happenings};
+ghost use Rattle.host_calls.specs.Happenings.{tick_host, outcome_happenings};
 ghost use Rattle.network_plan.specs.Answers.{answer_with};
 ghost use Rattle.scenario_bench.specs.Acts.{Drained};
 ghost use Rattle.scenario_bench.specs.DrainedView.{drained_frame};
@@ -27,9 +28,9 @@ use wire::RunObserver;
 /// The record of a run.
 #[derive(Drop)]
 pub(crate) struct Record {
-    /// The number of the next event or drain, up to the greatest.
+    /// The number of the next event or drain. It saturates at the greatest `u64`.
     pub(crate) number: u64,
-    /// The number of the line in the scenario of the next event or drain, from 1.
+    /// The number of the scenario's line of the next event or drain, from 1; 0 if no line is known.
     pub(crate) line: u64,
     /// The counts of each host.
     pub(crate) hosts: Vec<Tally>,
@@ -40,11 +41,12 @@ pub(crate) struct Record {
     /// The record of answers.
     pub(crate) log: RunLog,
     /// Whether memory was refused for a frame that a socket returned or that was put on a wire, or for an event's line.
-    /// This doesn't happen, because memory is allocated before the event. The proof doesn't use this fact.
+    /// The program never sets it to true, because memory is allocated before the event. The proof doesn't use this
+    /// fact.
     pub(crate) failed: bool,
 }
 
-/// The host that a tick names, or 0 for a Go. The outcome of a Go is `Nothing`, which isn't counted.
+/// Returns the host of a tick, or 0 for a `Go`. The outcome of a `Go` is `Nothing`, which isn't counted.
 fn tick_host(tick: Tick) -> usize
     ensures { result ≡ tick_host tick }
 {
@@ -55,7 +57,7 @@ fn tick_host(tick: Tick) -> usize
     }
 }
 
-/// The passage of a frame in an outcome, if there is one.
+/// Returns the passage in an outcome; `None` if the outcome isn't counted.
 fn passage_of(outcome: &Outcome<()>) -> Option<Passage>
     ensures { (frame : List ℕ) → IsPassage (with_frame frame outcome.now) result }
 {
@@ -68,7 +70,7 @@ fn passage_of(outcome: &Outcome<()>) -> Option<Passage>
     }
 }
 
-/// Counts a passage of a frame at a host.
+/// Counts a passage of a frame at a host, if the host exists.
 #[tactic(auto, using(crate::proofs::Noting::counts_there, crate::proofs::Noting::counts_nowhere))]
 fn count(hosts: &mut [Tally], host: usize, passage: Passage)
     ensures { TallyCounts host passage hosts.old hosts.new }
@@ -78,7 +80,7 @@ fn count(hosts: &mut [Tally], host: usize, passage: Passage)
     }
 }
 
-/// Counts the frames that a reset of a host gave up.
+/// Counts the frames that a reset of a host gave up, if the host exists.
 #[tactic(auto, using(crate::proofs::Noting::given_up_there, crate::proofs::Noting::given_up_nowhere))]
 fn give_up(hosts: &mut [Tally], host: usize, sending: u64, holding: u64)
     ensures { TallyGivesUp host sending holding hosts.old hosts.new }
@@ -88,25 +90,26 @@ fn give_up(hosts: &mut [Tally], host: usize, sending: u64, holding: u64)
     }
 }
 
-/// Records the outcome of a tick at a host.
+/// Counts the passage in an outcome at a host, if there is a passage.
 #[tactic(auto, using(crate::proofs::Noting::told_passage, crate::proofs::Noting::told_nothing))]
 #[inline(always)]
 fn note_outcome(hosts: &mut [Tally], host: usize, outcome: &Outcome<()>)
-    ensures { (frame : List ℕ) → TalliesGrow (outcome_happenings host (with_frame frame outcome.now)) hosts.old hosts.new }
+    ensures { (frame : List ℕ)
+        → TalliesGrow (outcome_happenings host (with_frame frame outcome.now)) hosts.old hosts.new }
 {
     if let Some(passage) = passage_of(outcome) {
         count(hosts, host, passage);
     }
 }
 
-/// Whether a frame was put on a wire.
+/// Returns whether the outcome is that a frame was put on a wire.
 fn is_put(outcome: &Outcome<()>) -> bool
     ensures { result ≡ is_put outcome.now }
 {
     matches!(outcome, Outcome::Put(_))
 }
 
-/// Records the frame of an outcome at a host, if it was put on a wire, and such frames are recorded.
+/// Records the frame of an outcome at a host, if the frame was put on a wire and such frames are recorded.
 #[inline(always)]
 fn note_put(
     puts: &mut Option<KeptFrames>,
@@ -128,7 +131,7 @@ fn note_put(
     }
 }
 
-/// Makes room for the frames that this many ticks may put on wires, if such frames are recorded.
+/// Makes room for the frames that `ticks` ticks may put on wires, if such frames are recorded.
 fn reserve_puts(puts: &mut Option<KeptFrames>, ticks: usize) -> Result<(), AllocError>
     ensures { puts.new ≡ puts.old }
 {
@@ -138,7 +141,7 @@ fn reserve_puts(puts: &mut Option<KeptFrames>, ticks: usize) -> Result<(), Alloc
     }
 }
 
-/// Records the answer to a send.
+/// Counts the frame of a send, if the send accepted it.
 #[tactic(auto, using(crate::specs::RecordingLaws::grows_not))]
 fn note_sent(hosts: &mut [Tally], host: usize, answer: &Answer<()>)
     ensures { (frame given : List ℕ)
@@ -149,7 +152,7 @@ fn note_sent(hosts: &mut [Tally], host: usize, answer: &Answer<()>)
     }
 }
 
-/// Records the frames that a reset gave up.
+/// Counts the frames that a reset gave up, if the answer is that of a reset.
 #[tactic(auto, using(crate::specs::RecordingLaws::grows_not))]
 #[inline(never)]
 fn note_reset(hosts: &mut [Tally], host: usize, answer: &Answer<()>)
@@ -165,7 +168,7 @@ fn note_reset(hosts: &mut [Tally], host: usize, answer: &Answer<()>)
     }
 }
 
-/// Records the frames that a drained host returned.
+/// Counts and records the frames that a drained host returned.
 fn note_drained(
     hosts: &mut [Tally],
     returned: &mut KeptFrames,
@@ -186,8 +189,8 @@ fn note_drained(
 }
 
 impl Record {
-    /// The record of these hosts before a run. If there is a list for frames that are put on wires, they are appended
-    /// to it. If `events` is true, a line is recorded for each event.
+    /// Returns the record of these hosts before a run. If `puts` is a list, the frames that are put on wires are
+    /// appended to it. If `events` is true, a line is recorded for each event and drain.
     pub(crate) fn new(
         alloc: Global,
         plans: &[HostPlan],
@@ -226,7 +229,7 @@ impl Record {
         }
     }
 
-    /// Records the answer of a socket, with its frame.
+    /// Counts and records the frame that a socket returned, if it returned a frame.
     #[inline(always)]
     fn note_received(&mut self, host: usize, socket: usize, answer: &Answer<()>, frame: &[u8])
         requires fits { length frame.now ≤ 1518 }
@@ -244,7 +247,8 @@ impl Record {
         }
     }
 
-    /// Records the answer of an event, with the frame that a socket returned. Joins and leaves aren't counted.
+    /// Counts the frames that an event's answer reports, and records the frame that a socket returned. The answers of
+    /// interrupts, joins, leaves and ticks report no frame.
     #[inline(always)]
     fn note_answer(&mut self, event: &Event, answer: &Answer<()>, frame: &[u8])
         requires fits { length frame.now ≤ 1518 }
@@ -259,8 +263,8 @@ impl Record {
         }
     }
 
-    /// Records the next drain: the frames that a host returned. The number of frames that its adapter moved isn't
-    /// recorded.
+    /// Records the next drain: the frames that a host returned. The number of frames that the host's adapter moved
+    /// isn't recorded.
     #[tactic(auto, using(crate::proofs::NotedEvents::drain_noted))]
     pub(crate) fn note_drain(
         &mut self,
@@ -322,7 +326,8 @@ impl RunObserver for Record {
             && (!matches!(event, Event::Recv { .. }) || self.returned.reserve(1).is_ok())
     }
 
-    // Only the record changes: as `NotesLine` and `NotesAnswer` state, and the number of the next event is one more.
+    // The record changes as `NotesLine` and then `NotesAnswer` state. Then `number` grows by 1, unless it is the
+    // greatest `u64`.
     #[inline(always)]
     fn answer(&mut self, event: &Event, accesses: u64, answer: Answer<()>, frame: &[u8]) {
         self.note_line(event, accesses, &answer, frame);

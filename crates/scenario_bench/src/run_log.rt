@@ -1,4 +1,4 @@
-//! The record of the answers of a run: the numbers of refused calls, and on request a line for each event.
+//! The record of the answers of a run: the numbers of refused calls, and on request a line for each event and drain.
 ghost use Rattle.std.specs.Prelude.{◌≡◌, ℕ, List, IfOk, OnOk, map};
 ghost use Rattle.adapter.specs.Outcomes.{with_frame};
 ghost use Rattle.network_plan.specs.Answers.{answer_with};
@@ -18,14 +18,14 @@ use std::alloc::{AllocError, Global};
 /// The record of the answers of a run.
 #[derive(Drop)]
 pub(crate) struct RunLog {
-    /// The calls that were refused.
+    /// The numbers of refused calls.
     pub(crate) refusals: Refusals,
-    /// A line for each event; `None` if they aren't recorded.
+    /// A line for each event and drain; `None` if lines aren't recorded.
     pub(crate) lines: Option<EventLog>,
 }
 
 impl RunLog {
-    /// A log without answers. If `events` is true, a line is recorded for each event.
+    /// Returns a log without answers. If `events` is true, a line is recorded for each event and drain.
     pub(crate) fn new(alloc: Global, plans: &[HostPlan], events: bool) -> Result<RunLog, AllocError>
         ensures { IfOk result (λ log. log ≡ new_log (map plan_name plans.now) events) }
     {
@@ -40,7 +40,7 @@ impl RunLog {
         })
     }
 
-    /// Makes room for the line of an event with this many ticks.
+    /// Makes room for the line of an event with `ticks` ticks, if lines are recorded.
     #[inline(always)]
     pub(crate) fn reserve(&mut self, ticks: usize) -> Result<(), AllocError>
         ensures { self.new ≡ self.old }
@@ -51,7 +51,7 @@ impl RunLog {
         }
     }
 
-    /// Records the outcome of a tick.
+    /// Records the outcome of a tick, if lines are recorded.
     #[inline(always)]
     pub(crate) fn note(
         &mut self,
@@ -69,7 +69,7 @@ impl RunLog {
         }
     }
 
-    /// Counts an answer, if it refuses a call or if there is no such socket.
+    /// Counts an answer that refuses a send, a join or a leave, or that reports that a socket doesn't exist.
     #[inline(always)]
     fn count(&mut self, answer: &Answer<()>)
         ensures { (frame : List ℕ) → self.new ≡ answered_log (answer_with frame answer.now) self.old }
@@ -87,7 +87,8 @@ impl RunLog {
         }
     }
 
-    /// Records the end of the event with this number. `line` is the number of its line in the scenario.
+    /// Counts the answer of the event with this number if it is a refusal, and records the event's line if lines are
+    /// recorded. `line` is the number of the event's line in the scenario.
     #[inline(always)]
     pub(crate) fn end(
         &mut self,
@@ -109,7 +110,7 @@ impl RunLog {
         }
     }
 
-    /// Records the drain with this number, at which a host returned `count` frames.
+    /// Records the line of the drain with this number, in which a host returned `count` frames, if lines are recorded.
     pub(crate) fn drain(
         &mut self,
         number: u64,

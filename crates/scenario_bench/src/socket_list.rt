@@ -7,7 +7,7 @@ use network_plan::HostPlan;
 use std::alloc::{AllocError, Global};
 
 /// Appends a pair of numbers for each socket of a host: the host's and the socket's. If memory is refused, some of the
-/// pairs may be appended.
+/// pairs may have been appended.
 fn push_sockets(
     host: usize,
     count: usize,
@@ -21,8 +21,8 @@ fn push_sockets(
     Ok(())
 }
 
-/// The sockets of these hosts, each as the number of its host and its own number: hosts in order, and the sockets of
-/// each in order.
+/// Returns the sockets of these hosts, each as the number of its host and the number of the socket. Hosts are in order,
+/// and the sockets of each host are in order.
 ///
 /// # Errors
 ///

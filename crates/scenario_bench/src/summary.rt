@@ -15,16 +15,16 @@ pub struct HostSummary {
     pub put: u64,
     /// The number of frames that reached its adapter.
     pub reached: u64,
-    /// The number of these frames that its adapter stored.
+    /// The number of frames that its adapter stored.
     pub stored: u64,
-    /// The number of frames that its adapter missed because the receive packet buffer was full, as its driver counts
-    /// them.
+    /// The number of frames that its adapter missed because the receive packet buffer was full
+    /// ([`Counts`](wire::Counts)).
     pub missed: u64,
-    /// Whether `missed` is exact; otherwise more frames were missed.
+    /// Whether `missed` is exact; otherwise more frames may have been missed.
     pub exact: bool,
     /// The number of frames that its sockets returned.
     pub given: u64,
-    /// The number of received frames that went to no socket.
+    /// The number of received frames that no socket took.
     pub unclaimed: u64,
     /// The numbers of frames that its resets gave up and dropped, if it was reset.
     pub given_up: Option<GivenUp>,
@@ -48,12 +48,12 @@ pub struct Refusals {
     pub sends: u64,
     /// Joins and leaves (E23 to E26).
     pub groups: u64,
-    /// Recvs that named a socket that doesn't exist (E31).
+    /// Recvs from a socket that doesn't exist (E31).
     pub sockets: u64,
 }
 
 impl Refusals {
-    /// These refused calls, and those between two later counts.
+    /// Returns these numbers plus the differences between two later counts.
     pub(crate) fn with_later(self, before: Refusals, after: Refusals) -> Refusals
         ensures { result ≡ with_later self before after }
     {
@@ -74,12 +74,12 @@ impl Refusals {
 /// The summary of a run.
 #[derive(Drop)]
 pub struct Summary {
-    /// The hosts of the plan, in order.
+    /// The summaries of the hosts of the plan, in order.
     pub hosts: Vec<HostSummary>,
-    /// The calls that were refused.
+    /// The numbers of refused calls.
     pub refusals: Refusals,
-    /// Those of the refused calls that aren't of `auto` lines.
+    /// The numbers of refused calls without those of `auto` lines.
     pub asked: Refusals,
-    /// A line for each event, if such lines were asked for.
+    /// A line for each event and drain, if `bench` was called with `events`.
     pub events: Option<EventLog>,
 }

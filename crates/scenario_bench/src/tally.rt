@@ -4,7 +4,7 @@ ghost use Rattle.scenario_bench.specs.Tallies.{counted_once, resets_in, tally_gi
 
 use crate::summary::GivenUp;
 
-/// The numbers of frames of a host that were accepted, put and so on. Each saturates at the greatest `u64`.
+/// The numbers of a host's frames that were accepted, put and so on. Each number saturates at the greatest `u64`.
 #[derive(Clone, Copy, Default)]
 pub(crate) struct Tally {
     pub(crate) accepted: u64,
@@ -12,35 +12,35 @@ pub(crate) struct Tally {
     pub(crate) reached: u64,
     pub(crate) stored: u64,
     pub(crate) given: u64,
-    /// Frames that resets gave up while they were to be sent.
+    /// Frames to be sent that resets gave up.
     pub(crate) sending: u64,
-    /// Frames that resets gave up while they were held.
+    /// Frames that the host held outside its sockets' queues, and that resets gave up.
     pub(crate) holding: u64,
-    /// Frames that reached the host while a reset had disabled its receive side.
+    /// Frames that reached the host's adapter while its receive side was disabled.
     pub(crate) off: u64,
     /// Whether the host was reset.
     pub(crate) is_reset: bool,
 }
 
-/// An event of a frame at a host that is counted.
+/// What happened to a frame at a host, as it is counted.
 #[derive(Clone, Copy)]
 pub(crate) enum Passage {
     /// A send accepted the frame.
     Accepted,
-    /// It was put on the wire.
+    /// The adapter put the frame on the wire.
     Put,
-    /// The frame reached the adapter, which didn't store it.
+    /// The frame reached the adapter while its receive side was enabled, and the adapter didn't store the frame.
     Reached,
     /// The frame reached the adapter while its receive side was disabled.
     Off,
-    /// The frame reached the adapter, which stored it.
+    /// The frame reached the adapter, which stored the frame.
     Stored,
     /// A socket returned the frame.
     Given,
 }
 
 impl Tally {
-    /// These counts with one more frame.
+    /// Returns these counts after one more passage of a frame.
     pub(crate) fn with(self, passage: Passage) -> Tally
         ensures { result ≡ counted_once passage self }
     {
@@ -62,7 +62,7 @@ impl Tally {
         tally
     }
 
-    /// These counts after a reset, which gave up these numbers of frames.
+    /// Returns these counts after a reset, which gave up these numbers of frames.
     pub(crate) fn given_up(self, sending: u64, holding: u64) -> Tally
         ensures { result ≡ tally_given_up sending holding self }
     {
@@ -74,7 +74,7 @@ impl Tally {
         }
     }
 
-    /// The numbers of frames that resets gave up and dropped, if there was a reset.
+    /// Returns the numbers of frames that resets gave up and dropped, if there was a reset.
     pub(crate) fn resets(self) -> Option<GivenUp>
         ensures { result ≡ resets_in self }
     {

@@ -7,8 +7,8 @@ ghost use Rattle.scenario_bench.specs.WireLists.{names_in};
 use network_plan::HostPlan;
 use std::alloc::{AllocError, Global};
 
-/// The names of the wires of these hosts: each once, in the order in which the hosts first name them. It is for callers
-/// of [`bench`](crate::bench), which takes a sink for each.
+/// Returns the names of the wires of these hosts: each name once, in the order in which it first occurs in `plans`.
+/// [`bench`](crate::bench) takes sinks for these wires.
 ///
 /// # Errors
 ///

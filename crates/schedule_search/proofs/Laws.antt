@@ -1,4 +1,4 @@
--- All schedules are tried.
+-- The runs of a search are the list of all schedules.
 use Rattle.std.proofs.Common.{◌≡◌, ◌∙◌, ◌+◌, ◌-◌, ◌++◌, ◌∷◌, [], ℕ, Bool, true, false, List, Option, None, Some, ap, arith, cond, nat_lt}
 use Rattle.std.proofs.Common.{refl, suc, sym, zero}
 use Rattle.std.proofs.lemmas.Bool.Decides.{nat_tests}

@@ -1,4 +1,4 @@
--- The list of schedules has each one once.
+-- The list of schedules contains each schedule once.
 use Rattle.std.proofs.Common.{◌≡◌, ◌≢◌, ◌∙◌, ◌+◌, ◌-◌, ◌<◌, ◌≤◌, ◌++◌, ◌∷◌, [], ◌⊎◌, ℕ, List, Option, None, Some, ap, arith, inl, inr}
 use Rattle.std.proofs.Common.{length, refl, reverse, subst, suc, sym, zero}
 use Rattle.std.proofs.lemmas.Bool.Decides.{nat_tests}

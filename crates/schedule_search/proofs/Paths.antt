@@ -19,7 +19,7 @@ path-cons choices count none fits =
 abbrev pub no_choice : Choice
 no_choice = record { place = record { key = record { one = 0; two = 0 }; possible = 0 }; left = 0; taken = 0 }
 
--- the newest choice of a path, and the others
+-- a path consists of its newest choice and the path before it
 pub split : (choices : List Choice) (count : ℕ) → (count ≡ 0 → ⊥) → count ≤ length choices
     → path_of count choices ≡ get_or choices (count - 1) no_choice ∷ path_of (count - 1) choices
 split choices count some fits =

@@ -1,4 +1,4 @@
--- The steps of a search keep what holds of it.
+-- Each step of a search preserves the invariant `IsSearch`.
 use Rattle.std.proofs.Common.{◌≡◌, ◌-◌, ◌<◌, ◌≤◌, ◌∷◌, ℕ, List, Some, arith, get_or, length, set, subst, sym}
 use Rattle.std.proofs.Math.ListN.{length-set}
 use Rattle.schedule_search.specs.Tests.{AllPass, EqualKeys, Test}
@@ -57,7 +57,7 @@ another test search choices table next some fits less is holds all = record {
   none_failed = holds.none_failed;
 }
 
--- the newest choice was the last one at its place: all schedules pass that begin with the others
+-- the newest choice was the last one at its place, so all schedules that begin with the path without it pass
 pub removed_passes : (test : Test) (search : Search) (choices : List Choice) (table : List Known)
     → (search.count ≡ 0 → ⊥) → search.count ≤ length choices
     → (get_or choices (search.count - 1) no_choice).place.possible ≤ (get_or choices (search.count - 1) no_choice).taken
@@ -96,7 +96,7 @@ removed test search choices table new some fits last more holds equal all =
       none_failed = holds.none_failed;
     }
 
--- a place whose state is known
+-- all schedules pass from a place whose state is known
 pub known : (test : Test) (search : Search) (choices : List Choice) (table : List Known) (place : Place) (entry : Known) (left : ℕ)
     → IsTrueKnown test search.cost entry → IsKnownBy entry place.key left
     → left ≡ left_of search.cost search.depth (path_of search.count choices)

@@ -86,7 +86,7 @@ all_tried test cost choice run tried last all (number ∷ later) schedule =
     all_at test cost choice run number schedule.0 later tried last all
     (some_injective choice.place schedule.0 (test.at run) tried.place schedule.1.0) schedule.1.1 schedule.1.2
 
--- what is known of a state holds
+-- from a known state, all schedules pass whose deviations cost at most what its entry states
 pub known_passes : (test : Test) (cost left : ℕ) (entry : Known) (place : Place) (run : List ℕ)
     → IsTrueKnown test cost entry → IsKnownBy entry place.key left → test.at run ≡ Some place → AllPass test cost left run
 known_passes test cost left entry place run true_known known is =

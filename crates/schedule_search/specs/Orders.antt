@@ -1,4 +1,4 @@
--- In which order a search tries schedules, if no state is known.
+-- The order in which a search tries schedules, if no state is known.
 use Rattle.std.specs.Prelude.{◌≡◌, ◌≢◌, ◌≤◌, ◌+◌, ◌-◌, ◌++◌, ◌∷◌, [], ℕ, List, Option, None, Some, length, nat_lt, suc, zero, if◌then◌else◌}
 use Rattle.std.specs.Prelude.{All, Contains}
 use Rattle.std.specs.Option.{option_map}
@@ -19,12 +19,13 @@ schedules_at all cost left run (Some place) =
     let first : ℕ = (first_choice cost left place).taken in
     below all cost left place.possible run first (suc (place.possible - first))
 
--- All schedules that begin with a run, have at most `room` later places, and whose later deviations cost at most `left`.
+-- The schedules that begin with a run, and whose later deviations cost at most `left`. A schedule with more than `room` later places is cut
+-- after `room` of them.
 abbrev pub schedules : Test → ℕ → ℕ → ℕ → List ℕ → List (List ℕ)
 schedules test cost zero left run = run ∷ []
 schedules test cost (suc room) left run = schedules_at (schedules test cost room) cost left run (test.at run)
 
--- the schedules that come after all that begin with a path
+-- the schedules after all schedules that begin with a path
 abbrev pub rest : Test → ℕ → List Choice → ℕ → List (List ℕ)
 rest test cost [] room = []
 rest test cost (choice ∷ path) room =
@@ -36,7 +37,7 @@ pub record Reached : Type 0 where
   pub path : List Choice
   pub room : ℕ
 
--- The whole path of a run that begins with a path, and makes the first choice at each later place.
+-- The whole path of a run that begins with a path, and makes the first choice at each later place, up to `room` later places.
 abbrev pub ended_at : (List Choice → Reached) → ℕ → ℕ → ℕ → List Choice → Option Place → Reached
 ended_at run cost depth room path None = record { path = path; room = room }
 ended_at run cost depth room path (Some place) = run (first_choice cost (left_of cost depth path) place ∷ path)
@@ -46,13 +47,14 @@ ended test cost depth zero path = record { path = path; room = 0 }
 ended test cost depth (suc room) path =
     ended_at (ended test cost depth room) cost depth (suc room) path (test.at (run_of path))
 
--- the path to try after a path: the next choice at the newest place that has one; none if there is no such place
+-- the path to try after a path: the next choice at the newest place with a next choice, without later places; no path if there is no such
+-- place
 abbrev pub next_path : List Choice → Option (List Choice)
 next_path [] = None
 next_path (choice ∷ path) =
     if nat_lt choice.taken choice.place.possible then Some (next_choice choice ∷ path) else next_path path
 
--- the next path to try, and the number of places that may follow it
+-- the next path to try, if there is one, and the number of places that may follow it
 abbrev pub next : List Choice → ℕ → Option Reached
 next [] room = None
 next (choice ∷ path) room =
@@ -70,7 +72,7 @@ abbrev pub from_next : Test → ℕ → ℕ → Option Reached → List (List �
 from_next test cost depth None = []
 from_next test cost depth (Some reached) = from_run test cost (ended test cost depth reached.room reached.path)
 
--- The first run, and then the run of each next path until there is none, are all schedules, each once, in order.
+-- The first run, and then the run of each next path until there is none, are the list `schedules`, in order.
 pub record AllAreTried : Type 0 where
   pub begins : (test : Test) (cost depth room : ℕ)
       → schedules test cost room depth [] ≡ from_run test cost (ended test cost depth room [])
@@ -80,7 +82,8 @@ pub record AllAreTried : Type 0 where
 
 -- The list of schedules.
 
--- After a run, these numbers are a schedule up to the end of the test, or the first `room` numbers of one.
+-- After a run, a test may take these numbers, with deviations that cost at most `left`: the numbers up to the end of the test if there are
+-- at most `room`, or else the first `room` numbers.
 abbrev pub IsWithin : Test → ℕ → ℕ → ℕ → List ℕ → List ℕ → Type 0
 IsWithin test cost zero left run later = later ≡ []
 IsWithin test cost (suc room) left run [] = test.at run ≡ None
@@ -93,7 +96,8 @@ abbrev pub AreDifferent : List (List ℕ) → Type 0
 AreDifferent [] = Unit {0}
 AreDifferent (run ∷ runs) = All (λ other. run ≢ other) runs × AreDifferent runs
 
--- The list of schedules has each schedule with at most `room` places, only schedules, and none twice.
+-- The list of schedules contains each schedule with at most `room` later places, otherwise only the first `room` places of longer runs, and
+-- no run twice.
 pub record ListsAll : Type 0 where
   pub each : (test : Test) (cost room left : ℕ) (run later : List ℕ) → IsSchedule test cost left run later
       → length later ≤ room → Contains (schedules test cost room left run) (played run later)

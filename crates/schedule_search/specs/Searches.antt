@@ -8,7 +8,7 @@ use Rattle.schedule_search.specs.declared.path.Place.{Place}
 use Rattle.schedule_search.specs.declared.search.Search.{Search}
 use Rattle.schedule_search.specs.Tests.{AllPass, MayTake, Test, left_after}
 
--- the path in the first choices of a slice
+-- the path in the first `count` choices of a slice, in which the oldest choice is first
 abbrev pub path_of : ℕ → List Choice → List Choice
 path_of count choices = reverse (take count choices)
 
@@ -17,12 +17,12 @@ abbrev pub run_of : List Choice → List ℕ
 run_of [] = []
 run_of (choice ∷ path) = choice.taken ∷ run_of path
 
--- the greatest total cost of deviations after a path
+-- the maximum total cost of the deviations after a path
 abbrev pub left_of : ℕ → ℕ → List Choice → ℕ
 left_of cost depth [] = depth
 left_of cost depth (choice ∷ path) = left_after cost choice.left choice.place.possible choice.taken
 
--- the first choice at a place: the first deviation, if it doesn't cost too much, and else none
+-- the first choice at a place: number 0 if a deviation costs at most `left`, or else no deviation
 abbrev pub first_choice : ℕ → ℕ → Place → Choice
 first_choice cost left place =
     record { place = place; left = left; taken = if nat_lt left cost then place.possible else 0 }
@@ -30,20 +30,20 @@ first_choice cost left place =
 abbrev pub next_choice : Choice → Choice
 next_choice choice = record choice { taken = choice.taken + 1 }
 
--- A choice is made after a run, and all schedules pass that take a smaller number here.
+-- A choice may be made after a run, and for each smaller number that may be taken at its place, all schedules that take the number pass.
 pub record IsTried (test : Test) (cost : ℕ) (choice : Choice) (run : List ℕ) : Type 0 where
   pub place : test.at run ≡ Some choice.place
   pub may : MayTake cost choice.left choice.place.possible choice.taken
   pub before : (number : ℕ) → number < choice.taken → MayTake cost choice.left choice.place.possible number
       → AllPass test cost (left_after cost choice.left choice.place.possible number) (number ∷ run)
 
--- At each choice of a path, all schedules pass that take a smaller number there.
+-- Each choice of a path is tried (`IsTried`), and its `left` is the maximum total cost that the choices before it leave.
 abbrev pub AreTried : Test → ℕ → ℕ → List Choice → Type 0
 AreTried test cost depth [] = Unit {0}
 AreTried test cost depth (choice ∷ path) =
     IsTried test cost choice (run_of path) × (choice.left ≡ left_of cost depth path) × AreTried test cost depth path
 
--- From each place with the key of an entry, each schedule whose deviations cost at most the cost in the entry passes.
+-- If an entry isn't empty, each schedule from a place with the entry's key passes, if its deviations cost at most the entry's `left`.
 abbrev pub IsTrueKnown : Test → ℕ → Known → Type 0
 IsTrueKnown test cost entry =
     0 < entry.key.one → (run : List ℕ) (place : Place) → test.at run ≡ Some place → place.key ≡ entry.key
@@ -63,7 +63,7 @@ pub record IsSearch (test : Test) (search : Search) (choices : List Choice) (tab
 abbrev pub run_in : Search → List Choice → List ℕ
 run_in search choices = run_of (path_of search.count choices)
 
--- All schedules pass that begin with the path of a search.
+-- All schedules that begin with the path of a search pass, if their later deviations cost at most `left_of` that path.
 abbrev pub BelowPass : Test → Search → List Choice → Type 0
 BelowPass test search choices =
     AllPass test search.cost (left_of search.cost search.depth (path_of search.count choices)) (run_in search choices)
@@ -75,11 +75,11 @@ known_of key left = record { key = key; left = left }
 abbrev pub IsKnownBy : Known → Key → ℕ → Type 0
 IsKnownBy entry key left = (0 < key.one) × (entry.key ≡ key) × (left ≤ entry.left)
 
--- A table has no new entry but this one.
+-- Only this entry of a table may be new.
 abbrev pub HasOneMore : List Known → Known → List Known → Type 0
 HasOneMore old entry new = (new ≡ old) ⊎ ((at : ℕ) × (new ≡ slice_set old at entry))
 
--- A run that has ended, and passes, is the only schedule that begins with it.
+-- If a run has ended and passes, all schedules that begin with this run pass.
 abbrev pub RunsPass : Type 0
 RunsPass =
     (test : Test) (cost left : ℕ) (run : List ℕ) → test.at run ≡ None → test.passes run ≡ true → AllPass test cost left run

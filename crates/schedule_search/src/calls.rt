@@ -1,5 +1,5 @@
-// The calls of C, which `bindings/c/explore/schedule_search.h` declares. Each makes one call of this crate. Its result
-// is a number.
+// The calls of C, which `bindings/c/explore/schedule_search.h` declares. Each makes one call of this crate, and returns
+// results as numbers.
 
 ghost use Rattle.std.specs.List.{Any};
 ghost use Rattle.std.specs.Prelude.{◌≡◌, ◌<◌, ◌≤◌, ◌∷◌, ◌⊎◌, [], ℕ, None, Some, length, slice_index_or};
@@ -13,21 +13,21 @@ ghost use Rattle.schedule_search.specs.Tests.{AllPass, EqualKeys, Test};
 use crate::path::{Choice, Key, Known, Place};
 use crate::search::{Met, Search, Step};
 
-/// The newest choice of the path is taken.
+/// The run takes the newest choice of the path.
 pub const GOES: u32 = 0;
-/// All schedules pass that begin with the path.
+/// All schedules that begin with the path pass.
 pub const PASSES: u32 = 1;
-/// The path has no room.
+/// The path has no room for another choice.
 pub const FULL: u32 = 2;
 
-/// The newest choice of the path, which has changed, is taken.
+/// The newest choice of the path has changed, and the next run takes it.
 pub const ANOTHER: u32 = 0;
-/// There is one choice less, and all schedules that begin with the path were tried.
+/// The newest choice was removed, and all schedules that begin with the shorter path were tried.
 pub const REMOVED: u32 = 1;
 /// All schedules were tried.
 pub const ENDED: u32 = 2;
 
-/// Begins a search of the schedules whose deviations cost at most `depth`, with nothing known.
+/// Begins a search of the schedules whose deviations cost at most `depth` in total. Clears the table of known states.
 #[unsafe(no_mangle)]
 pub extern "C" fn schedule_search_begin(
     search: &mut Search,
@@ -42,7 +42,7 @@ pub extern "C" fn schedule_search_begin(
     *search = crate::begin(depth, cost, path, known);
 }
 
-/// The run of the path comes to a place: what to do there.
+/// The run of the path is at this place. Returns [`GOES`], [`PASSES`] or [`FULL`].
 #[unsafe(no_mangle)]
 pub extern "C" fn schedule_search_meet(
     search: &mut Search,
@@ -73,7 +73,7 @@ pub extern "C" fn schedule_search_meet(
     }
 }
 
-/// All schedules that begin with the path were tried: what to do next.
+/// All schedules that begin with the path were tried. Returns [`ANOTHER`], [`REMOVED`] or [`ENDED`].
 #[unsafe(no_mangle)]
 pub extern "C" fn schedule_search_back(
     search: &mut Search,
@@ -106,7 +106,7 @@ pub extern "C" fn schedule_search_back(
     }
 }
 
-/// The run of the path has failed: after none of its choices do all schedules pass.
+/// Notes that the run of the path has failed. So from the place of each of its choices, a schedule fails.
 #[unsafe(no_mangle)]
 pub extern "C" fn schedule_search_fail(search: &mut Search)
     ensures { search.new ≡ record search.old { failing = search.old.count } }
@@ -114,17 +114,19 @@ pub extern "C" fn schedule_search_fail(search: &mut Search)
     crate::fail(search);
 }
 
-/// The index of the entry of a key, or else of an empty one. If there is neither, the number of entries.
+/// Returns the index of the entry of a key, or else of an empty entry. If there is neither, returns the number of
+/// entries.
 #[unsafe(no_mangle)]
 pub extern "C" fn schedule_search_find(known: &[Known], key: &Key) -> usize
     ensures within { result ≤ length known.now }
     ensures found { (none : Known) → result < length known.now
-        → ((slice_index_or known.now result none).key.one ≡ 0) ⊎ ((slice_index_or known.now result none).key ≡ key.now) }
+        → ((slice_index_or known.now result none).key.one ≡ 0)
+        ⊎ ((slice_index_or known.now result none).key ≡ key.now) }
 {
     crate::find(known, *key)
 }
 
-/// Notes all entries of a table in another one.
+/// Notes all entries of a table that aren't empty in another table, as far as there is room.
 #[unsafe(no_mangle)]
 pub extern "C" fn schedule_search_grow(from: &[Known], known: &mut [Known])
     ensures { (test : Test) (cost : ℕ) → AreKnown test cost from.now → AreKnown test cost known.old

@@ -7,8 +7,8 @@ ghost use Rattle.schedule_search.specs.declared.path.Known.{Known};
 
 use crate::path::{Key, Known};
 
-/// The index of the entry of a key, or else of an empty one, into which it may be put. If there is neither, the number
-/// of entries.
+/// Returns the index of the entry of a key, or else of an empty entry, in which the key can be stored. If there is
+/// neither, returns the number of entries.
 pub fn find(known: &[Known], key: Key) -> usize
     ensures within { result ≤ length known.now }
     ensures found { (none : Known) → result < length known.now
@@ -29,16 +29,16 @@ pub fn find(known: &[Known], key: Key) -> usize
     size
 }
 
-/// Whether an entry states that from the known state with this key, each schedule whose deviations cost at most `left`
-/// passes.
+/// Whether an entry states that from the state with this key, each schedule whose deviations cost at most `left`
+/// passes. Returns `false` if `key.one` is 0.
 pub(crate) fn is_known(entry: Known, key: Key, left: u32) -> bool
     ensures { result ≡ true → IsKnownBy entry key left }
 {
     key.one > 0 && entry.key.one == key.one && entry.key.two == key.two && left <= entry.left
 }
 
-/// Notes that from a state, each schedule passes whose deviations cost at most `left`. The note is in the entry of the
-/// key, or else in an empty one. Does nothing if there is neither.
+/// Notes that from the state with this key, each schedule whose deviations cost at most `left` passes. Stores the note
+/// in the entry of the key, or else in an empty entry. Does nothing if there is neither.
 pub(crate) fn note(known: &mut [Known], key: Key, left: u32)
     ensures { HasOneMore known.old (known_of key left) known.new }
 {
@@ -48,7 +48,7 @@ pub(crate) fn note(known: &mut [Known], key: Key, left: u32)
     }
 }
 
-/// Notes all entries of a table in another one.
+/// Notes all entries of a table that aren't empty in another table, as far as there is room.
 pub fn grow(from: &[Known], known: &mut [Known])
     ensures { (test : Test) (cost : ℕ) → AreKnown test cost from.now → AreKnown test cost known.old
         → AreKnown test cost known.new }

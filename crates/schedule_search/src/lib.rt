@@ -1,7 +1,7 @@
 //! The search of all schedules of a test, as a library for C: which deviation to take next, and which states are known.
 //!
-//! `bindings/c/explore/schedule_search.h` declares the calls. A search has no loop of its own. Its caller plays the
-//! runs: at each place it calls [`meet`], and after each run [`back`]. The path of choices and the table of known
+//! `bindings/c/explore/schedule_search.h` declares the calls. A search has no loop over runs. The caller plays the
+//! runs: it calls [`meet`] at each place, and [`back`] after each run. The path of choices and the table of known
 //! states are slices that the caller keeps.
 #![tactic(auto)]
 
@@ -21,17 +21,18 @@ pub use known::{find, grow};
 pub use path::{Choice, Key, Known, Place};
 pub use search::{Met, Search, Step, back, begin, fail, meet};
 
-/// The first run, and then that of each next path, are all schedules, each once.
+/// The first run, and then the run of each next path, are the list of the schedules, in order.
 pub fn all_are_tried()
     ensures { AllAreTried }
 {}
 
-/// The list of all schedules has each one once, and no other runs.
+/// The list of schedules contains each schedule with at most a given number of places, otherwise only beginnings of
+/// longer runs, and no run twice.
 pub fn lists_all()
     ensures { ListsAll }
 {}
 
-/// A run that has passed is all schedules that begin with its path.
+/// If a run has ended and passes, all schedules that begin with this run pass.
 pub fn runs_pass()
     ensures { RunsPass }
 {}

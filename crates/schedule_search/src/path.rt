@@ -1,10 +1,10 @@
-//! Choices, and the path of them.
+//! Choices, and the path that consists of choices.
 
 ghost use Rattle.std.specs.Prelude.{◌≡◌, ◌+◌, ◌-◌, ◌<◌, ◌≤◌, length};
 ghost use Rattle.schedule_search.specs.Searches.{first_choice, left_of, next_choice, path_of};
 ghost use Rattle.schedule_search.specs.Tests.{left_after};
 
-/// The digest of a state. If `one` is 0, the state isn't known.
+/// The digest of a state. If `one` is 0, the state never counts as known.
 #[repr(C)]
 #[derive(Clone, Copy)]
 pub struct Key {
@@ -20,18 +20,18 @@ pub struct Place {
     pub possible: u32,
 }
 
-/// The number that is taken at a place of a run.
+/// A choice: the number that a run takes at a place.
 #[repr(C)]
 #[derive(Clone, Copy)]
 pub struct Choice {
     pub place: Place,
-    /// The greatest total cost of the deviations from here on.
+    /// The maximum total cost of the deviations at this place and after it.
     pub left: u32,
-    /// The number of the deviation, or `possible` for none.
+    /// The number of the deviation, or `possible` for no deviation.
     pub taken: u32,
 }
 
-/// A state from which each schedule whose deviations cost at most `left` passes. If `key.one` is 0, there is none.
+/// A state from which each schedule whose deviations cost at most `left` passes. If `key.one` is 0, the entry is empty.
 #[repr(C)]
 #[derive(Clone, Copy)]
 pub struct Known {
@@ -39,7 +39,7 @@ pub struct Known {
     pub left: u32,
 }
 
-/// How much the deviations may cost after a choice.
+/// Returns the maximum total cost of the deviations after a choice.
 pub(crate) fn after(cost: u32, choice: Choice) -> u32
     ensures { result ≡ left_after cost choice.left choice.place.possible choice.taken }
 {
@@ -52,7 +52,7 @@ pub(crate) fn after(cost: u32, choice: Choice) -> u32
     choice.left - cost
 }
 
-/// How much the deviations may cost after a path.
+/// Returns the maximum total cost of the deviations after the first `count` choices of a path.
 pub(crate) fn left(depth: u32, cost: u32, path: &[Choice], count: usize) -> u32
     requires { count ≤ length path.now }
     ensures { result ≡ left_of cost depth (path_of count path.now) }
@@ -63,7 +63,7 @@ pub(crate) fn left(depth: u32, cost: u32, path: &[Choice], count: usize) -> u32
     after(cost, path[count - 1])
 }
 
-/// The first choice at a place.
+/// Returns the first choice at a place: number 0 if a deviation costs at most `left`, or else no deviation.
 pub(crate) fn first(cost: u32, left: u32, place: Place) -> Choice
     ensures { result ≡ first_choice cost left place }
 {
@@ -74,7 +74,7 @@ pub(crate) fn first(cost: u32, left: u32, place: Place) -> Choice
     }
 }
 
-/// The next choice at a place that has one.
+/// Returns the choice of the next number at the same place.
 pub(crate) fn next(choice: Choice) -> Choice
     requires { choice.taken < choice.place.possible }
     ensures { result ≡ next_choice choice }

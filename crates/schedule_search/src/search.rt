@@ -1,4 +1,4 @@
-//! A search, and the steps of it that its caller makes.
+//! A search, and the calls with which a caller makes the search's steps.
 
 ghost use Rattle.std.specs.List.{Any};
 ghost use Rattle.std.specs.Prelude.{◌≡◌, ◌<◌, ◌≤◌, ◌∷◌, [], None, Some, length};
@@ -11,40 +11,40 @@ ghost use Rattle.schedule_search.specs.Tests.{AllPass, EqualKeys, Test};
 use crate::known::{find, is_known, note};
 use crate::path::{Choice, Key, Known, Place, first, left, next};
 
-/// A search of the schedules whose deviations cost at most `depth`.
+/// A search of the schedules whose deviations cost at most `depth` in total.
 #[repr(C)]
 #[derive(Clone, Copy)]
 pub struct Search {
     pub depth: u32,
-    /// The cost of a deviation: 1, or 0 if there may be any number of deviations.
+    /// The cost of each deviation. If the cost is 0, a schedule may have any number of deviations.
     pub cost: u32,
     /// The number of choices in the path.
     pub count: usize,
-    /// The number of choices, from the first one, after which a schedule has failed.
+    /// The number of choices, from the first one, from whose places a schedule has failed.
     pub failing: usize,
 }
 
-/// The action at a place.
+/// What the caller does at a place.
 pub enum Met {
-    /// The newest choice of the path is taken.
+    /// The run takes the newest choice of the path.
     Goes,
     /// All schedules that begin with the path pass.
     Passes,
-    /// The path has no room.
+    /// The path has no room for another choice.
     Full,
 }
 
-/// The action after all schedules that begin with a path were tried.
+/// What the caller does after all schedules that begin with a path were tried.
 pub enum Step {
-    /// The newest choice of the path, which has changed, is taken.
+    /// The newest choice of the path has changed, and the next run takes it.
     Another,
-    /// The newest choice is removed, and all schedules that begin with the shorter path were tried.
+    /// The newest choice was removed, and all schedules that begin with the shorter path were tried.
     Removed,
-    /// The search has come to its end.
+    /// All schedules were tried.
     Ended,
 }
 
-/// A search that begins, with nothing known.
+/// Begins a search. Clears the table of known states.
 pub fn begin(depth: u32, cost: u32, path: &[Choice], known: &mut [Known]) -> Search
     ensures search { (test : Test) → IsSearch test result path.now known.new }
     ensures begins { result ≡ record { depth = depth; cost = cost; count = 0; failing = 0 } }
@@ -63,7 +63,7 @@ pub fn begin(depth: u32, cost: u32, path: &[Choice], known: &mut [Known]) -> Sea
     }
 }
 
-/// The run of the path comes to a place. Returns the action there.
+/// The run of the path is at this place. Returns what the caller does there.
 pub fn meet(search: &mut Search, path: &mut [Choice], known: &[Known], place: Place) -> Met
     ensures search { (test : Test) → IsSearch test search.old path.old known.now
         → test.at (run_in search.old path.old) ≡ Some place → IsSearch test search.new path.new known.now }
@@ -71,7 +71,8 @@ pub fn meet(search: &mut Search, path: &mut [Choice], known: &[Known], place: Pl
         → test.at (run_in search.old path.old) ≡ Some place → result ≡ Met.Passes
         → BelowPass test search.new path.new }
     ensures goes { result ≡ Met.Goes → path_of search.new.count path.new
-        ≡ first_choice search.old.cost (left_of search.old.cost search.old.depth (path_of search.old.count path.old)) place
+        ≡ first_choice search.old.cost (left_of search.old.cost search.old.depth (path_of search.old.count path.old))
+        place
         ∷ path_of search.old.count path.old }
     ensures same { result ≡ Met.Passes → (search.new ≡ search.old) × (path.new ≡ path.old) }
     ensures full { result ≡ Met.Full → length path.old ≤ search.old.count }
@@ -92,7 +93,7 @@ pub fn meet(search: &mut Search, path: &mut [Choice], known: &[Known], place: Pl
     Met::Goes
 }
 
-/// All schedules that begin with the path were tried. Returns the next action.
+/// All schedules that begin with the path were tried. Returns what the caller does next.
 pub fn back(search: &mut Search, path: &mut [Choice], known: &mut [Known]) -> Step
     ensures search { (test : Test) → IsSearch test search.old path.old known.old → EqualKeys test
         → BelowPass test search.old path.old → IsSearch test search.new path.new known.new }
@@ -130,7 +131,7 @@ pub fn back(search: &mut Search, path: &mut [Choice], known: &mut [Known]) -> St
     Step::Removed
 }
 
-/// The run of the path has failed: after none of its choices do all schedules pass.
+/// Notes that the run of the path has failed. So from the place of each of its choices, a schedule fails.
 pub fn fail(search: &mut Search)
     ensures { search.new ≡ record search.old { failing = search.old.count } }
 {

@@ -66,7 +66,7 @@ recounts_join a b c first later one two = record {
   count = omega (arith, one.count, two.count, length-append first.accesses later.accesses);
 }
 
--- Each access increases the count of a solo bus by one.
+-- Each access increases the count of a solo bus by one, up to the greatest u64.
 pub recounts_count : (a b : SoloState) (past : Past) → Recounts a b past
     → min b.accesses most_accesses ≡ min (min a.accesses most_accesses + length past.accesses) most_accesses
 recounts_count a b past recounts = omega (arith, recounts.count)
@@ -109,7 +109,7 @@ lively_phy_tick : (lively : Bool) → sum_by phy_tick (lively_ticks lively) ≡ 
 lively_phy_tick true = refl
 lively_phy_tick false = refl
 
--- The record of a lively bus contains the ticks that the bus plays by itself.
+-- Each record of a solo bus counts the ticks as `PlaysLively` states.
 pub recounts_lively : (a b : SoloState) (past : Past) → Recounts a b past → PlaysLively a past
 recounts_lively a b past recounts = record {
   eeprom =

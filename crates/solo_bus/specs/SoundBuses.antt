@@ -1,5 +1,5 @@
 -- The worlds of the buses of `src/sound_buses.rt` (our choice), by the size of their memory and the words of their EEPROM. The memory is
--- all zeros, so each receive descriptor names the buffer at address 0. Both rings, of eight slots each, are after this buffer.
+-- all zeros, so each receive descriptor points to the buffer at address 0. Both rings, of eight slots each, are after this buffer.
 use Rattle.std.specs.Prelude.{◌+◌, ℕ, List, [], ◌∷◌, replicate}
 use Rattle.descriptors.specs.Frames.{shortest_frame}
 use Rattle.mdic_phy.specs.declared.phy.Link.TheVariants.{Never}
@@ -29,7 +29,7 @@ resting size words = record {
 abbrev pub ready : ℕ → List ℕ → World
 ready size words = offering (resting size words)
 
--- A broadcast frame.
+-- A broadcast frame of the shortest legal length.
 abbrev pub call : List ℕ
 call = replicate shortest_frame 255
 
@@ -45,7 +45,7 @@ working size words = world_after_step RxData Moved (called size words)
 abbrev pub finished_slot : ℕ → List ℕ → World
 finished_slot size words = world_after_step RxDone Done (working size words)
 
--- A transmit descriptor of 60 bytes at 2,304, with EOP, IFCS and RS.
+-- A transmit descriptor of a frame of 60 bytes at address 2,304, with EOP, IFCS and RS.
 abbrev pub request : List ℕ
 request = 0 ∷ 9 ∷ 0 ∷ 0 ∷ 0 ∷ 0 ∷ 0 ∷ 0 ∷ 60 ∷ 0 ∷ 0 ∷ 11 ∷ 0 ∷ 0 ∷ 0 ∷ 0 ∷ []
 

@@ -8,8 +8,8 @@ use Rattle.adapter.specs.Conditions.{FitBuffers, Sound}
 use Rattle.adapter.specs.Running.{CanRun}
 use Rattle.adapter.specs.World.{receive_ring, transmit_ring, World}
 
--- Some world has this property and meets the conditions, with the first slot of each ring as the oldest one. Its frames fit into buffers of
--- the size that RCTL.BSIZE selects, and its engines can run.
+-- Some world has this property and meets the conditions, with the first slot of each ring as the oldest one. The frames of this world fit
+-- into buffers of the size that RCTL.BSIZE selects, and its engines can run.
 abbrev pub SomeSound : (World → Type 0) → Type 0
 SomeSound Has = (world : World) × Sound 0 0 world × FitBuffers (buffer_size world) 0 world × CanRun world × Has world
 
@@ -28,7 +28,7 @@ HasFinished world = finished 0 world ≢ []
 abbrev pub HasWrittenBack : World → Type 0
 HasWrittenBack world = written_back 0 world ≢ []
 
--- Frames are to be taken: the descriptors from TDH to TDT name them.
+-- The transmit ring has offered slots, and frames are to be sent.
 pub record HasFramesInRing (world : World) : Type 0 where
   pub slots : offered (transmit_ring world) ≢ []
   pub frames : frames_to_send world ≢ []

@@ -32,8 +32,8 @@ pub enum SoloTick {
 
 /// A bus with one adapter and its memory, and no other device at its wire.
 ///
-/// In contracts, the value is a `SoloState`, plain data that `specs/SoloBuses.antt` defines. All memory is allocated
-/// when the bus is made.
+/// In contracts, the value is a `SoloState`, plain data that `specs/SoloBuses.antt` defines. `new` allocates all
+/// memory.
 #[derive(Drop)]
 pub struct SoloBus {
     machine: Machine,
@@ -67,8 +67,8 @@ impl SoloBus {
     ghost use Rattle.adapter.specs.World.{world_after_read, world_after_store, world_after_write};
     ghost use Rattle.dma_memory.specs.HostMemory.{bytes_at, LiesIn};
 
-    /// A bus without ticks to be played, and with an empty wire. A lively bus plays a tick of the EEPROM and a tick of
-    /// the PHY before each access.
+    /// Returns a bus without ticks to be played, and with an empty wire. A lively bus plays a tick of the EEPROM and a
+    /// tick of the PHY before each access.
     ///
     /// # Errors
     ///
@@ -111,8 +111,8 @@ impl SoloBus {
         self.machine.step(kind, wire_free)
     }
 
-    /// Copies the frame that the adapter puts next, if there is one, to the end of the frames on the wire, which must
-    /// have room.
+    /// Copies the frame that the adapter puts next, if there is one, to the end of the frames on the wire. The wire
+    /// must have room.
     fn put_oldest(&mut self)
         requires { length self.old.wire < WIRE_FRAMES }
         ensures { self.new ≡ record self.old {
@@ -155,7 +155,7 @@ impl SoloBus {
         }
     }
 
-    /// The number of ticks that wait to be played.
+    /// Returns the number of ticks that wait to be played.
     pub fn waiting(&self) -> usize
         ensures count { result ≡ length self.now.waiting }
         ensures fits { result ≤ MOST_TICKS }
@@ -225,14 +225,14 @@ impl SoloBus {
         self.count_access();
     }
 
-    /// Whether the bus plays a tick of the EEPROM and a tick of the PHY before each access.
+    /// Returns whether the bus plays a tick of the EEPROM and a tick of the PHY before each access.
     pub fn is_lively(&self) -> bool
         ensures { result ≡ self.now.lively }
     {
         self.lively
     }
 
-    /// Whether the adapter's interrupt line is asserted: exactly while a recorded cause is in the mask.
+    /// Returns whether the adapter's interrupt line is asserted: exactly while a recorded cause is in the mask.
     pub fn line(&self) -> bool
         ensures { IsTrue result ↔ Meet self.now.world.adapter.causes.recorded self.now.world.adapter.causes.mask }
     {
@@ -247,14 +247,14 @@ impl SoloBus {
         self.machine.into_parts()
     }
 
-    /// The number of bytes of memory.
+    /// Returns the number of bytes of memory.
     pub(crate) fn memory_size(&self) -> u64
         ensures { result ≡ length self.now.world.memory }
     {
         self.machine.size()
     }
 
-    /// The number of accesses so far, up to the greatest `u64`.
+    /// Returns the number of accesses so far, up to the greatest `u64`.
     pub(crate) fn access_count(&self) -> u64
         ensures { result ≡ self.now.accesses }
     {
@@ -305,7 +305,7 @@ impl SoloBus {
     }
 }
 
-/// A copy of a tick.
+/// Returns a copy of a tick.
 fn copy_of(tick: &SoloTick) -> SoloTick
     ensures { result ≡ tick.now }
 {

@@ -1,4 +1,4 @@
-//! Buses on which the conditions of the law hold, each with slots or frames of another kind.
+//! Buses on which the conditions of the law hold, each with slots or frames of a different kind.
 //!
 //! Each bus has a new adapter whose link is never up, and 4,096 bytes of memory. A receive buffer is at 0, and the
 //! receive ring of eight slots at 2,048. The transmit ring of eight slots is at 2,176, and data to be sent at 2,304.
@@ -35,13 +35,13 @@ const RECEIVE: u32 = 0x0000_8002;
 /// TCTL with EN and PSP.
 const TRANSMIT: u32 = 0x0000_000A;
 
-/// A frame that every adapter with BAM accepts.
+/// A frame that the filter accepts if RCTL.BAM is set.
 const BROADCAST: [u8; 60] = [0xFF; 60];
 
-/// A transmit descriptor of 60 bytes at 2,304, with EOP, IFCS and RS.
+/// A transmit descriptor of a frame of 60 bytes at address 2,304, with EOP, IFCS and RS.
 const REQUEST: [u8; 16] = [0, 9, 0, 0, 0, 0, 0, 0, 60, 0, 0, 0x0B, 0, 0, 0, 0];
 
-/// A bus on which both rings are set up and the first receive slot is offered.
+/// Returns a bus on which both rings are set up and the first receive slot is offered.
 ///
 /// # Errors
 ///
@@ -56,7 +56,7 @@ pub fn with_rings(alloc: Global, image: &Image) -> Result<SoloBus, AllocError>
     Ok(bus)
 }
 
-/// A bus with a piece of a frame in progress.
+/// Returns a bus with a piece of a frame in progress.
 ///
 /// # Errors
 ///
@@ -72,7 +72,7 @@ pub fn with_work(alloc: Global, image: &Image) -> Result<SoloBus, AllocError>
     Ok(bus)
 }
 
-/// A bus with a finished receive slot.
+/// Returns a bus with a finished receive slot.
 ///
 /// # Errors
 ///
@@ -87,7 +87,7 @@ pub fn with_finished_slot(alloc: Global, image: &Image) -> Result<SoloBus, Alloc
     Ok(bus)
 }
 
-/// A bus with a frame to be sent in the transmit ring.
+/// Returns a bus with a frame to be sent in the transmit ring.
 ///
 /// # Errors
 ///
@@ -103,7 +103,7 @@ pub fn with_frame_to_send(alloc: Global, image: &Image) -> Result<SoloBus, Alloc
     Ok(bus)
 }
 
-/// A bus with a frame in the transmit packet buffer.
+/// Returns a bus with a frame in the transmit packet buffer.
 ///
 /// # Errors
 ///
@@ -118,7 +118,7 @@ pub fn with_buffered_frame(alloc: Global, image: &Image) -> Result<SoloBus, Allo
     Ok(bus)
 }
 
-/// A bus on which both rings are set up, and no slot is offered.
+/// Returns a bus on which both rings are set up, and no slot is offered.
 fn at_rest(alloc: Global, image: &Image) -> Result<SoloBus, AllocError>
     ensures { IfOk result (λ bus. bus.world ≡ resting MEMORY_BYTES image.now) }
 {

@@ -14,13 +14,14 @@ use Rattle.stations.specs.declared.outcomes.Numbered.{Numbered}
 use Rattle.stations.specs.declared.tick.Tick.{Tick}
 use Rattle.stations.specs.declared.tick.Tick.TheVariants.{Deliver, Go, Step}
 
--- The tick is Go.
+-- Whether the tick is Go.
 abbrev pub is_go : Tick → Bool
 is_go Go = true
 is_go (Step host kind) = false
 is_go (Deliver host) = false
 
--- This atomic step can be part of a call of host `caller`: an access is at this host, and Go isn't an idle tick.
+-- This atomic step can be part of a call of host `caller`. If the step is an access, it is at this host. If the step
+-- is an idle tick, it isn't Go.
 abbrev pub IsOfCall : (caller : ℕ) → AtomicStep → Type 0
 IsOfCall caller (At host (Steps kind wire_free answer)) = ⊤
 IsOfCall caller (At host (Arrives frame fate)) = ⊤
@@ -40,7 +41,7 @@ IsTick (At host (Arrives frame fate)) = ⊤
 IsTick (At host (Accesses access)) = false ≡ true
 IsTick (Idles tick) = is_go tick ≡ false
 
--- The event of an atomic step, if it is at this host.
+-- The event of an atomic step, if it is at this host, as a list.
 abbrev pub events_by : (host : ℕ) → AtomicStep → List Event
 events_by k (At host event) = if k == host then event ∷ [] else []
 events_by k (Idles tick) = []
@@ -64,14 +65,14 @@ noted_by n (At host (Arrives frame fate)) = numbered_outcome n (At host (Arrives
 noted_by n (At host (Accesses access)) = []
 noted_by n (Idles tick) = numbered_outcome n (Idles tick)
 
--- The number of accesses after an atomic step, from the number before the step. It saturates at the greatest u64.
+-- The number of accesses after an atomic step, from the number before the step. The number saturates at the greatest u64.
 abbrev pub counted_by : ℕ → AtomicStep → ℕ
 counted_by n (At host (Steps kind wire_free answer)) = n
 counted_by n (At host (Arrives frame fate)) = n
 counted_by n (At host (Accesses access)) = min (n + 1) most_accesses
 counted_by n (Idles tick) = n
 
--- The outcomes of atomic steps in order, each with the number of accesses before it.
+-- The outcomes of atomic steps in order, each with the number of accesses before it; no outcome for an access.
 abbrev pub noted_of : ℕ → List AtomicStep → List Numbered
 noted_of n [] = []
 noted_of n (step ∷ later) = noted_by n step ++ noted_of (counted_by n step) later
@@ -89,7 +90,7 @@ abbrev pub steps_told : ℕ → List AtomicStep → List TickTold
 steps_told n [] = []
 steps_told n (step ∷ later) = step_told n step ++ steps_told (counted_by n step) later
 
--- The number of accesses after atomic steps, from the number before them.
+-- The number of accesses after atomic steps, from the number before them. The number saturates at the greatest u64.
 abbrev pub counted_of : ℕ → List AtomicStep → ℕ
 counted_of n [] = n
 counted_of n (step ∷ later) = counted_of (counted_by n step) later

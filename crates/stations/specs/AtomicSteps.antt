@@ -93,7 +93,7 @@ abbrev pub after : AtomicStep → List StationState → List StationState
 after (At host event) stations = stations_after host event stations
 after (Idles tick) stations = stations
 
--- A tick is played with this outcome: one atomic step happens that isn't an access.
+-- The tick `tick` is played with the outcome `outcome`: one atomic step happens that isn't an access.
 pub record PlaysTick (old : List StationState) (tick : Tick) (outcome : FrameOutcome) (new : List StationState) : Type 0 where
   pub step : AtomicStep
   pub tick_is : tick_of step ≡ tick
@@ -110,8 +110,8 @@ pub record Watched (O : Type 0) : Type 0 where
 abbrev pub watched : {O : Type 0} → List StationState → O → Watched O
 watched stations observer = record { stations = stations; observer = observer }
 
--- A tick is played after this number of accesses, and the observer is told its outcome. The observer's room shrinks by
--- at most one outcome.
+-- The tick `tick` is played after `accesses` accesses, and the observer is told its outcome. The observer's room decreases by at most one
+-- outcome.
 pub record PlaysNoted {O : Type 0} (observers : OfObserver O) (tick : Tick) (accesses : ℕ) (old new : Watched O) : Type 0 where
   pub outcome : FrameOutcome
   pub plays : PlaysTick old.stations tick outcome new.stations

@@ -11,7 +11,7 @@ pub record EndState : Type 0 where
 abbrev pub end_frames : ℕ
 end_frames = 64
 
--- This end has room for one more frame, unless it is the sender's or an end of another wire.
+-- If this end is an end of the wire and isn't the sender's, it has room for one more frame.
 abbrev pub EndHasRoomFor : (sender wire k : ℕ) → EndState → Type 0
 EndHasRoomFor sender wire k end = k ≢ sender → end.wire ≡ wire → length end.line < end_frames
 
@@ -19,7 +19,7 @@ EndHasRoomFor sender wire k end = k ≢ sender → end.wire ≡ wire → length 
 abbrev pub HaveRoom : List EndState → (sender wire : ℕ) → Type 0
 HaveRoom ends sender wire = (k : ℕ) (end : EndState) → slice_get ends k ≡ Some end → EndHasRoomFor sender wire k end
 
--- The k-th end after a sender put frames onto a wire: the frames wait there, too, if it is another end of this wire.
+-- The k-th end after a sender put frames onto a wire. If this end is another end of the wire, the frames wait there, too.
 abbrev pub with_line : (sender wire : ℕ) → List (List ℕ) → (k : ℕ) → EndState → EndState
 with_line sender wire frames k end =
     if not (k == sender) && (end.wire == wire) then record end { line = end.line ++ frames } else end

@@ -31,7 +31,7 @@ pub record SameLent {O : Type 0} {g : OfObserver O} (a b : LentBus O g) : Type 0
 
 -- How the bus counts the accesses of the call.
 pub record CountsAccesses {O : Type 0} {g : OfObserver O} (a b : LentBus O g) (steps : List AtomicStep) (past : Past) : Type 0 where
-  -- Each access among the steps is counted.
+  -- Each access among the steps is counted, up to the greatest u64.
   pub number : b.accesses ≡ counted_of a.accesses steps
   -- The count grows by the number of accesses, up to the greatest count.
   pub count : min b.accesses most_accesses ≡ min (a.accesses + length past.accesses) most_accesses
@@ -49,7 +49,8 @@ pub record HappenedLent {O : Type 0} {g : OfObserver O} (a b : LentBus O g) (pas
   pub heard : g.heard a.observer.now b.observer.now (steps_told a.accesses steps)
   pub accesses : CountsAccesses a b steps past
 
--- The bus before an access: the ticks up to the next Go are played, and the access is counted.
+-- The bus before an access: the ticks up to the next Go, or all if no Go remains, are played, and the access is
+-- counted.
 pub record PreparedLent {O : Type 0} {g : OfObserver O} (a b : LentBus O g) : Type 0 where
   pub lent : SameLent a b
   pub plays : PlaysTicks g (group_of is_go a.ticks.now) a.accesses (watched_by a) (watched_by b)

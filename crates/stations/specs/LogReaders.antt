@@ -10,12 +10,12 @@ use Rattle.stations.specs.declared.wires.End.{End}
 abbrev pub end_at : List End → (k : ℕ) → End
 end_at ends k = slice_index_or ends k (record { wire = 0; log = 0; cursor = 0; waiting = 0 })
 
--- There is a k-th end, and it reads this log.
+-- There is a k-th end, and this end reads the log.
 pub record IsReader (log : ℕ) (ends : List End) (k : ℕ) : Type 0 where
   pub there : k < length ends
   pub reads : (end_at ends k).log ≡ log
 
--- An end of this wire reads this log.
+-- An end of the wire `wire` reads the log `log`.
 pub record IsReaderOn (wire log : ℕ) (ends : List End) : Type 0 where
   pub k : ℕ
   pub is : IsReader log ends k
@@ -26,7 +26,7 @@ abbrev pub OthersHaveRoom : (number sender wire : ℕ) → List End → Type 0
 OthersHaveRoom number sender wire ends =
     (k : ℕ) → k < number → k ≢ sender → (end_at ends k).wire ≡ wire → (end_at ends k).waiting < end_frames
 
--- This is the log for the next end of a wire: exactly the ends of the wire read in it.
+-- This is the log for the next end of a wire: exactly the ends of the wire read this log.
 pub record IsLogFor (wire : ℕ) (ends : List End) (logs : List (List LogEntry)) (log : ℕ) : Type 0 where
   pub there : log < length logs
   pub one : (k : ℕ) → k < length ends → (end_at ends k).wire ≡ wire ↔ ((end_at ends k).log ≡ log)
@@ -41,7 +41,7 @@ pub record IsSlowest (number log : ℕ) (ends : List End) (reader : ℕ) : Type 
   pub is : IsReader log ends reader
   pub least : (k : ℕ) → k < number → (end_at ends k).log ≡ log → (end_at ends reader).cursor ≤ (end_at ends k).cursor
 
--- An end other than `but` reads the log, with this cursor.
+-- An end other than `but` reads the log, with the cursor `cursor`.
 pub record HasCursor (log but cursor : ℕ) (ends : List End) : Type 0 where
   pub k : ℕ
   pub is : IsReader log ends k
@@ -63,7 +63,7 @@ abbrev pub with_waiting : (log sender k : ℕ) → End → End
 with_waiting log sender k end =
     if not (k == sender) && (end.log == log) then record end { waiting = end.waiting + 1 } else end
 
--- Each end that reads the log has a cursor in it, and counts the frames that wait.
+-- Each end that reads the log has a cursor in this log, and counts the frames that wait.
 abbrev pub ReadIn : (log : ℕ) → List LogEntry → List End → Type 0
 ReadIn log entries ends = (k : ℕ) (end : End) → slice_get ends k ≡ Some end → end.log ≡ log → ReadsLog entries k end
 

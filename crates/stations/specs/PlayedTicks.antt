@@ -5,8 +5,8 @@ use Rattle.stations.specs.declared.observer.Observer.{Ghosts as OfObserver}
 use Rattle.stations.specs.declared.tick.Tick.{Tick}
 use Rattle.stations.specs.AtomicRuns.{IsTick, LeadsTo, steps_told}
 
--- These ticks were played in order, each as one atomic step. The observer was told each outcome, with this number of
--- accesses.
+-- These ticks were played in order, each as one atomic step. The observer was told each outcome, with the number
+-- `accesses`. The observer's room decreases by at most one outcome for each tick.
 pub record PlaysTicks {O : Type 0} (observers : OfObserver O) (ticks : List Tick) (accesses : ℕ) (old new : Watched O) : Type 0 where
   pub steps : List AtomicStep
   pub are : All IsTick steps

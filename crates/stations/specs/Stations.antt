@@ -18,7 +18,8 @@ pub record StationState : Type 0 where
   -- The frames that wait to be delivered at the host's end of the wire, the oldest first.
   pub backlog : List (List ℕ)
 
--- The parts of a station. They are also defined for a host that doesn't exist: it is on no wire, and no frame waits at its end.
+-- The parts of a station. These parts are also defined for a host that doesn't exist. Its memory is empty, and its adapter is new. It is
+-- on no wire, and no frame waits at its end.
 
 -- The adapter and the memory of a host.
 abbrev pub world_of : Option StationState → World
@@ -47,7 +48,7 @@ wire_at stations host = wire_of (slice_get stations host)
 abbrev pub backlog_at : List StationState → (host : ℕ) → List (List ℕ)
 backlog_at stations host = backlog_of (slice_get stations host)
 
--- This station has room for one more frame at its end, unless it is the sender's or on another wire.
+-- If this station is on the wire and isn't the sender's, it has room for one more frame at its end.
 abbrev pub HasRoomFrom : (sender wire host : ℕ) → StationState → Type 0
 HasRoomFrom sender wire host station = host ≢ sender → station.wire ≡ wire → length station.backlog < end_frames
 
@@ -69,7 +70,7 @@ station_after event station = record station {
   backlog = backlog_after event station.backlog;
 }
 
--- The station after a sender put frames onto a wire: the frames wait at its end, too, if it is another end of this wire.
+-- The station after a sender put frames onto a wire. If the station's end is another end of this wire, the frames wait there, too.
 abbrev pub with_frames : (sender wire : ℕ) → List (List ℕ) → (host : ℕ) → StationState → StationState
 with_frames sender wire frames host station =
     if not (host == sender) && (station.wire == wire) then record station { backlog = station.backlog ++ frames } else station

@@ -31,7 +31,7 @@ pub record ReadsLog (log : List LogEntry) (k : ℕ) (end : End) : Type 0 where
   pub counts : end.waiting ≡ length (frames_of_others k (drop end.cursor log))
   pub most : end.waiting ≤ end_frames
 
--- Each end reads a log that exists, and two ends are ends of one wire exactly if they read one log.
+-- Each end reads a log that exists (`ReadsLog`), and two ends are ends of one wire exactly if they read one log.
 pub record HaveLogs (logs : List (List LogEntry)) (ends : List End) : Type 0 where
   pub there : (k : ℕ) (end : End) → slice_get ends k ≡ Some end → end.log < length logs
   pub reads : (k : ℕ) (end : End) → slice_get ends k ≡ Some end → ReadsLog (log_of logs end) k end

@@ -33,7 +33,7 @@ impl Model for HeapFrame {
 impl HeapFrame {
     ghost use Rattle.std.specs.Prelude.{◌≡◌, ◌≤◌, [], length, IfOk};
 
-    /// An empty frame, with room for the bytes of any frame.
+    /// Returns an empty frame, with room for the bytes of any frame.
     ///
     /// # Errors
     ///
@@ -55,7 +55,7 @@ impl HeapFrame {
         let _ = self.bytes.extend_from_slice(bytes);
     }
 
-    /// The bytes of the frame.
+    /// Returns the bytes of the frame.
     pub fn as_slice(&self) -> &[u8]
         ensures value { result.now ≡ self.now }
         ensures fits { length result.now ≤ LONGEST_LEGAL }

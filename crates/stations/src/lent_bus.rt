@@ -6,10 +6,11 @@ use crate::observer::Observer;
 use crate::stations::Stations;
 use crate::tick::Tick;
 
-/// The bus of one host's call. It contains the stations of the network, lent to the call, and the ticks to play in the
-/// call: before each access, and after the last access ([`finish`](LentBus::finish)).
+/// The bus of one host's call. The bus contains the stations of the network, which are lent to the call. It also
+/// contains the ticks to play before each access and after the last access ([`finish`](LentBus::finish)).
 ///
-/// Before each access, it plays the ticks up to the next `Go`, or all remaining ticks if there is no further `Go`.
+/// Before each access, the bus plays the ticks up to the next `Go`, or all remaining ticks if there is no further
+/// `Go`.
 #[derive(Drop)]
 pub struct LentBus<'a, 't, O: Observer> {
     /// The stations of all hosts.
@@ -20,8 +21,8 @@ pub struct LentBus<'a, 't, O: Observer> {
     pub host: usize,
     /// The number of accesses that the call has made; it saturates at the greatest `u64`.
     pub accesses: u64,
-    /// The observer. It is told the outcome of each tick, with the number of accesses that the call made before the
-    /// tick.
+    /// The observer. The observer is told the outcome of each tick, with the number of accesses that the call made
+    /// before the tick.
     pub observer: &'a mut O,
     ghost there: { host < length stations.now },
     ghost room: { length ticks.now ≤ O.room_left observer.now },

@@ -1,7 +1,7 @@
 //! The stations of a network: for each host an adapter, its memory and its end of a wire.
 //!
-//! Ticks are played on the stations. A tick is one step of one adapter, or one delivery. A bus lends the stations to a
-//! call of one host.
+//! Ticks are played on the stations. A tick is one step of one adapter, one delivery, or `Go`, after which the next
+//! access of a call is made. A bus lends the stations to a call of one host.
 //!
 //! A wire never delivers by itself: a frame that a host puts onto a wire waits at each other end until a tick delivers
 //! it there. Before each access of a call, the ticks that the caller chose are played on all hosts, and an observer is

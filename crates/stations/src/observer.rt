@@ -8,8 +8,8 @@ ghost use Rattle.stations.specs.ToldTicks.{ComposesTold, TickTold, tick_told};
 use crate::tick::Tick;
 use adapter::Outcome;
 
-/// An observer is told the outcome of each tick, in order. It only borrows the frame of an outcome: it must copy a
-/// frame that it needs later.
+/// An observer is told the outcome of each tick, in order. An observer only borrows the frame of an outcome, so it
+/// must copy a frame that it needs later.
 pub trait Observer {
     /// Between these two states of the observer, it was told exactly this list, in order.
     ghost heard: { Self → Self → List TickTold → Type 0 };
@@ -18,7 +18,8 @@ pub trait Observer {
     ghost room_left: { Self → ℕ };
 
     /// Reports to the observer that this tick was played, with this outcome, after `accesses` accesses of the call.
-    /// `frame` is the frame that was put or delivered, of at most 1,518 bytes; it has no meaning for other outcomes.
+    /// `frame` is the frame that was put or delivered, of at most 1,518 bytes. For other outcomes, `frame` has no
+    /// meaning.
     fn note(&mut self, tick: Tick, accesses: u64, outcome: Outcome<()>, frame: &[u8])
         requires room { 0 < room_left self.old }
         requires fits { length frame.now ≤ longest_frame }

@@ -42,7 +42,7 @@ impl Model for Outcomes {
 impl Outcomes {
     ghost use Rattle.std.specs.Prelude.{◌≡◌, ◌≤◌, [], IfOk};
 
-    /// An empty list, without room for outcomes. It allocates no memory.
+    /// Returns an empty list, without room for outcomes. The call allocates no memory.
     pub fn new(alloc: Global) -> Outcomes
         ensures none { result.list ≡ [] }
     {
@@ -52,7 +52,7 @@ impl Outcomes {
         }
     }
 
-    /// An empty list, with room for at least `room` outcomes.
+    /// Returns an empty list, with room for at least `room` outcomes.
     ///
     /// # Errors
     ///
@@ -82,7 +82,7 @@ impl Outcomes {
         Ok(())
     }
 
-    /// The outcomes, in order.
+    /// Returns the outcomes, in order.
     pub fn as_slice(&self) -> &[Numbered]
         ensures { result.now ≡ self.now.list }
     {

@@ -14,7 +14,8 @@ use crate::tick::Tick;
 use adapter::{Outcome, StepKind};
 
 impl Stations {
-    /// Plays a tick. The observer is told its outcome, with the number of accesses that the call made before the tick.
+    /// Plays a tick. The observer is told the tick's outcome, with the number of accesses that the call made before
+    /// the tick.
     #[inline(always)]
     pub fn play<O: Observer>(&mut self, tick: Tick, accesses: u64, observer: &mut O)
         requires room { 0 < O.room_left observer.old }
@@ -56,8 +57,8 @@ impl Stations {
         }
     }
 
-    /// Plays the step TxPut of a host's adapter. The wire is free if each other end has room. A frame that the step
-    /// puts waits at each other end.
+    /// Plays the step TxPut of a host's adapter. The wire is free exactly if each other end has room. A frame that the
+    /// step puts waits at each other end.
     #[inline(never)]
     fn put<O: Observer>(&mut self, host: usize, accesses: u64, observer: &mut O)
         requires there { host < length self.old }
@@ -81,7 +82,8 @@ impl Stations {
         self.machines[host].step(StepKind::TxPut, true);
     }
 
-    /// Delivers the oldest frame that waits at a host's end, if there is one.
+    /// Delivers the oldest frame that waits at a host's end. If no frame waits, or there is no such host, the outcome
+    /// is `Nothing`.
     #[inline(never)]
     fn deliver<O: Observer>(&mut self, host: usize, accesses: u64, observer: &mut O)
         requires room { 0 < O.room_left observer.old }
@@ -102,7 +104,8 @@ impl Stations {
         self.wires.pop(host);
     }
 
-    /// Plays the ticks up to the next `Go`, and returns the ticks after this `Go`.
+    /// Plays the ticks up to the next `Go`, and returns the ticks after this `Go`. If there is no `Go`, plays all
+    /// ticks, and returns no tick.
     #[inline(never)]
     pub(crate) fn play_group<'t, O: Observer>(
         &mut self,
@@ -127,7 +130,7 @@ impl Stations {
         rest
     }
 
-    /// Plays all ticks except each `Go`. The observer is told each outcome, with this number of accesses.
+    /// Plays all ticks except each `Go`. The observer is told each outcome, with the number `accesses`.
     #[inline(never)]
     pub fn play_rest<O: Observer>(&mut self, ticks: &[Tick], accesses: u64, observer: &mut O)
         requires room { length ticks.now ≤ O.room_left observer.old }

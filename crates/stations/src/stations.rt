@@ -78,7 +78,7 @@ impl Stations {
     ghost use Rattle.stations.specs.Stations.{backlog_at, stations_after, world_at};
     ghost use Rattle.stations.specs.WireLogs.{last_of_others};
 
-    /// A network without stations.
+    /// Returns a network without stations.
     pub fn new(alloc: Global) -> Stations
         ensures { result ≡ [] }
     {
@@ -111,14 +111,14 @@ impl Stations {
         Ok(())
     }
 
-    /// The number of stations.
+    /// Returns the number of stations.
     pub fn len(&self) -> usize
         ensures { result ≡ length self.now }
     {
         self.machines.len()
     }
 
-    /// A host's machine.
+    /// Returns a host's machine.
     fn machine(&self, host: usize) -> &Machine
         requires there { host < length self.now }
         ensures { result.now.world ≡ world_at self.now host }
@@ -126,8 +126,8 @@ impl Stations {
         &self.machines[host]
     }
 
-    /// The values of MPC, RNBC, GPRC and GPTC of a host's adapter, without clearing them (section 13.7 of Intel's
-    /// manual).
+    /// Returns the values of MPC, RNBC, GPRC and GPTC of a host's adapter, without clearing them (section 13.7 of
+    /// Intel's manual).
     pub fn counts(&self, host: usize) -> FrameCounts
         requires there { host < length self.now }
         ensures missed { result.missed ≡ (world_at self.now host).adapter.missed_packets }
@@ -172,9 +172,9 @@ impl Stations {
         self.machines[host].step(kind, true)
     }
 
-    /// The log of a host's wire: frames that were put on it, in order, each with the number of its sender. Entries that
-    /// each other end has read may be missing. The frames that wait at the host's end are the last ones in the log from
-    /// other senders.
+    /// Returns the log of a host's wire: frames that were put on the wire, in order, each with the number of its
+    /// sender. Entries that each end except their sender's has read may be missing. The frames that wait at the host's
+    /// end are the last ones in the log from other senders.
     pub fn log(&self, host: usize) -> &[(usize, Frame)]
         requires there { host < length self.now }
         ensures waits { backlog_at self.now host
@@ -184,7 +184,7 @@ impl Stations {
         self.wires.log(host)
     }
 
-    /// Whether a host's interrupt line is asserted.
+    /// Returns whether a host's interrupt line is asserted.
     pub fn line(&self, host: usize) -> bool
         requires there { host < length self.now }
         ensures line { IsTrue result ↔ Meet (world_at self.now host).adapter.causes.recorded
@@ -233,7 +233,7 @@ impl Stations {
         self.machines[host].store(address, bytes);
     }
 
-    /// The number of bytes of a host's memory.
+    /// Returns the number of bytes of a host's memory.
     pub(crate) fn size(&self, host: usize) -> u64
         requires there { host < length self.now }
         ensures { result ≡ length (world_at self.now host).memory }

@@ -12,7 +12,7 @@ use std::marker::Model;
 /// The greatest number of entries of a wire's log (our choice).
 pub const LOG_ENTRIES: usize = 1024;
 
-/// The log of a wire: frames that hosts put on it, in order, each with the number of its sender.
+/// The log of a wire: frames that hosts put on the wire, in order, each with the number of its sender.
 ///
 /// [`new`](WireLog::new) allocates its memory. In contracts, the value is a list of `LogEntry`.
 #[derive(Drop)]
@@ -34,7 +34,7 @@ impl Model for WireLog {
 }
 
 impl WireLog {
-    /// The log of a wire on which no frame was put.
+    /// Returns the log of a wire on which no frame was put.
     ///
     /// # Errors
     ///
@@ -47,7 +47,7 @@ impl WireLog {
         })
     }
 
-    /// The number of entries.
+    /// Returns the number of entries.
     pub(crate) fn len(&self) -> usize
         ensures value { result ≡ length self.now }
         ensures most { result ≤ log_entries }
@@ -55,7 +55,7 @@ impl WireLog {
         self.entries.len()
     }
 
-    /// The entries, in the order in which their frames were put.
+    /// Returns the entries, in the order in which their frames were put.
     pub(crate) fn as_slice(&self) -> &[(usize, Frame)]
         ensures value { result.now ≡ self.now }
         ensures most { length result.now ≤ log_entries }
@@ -72,7 +72,8 @@ impl WireLog {
         let _ = self.entries.push((sender, Frame::from_slice(frame)));
     }
 
-    /// The place of the first entry, at `from` or later, whose sender isn't `reader`.
+    /// Returns the place of the first entry, at `from` or later, whose sender isn't `reader`, or `None` if there is no
+    /// such entry.
     pub(crate) fn next(&self, reader: usize, from: usize) -> Option<usize>
         ensures none { IsNone result ↔ (frames_of_others reader (drop from self.now) ≡ []) }
         ensures there { IfSome result (λ place. (from ≤ place) × (place < length self.now)) }
@@ -88,7 +89,7 @@ impl WireLog {
         None
     }
 
-    /// The frame of the entry at this place.
+    /// Returns the frame of the entry at this place.
     pub(crate) fn frame(&self, place: usize) -> &[u8]
         requires there { place < length self.now }
         ensures value { result.now ≡ entry_frame place self.now }
@@ -97,7 +98,8 @@ impl WireLog {
         self.entries[place].1.as_slice()
     }
 
-    /// The frame of the first entry, at `from` or later, whose sender isn't `reader`.
+    /// Returns the frame of the first entry, at `from` or later, whose sender isn't `reader`, or `None` if there is no
+    /// such entry.
     pub(crate) fn front(&self, reader: usize, from: usize) -> Option<&[u8]>
         ensures none { IsNone result ↔ (frames_of_others reader (drop from self.now) ≡ []) }
         ensures oldest { IfSome result (λ frame. slice_get (frames_of_others reader (drop from self.now)) 0
@@ -108,9 +110,9 @@ impl WireLog {
         Some(self.frame(place))
     }
 
-    /// Drops all entries before `first`, and the entries before `second` that `reader` sent. Each end has read the
-    /// dropped entries of other senders if `first` is the least cursor, `reader` is the end with this cursor, and
-    /// `second` is the least cursor of the other ends.
+    /// Drops all entries before `first`, and the entries before `second` that `reader` sent. Let `first` be the least
+    /// cursor, `reader` the end with this cursor, and `second` the least cursor of the other ends. Then each end has
+    /// read the dropped entries of other senders.
     pub(crate) fn close_up(&mut self, reader: usize, first: usize, second: usize)
         requires order { first ≤ second }
         requires there { second ≤ length self.old }

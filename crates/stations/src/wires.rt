@@ -55,7 +55,7 @@ impl Model for Wires {
     ghost invariant = { λ inside. HaveLogs inside.logs.items inside.ends.items };
 }
 
-/// The log in which the ends of a wire read. A wire without ends has no log.
+/// Returns the place of the log that the ends of a wire read, or `None` if the wire has no ends.
 fn log_of(ends: &[End], wire: usize) -> Option<usize>
     ensures none { IsNone result → (k : ℕ) → k < length ends.now → (end_at ends.now k).wire ≢ wire }
     ensures some { IfSome result (λ log. IsReaderOn wire log ends.now) }
@@ -68,7 +68,7 @@ fn log_of(ends: &[End], wire: usize) -> Option<usize>
     None
 }
 
-/// The log for the next end of a wire: the log of its other ends, or a new log.
+/// Returns the log for the next end of a wire: the log of its other ends, or a new log.
 ///
 /// # Errors
 ///
@@ -93,7 +93,7 @@ fn log_for(
     Ok(log)
 }
 
-/// Whether each other end of a wire has room for one more frame.
+/// Returns whether each other end of a wire has room for one more frame.
 fn others_have_room(ends: &[End], sender: usize, wire: usize) -> bool
     ensures { IsTrue result ↔ OthersHaveRoom (length ends.now) sender wire ends.now }
 {
@@ -105,7 +105,7 @@ fn others_have_room(ends: &[End], sender: usize, wire: usize) -> bool
     true
 }
 
-/// The end with the least cursor among the ends that read a log. The sender's end must read this log.
+/// Returns the end with the least cursor among the ends that read a log. The sender's end must read this log.
 fn slowest(ends: &[End], log: usize, sender: usize) -> usize
     requires there { IsReader log ends.now sender }
     ensures { IsSlowest (length ends.now) log ends.now result }
@@ -119,7 +119,7 @@ fn slowest(ends: &[End], log: usize, sender: usize) -> usize
     reader
 }
 
-/// The least cursor in a log, of all ends except the end `but`; `most` if no such cursor is less.
+/// Returns the least cursor in a log, of all ends except the end `but`, or `most` if no such cursor is less.
 fn least_cursor(ends: &[End], log: usize, but: usize, most: usize) -> usize
     ensures { IsLeastCursor (length ends.now) log but most ends.now result }
 {
@@ -143,7 +143,8 @@ fn move_cursors(ends: &mut [End], log: usize, dropped: usize)
     }
 }
 
-/// Makes room for an entry in a log. If the log is full, entries that each other end has read are dropped.
+/// Makes room for an entry in a log. If the log is full, entries are dropped that each end except their sender's has
+/// read.
 fn make_room(ends: &mut [End], wire_log: &mut WireLog, log: usize, sender: usize)
     requires there { IsReader log ends.old sender }
     requires reads { ReadIn log wire_log.old ends.old }
@@ -187,7 +188,7 @@ fn put_frame(ends: &mut [End], wire_log: &mut WireLog, log: usize, sender: usize
 }
 
 impl Wires {
-    /// A network without wires.
+    /// Returns a network without wires.
     pub(crate) fn new(alloc: Global) -> Wires
         ensures { result ≡ [] }
     {
@@ -218,7 +219,7 @@ impl Wires {
         Ok(())
     }
 
-    /// The wire of a host.
+    /// Returns the wire of a host.
     pub(crate) fn wire(&self, host: usize) -> usize
         requires there { host < length self.now }
         ensures { (end : EndState) → slice_get self.now host ≡ Some end → result ≡ end.wire }
@@ -226,7 +227,7 @@ impl Wires {
         self.ends[host].wire
     }
 
-    /// Whether each end of the wire, except the sender's, has room for one more frame.
+    /// Returns whether each end of the wire, except the sender's, has room for one more frame.
     pub(crate) fn have_room(&self, sender: usize, wire: usize) -> bool
         ensures { IsTrue result ↔ HaveRoom self.now sender wire }
     {
@@ -253,7 +254,7 @@ impl Wires {
         );
     }
 
-    /// The oldest frame that waits at a host's end, if there is one.
+    /// Returns the oldest frame that waits at a host's end, if there is one.
     pub(crate) fn front(&self, host: usize) -> Option<&[u8]>
         requires there { host < length self.now }
         ensures none { (end : EndState) → slice_get self.now host ≡ Some end → IsNone result ↔ (end.line ≡ []) }
@@ -280,8 +281,8 @@ impl Wires {
         end.waiting -= 1;
     }
 
-    /// The log of a host's wire. The frames that wait at the host's end are the last ones in the log from other
-    /// senders.
+    /// Returns the log of a host's wire. The frames that wait at the host's end are the last ones in the log from
+    /// other senders.
     pub(crate) fn log(&self, host: usize) -> &[(usize, Frame)]
         requires there { host < length self.now }
         ensures waits { (end : EndState) → slice_get self.now host ≡ Some end

@@ -1,4 +1,4 @@
--- Which texts spell a number, and which number (our choice).
+-- Which texts spell a number, and which number they spell (our choice).
 use Rattle.std.specs.Prelude.{◌^◌, ◌&&◌, ◌==◌, ℕ, Bool, Option, Some, None, codes, if◌then◌else◌, length, nat_lt}
 use Rattle.std.specs.Char.{digit_value}
 use Rattle.std.specs.List.{after_first, before_first, list_all, position_or_len}
@@ -14,7 +14,7 @@ is_digit radix byte = nat_lt (digit_value byte) radix
 abbrev pub is_number : (radix bits : ℕ) → Text → Bool
 is_number radix bits text = nat_lt 0 (length text) && list_all (is_digit radix) text && nat_lt (digits_value radix text) (2 ^ bits)
 
--- the number that a text spells in this radix, if it is one or more digits, and the number is below 2 ^ bits
+-- the number that a text spells in this radix, if the text is one or more digits and the number is below 2 ^ bits
 abbrev pub number_in : (radix bits : ℕ) → Text → Option ℕ
 number_in radix bits text = if is_number radix bits text then Some (digits_value radix text) else None
 

@@ -26,14 +26,14 @@ is_word part = nat_lt 0 (length part)
 abbrev pub words_of : Text → List Text
 words_of line = filter is_word (flat_map (slice_split is_tab) (slice_split is_space line))
 
--- the word with this number, from 0
+-- the word at this index, from 0
 abbrev pub word : ℕ → List Text → Text
 word k words = slice_index_or words k []
 
 abbrev pub is_same : (mark word : Text) → Bool
 is_same mark word = bytes_eq word mark
 
--- the place of the first word that is `mark`, or the number of words if no word is
+-- the index of the first word that is `mark`, or the number of words if no word is
 abbrev pub place_of : (mark : Text) → List Text → ℕ
 place_of mark words = position_or_len (is_same mark) words
 

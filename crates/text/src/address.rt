@@ -4,10 +4,10 @@ ghost use Rattle.std.specs.Prelude.{ℕ, List, IfNone, IfSome};
 ghost use Rattle.std.specs.Option.{SomeIff};
 ghost use Rattle.text.specs.Addresses.{IsHexadecimalDigit, SpellsAddress, SpellsByte, hexadecimal_value};
 
-/// The bytes of an Ethernet address (IEEE 802.3 3.2.3).
+/// The number of bytes of an Ethernet address (IEEE 802.3 3.2.3).
 const ADDRESS_BYTES: usize = 6;
 
-/// The characters of an address: six pairs of digits and five colons.
+/// The number of characters of an address's text: six pairs of digits and five colons.
 const ADDRESS_TEXT_LENGTH: usize = 17;
 
 const HEXADECIMAL: u32 = 16;
@@ -29,8 +29,8 @@ fn byte_of(high: u8, low: u8) -> Option<u8>
     Some(high * 16 + low)
 }
 
-/// The address that a text spells: six pairs of hexadecimal digits in either case, joined by colons, such as
-/// `02:00:00:00:00:01`.
+/// Returns the address that a text spells: six pairs of hexadecimal digits in either case, joined by colons, such as
+/// `02:00:00:00:00:01`. `None` for any other text.
 pub fn address_of(text: &str) -> Option<[u8; 6]>
     ensures spelled { IfSome result (SpellsAddress text.now) }
     ensures refused { IfNone result ((address : List ℕ) → ¬ SpellsAddress text.now address) }

@@ -7,8 +7,8 @@ const DECIMAL: u32 = 10;
 
 const HEXADECIMAL: u32 = 16;
 
-/// The number that a text spells in this radix, if the text is one or more digits, and the number is below 2^64. Digits
-/// above 9 are letters of either case. Leading zeros are allowed, a sign isn't.
+/// Returns the number that a text spells in this radix, if the text is one or more digits and the number is below 2^64.
+/// Otherwise returns `None`. Digits above 9 are letters of either case. Leading zeros are allowed, a sign isn't.
 #[tactic(auto, using(crate::proofs::Numbers::bad_digit, crate::proofs::Numbers::overflows))]
 pub fn digits_of(text: &str, radix: u32) -> Option<u64>
     requires low { 2 ≤ radix }
@@ -26,7 +26,8 @@ pub fn digits_of(text: &str, radix: u32) -> Option<u64>
     if bytes.is_empty() { None } else { Some(value) }
 }
 
-/// The number below 2^64 that a text spells: decimal digits, or hexadecimal digits after `0x`.
+/// Returns the number below 2^64 that a text spells: decimal digits, or hexadecimal digits after `0x`. `None` for any
+/// other text.
 pub fn number_of(text: &str) -> Option<u64>
     ensures { result ≡ number_spelled text.now }
 {

@@ -3,7 +3,7 @@
 ghost use Rattle.std.specs.Prelude.{◌≡◌, map};
 ghost use Rattle.text.specs.Tables.{entry_of, value_in};
 
-/// The value of a word in a table of words and values, if the word is in it.
+/// Returns the value of a word in a table of words and values; `None` if the word isn't in the table.
 pub fn value_of<T: Copy>(table: &[(&str, T)], word: &str) -> Option<T>
     ensures { result ≡ value_in (map entry_of table.now) word.now }
 {

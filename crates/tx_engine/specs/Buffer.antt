@@ -5,7 +5,7 @@ use Rattle.tx_engine.specs.Transmitter.{Queued, Transmitter}
 use Rattle.tx_engine.specs.declared.report.Report.{Report}
 use Rattle.tx_engine.specs.declared.engine.TxEngine.TheInside.{Inside}
 
--- The frames, each with its report.
+-- The frames, each with the report at the same index, up to the end of the shorter list.
 abbrev pub side_by_side : List (List ℕ) → List Report → List Queued
 side_by_side [] reports = []
 side_by_side (frame ∷ frames) [] = []

@@ -1,4 +1,4 @@
--- Lemmas about frames, each paired with the report of its descriptor.
+-- Lemmas about frames, each paired with the report of its descriptor. The list of reports is as long as the list of frames.
 use Rattle.std.proofs.Common.{◌≡◌, ◌<◌, not, length-append, ◌++◌, ◌∷◌, [], ℕ, List, length, map, flat_map, slice_get, Some, ◌↔◌}
 use Rattle.std.proofs.Common.{refl, ap, ◌∙◌, arith}
 use Rattle.circular_buffer.specs.Buffer.{Buffer, buffer, keep_last}
@@ -83,7 +83,7 @@ pushed-whole engine frame report frames reports whole room pushed_frame pushed_r
           (omega (arith, whole.same, length-append engine.frames.frames (frame ∷ []), length-append engine.reports.items (report ∷ [])));
     }
 
--- After a frame and its report are added, the frame is the last one of the packet buffer.
+-- After a frame and its report are added, the frame, with this report, is the last one of the packet buffer.
 pub pushed-view : (engine : Inside) (frame : List ℕ) (report : Report) (frames : Frames) (reports : Buffer Report) (seen : Transmitter)
     → transmitter_of engine ≡ seen → IsWhole engine → length engine.frames.frames < 4
     → frames ≡ record engine.frames { frames = engine.frames.frames ++ frame ∷ [] }

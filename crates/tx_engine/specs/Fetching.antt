@@ -19,7 +19,7 @@ pads control = is_set control tctl_psp
 abbrev pub descriptor_at : List ℕ → ℕ → TxDesc
 descriptor_at memory address = tx_desc_of (bytes_at memory address 16)
 
--- The bytes that a descriptor names.
+-- The bytes that a descriptor points to.
 abbrev pub named_by : List ℕ → TxDesc → List ℕ
 named_by memory desc = bytes_at memory desc.address desc.length
 
@@ -27,7 +27,7 @@ named_by memory desc = bytes_at memory desc.address desc.length
 abbrev pub as_sent : Bool → List ℕ → List ℕ
 as_sent pad frame = if pad then padded frame else frame
 
--- The frame that the descriptor at an address names, as it is put onto the wire.
+-- The frame that the descriptor at an address points to, as it is put onto the wire.
 abbrev pub frame_at : Bool → List ℕ → ℕ → List ℕ
 frame_at pad memory address = as_sent pad (named_by memory (descriptor_at memory address))
 
@@ -39,13 +39,14 @@ fetched pad memory address = record {
   report = is_set (command_bits (descriptor_at memory address).command) tx_rs;
 }
 
--- The engine has nothing to take: TCTL.EN is 0, a fault has stopped it, its buffer holds four frames (our choice), or head equals tail.
+-- The engine has nothing to take: TCTL.EN is 0, a fault has stopped the engine, its buffer contains four frames (our choice), or head
+-- equals tail.
 abbrev pub HasNoFrameToTake : ℕ → Transmitter → Ring → Type 0
 HasNoFrameToTake control engine ring =
     (¬ (HasBit control tctl_en)) ⊎ (IsTrue engine.stopped ⊎ ((length engine.buffer ≡ 4) ⊎ (ring.head ≡ ring.tail)))
 
--- A descriptor that this adapter can transmit (our choice; by the manual a packet may span several descriptors). It contains the end of its
--- packet, has the legacy format, and names 1 to 1,518 bytes of memory.
+-- A descriptor that this adapter can transmit (our choice; by the manual a packet may span several descriptors). The descriptor contains
+-- the end of its packet, has the legacy format, and points to 1 to 1,518 bytes inside memory.
 pub record IsTransmittable (memory : List ℕ) (desc : TxDesc) : Type 0 where
   -- The frame ends in this descriptor: EOP is set.
   pub ends : HasBit (command_bits desc.command) tx_eop

@@ -25,7 +25,8 @@ pub to_send-put : PuttingTakesFront
 unfolding to_send
 to_send-put memory ring pad queued buffer = refl
 
--- If a driver advances the tail, the frame of the slot at the old tail is added.
+-- If a driver advances the tail by one slot, the frame of the slot at the old tail is added at the end of the list. The tail must not
+-- advance to the head.
 pub to_send-offer : OfferingAddsFrames
 unfolding to_send
 to_send-offer memory ring pad buffer sound apart =

@@ -7,8 +7,8 @@ use Rattle.descriptors.specs.Ring.{HasValidIndices, next_of, address_of, offered
 use Rattle.tx_engine.specs.Transmitter.{Queued}
 use Rattle.tx_engine.specs.Fetching.{descriptor_at, frame_at, fetched}
 
--- The frames in the transmit packet buffer, followed by the frames that the adapter's slots name in memory. If the adapter
--- pads, these frames in memory are padded.
+-- The frames in the transmit packet buffer, followed by the frames of the offered descriptors. If the adapter pads, the frames of
+-- descriptors are padded.
 unfoldable pub to_send : List ℕ → Ring → Bool → List Queued → List (List ℕ)
 to_send memory ring pad buffer = map (λ (queued : Queued). queued.frame) buffer
     ++ map (λ (slot : ℕ). frame_at pad memory (address_of ring slot)) (offered_places ring)
@@ -34,7 +34,8 @@ PuttingTakesFront =
     (memory : List ℕ) (ring : Ring) (pad : Bool) (queued : Queued) (buffer : List Queued)
     → to_send memory ring pad (queued ∷ buffer) ≡ queued.frame ∷ to_send memory ring pad buffer
 
--- A write apart from the descriptors that the adapter owns, and from the frames that they name, doesn't change the frames to be sent.
+-- A write apart from the addresses and lengths in the descriptors that the adapter owns, and from their frames, doesn't change the frames
+-- to be sent.
 abbrev pub OtherBytesLeaveFrames : Type 0
 OtherBytesLeaveFrames =
     (memory : List ℕ) (ring : Ring) (pad : Bool) (buffer : List Queued) (place : ℕ) (bytes : List ℕ)
@@ -42,7 +43,8 @@ OtherBytesLeaveFrames =
     → All (λ slot. IsAwayFrom memory (area_at place (length bytes)) (address_of ring slot)) (offered_places ring)
     → to_send (with_bytes memory place bytes) ring pad buffer ≡ to_send memory ring pad buffer
 
--- If a driver advances the tail, the frame of the slot at the old tail is added.
+-- If a driver advances the tail by one slot, the frame of the slot at the old tail is added at the end of the list. The tail must not
+-- advance to the head.
 abbrev pub OfferingAddsFrames : Type 0
 OfferingAddsFrames =
     (memory : List ℕ) (ring : Ring) (pad : Bool) (buffer : List Queued) → HasValidIndices ring → ¬ (next_of ring ring.tail ≡ ring.head)

@@ -16,11 +16,12 @@ use std::marker::Model;
 /// The greatest number of frames in the transmit packet buffer.
 pub const PACKET_BUFFER_FRAMES: u8 = 4;
 
-/// The transmit engine of an adapter: the transmit packet buffer, which holds at most four frames, and whether a
+/// The transmit engine of an adapter: the transmit packet buffer, which contains at most four frames, and whether a
 /// fault has stopped the engine.
 ///
-/// In contracts, the value is the list of frames in the buffer, the oldest first, and the flag. Each frame has the
-/// address of its descriptor, and whether this descriptor asks for a report (RS). `new` allocates the memory.
+/// In contracts, the value is the list of frames in the buffer, the oldest first, and the flag. With each frame, the
+/// value contains the address of its descriptor, and whether this descriptor asks for a report (RS). `new` allocates
+/// the memory.
 #[derive(Drop)]
 pub struct TxEngine {
     frames: FrameQueue,
@@ -43,7 +44,7 @@ impl Model for TxEngine {
 impl Clone for TxEngine {
     ghost is_clone = { λ engine copy. copy ≡ engine };
 
-    /// A copy of the engine, in the same state.
+    /// Returns a copy of the engine, in the same state.
     ///
     /// # Errors
     ///
@@ -58,7 +59,7 @@ impl Clone for TxEngine {
 }
 
 impl TxEngine {
-    /// An engine with an empty buffer that isn't stopped.
+    /// Returns an engine with an empty buffer that isn't stopped.
     ///
     /// # Errors
     ///
@@ -73,7 +74,7 @@ impl TxEngine {
         })
     }
 
-    /// A reset: empties the buffer and restarts a stopped engine.
+    /// Resets the engine: empties the buffer and restarts a stopped engine.
     pub fn reset(&mut self)
         ensures { self.new ≡ new_transmitter }
     {
@@ -82,7 +83,7 @@ impl TxEngine {
         self.running = true;
     }
 
-    /// The number of frames in the buffer.
+    /// Returns the number of frames in the buffer.
     pub fn len(&self) -> u8
         ensures count { result ≡ length self.now.buffer }
         ensures fits { result ≤ 4 }
@@ -90,14 +91,14 @@ impl TxEngine {
         self.frames.len()
     }
 
-    /// Whether no frame is in the buffer.
+    /// Returns whether no frame is in the buffer.
     pub fn is_empty(&self) -> bool
         ensures { IsTrue result ↔ (self.now.buffer ≡ []) }
     {
         self.frames.is_empty()
     }
 
-    /// Whether the buffer is full: it contains four frames.
+    /// Returns whether the buffer is full: it contains four frames.
     pub fn is_full(&self) -> bool
         ensures full { IsTrue result ↔ (length self.now.buffer ≡ 4) }
         ensures fits { length self.now.buffer ≤ 4 }
@@ -105,15 +106,15 @@ impl TxEngine {
         self.len() == PACKET_BUFFER_FRAMES
     }
 
-    /// Whether a fault has stopped the step that takes frames.
+    /// Returns whether a fault has stopped the step that takes frames.
     pub fn is_stopped(&self) -> bool
         ensures { result ≡ self.now.stopped }
     {
         !self.running
     }
 
-    /// The oldest frame of the buffer as it is put onto the wire, without a copy; `None` exactly if the buffer is
-    /// empty. The frame has at most 1,518 bytes.
+    /// Returns the oldest frame of the buffer as it is put onto the wire, without a copy, or `None` exactly if the
+    /// buffer is empty. The frame has at most 1,518 bytes.
     pub fn front(&self) -> Option<&[u8]>
         ensures none { IsNone result ↔ (self.now.buffer ≡ []) }
         ensures oldest { IfSome result (λ frame. IfFront self.now.buffer (λ queued. queued.frame ≡ frame.now)) }
@@ -122,7 +123,7 @@ impl TxEngine {
         self.frames.front()
     }
 
-    /// The frame of the buffer with this index, without a copy. The oldest frame has index 0.
+    /// Returns the frame of the buffer with this index, without a copy. The oldest frame has index 0.
     pub fn frame_at(&self, index: usize) -> &[u8]
         requires { index < length self.now.buffer }
         ensures frame { slice_get (map (λ queued. queued.frame) self.now.buffer) index ≡ Some result.now }
@@ -142,14 +143,15 @@ impl TxEngine {
         feed_reports(wrapped, hasher);
     }
 
-    /// Stops the engine after a fault: it takes no frame until a reset.
+    /// Stops the engine after a fault: the engine takes no frame until a reset.
     pub(crate) fn stop(&mut self)
         ensures { self.new ≡ record self.old { stopped = true } }
     {
         self.running = false;
     }
 
-    /// Appends a frame, followed by zeros up to `least` bytes. The buffer must not be full.
+    /// Appends a frame, followed by zeros up to `least` bytes if the frame is shorter. The buffer must not be full,
+    /// and neither the frame nor `least` may exceed 1,518 bytes.
     pub(crate) fn push(&mut self, named: Named<'_>, least: usize)
         requires room { length self.old.buffer < 4 }
         requires fits { length named.bytes.now ≤ 1518 }
@@ -170,8 +172,8 @@ impl TxEngine {
         });
     }
 
-    /// Removes the oldest frame. Returns the address and the RS bit of its descriptor; `None` exactly if the buffer is
-    /// empty.
+    /// Removes the oldest frame. Returns the address and the RS bit of the frame's descriptor, or `None` exactly if
+    /// the buffer is empty.
     pub(crate) fn pop(&mut self) -> Option<Report>
         ensures none { IsNone result ↔ (self.old.buffer ≡ []) }
         ensures rest { self.new ≡ record self.old { buffer = drop 1 self.old.buffer } }

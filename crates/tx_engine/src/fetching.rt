@@ -9,7 +9,7 @@ use bitflags::Flags;
 use descriptors::{LONGEST_SENDABLE, Ring, TX_DESC_BYTES, TxCommand, TxDesc};
 use dma_memory::HostMemory;
 
-/// A frame that a descriptor names, borrowed from the host's memory.
+/// A frame that a descriptor points to, borrowed from the host's memory.
 #[derive(Clone, Copy)]
 pub struct Named<'a> {
     /// The bytes of the frame.
@@ -20,28 +20,28 @@ pub struct Named<'a> {
     pub reports: bool,
 }
 
-/// Whether a descriptor contains the end of its packet: EOP is set.
+/// Returns whether a descriptor contains the end of its packet: EOP is set.
 fn ends_packet(command: TxCommand) -> bool
     ensures { IsTrue result ↔ HasBit (command_bits command) tx_eop }
 {
     command.contains(TxCommand::EOP)
 }
 
-/// Whether a descriptor has one of the extended formats: DEXT is set.
+/// Returns whether a descriptor has one of the extended formats: DEXT is set.
 fn is_extended(command: TxCommand) -> bool
     ensures { IsTrue result ↔ HasBit (command_bits command) tx_dext }
 {
     command.contains(TxCommand::DEXT)
 }
 
-/// Whether a descriptor asks for a report: RS is set.
+/// Returns whether a descriptor asks for a report: RS is set.
 fn asks_report(command: TxCommand) -> bool
     ensures { result ≡ is_set (command_bits command) tx_rs }
 {
     command.contains(TxCommand::RS)
 }
 
-/// The descriptor at the head, with its address; `None` exactly if the descriptor isn't inside memory.
+/// Returns the descriptor at the head, with its address, or `None` exactly if the descriptor isn't inside memory.
 fn descriptor_at_head(ring: &Ring, memory: &HostMemory) -> Option<(u64, TxDesc)>
     ensures lies { IsSome result ↔ LiesIn memory.now (address_of ring.now ring.now.head) 16 }
     ensures address { IfSome result (λ found. found.0 ≡ address_of ring.now ring.now.head) }
@@ -58,7 +58,7 @@ fn descriptor_at_head(ring: &Ring, memory: &HostMemory) -> Option<(u64, TxDesc)>
     Some((address, TxDesc::from_bytes(&bytes)))
 }
 
-/// The bytes that a descriptor names, or `None` exactly if the descriptor can't be transmitted.
+/// Returns the bytes that a descriptor points to, or `None` exactly if the descriptor can't be transmitted.
 fn bytes_of<'a>(desc: &TxDesc, memory: &'a HostMemory) -> Option<&'a [u8]>
     ensures transmittable { IsSome result ↔ IsTransmittable memory.now desc.now }
     ensures value { IfSome result (λ bytes. bytes.now ≡ named_by memory.now desc.now) }
@@ -73,7 +73,7 @@ fn bytes_of<'a>(desc: &TxDesc, memory: &'a HostMemory) -> Option<&'a [u8]>
     memory.view(desc.address, length).ok()
 }
 
-/// The frame that the descriptor at the head names, or `None` exactly if that descriptor can't be taken.
+/// Returns the frame that the descriptor at the head points to, or `None` exactly if this frame can't be taken.
 pub fn fetch<'a>(ring: &Ring, memory: &'a HostMemory) -> Option<Named<'a>>
     ensures fetchable { IsSome result ↔ IsFetchable memory.now ring.now }
     ensures bytes { IfSome result (λ named. named.bytes.now

@@ -1,10 +1,11 @@
 ghost use Rattle.tx_engine.specs.ToSend.{TakingMovesFrames, PuttingTakesFront, OtherBytesLeaveFrames};
 ghost use Rattle.tx_engine.specs.ToSend.{OfferingAddsFrames};
 
-/// Laws of the frames to be sent: first the frames in the transmit packet buffer, then the frames that the descriptors
-/// from head to tail name. A take step moves the frame at the head to the end of the buffer, so it doesn't change the
-/// list. A put step removes the first frame. A write apart from these descriptors and their frames doesn't change the
-/// list. If the tail advances, a frame is added at the end of the list.
+/// Laws of the frames to be sent. These are the frames in the transmit packet buffer, and then those of the offered
+/// descriptors, from head up to, but not including, tail. A take step moves the frame at the head to the end of the
+/// buffer, so the list doesn't change. A put step removes the first frame. A write that doesn't overlap these
+/// descriptors and their frames doesn't change the list. If the tail advances by one slot, the frame of the slot at
+/// the old tail is added at the end of the list. The tail must not advance to the head.
 ///
 /// The function does nothing: its contract is the laws.
 pub fn frames_to_be_sent()

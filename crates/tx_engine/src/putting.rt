@@ -14,14 +14,14 @@ use dma_memory::HostMemory;
 /// The offset of the status byte in a transmit descriptor, in bytes.
 const STATUS_PLACE: u64 = 12;
 
-/// One step of transmission: puts the oldest frame of the packet buffer onto the wire. The caller can read its bytes
-/// with [`TxEngine::front`] before the step.
+/// Performs one step of transmission: puts the oldest frame of the packet buffer onto the wire. The caller can read
+/// the frame with [`TxEngine::front`] before the step.
 ///
 /// - `Nothing` exactly if the buffer is empty.
 /// - Otherwise `WireFull` exactly if the wire isn't free.
-/// - Otherwise `Put`: the frame is removed from the buffer. `reported` is whether its descriptor asks for a report
-///   (RS). If so, the descriptor's status byte becomes 1 (DD), at the address from which `take` read the descriptor. If
-///   memory ends before this byte, nothing is written.
+/// - Otherwise `Put`: the frame is removed from the buffer. `reported` is whether the frame's descriptor asks for a
+///   report (RS). If `reported` is true, the descriptor's status byte becomes 1 (DD), at the address from which `take`
+///   read the descriptor. If memory ends before this byte, nothing is written.
 ///
 /// If memory has the same size as in the call of [`take`](crate::take), the status byte is inside memory.
 pub fn put(engine: &mut TxEngine, memory: &mut HostMemory, wire_free: bool) -> Put
@@ -37,8 +37,8 @@ pub fn put(engine: &mut TxEngine, memory: &mut HostMemory, wire_free: bool) -> P
     ensures one_byte { IfFront engine.old.buffer
         (λ queued. DiffersAtMostAt (status_place queued) memory.old memory.new) }
 
-    // If the status byte is apart from the frames to be sent, the first of them is put on the wire, and the others
-    // don't change.
+    // If the status byte is apart from the offered descriptors and their frames, the first of the frames to be sent is
+    // put on the wire, and the others don't change.
     ensures to_send { IfPut result (λ _. IfFront engine.old.buffer (λ queued.
         (ring : Ring) (pad : Bool)
         → All (λ slot. IsAwayFrom memory.old (area_at (status_place queued) 1) (address_of ring slot))

@@ -11,7 +11,8 @@ use arrayvec::ArrayVec;
 use descriptors::{Frame, Ring, SHORTEST_LEGAL, TX_DESC_BYTES, TxDesc};
 use dma_memory::HostMemory;
 
-/// The number of zeros that pad a frame on the wire.
+/// Returns the number of zeros that follow a frame of `length` bytes on the wire. If `pad` is true, zeros pad a frame
+/// of fewer than 60 bytes to 60 bytes.
 fn zeros_behind(length: usize, pad: bool) -> usize
     ensures zeros { result ≡ (if pad then 60 - length else 0) }
     ensures most { result ≤ 60 }
@@ -31,7 +32,8 @@ fn extend(whole: &mut ArrayVec<u8, 1518>, bytes: &[u8])
     let _ = whole.try_extend_from_slice(bytes);
 }
 
-/// A frame as it is put onto the wire.
+/// Returns a frame of at most 1,518 bytes as it is put onto the wire: followed by zeros up to 60 bytes if the adapter
+/// pads.
 fn frame_as_sent(bytes: &[u8], pad: bool) -> Frame
     requires short { length bytes.now ≤ 1518 }
     ensures { result ≡ as_sent pad bytes.now }
@@ -54,7 +56,7 @@ fn append_padded(bytes: &[u8], pad: bool, frames: &mut Vec<Frame>)
     let _ = frames.push(frame_as_sent(bytes, pad));
 }
 
-/// The descriptor in a slot of a ring.
+/// Returns the descriptor in a slot of a ring.
 fn descriptor_in(memory: &HostMemory, ring: &Ring, place: u16) -> Option<TxDesc>
     requires ring { LiesIn memory.now ring.now.base (16 * count_of ring.now) }
     requires place { place < count_of ring.now }
@@ -71,7 +73,7 @@ fn descriptor_in(memory: &HostMemory, ring: &Ring, place: u16) -> Option<TxDesc>
     Some(TxDesc::from_bytes(&bytes))
 }
 
-/// The bytes that the descriptor in a slot of a ring names.
+/// Returns the bytes that the descriptor in a slot of a ring points to.
 fn queued_bytes<'a>(memory: &'a HostMemory, ring: &Ring, place: u16) -> Option<&'a [u8]>
     requires ring { LiesIn memory.now ring.now.base (16 * count_of ring.now) }
     requires place { place < count_of ring.now }
@@ -85,8 +87,8 @@ fn queued_bytes<'a>(memory: &'a HostMemory, ring: &Ring, place: u16) -> Option<&
     memory.view(desc.address, usize::from(desc.length)).ok()
 }
 
-/// Appends the frames that the descriptors from head to tail name, as they are put onto the wire. The list must have
-/// room for these frames.
+/// Appends the frames of the offered descriptors, as they are put onto the wire. The list must have room for these
+/// frames. The ring and the frames must be inside memory, and no frame may exceed 1,518 bytes.
 pub fn append_queued(memory: &HostMemory, ring: &Ring, pad: bool, frames: &mut Vec<Frame>)
     requires ring { LiesIn memory.now ring.now.base (16 * count_of ring.now) }
     requires slot { (ring.now.head < count_of ring.now) ⊎ (offered_places ring.now ≡ []) }

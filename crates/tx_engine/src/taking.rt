@@ -11,7 +11,7 @@ use descriptors::{Ring, SHORTEST_LEGAL};
 use dma_memory::HostMemory;
 use registers::Tctl;
 
-/// Whether [`take`] has nothing to do and would return `Nothing`.
+/// Returns whether [`take`] has nothing to do, so that it would return `Nothing`.
 pub fn is_idle(engine: &TxEngine, ring: &Ring, control: Tctl) -> bool
     ensures idle { IsTrue result ↔ HasNoFrameToTake control.0 engine.now ring.now }
     ensures room { (result ≡ false) → length engine.now.buffer < 4 }
@@ -19,14 +19,16 @@ pub fn is_idle(engine: &TxEngine, ring: &Ring, control: Tctl) -> bool
     !control.is_enabled() || engine.is_stopped() || engine.is_full() || ring.head == ring.tail
 }
 
-/// One step of transmission: takes the frame that the descriptor at the head of the ring names into the packet buffer.
+/// Performs one step of transmission: copies the frame that the descriptor at the head of the ring points to into the
+/// packet buffer.
 ///
-/// - `Nothing` exactly if TCTL.EN is 0, the engine is stopped, its buffer holds four frames, or head equals tail.
-/// - Otherwise `Fault` exactly if the ring has no descriptors or head or tail isn't one of its slots, the
-///   descriptor or the bytes that it names aren't inside memory (addresses don't wrap), EOP is clear, DEXT is set, or
-///   the length is 0 or above 1,518. Ring and buffer are unchanged, and the engine takes no frame until a reset.
-/// - Otherwise `Took`: the frame is in the buffer, and head has advanced. If TCTL.PSP is set, zeros follow up to 60
-/// bytes.
+/// - `Nothing` exactly if TCTL.EN is 0, the engine is stopped, its buffer contains four frames, or head equals tail.
+/// - Otherwise `Fault` exactly if one of these conditions is true. Head or tail isn't a slot of the ring. (A ring
+///   without descriptors has no slots.) The descriptor, or the bytes that it points to, aren't inside memory.
+///   (Addresses don't wrap.) EOP is clear, DEXT is set, or the length is 0 or above 1,518. Ring and buffer are then
+///   unchanged, and the engine takes no frame until a reset.
+/// - Otherwise `Took`: the frame is in the buffer, and head has advanced. If TCTL.PSP is set, zeros pad the frame to 60
+///   bytes.
 pub fn take(engine: &mut TxEngine, ring: &mut Ring, control: Tctl, memory: &HostMemory) -> Take
     ensures nothing { (result ≡ Take.Nothing) ↔ HasNoFrameToTake control.0 engine.old ring.old }
     ensures fault { (result ≡ Take.Fault)
@@ -57,7 +59,7 @@ pub fn take(engine: &mut TxEngine, ring: &mut Ring, control: Tctl, memory: &Host
     }
 }
 
-/// The least number of bytes of a frame as it is put onto the wire: 60 if TCTL.PSP is set, else 0.
+/// Returns the least number of bytes of a frame as it is put onto the wire: 60 if TCTL.PSP is set, else 0.
 fn least_of(control: Tctl) -> usize
     ensures { result ≡ (if pads control.0 then 60 else 0) }
 {

@@ -13,9 +13,9 @@ use Rattle.stations.specs.AtomicSteps.{AtomicStep, tick_of}
 use Rattle.stations.specs.Stations.{StationState, world_at}
 use Rattle.stations.specs.declared.outcomes.Numbered.{Numbered}
 use Rattle.stations.specs.declared.tick.Tick.{Tick}
-use Rattle.delivery.proofs.ToldAround.{told-around_nothing}
-use Rattle.delivery.specs.Fates.{mark_by, marks}
-use Rattle.delivery.specs.Happenings.{Happening, happened_in, of_host, tick_happenings, tick_happenings_around}
+use Rattle.host_calls.proofs.ToldAround.{told-around_nothing}
+use Rattle.host_calls.specs.Fates.{mark_by, marks}
+use Rattle.host_calls.specs.Happenings.{Happening, happened_in, of_host, tick_happenings, tick_happenings_around}
 use Rattle.network_plan.specs.Answers.{FrameAnswer, event_answer}
 use Rattle.network_plan.specs.EventCalls.{EventCall}
 use Rattle.network_plan.specs.declared.reply.Answer.TheVariants.{NoHost}

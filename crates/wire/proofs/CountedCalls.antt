@@ -27,12 +27,12 @@ use Rattle.driver_law.proofs.Places.{place-below}
 use Rattle.packet_socket.specs.HostActs.{IsGroupWrite, IsOfDriver, IsOfHost, IsTailWrite}
 use Rattle.packet_socket.specs.HostCalls.{HostReady}
 use Rattle.packet_socket.specs.HostState.{HostState}
-use Rattle.delivery.proofs.HostSteps.{trail-goes}
-use Rattle.delivery.proofs.TailWrites.{sides-stay}
-use Rattle.delivery.proofs.Ticks.{counts-go, fault-never-comes, ticks-answered}
-use Rattle.delivery.specs.CountedHosts.{CanAnswer, IsCounted, IsNotControl, IsNotMdic, LeavesEnabled}
-use Rattle.delivery.specs.Counts.{HostCounts, counts_of}
-use Rattle.delivery.specs.StepOutcomes.{AreAnswered, counts_at}
+use Rattle.host_calls.proofs.HostSteps.{trail-goes}
+use Rattle.host_calls.proofs.TailWrites.{sides-stay}
+use Rattle.host_calls.proofs.Ticks.{counts-go, fault-never-comes, ticks-answered}
+use Rattle.host_calls.specs.CountedHosts.{CanAnswer, IsCounted, IsNotControl, IsNotMdic, LeavesEnabled}
+use Rattle.host_calls.specs.Counts.{HostCounts, counts_of}
+use Rattle.host_calls.specs.StepOutcomes.{AreAnswered, counts_at}
 
 -- An access of a call can be counted, enables or disables neither side, and isn't a reset.
 record Leaves (access : Access) : Type 0 where

@@ -17,14 +17,14 @@ use Rattle.packet_socket.specs.HostCalls.{Given, host_did, given_for, held_for_s
 use Rattle.packet_socket.specs.HostState.{HostState}
 use Rattle.packet_socket.specs.SocketKinds.{goes_to, has_none}
 use Rattle.packet_socket.specs.declared.socket_kind.SocketKind.{SocketKind}
-use Rattle.delivery.proofs.Joining.{given-append, marks-append, missed-append, put-append, waits-append}
-use Rattle.delivery.proofs.Laws.{frames-move}
-use Rattle.delivery.proofs.Lists.{accepted-padded, goes-behind, goes-join, goes-without_drops}
-use Rattle.delivery.specs.Lists.{AreDue, HaveCome, holding_in_one, padded_in_one, sending_in_one}
-use Rattle.delivery.proofs.RightFates.{receives-append, receives-none}
-use Rattle.delivery.specs.Fates.{Mark, marks}
-use Rattle.delivery.specs.Happenings.{Happening, accepted, given, happened_in, missed, put, reached, stored, stored_by, toward}
-use Rattle.delivery.specs.Reception.{ReceivesRightly}
+use Rattle.host_calls.proofs.Joining.{given-append, marks-append, missed-append, put-append, waits-append}
+use Rattle.host_calls.proofs.Laws.{frames-move}
+use Rattle.host_calls.proofs.Lists.{accepted-padded, goes-behind, goes-join, goes-without_drops}
+use Rattle.host_calls.specs.Lists.{AreDue, HaveCome, holding_in_one, padded_in_one, sending_in_one}
+use Rattle.host_calls.proofs.RightFates.{receives-append, receives-none}
+use Rattle.host_calls.specs.Fates.{Mark, marks}
+use Rattle.host_calls.specs.Happenings.{Happening, accepted, given, happened_in, missed, put, reached, stored, stored_by, toward}
+use Rattle.host_calls.specs.Reception.{ReceivesRightly}
 use Rattle.host_calls.specs.CallsOfHosts.{HostRuns}
 use Rattle.wire.specs.Equations.{CountsMisses, MeetsEquations, KeepsCome, SendsDue, sum_of}
 use Rattle.host_calls.specs.ConnectedHosts.{connected}

@@ -10,8 +10,8 @@ use Rattle.packet_socket.specs.HostState.{HostState}
 use Rattle.packet_socket.specs.HostCalls.{Given}
 use Rattle.stations.specs.AtomicSteps.{AtomicStep}
 use Rattle.stations.specs.Stations.{StationState, wire_at, world_at, world_of}
-use Rattle.delivery.specs.Fates.{marks}
-use Rattle.delivery.specs.Happenings.{Happening, Moved, happened_in, of_host}
+use Rattle.host_calls.specs.Fates.{marks}
+use Rattle.host_calls.specs.Happenings.{Happening, Moved, happened_in, of_host}
 use Rattle.host_calls.specs.DrainedHosts.{CanBeDrained, Drains, DrainsInto, KeepsMisses}
 use Rattle.host_calls.specs.ConnectedHosts.{connected}
 use Rattle.wire.specs.DrainedNetworks.{KeepsCount, NetworkDrains, said_of_drain}

@@ -22,20 +22,20 @@ use Rattle.bus.specs.declared.event.Event.TheVariants.{Accesses, Arrives, Steps}
 use Rattle.bring_up.specs.ConfiguredAdapters.{AreWords, FilterHasSetup, HasSetup}
 use Rattle.driver_law.specs.DriverState.{DriverSetup}
 use Rattle.dma_memory.specs.Layout.{Counts}
-use Rattle.joined_groups.specs.Groups.{HasTable, SetsTable, WritesWord, word_of}
+use Rattle.bring_up.specs.Groups.{HasTable, SetsTable, WritesWord, word_of}
 use Rattle.stations.proofs.HostTrails.{world-here}
 use Rattle.stations.specs.AtomicRunLaws.{past_join}
 use Rattle.stations.specs.AtomicRuns.{IsTick, LeadsTo, events_at, is_go, noted_of, past_at}
 use Rattle.stations.specs.AtomicSteps.{At, AtomicStep, Idles, IsNoAccess, after, tick_of}
 use Rattle.stations.specs.Stations.{StationState, world_at}
 use Rattle.stations.specs.declared.tick.Tick.{Tick}
-use Rattle.delivery.proofs.Joining.{marks-append}
-use Rattle.delivery.proofs.RightFates.{changes-alone, fates-right, filter-stays, receives-append, tails-leave_reception, word-changes}
-use Rattle.delivery.proofs.ToldAround.{told-at_access, told-at_end}
-use Rattle.delivery.specs.DeliveryLaws.{ChangesGroups}
-use Rattle.delivery.specs.Fates.{Joins, Mark, Quits, marks}
-use Rattle.delivery.specs.Happenings.{Happening, Joined, Left, happened_by, happened_in, of_host, tick_happenings_around}
-use Rattle.delivery.specs.Reception.{LeavesReception, ReceivesRightly, SameButGroups}
+use Rattle.host_calls.proofs.Joining.{marks-append}
+use Rattle.host_calls.proofs.RightFates.{changes-alone, fates-right, filter-stays, receives-append, tails-leave_reception, word-changes}
+use Rattle.host_calls.proofs.ToldAround.{told-at_access, told-at_end}
+use Rattle.host_calls.specs.DeliveryLaws.{ChangesGroups}
+use Rattle.host_calls.specs.Fates.{Joins, Mark, Quits, marks}
+use Rattle.host_calls.specs.Happenings.{Happening, Joined, Left, happened_by, happened_in, of_host, tick_happenings_around}
+use Rattle.host_calls.specs.Reception.{LeavesReception, ReceivesRightly, SameButGroups}
 use Rattle.packet_socket.specs.HostActs.{IsOfDriver, IsTailWrite}
 use Rattle.packet_socket.specs.HostCalls.{Given}
 use Rattle.packet_socket.specs.HostEffects.{JoinsGroup, LeavesGroup, groups_act}

@@ -33,14 +33,14 @@ use Rattle.driver_law.specs.DriverState.{DriverState, with_owners}
 use Rattle.driver_law.specs.ReadyDrivers.{Ready}
 use Rattle.driver_law.specs.Calls.{IsRefilled}
 use Rattle.driver.specs.Initialisation.{Initialises, transmit_accesses}
-use Rattle.joined_groups.specs.Groups.{AreNamedOnce}
+use Rattle.bring_up.specs.Groups.{AreNamedOnce}
 use Rattle.packet_socket.specs.HostCalls.{HostReady}
 use Rattle.packet_socket.specs.HostState.{HostState, new_host}
 use Rattle.packet_socket.specs.declared.socket_kind.SocketKind.{SocketKind}
 use Rattle.bus.specs.LivelyBuses.{IsSameMachine, Lives, machine_bytes, machine_world}
 use Rattle.bus.specs.declared.lively_bus.LivelyBus.{LivelyBus}
 use Rattle.stations.specs.Stations.{StationState}
-use Rattle.delivery.specs.CountedHosts.{CanAnswer}
+use Rattle.host_calls.specs.CountedHosts.{CanAnswer}
 use Rattle.network_plan.specs.declared.plan.HostPlan.{HostPlan}
 use Rattle.wire.specs.HostsUp.{AreOfPhy, ComesUp, HostHasNoFrames}
 use Rattle.host_calls.proofs.AdaptersStay.{adapter-ticked}

@@ -28,11 +28,11 @@ use Rattle.stations.specs.declared.outcomes.Numbered.{Numbered}
 use Rattle.stations.specs.declared.tick.Tick.{Tick}
 use Rattle.stations.specs.declared.tick.Tick.TheVariants.{Deliver, Go, Step}
 use Rattle.stations.specs.AtomicSteps.{AtomicStep}
-use Rattle.delivery.specs.Fates.{AreRightFates, Came, Emptied, IsRightFate, Joins, Mark, Quits, Reception, SwitchedOff, SwitchedOn, Went}
-use Rattle.delivery.specs.Fates.{in_force, mark_by, marks}
-use Rattle.delivery.specs.Happenings.{Accepted, Disabled, Enabled, Given, GivenUp, Happening, Joined as HasJoined, Left as HasLeft, Moved}
-use Rattle.delivery.specs.Happenings.{Put, Reached, accepted, accepted_in_one, put, put_in_one, reached, reached_by, share_wire}
-use Rattle.delivery.specs.Happenings.{
+use Rattle.host_calls.specs.Fates.{AreRightFates, Came, Emptied, IsRightFate, Joins, Mark, Quits, Reception, SwitchedOff, SwitchedOn, Went}
+use Rattle.host_calls.specs.Fates.{in_force, mark_by, marks}
+use Rattle.host_calls.specs.Happenings.{Accepted, Disabled, Enabled, Given, GivenUp, Happening, Joined as HasJoined, Left as HasLeft, Moved}
+use Rattle.host_calls.specs.Happenings.{Put, Reached, accepted, accepted_in_one, put, put_in_one, reached, reached_by, share_wire}
+use Rattle.host_calls.specs.Happenings.{
   tick_happenings,
   lone_tick_happenings,
   tick_happenings_around,
@@ -41,7 +41,7 @@ use Rattle.delivery.specs.Happenings.{
   toward,
   toward_by,
 }
-use Rattle.delivery.specs.Lists.{AreDue, padded_in_one, sending_in_one}
+use Rattle.host_calls.specs.Lists.{AreDue, padded_in_one, sending_in_one}
 use Rattle.network_plan.specs.Answers.{FrameAnswer, event_answer}
 use Rattle.network_plan.specs.EventCalls.{Alone, ByCall, ByReset, EventKind, in_event}
 use Rattle.network_plan.specs.declared.event.Event.{Event}

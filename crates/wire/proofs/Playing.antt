@@ -19,10 +19,10 @@ use Rattle.stations.specs.declared.outcomes.Numbered.{Numbered}
 use Rattle.stations.specs.declared.tick.Tick.{Tick}
 use Rattle.stations.specs.declared.tick.Tick.TheVariants.{Deliver, Go, Step}
 use Rattle.stations.proofs.TickLoops.{keeps-tick}
-use Rattle.delivery.proofs.Laws.{outcomes-tell}
-use Rattle.delivery.specs.Fates.{marks}
-use Rattle.delivery.specs.Happenings.{Happening, happened_in, of_host}
-use Rattle.delivery.specs.TickNumbers.{noted_numbers, numbers}
+use Rattle.host_calls.proofs.Laws.{outcomes-tell}
+use Rattle.host_calls.specs.Fates.{marks}
+use Rattle.host_calls.specs.Happenings.{Happening, happened_in, of_host}
+use Rattle.host_calls.specs.TickNumbers.{noted_numbers, numbers}
 use Rattle.network_plan.specs.Answers.{FrameAnswer}
 use Rattle.network_plan.specs.declared.event.Event.{Event}
 use Rattle.network_plan.specs.declared.reply.Answer.TheVariants.{NoHost}

@@ -27,13 +27,13 @@ use Rattle.stations.proofs.HostTrails.{world-here}
 use Rattle.stations.specs.AtomicRuns.{LeadsTo, past_at}
 use Rattle.stations.specs.AtomicSteps.{At, AtomicStep, after}
 use Rattle.stations.specs.Stations.{StationState, world_at}
-use Rattle.delivery.proofs.Joining.{fates-append}
-use Rattle.delivery.proofs.OffFates.{fates-off}
-use Rattle.delivery.proofs.RightFates.{fates-right, filter-stays}
-use Rattle.delivery.specs.Fates.{AreRightFates, Emptied, Mark, Reception, SwitchedOff, SwitchedOn, mark_by, marks, reception}
-use Rattle.delivery.specs.Happenings.{happened_in}
-use Rattle.delivery.specs.Reception.{LeavesReception}
-use Rattle.delivery.specs.StepOutcomes.{stations_behind}
+use Rattle.host_calls.proofs.Joining.{fates-append}
+use Rattle.host_calls.proofs.OffFates.{fates-off}
+use Rattle.host_calls.proofs.RightFates.{fates-right, filter-stays}
+use Rattle.host_calls.specs.Fates.{AreRightFates, Emptied, Mark, Reception, SwitchedOff, SwitchedOn, mark_by, marks, reception}
+use Rattle.host_calls.specs.Happenings.{happened_in}
+use Rattle.host_calls.specs.Reception.{LeavesReception}
+use Rattle.host_calls.specs.StepOutcomes.{stations_behind}
 use Rattle.bring_up.proofs.Setups.{setups-agree}
 use Rattle.bring_up.specs.ClearedDescriptors.{clears, clears_from}
 use Rattle.bring_up.specs.DriverSteps.{accesses_of}
@@ -41,14 +41,14 @@ use Rattle.bring_up.specs.RingRegisters.{receive_control, ring_setup_writes, tra
 use Rattle.bring_up.specs.WrittenRegisters.{handled_causes, link_control, mask_writes, register_limit}
 use Rattle.driver_law.specs.DriverState.{DriverSetup, DriverState}
 use Rattle.driver.specs.Resetting.{free_accesses, later_accesses, quiet_writes}
-use Rattle.joined_groups.proofs.Words.{tables-agree}
+use Rattle.bring_up.proofs.Words.{tables-agree}
 use Rattle.packet_socket.specs.HostState.{HostState}
 use Rattle.host_calls.specs.ConnectedHosts.{connected}
 use Rattle.host_calls.specs.ResetSteps.{ResetParts}
 use Rattle.host_calls.specs.ResetsInSteps.{ResetsInSteps}
-use Rattle.delivery.proofs.Joining.{marks-append}
-use Rattle.delivery.specs.Happenings.{Disabled, Enabled, GivenUp, Happening, of_host}
-use Rattle.delivery.specs.Reception.{ReceivesRightly}
+use Rattle.host_calls.proofs.Joining.{marks-append}
+use Rattle.host_calls.specs.Happenings.{Disabled, Enabled, GivenUp, Happening, of_host}
+use Rattle.host_calls.specs.Reception.{ReceivesRightly}
 use Rattle.wire.proofs.ResetAccesses.{IsBeyond, free-hold, quiet-hold}
 use Rattle.wire.specs.Equations.{HostStands}
 use Rattle.wire.proofs.ResetTold.{reset_said}

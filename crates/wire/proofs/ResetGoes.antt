@@ -11,13 +11,13 @@ use Rattle.stations.proofs.Lengths.{length-stays}
 use Rattle.stations.specs.AtomicRuns.{LeadsTo, events_at, past_at}
 use Rattle.bring_up.specs.ConfiguredAdapters.{HasSetup}
 use Rattle.driver_law.specs.DriverState.{DriverSetup, DriverState}
-use Rattle.joined_groups.specs.Groups.{HasTable}
+use Rattle.bring_up.specs.Groups.{HasTable}
 use Rattle.packet_socket.specs.HostCalls.{host_did}
 use Rattle.packet_socket.specs.HostState.{HostState}
-use Rattle.delivery.proofs.Ticks.{absent-nothing}
-use Rattle.delivery.specs.Fates.{mark_by, marks}
-use Rattle.delivery.specs.Happenings.{Happening, happened_in}
-use Rattle.delivery.specs.Reception.{ReceivesRightly}
+use Rattle.host_calls.proofs.Ticks.{absent-nothing}
+use Rattle.host_calls.specs.Fates.{mark_by, marks}
+use Rattle.host_calls.specs.Happenings.{Happening, happened_in}
+use Rattle.host_calls.specs.Reception.{ReceivesRightly}
 use Rattle.host_calls.proofs.AdaptersStay.{adapter-behind}
 use Rattle.host_calls.proofs.Calling.{others-run, ready-behind}
 use Rattle.host_calls.proofs.GroupsKept.{stay-alone}
@@ -118,7 +118,7 @@ reset-goes k answer steps h h' old stations stands there known =
         there = λ n was first.
             elim (eqb_tells n k) [
               | inl same ↦
-                  subst (λ (m : ℕ). Rattle.delivery.specs.StepOutcomes.AreAnswered m a steps) (sym same.1)
+                  subst (λ (m : ℕ). Rattle.host_calls.specs.StepOutcomes.AreAnswered m a steps) (sym same.1)
                   (reset-ticks k steps (connected h a) (connected h' stations) known.leads known.resets)
               | inr differ ↦
                   let here = elsewhere k n answer steps h h' was a stations differ.1 known (stands.each n was first) in
@@ -131,8 +131,8 @@ reset-goes k answer steps h h' old stations stands there known =
         counts = λ n was first.
             elim (eqb_tells n k) [
               | inl same ↦
-                  subst (λ (m : ℕ). Rattle.delivery.specs.Counts.counts_of (world_at stations m).adapter
-                  ≡ Rattle.delivery.specs.StepOutcomes.counts_at a steps m) (sym same.1)
+                  subst (λ (m : ℕ). Rattle.host_calls.specs.Counts.counts_of (world_at stations m).adapter
+                  ≡ Rattle.host_calls.specs.StepOutcomes.counts_at a steps m) (sym same.1)
                   (reset-counts k steps (connected h a) (connected h' stations) known.leads known.resets)
               | inr differ ↦
                   host-counts k n steps a stations was.driver.layout known.leads

@@ -17,12 +17,12 @@ use Rattle.stations.specs.Stations.{StationState, backlog_at, wire_at, world_at}
 use Rattle.packet_socket.specs.HostCalls.{held_for_socket, socket_frames, waiting_frames, without_socket}
 use Rattle.packet_socket.specs.HostState.{HostState}
 use Rattle.packet_socket.specs.declared.socket_kind.SocketKind.{SocketKind}
-use Rattle.delivery.proofs.HostLists.{accepted-none, given-none, holding-none, put-told, sending-none, stored-told}
-use Rattle.delivery.proofs.Laws.{frames-move}
-use Rattle.delivery.proofs.Lists.{accepted-padded, goes-join, goes-without_drops}
-use Rattle.delivery.specs.Fates.{marks}
-use Rattle.delivery.specs.Happenings.{Disabled, Enabled, GivenUp, Happening, accepted_in_one, given, given_in_one, happened_by}
-use Rattle.delivery.specs.Happenings.{
+use Rattle.host_calls.proofs.HostLists.{accepted-none, given-none, holding-none, put-told, sending-none, stored-told}
+use Rattle.host_calls.proofs.Laws.{frames-move}
+use Rattle.host_calls.proofs.Lists.{accepted-padded, goes-join, goes-without_drops}
+use Rattle.host_calls.specs.Fates.{marks}
+use Rattle.host_calls.specs.Happenings.{Disabled, Enabled, GivenUp, Happening, accepted_in_one, given, given_in_one, happened_by}
+use Rattle.host_calls.specs.Happenings.{
   happened_in,
   missed,
   missed_of,
@@ -35,9 +35,9 @@ use Rattle.delivery.specs.Happenings.{
   stored_by,
   toward,
 }
-use Rattle.delivery.specs.Happenings.{toward_by}
-use Rattle.delivery.specs.Lists.{AreDue, ListGoes, HaveCome, holding_in_one, padded_in_one, sending_in_one}
-use Rattle.delivery.specs.Reception.{ReceivesRightly}
+use Rattle.host_calls.specs.Happenings.{toward_by}
+use Rattle.host_calls.specs.Lists.{AreDue, ListGoes, HaveCome, holding_in_one, padded_in_one, sending_in_one}
+use Rattle.host_calls.specs.Reception.{ReceivesRightly}
 use Rattle.host_calls.specs.ConnectedHosts.{connected}
 use Rattle.host_calls.specs.ResetSteps.{ResetParts, at_rest, before_reset, disable_of, enable_of, whole_reset}
 use Rattle.host_calls.specs.ResetsInSteps.{GivesUp, ResetsInSteps}

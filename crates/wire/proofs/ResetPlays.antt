@@ -24,10 +24,10 @@ use Rattle.stations.specs.declared.outcomes.Numbered.{Numbered}
 use Rattle.stations.specs.declared.tick.Tick.{Tick}
 use Rattle.packet_socket.specs.CallEffects.{Interrupting}
 use Rattle.packet_socket.specs.HostState.{HostState}
-use Rattle.delivery.proofs.HostLists.{put-told, stored-told}
-use Rattle.delivery.proofs.ToldByNumber.{more-counted, told-by_number}
-use Rattle.delivery.specs.Happenings.{Happening, happened_by, happened_in, put, stored, tick_happenings_where}
-use Rattle.delivery.specs.TickNumbers.{noted_numbers, numbers}
+use Rattle.host_calls.proofs.HostLists.{put-told, stored-told}
+use Rattle.host_calls.proofs.ToldByNumber.{more-counted, told-by_number}
+use Rattle.host_calls.specs.Happenings.{Happening, happened_by, happened_in, put, stored, tick_happenings_where}
+use Rattle.host_calls.specs.TickNumbers.{noted_numbers, numbers}
 use Rattle.network_plan.specs.Answers.{FrameAnswer}
 use Rattle.network_plan.specs.EventCalls.{EventCall}
 use Rattle.network_plan.specs.declared.event.Event.{Event}

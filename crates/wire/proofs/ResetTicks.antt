@@ -41,13 +41,13 @@ use Rattle.driver_law.specs.DriverState.{DriverSetup}
 use Rattle.driver.specs.Resetting.{free_accesses, later_accesses, quiet_writes}
 use Rattle.packet_socket.specs.HostCalls.{HostReady}
 use Rattle.packet_socket.specs.HostState.{HostState}
-use Rattle.delivery.proofs.HostSteps.{trail-goes}
-use Rattle.delivery.proofs.TailWrites.{sides-stay}
-use Rattle.delivery.proofs.Ticks.{counts-go, faultless-around-reset, ticks-answered}
-use Rattle.delivery.specs.AnswersLaws.{MeetsNoFault}
-use Rattle.delivery.specs.CountedHosts.{CanAnswer, IsCounted, IsNotMdic, LeavesEnabled}
-use Rattle.delivery.specs.Counts.{HostCounts, after_outcome, counts_after_write, counts_after, counts_behind, counts_of, emptied}
-use Rattle.delivery.specs.StepOutcomes.{AreAnswered, counts_at}
+use Rattle.host_calls.proofs.HostSteps.{trail-goes}
+use Rattle.host_calls.proofs.TailWrites.{sides-stay}
+use Rattle.host_calls.proofs.Ticks.{counts-go, faultless-around-reset, ticks-answered}
+use Rattle.host_calls.specs.AnswersLaws.{MeetsNoFault}
+use Rattle.host_calls.specs.CountedHosts.{CanAnswer, IsCounted, IsNotMdic, LeavesEnabled}
+use Rattle.host_calls.specs.Counts.{HostCounts, after_outcome, counts_after_write, counts_after, counts_behind, counts_of, emptied}
+use Rattle.host_calls.specs.StepOutcomes.{AreAnswered, counts_at}
 use Rattle.host_calls.specs.ConnectedHosts.{ConnectedHost}
 use Rattle.host_calls.specs.ResetSteps.{PartsAccess, ResetParts, ResetValues, at_rest, before_reset, disable_of, enable_of, reset_of}
 use Rattle.host_calls.specs.ResetSteps.{whole_reset}

@@ -15,10 +15,10 @@ use Rattle.stations.specs.AtomicRuns.{LeadsTo, counted_of, events_at, is_go, not
 use Rattle.stations.specs.AtomicSteps.{At, AtomicStep, Idles, tick_of}
 use Rattle.stations.specs.Stations.{StationState}
 use Rattle.stations.specs.declared.tick.Tick.{Tick}
-use Rattle.delivery.proofs.HostLists.{none-chosen}
-use Rattle.delivery.proofs.ToldByNumber.{more-counted, told-by_number, where-all, where-append, where-none}
-use Rattle.delivery.specs.DeliveryLaws.{happened_where}
-use Rattle.delivery.specs.Happenings.{Disabled, Enabled, GivenUp, Happening, happened_in, tick_happenings_where}
+use Rattle.host_calls.proofs.HostLists.{none-chosen}
+use Rattle.host_calls.proofs.ToldByNumber.{more-counted, told-by_number, where-all, where-append, where-none}
+use Rattle.host_calls.specs.DeliveryLaws.{happened_where}
+use Rattle.host_calls.specs.Happenings.{Disabled, Enabled, GivenUp, Happening, happened_in, tick_happenings_where}
 use Rattle.host_calls.proofs.FirstAccess.{tick-accesses}
 use Rattle.host_calls.specs.ResetSteps.{ResetParts, at_rest, disable_of, enable_of, whole_reset}
 use Rattle.wire.specs.Runs.{ResetAnswer, said_in_reset}

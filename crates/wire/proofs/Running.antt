@@ -7,8 +7,8 @@ use Rattle.circular_buffer.proofs.Places.{slice_get-some}
 use Rattle.packet_socket.specs.HostState.{HostState}
 use Rattle.stations.specs.Stations.{StationState, wire_at}
 use Rattle.stations.specs.declared.tick.Tick.{Tick}
-use Rattle.delivery.proofs.Waiting.{wires-stay}
-use Rattle.delivery.specs.Happenings.{Happening, lone_tick_happenings}
+use Rattle.host_calls.proofs.Waiting.{wires-stay}
+use Rattle.host_calls.specs.Happenings.{Happening, lone_tick_happenings}
 use Rattle.network_plan.specs.declared.event.Event.{Event}
 use Rattle.network_plan.specs.EventCalls.{Alone, ByCall, ByReset, EventCall, EventKind, in_event}
 use Rattle.network_plan.specs.declared.reply.Reply.{Reply}

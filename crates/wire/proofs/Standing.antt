@@ -17,15 +17,15 @@ use Rattle.driver_law.specs.Calls.{HasNoForgottenWork, IsRefilled}
 use Rattle.packet_socket.specs.HostCalls.{Given, HostReady, host_did, driver_of}
 use Rattle.packet_socket.specs.HostState.{HostState}
 use Rattle.stations.proofs.Lengths.{length-stays}
-use Rattle.delivery.specs.Fates.{marks}
-use Rattle.delivery.specs.Happenings.{Happening, happened_in, of_host}
-use Rattle.delivery.proofs.Ticks.{absent-nothing}
-use Rattle.delivery.specs.CountedHosts.{CanAnswer}
+use Rattle.host_calls.specs.Fates.{marks}
+use Rattle.host_calls.specs.Happenings.{Happening, happened_in, of_host}
+use Rattle.host_calls.proofs.Ticks.{absent-nothing}
+use Rattle.host_calls.specs.CountedHosts.{CanAnswer}
 use Rattle.host_calls.proofs.Calling.{others-run, ready-behind}
 use Rattle.host_calls.proofs.GroupsKept.{stay-alone}
 use Rattle.host_calls.proofs.HostTrails.{none-elsewhere}
 use Rattle.bring_up.specs.ConfiguredAdapters.{HasSetup}
-use Rattle.joined_groups.specs.Groups.{HasTable}
+use Rattle.bring_up.specs.Groups.{HasTable}
 use Rattle.host_calls.specs.CallsOfHosts.{HostRuns}
 use Rattle.host_calls.specs.ConnectedHosts.{connected}
 use Rattle.wire.specs.Equations.{HostStands, NetworkStands}

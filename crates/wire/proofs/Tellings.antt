@@ -9,13 +9,13 @@ use Rattle.driver.specs.SendSteps.{SendAnswer, accepted_by}
 use Rattle.packet_socket.specs.HostCalls.{Given, given_for}
 use Rattle.packet_socket.specs.declared.receive.RecvError.{RecvError}
 use Rattle.stations.specs.AtomicSteps.{AtomicStep}
-use Rattle.delivery.proofs.HostLists.{accepted-none, given-none, holding-none, sending-none}
-use Rattle.delivery.specs.Lists.{holding_in_one, sending_in_one}
-use Rattle.delivery.proofs.Laws.{lists-append}
-use Rattle.delivery.proofs.ToldAround.{around_ticks}
-use Rattle.delivery.specs.Fates.{Mark, marks}
-use Rattle.delivery.specs.Happenings.{Accepted, Given as WasGiven, Happening, accepted, given, happened_in, missed, of_host, put, reached}
-use Rattle.delivery.specs.Happenings.{
+use Rattle.host_calls.proofs.HostLists.{accepted-none, given-none, holding-none, sending-none}
+use Rattle.host_calls.specs.Lists.{holding_in_one, sending_in_one}
+use Rattle.host_calls.proofs.Laws.{lists-append}
+use Rattle.host_calls.proofs.ToldAround.{around_ticks}
+use Rattle.host_calls.specs.Fates.{Mark, marks}
+use Rattle.host_calls.specs.Happenings.{Accepted, Given as WasGiven, Happening, accepted, given, happened_in, missed, of_host, put, reached}
+use Rattle.host_calls.specs.Happenings.{
   accepted_in_one,
   given_in_one,
   missed_of,
@@ -26,7 +26,7 @@ use Rattle.delivery.specs.Happenings.{
   tick_happenings,
   tick_happenings_around,
 }
-use Rattle.delivery.specs.Happenings.{toward, toward_by}
+use Rattle.host_calls.specs.Happenings.{toward, toward_by}
 use Rattle.stations.specs.declared.outcomes.Numbered.{Numbered}
 use Rattle.stations.specs.declared.tick.Tick.{Tick}
 use Rattle.std.specs.List.{flat_map}

@@ -14,9 +14,9 @@ use Rattle.adapter.specs.declared.outcome.Outcome.TheVariants.{Nothing}
 use Rattle.stations.specs.declared.tick.Tick.{Tick}
 use Rattle.stations.specs.declared.tick.Tick.TheVariants.{Deliver, Go, Step}
 use Rattle.stations.specs.AtomicRuns.{IsTick, counted_of, is_go, noted_of}
-use Rattle.delivery.proofs.Telling.{leads-alone, said-alone}
-use Rattle.delivery.specs.Happenings.{lone_tick_happenings}
-use Rattle.delivery.specs.TickNumbers.{noted_numbers}
+use Rattle.host_calls.proofs.Telling.{leads-alone, said-alone}
+use Rattle.host_calls.specs.Happenings.{lone_tick_happenings}
+use Rattle.host_calls.specs.TickNumbers.{noted_numbers}
 use Rattle.host_calls.proofs.HostTrails.{none-alone}
 use Rattle.network_plan.specs.declared.reply.Answer.TheVariants.{NoCall}
 use Rattle.network_plan.specs.declared.reply.Reply.{Reply}

@@ -14,7 +14,8 @@ pub record HasPlaceForReply (now : Collector) : Type 0 where
   pub place : length now.replies.items < vec_capacity now.replies
   pub frame : is_some now.frame ≡ true
 
--- The outcomes of these ticks were collected for the next reply.
+-- The outcomes of these ticks were collected for the next reply. No reply was added, and the room for the next reply
+-- was kept.
 pub record CollectsTicks (old new : Collector) (ticks : List TickTold) : Type 0 where
   pub outcomes : Collects old.outcomes new.outcomes ticks
   pub replies : new.replies.items ≡ old.replies.items
@@ -25,7 +26,7 @@ pub record AppendsReplies (replies : List Reply) (old new : Collector) : Type 0 
   pub appended : new.replies.items ≡ old.replies.items ++ replies
   pub none_left : new.outcomes.list ≡ []
 
--- These replies were appended, if no outcome was left at the beginning.
+-- If no outcome was left at the beginning, these replies were appended, and no outcome is left.
 abbrev pub CollectsReplies : Collector → Collector → List Event → List Reply → Type 0
 CollectsReplies old new events replies = old.outcomes.list ≡ [] → AppendsReplies replies old new
 

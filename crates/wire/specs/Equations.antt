@@ -4,10 +4,10 @@
 -- 1. The count of misses, and when it is exact: `IsExact`.
 -- 2. The equations that have several fields: `CountsMisses`, `SendsDue`, `KeepsCome`, `KeepsPlan`.
 -- 3. The equations of one host between two states of a network, one in each field: `MeetsEquations`.
--- 4. What holds of each host before and after each event: `HostStands`, `NetworkStands`.
--- h and h' are a host in the first and in the second state, a and b its worlds. A world is an adapter with its host's
--- memory. A station is a world with its host's end of a wire. `happened` is the list of what happened to frames between
--- the two states (`happenings` of specs/Runs).
+-- 4. What holds of each host before and after each event: `HostStands`, `NetworkStands`. h and h' are a host in the
+--    first and in the second state, a and b its worlds. A world is an adapter with its host's memory. A station is a
+--    world with its host's end of a wire. `happened` is the list of what happened to frames, joined groups and the
+--    receive side between the two states (`happenings` of specs/Runs).
 use Rattle.std.specs.Prelude.{◌≡◌, ◌≤◌, ◌<◌, ◌+◌, ◌-◌, ◌^◌, ◌++◌, [], ℕ, IsTrue, List, length, min}
 use Rattle.registers.specs.Counting.{greatest_count}
 use Rattle.dma_memory.specs.Owners.{HasOneOwner}
@@ -17,16 +17,16 @@ use Rattle.adapter.specs.World.{World}
 use Rattle.bring_up.specs.ConfiguredAdapters.{HasSetup}
 use Rattle.driver_law.specs.DriverState.{owners}
 use Rattle.driver_law.specs.Calls.{HasNoForgottenWork, IsRefilled}
-use Rattle.joined_groups.specs.Groups.{HasTable}
+use Rattle.bring_up.specs.Groups.{HasTable}
 use Rattle.stations.specs.Stations.{StationState, backlog_at, wire_at, world_at}
 use Rattle.packet_socket.specs.HostCalls.{HostReady, driver_of, held_for_socket, socket_frames, unclaimed_in, waiting_frames}
 use Rattle.packet_socket.specs.HostCalls.{without_socket}
 use Rattle.packet_socket.specs.HostState.{HostState}
-use Rattle.delivery.specs.CountedHosts.{CanAnswer}
-use Rattle.delivery.specs.Fates.{marks}
-use Rattle.delivery.specs.Happenings.{Happening, given, missed, put, reached, toward}
-use Rattle.delivery.specs.Lists.{AreDue, HaveCome}
-use Rattle.delivery.specs.Reception.{ReceivesRightly, SameButGroups}
+use Rattle.host_calls.specs.CountedHosts.{CanAnswer}
+use Rattle.host_calls.specs.Fates.{marks}
+use Rattle.host_calls.specs.Happenings.{Happening, given, missed, put, reached, toward}
+use Rattle.host_calls.specs.Lists.{AreDue, HaveCome}
+use Rattle.host_calls.specs.Reception.{ReceivesRightly, SameButGroups}
 use Rattle.host_calls.specs.Networks.{IsHost, NetworkState}
 
 -- 1. Missed frames
@@ -43,10 +43,10 @@ sum_of host world = host.driver.missed + world.adapter.missed_packets
 abbrev pub missed_count : HostState → World → ℕ
 missed_count host world = min (sum_of host world) most_counted
 
--- The count of missed frames is exact: no read of MPC returned MPC's greatest value, at which MPC sticks, MPC doesn't
--- have this value now, and no sum saturated. `greatest_count` is this greatest value.
+-- The count of missed frames is exact: no read of MPC returned MPC's greatest value, at which MPC saturates. MPC doesn't have this value
+-- now, and no sum saturated. `greatest_count` is this greatest value.
 pub record IsExact (host : HostState) (world : World) : Type 0 where
-  -- no read of MPC returned MPC's greatest value, and the driver's sum never saturated
+  -- the driver's `exact`: no read of MPC returned MPC's greatest value, and the driver's sum never saturated
   pub exact : IsTrue host.driver.exact
   -- MPC is below its greatest value
   pub below_greatest : world.adapter.missed_packets < greatest_count
@@ -66,7 +66,7 @@ pub record CountsMisses (h : HostState) (a : World) (misses : ℕ) (h' : HostSta
   -- wouldn't saturate. An interrupt that is handled reads MPC, so for several events, this field of each event states
   -- more than this field of all events together.
   pub stays : IsExact h a → a.adapter.missed_packets + misses < greatest_count → sum_of h a + misses ≤ most_counted → IsExact h' b
-  -- The driver's sum never decreases.
+  -- The driver's sum doesn't decrease.
   pub grows : h.driver.missed ≤ h'.driver.missed
 
 -- The frames put on the wire, and then those still to be sent, are the frames that are due. `frames_to_send`: the
@@ -85,12 +85,12 @@ pub record SendsDue (k : ℕ) (happened : List Happening) (a b : World) : Type 0
 -- without a socket that have come. `unclaimed_in` is the count (`unclaimed`), plus the number of held frames without a
 -- socket.
 pub record CountsUnclaimed (h : HostState) (frames : ℕ) (h' : HostState) (b : World) : Type 0 where
-  -- the count never decreases
+  -- the count doesn't decrease
   pub least : h.unclaimed ≤ h'.unclaimed
   -- the number of frames counted and held is at most the number of frames counted before, plus the number that have
   -- come
   pub most : unclaimed_in h' b ≤ h.unclaimed + frames
-  -- these numbers are equal, unless the count is at its greatest value
+  -- these numbers are equal, unless the count at the end is the greatest u64
   pub exactly : h'.unclaimed < most_counted → unclaimed_in h' b ≡ h.unclaimed + frames
 
 -- The frames that have come were returned by their sockets, were counted, or are still held. `frames_held`: the frames
@@ -125,8 +125,7 @@ pub record KeepsPlan (k : ℕ) (old new : List StationState) (h h' : HostState) 
   pub kinds : h'.kinds ≡ h.kinds
   -- the number of slots of each ring, and the number of receive buffers
   pub layout : h'.driver.layout ≡ h.driver.layout
-  -- the registers of the receive filter, except MTA (`SameButGroups`); MTA has exactly the bits of the joined groups
-  -- (`groups` of `HostStands`)
+  -- the registers of the receive filter, except MTA (`SameButGroups`)
   pub filter : SameButGroups (world_at old k).adapter.filter (world_at new k).adapter.filter
   -- the size of the receive packet buffer
   pub kilobytes : (world_at new k).adapter.receive_kilobytes ≡ (world_at old k).adapter.receive_kilobytes
@@ -137,12 +136,14 @@ pub record KeepsPlan (k : ℕ) (old new : List StationState) (h h' : HostState) 
 pub record MeetsEquations (k : ℕ) (happened : List Happening) (old new : List StationState) (h h' : HostState) : Type 0 where
   -- the wire, the sockets, the filter except the joined groups, and the sizes don't change
   pub plan_is_kept : KeepsPlan k old new h h'
-  -- each accepted frame was put on the wire, padded, or is still to be sent, or a reset dropped it
+  -- Each frame to be sent at the beginning was put on the wire, is still to be sent, or was dropped by a reset. The
+  -- same is true of each accepted frame, padded.
   pub sent_is_accepted : SendsDue k happened (world_at old k) (world_at new k)
   -- The frames that reached the host, and then those that still wait at its end of the wire (`backlog_at`), are those
   -- that waited, and then those that other hosts put on the wire (`toward`).
   pub reached_is_put : reached k happened ++ backlog_at new k ≡ backlog_at old k ++ toward (wire_at old) k happened
-  -- each stored frame was returned by its socket, or was counted, or is still held, or a reset dropped it
+  -- Each frame held at the beginning was returned by its socket, was counted, is still held, or was dropped by a
+  -- reset. The same is true of each stored frame.
   pub stored_is_kept : KeepsCome k happened h (world_at old k) h' (world_at new k)
   -- Each frame that reached the host has the first fate that applies: Off (a reset had disabled the receive side),
   -- Illegal (fewer than 60 or more than 1,518 bytes), Filtered, Missed (the receive packet buffer had no room for the
@@ -169,7 +170,7 @@ pub record CountsExactly (host : HostState) (world : World) : Type 0 where
 
 -- What holds of a host before and after each event of its network.
 pub record HostStands (host : HostState) (world : World) : Type 0 where
-  -- the driver is ready, and the bytes of the frames in the sockets' queues are in their buffers
+  -- The driver is ready. Each frame in a socket's queue has 60 to 1,518 bytes, in pieces that fit into their buffers.
   pub ready : HostReady host world
   -- No work is forgotten: RXT0 is set in IMS. If a frame ends in the finished receive slots (with DD, and not yet taken
   -- by the driver), RXT0 is set in ICR.
@@ -178,7 +179,7 @@ pub record HostStands (host : HostState) (world : World) : Type 0 where
   pub refilled : IsRefilled host.driver
   -- no slot is staged
   pub offered : host.driver.staged ≡ []
-  -- the adapter has the driver's setup: RCTL, the VLANs, the address, and RXA of PBA
+  -- the adapter has the driver's setup: RCTL, VFTA, VET, the receive addresses, and RXA of PBA
   pub set_up : HasSetup host.driver.setup world.adapter
   -- MTA has exactly the bits of the joined groups
   pub groups : HasTable host.driver.groups world

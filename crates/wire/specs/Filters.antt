@@ -13,9 +13,10 @@ use Rattle.bring_up.specs.Configuration.{vlans_of}
 use Rattle.bring_up.specs.ConfiguredAdapters.{names_vlans}
 use Rattle.network_plan.specs.declared.plan.HostPlan.{HostPlan}
 
--- The receive filter of a plan passes frames to the address in the EEPROM, to the numbers of the configured groups
--- (RCTL.MO 00), and broadcast frames. If the host is promiscuous, the filter passes frames to any address. If the
--- configuration has a list of VLANs, a tagged frame passes only if its VLAN is in this list.
+-- The receive filter of a plan passes frames to the address in the EEPROM, and broadcast frames. It also passes frames
+-- to each group address that has the group number of a configured group (RCTL.MO 00). If the host is promiscuous, the
+-- filter passes frames to any address. If the configuration has a list of VLANs, a tagged frame passes only if its
+-- VLAN is in this list.
 abbrev pub plans_filter : HostPlan → ReceiveFilter
 plans_filter plan = record {
   addresses = λ address. address ≡ address_bytes plan.image;
@@ -29,6 +30,7 @@ plans_filter plan = record {
   broadcasts = ⊤;
 }
 
--- The registers are those of the plan's receive filter.
+-- The filter of these registers has the same sets and modes as the plan's receive filter (`SameSets`). The registers
+-- may differ.
 abbrev pub HasPlansFilter : HostPlan → FilterRegisters → Type 0
 HasPlansFilter plan registers = SameSets (filter_of registers) (plans_filter plan)

@@ -20,17 +20,17 @@ use Rattle.bring_up.specs.declared.init_error.InitError.{InitError}
 use Rattle.bring_up.specs.declared.init_error.InitError.TheVariants.{Checksum, Memory, NoLink}
 use Rattle.driver_law.specs.Calls.{HasNoForgottenWork, IsRefilled}
 use Rattle.bring_up.specs.ConfiguredAdapters.{HasSetup}
-use Rattle.joined_groups.specs.Groups.{AreNamedOnce, HasTable}
+use Rattle.bring_up.specs.Groups.{AreNamedOnce, HasTable}
 use Rattle.packet_socket.specs.HostCalls.{HostReady}
 use Rattle.packet_socket.specs.HostState.{HostState}
 use Rattle.stations.specs.Stations.{StationState}
-use Rattle.delivery.specs.CountedHosts.{CanAnswer}
+use Rattle.host_calls.specs.CountedHosts.{CanAnswer}
 use Rattle.network_plan.specs.declared.plan.HostPlan.{HostPlan}
 use Rattle.network_plan.specs.declared.plan_error.PlanError.{PlanError}
 use Rattle.network_plan.specs.declared.plan_error.PlanError.TheVariants as refused
 use Rattle.wire.specs.Filters.{HasPlansFilter}
 
--- All counts of the host are 0.
+-- All counts of the host are 0, and the driver's sum of missed frames is exact.
 pub record CountsNothing (host : HostState) (world : World) : Type 0 where
   -- the driver's sum of missed frames is 0
   pub missed : host.driver.missed ≡ 0
@@ -53,24 +53,25 @@ pub record HostHasNoFrames (host : HostState) (station : StationState) : Type 0 
   pub to_send : frames_to_send station.world ≡ []
   -- no frame is in the receive ring or in the receive packet buffer
   pub held : frames_held host.driver.oldest_receive station.world ≡ []
-  -- every socket's queue is empty
+  -- there is one queue for each socket, and each queue is empty
   pub queues : host.queues ≡ replicate (length host.kinds) []
   -- no frame waits at the host's end of the wire
   pub backlog : station.backlog ≡ []
   -- all counts are 0
   pub counts : CountsNothing host station.world
 
--- The host's driver is ready, no work is forgotten, the ring is refilled, and both sides of its adapter are enabled.
+-- The host is ready, no work is forgotten, the receive ring is refilled, no slot is staged, and both sides of its
+-- adapter are enabled.
 pub record IsReadyToRun (host : HostState) (world : World) : Type 0 where
   -- the host is ready
   pub ready : HostReady host world
   -- no work is forgotten
   pub work : HasNoForgottenWork host.driver world
-  -- no buffer is free, or all slots except one are outstanding
+  -- no buffer is free, or all receive slots except one are outstanding
   pub refilled : IsRefilled host.driver
   -- no slot is staged
   pub offered : host.driver.staged ≡ []
-  -- both sides of the adapter are enabled
+  -- both sides of the adapter are enabled, and each head and tail is the index of a slot of its ring
   pub can : CanAnswer world.adapter
 
 -- The host's rings, buffers, sockets, packet buffer, filter and groups are those of its plan, and its memory ends with
@@ -93,7 +94,8 @@ pub record HasPlansSizes (plan : HostPlan) (host : HostState) (world : World) : 
   -- MTA has exactly the bits of the joined groups
   pub table : HasTable host.driver.groups world
 
--- The host's EEPROM is the plan's, with a right checksum. The link has the plan's setting, and is up.
+-- The host's EEPROM is the plan's, with a right checksum. The link has the plan's setting and is up, and no command of
+-- MDIC is pending.
 pub record HasPlansDevices (plan : HostPlan) (world : World) : Type 0 where
   -- the EEPROM has the plan's words
   pub image : world.adapter.image ≡ plan.image
@@ -103,10 +105,10 @@ pub record HasPlansDevices (plan : HostPlan) (world : World) : Type 0 where
   pub link_is : world.adapter.phy.link ≡ plan.link
   -- the setting isn't that of a link that is never up
   pub comes : plan.link ≢ Never
-  -- the link is up
+  -- the link is up, and no command of MDIC is pending
   pub link : HasLink world
 
--- these are causes that ticks of the PHY record: LSC, MDAC, both or neither
+-- These causes are those that one tick of the PHY may record: LSC, MDAC, both or neither.
 abbrev pub AreOfPhy : ℕ → Type 0
 AreOfPhy causes = (ticked : Ticked) × (causes ≡ causes_told ticked)
 
@@ -119,17 +121,17 @@ pub record HasNoInterrupt (world : World) : Type 0 where
 
 -- A host and its station after initialization by its plan.
 pub record ComesUp (plan : HostPlan) (host : HostState) (station : StationState) : Type 0 where
-  -- the host is ready, no work is forgotten, and the ring is refilled
+  -- the host is ready, no work is forgotten, the receive ring is refilled, and both sides of its adapter are enabled
   pub ready : IsReadyToRun host station.world
-  -- the host's sizes, filter and groups are the plan's
+  -- the host's sizes, sockets, filter and groups are the plan's
   pub sizes : HasPlansSizes plan host station.world
-  -- the host's EEPROM and link are the plan's
+  -- the host's EEPROM and link are the plan's, the checksum is right, and the link is up
   pub devices : HasPlansDevices plan station.world
-  -- the host has no frames
+  -- the host has no frames, no frame waits for it, and all its counts are 0
   pub no_frames : HostHasNoFrames host station
-  -- the host has no interrupt
+  -- no causes except LSC and MDAC are recorded, and the interrupt line isn't asserted
   pub no_interrupt : HasNoInterrupt station.world
-  -- its adapter has values that are possible in an adapter
+  -- the adapter meets its invariant
   pub adapter : IsAdapter station.world.adapter
 
 -- A link that needs at most this number of ticks is found. The PHY's status is read up to `most_reads` (1,000) times,
@@ -138,7 +140,7 @@ abbrev pub most_link_ticks : ℕ
 most_link_ticks = 2 * most_reads
 
 -- The error is right for this plan. Checksum: the EEPROM's checksum is wrong. NoLink: the checksum is right, and the
--- link needs more than 2,000 ticks or is never up.
+-- link needs more than 2,000 ticks or is never up. No other error is right.
 abbrev pub IsDevices : HostPlan → InitError → Type 0
 IsDevices plan Checksum = ¬ (HasRightSum plan.image)
 IsDevices plan NoLink = HasRightSum plan.image × NeedsMoreThan most_link_ticks plan.link
@@ -150,7 +152,8 @@ IsReason plan error = IsDevices plan error
 
 -- All hosts
 
--- the number of a wire: the number of the first host whose plan names it
+-- the number of a wire: the number of the first host whose plan names it, or the number of plans if there is no such
+-- host
 abbrev pub wire_number : List HostPlan → String Global → ℕ
 wire_number plans wire = position_or_len (λ (plan : HostPlan). string_eq plan.wire wire) plans
 
@@ -181,13 +184,13 @@ abbrev pub CanComeUp : List HostPlan → ℕ → Type 0
 CanComeUp plans count =
     (k : ℕ) (plan : HostPlan) → k < count → slice_get plans k ≡ Some plan → HasRightSum plan.image × (plan.link ≢ Never)
 
--- This host of the plan can't be initialized, for the reason that this error states, and `CanComeUp` holds for the
--- hosts before it.
+-- There is a host `number` in the plan, the error is right for it (`IsDevices`), and `CanComeUp` holds for the hosts
+-- before it.
 abbrev pub IsNotUp : List HostPlan → ℕ → InitError → Type 0
 IsNotUp plans number error =
     (plan : HostPlan) × (slice_get plans number ≡ Some plan) × IsDevices plan error × CanComeUp plans number
 
--- The error is right for the hosts of this plan.
+-- The error is Memory, or Init with a host for which `IsNotUp` holds.
 abbrev pub IsRefusal : List HostPlan → PlanError → Type 0
 IsRefusal plans refused.Memory = ⊤
 IsRefusal plans (refused.Init number error) = IsNotUp plans number error

@@ -4,7 +4,7 @@ use Rattle.descriptors.specs.Frames.{IsLegal}
 use Rattle.rx_engine.specs.declared.arrival.Fate.TheVariants.{Illegal}
 use Rattle.adapter.specs.HostFrames.{frames_to_send}
 use Rattle.stations.specs.Stations.{backlog_at, world_at}
-use Rattle.delivery.specs.Happenings.{Happening, Reached}
+use Rattle.host_calls.specs.Happenings.{Happening, Reached}
 use Rattle.network_plan.specs.declared.event.Event.{Event}
 use Rattle.network_plan.specs.declared.plan.HostPlan.{HostPlan}
 use Rattle.network_plan.specs.declared.reply.Reply.{Reply}

@@ -11,7 +11,7 @@ use Rattle.stations.specs.PlayedTicks.{PlaysTicks}
 use Rattle.stations.specs.Stations.{StationState}
 use Rattle.stations.specs.declared.observer.Observer.{Ghosts as OfObserver}
 use Rattle.stations.specs.declared.tick.Tick.{Tick}
-use Rattle.delivery.specs.Happenings.{happened_in, lone_tick_happenings}
+use Rattle.host_calls.specs.Happenings.{happened_in, lone_tick_happenings}
 use Rattle.network_plan.specs.EventCalls.{Alone, ByCall, ByReset, EventCall, EventKind}
 use Rattle.network_plan.specs.declared.event.Event.{Event}
 use Rattle.network_plan.specs.declared.reply.Answer.TheVariants.{NoHost}
@@ -50,7 +50,7 @@ pub record ResetPlayed (host : ℕ) (ticks : List Tick) (reply : Reply) (old new
       → AnswersReset host ticks reply.answer steps (connected h old.stations) (connected h' new.stations)
 
 -- The ticks of a call or a reset for a host that doesn't exist were played, and the observer was told the answer
--- NoHost.
+-- NoHost with 0 accesses.
 pub record AbsentTold {O : Type 0} (observers : OfObserver O) (ran : O → O → List Event → List Reply → Type 0) (event : Event)
     (ticks : List Tick) (old new : Watched O) : Type 0 where
   pub ticked : O
@@ -63,6 +63,6 @@ pub record TickPlayed (tick : Tick) (reply : Reply) (old new : List StationState
   pub are : All IsTick steps
   pub leads : (caller : ℕ) → LeadsTo caller steps old new
   pub said : lone_tick_happenings tick reply.outcomes.list ≡ happened_in steps
-  -- this holds for any hosts
+  -- this holds for any list of hosts, which is the same before and after the tick
   pub replied : (hosts : List HostState)
       → IsTickReply tick reply steps (record { hosts = hosts; stations = old }) (record { hosts = hosts; stations = new })

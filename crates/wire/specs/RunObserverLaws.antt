@@ -2,7 +2,7 @@
 use Rattle.std.proofs.Common.{◌≡◌, ◌++◌, ◌∷◌, [], List, map, refl, sym, ap, ◌∙◌}
 use Rattle.std.specs.List.{flat_map}
 use Rattle.bus.specs.TickGroups.{without_go}
-use Rattle.delivery.specs.Happenings.{Happening, tick_host, tick_happenings, outcome_happenings}
+use Rattle.host_calls.specs.Happenings.{Happening, tick_host, tick_happenings, outcome_happenings}
 use Rattle.stations.specs.AtomicRuns.{is_go}
 use Rattle.stations.specs.Outcomes.{note_of}
 use Rattle.stations.specs.ToldTicks.{TickTold}

@@ -1,7 +1,7 @@
 -- What an observer of a run is told (our choice).
 use Rattle.std.specs.Prelude.{◌≡◌, ◌≤◌, ◌++◌, ◌∷◌, [], ℕ, List, length, map}
 use Rattle.bus.specs.TickGroups.{without_go}
-use Rattle.delivery.specs.Happenings.{Happening, tick_host, outcome_happenings}
+use Rattle.host_calls.specs.Happenings.{Happening, tick_host, outcome_happenings}
 use Rattle.stations.specs.AtomicRuns.{is_go}
 use Rattle.stations.specs.Outcomes.{note_of}
 use Rattle.stations.specs.ToldTicks.{TickTold}
@@ -24,7 +24,7 @@ ticks_played (ByCall call) = without_go is_go call.ticks
 ticks_played (ByReset host ticks) = without_go is_go ticks
 ticks_played (Alone tick) = tick ∷ []
 
--- the ticks that are played in an event
+-- the ticks of an event whose outcomes are told, in order (`ticks_played`)
 abbrev pub played_ticks : Event → List Tick
 played_ticks event = ticks_played (in_event event)
 
@@ -35,7 +35,8 @@ tick_in told = told.tick
 abbrev pub happened_of : TickTold → List Happening
 happened_of told = outcome_happenings (tick_host told.tick) told.outcome
 
--- These are the outcomes of the ticks of this event (`played_ticks`), in order.
+-- The observer was told one outcome for each of the ticks `played_ticks` of this event, in order. Which outcomes these
+-- are isn't stated.
 abbrev pub AreOfTicks : Event → List TickTold → Type 0
 AreOfTicks event ticks = map tick_in ticks ≡ played_ticks event
 
@@ -68,8 +69,8 @@ pub record EventTold {O : Type 0} (ran : O → O → List Event → List Reply �
   pub holds : Holds reply
   pub told : ran old new (event ∷ []) (reply ∷ [])
 
--- An observer that was told nothing was told no reply. In two consecutive intervals together, it was told the replies
--- of both, in order. Ticks don't use its room for an answer.
+-- An observer that was told nothing was told no reply. In two consecutive intervals together, the observer was told the replies of both,
+-- in order. Ticks don't use the observer's room for an answer.
 pub record ComposesRuns {O : Type 0} (heard : O → O → List TickTold → Type 0) (ran : O → O → List Event → List Reply → Type 0)
     (ready : O → Event → Type 0) : Type 0 where
   pub quiet : (a b : O) → heard a b [] → ran a b [] []

@@ -8,11 +8,10 @@
 --    outside a call.
 -- 3. The answer of a host that exists: `AnswersCall`, `AnswersReset`.
 -- 2. What the atomic steps of an event do to each host: `HostsGo`, `TicksAnswered`.
--- 1. What happened to frames in an event, by its reply: `said`, `happenings`. An event is a call or a reset with its
--- ticks, or a tick outside a call (`in_event`, network_plan/specs/EventCalls). An atomic step is one access of a
--- driver, or one tick other than Go, with its outcome. Such a tick is a step of an adapter or a delivery. Its outcome
--- is Nothing if there was nothing to do. A station is an adapter with its host's memory (`world_at stations k`) and its
--- end of its wire.
+-- 1. What happened in an event, by its reply: `said`, `happenings`. An event is a call or a reset with its
+-- ticks, or a tick outside a call (`in_event`, network_plan/specs/EventCalls). An atomic step is one access of a driver, or one tick other
+-- than Go, with its outcome. Such a tick is a step of an adapter or a delivery. The outcome of a tick is Nothing if there was nothing to
+-- do. A station is an adapter with its host's memory (`world_at stations k`) and its end of its wire.
 use Rattle.std.specs.Prelude.{◌≡◌, ◌≢◌, ◌≤◌, ◌<◌, ◌+◌, ◌↔◌, ◌⊎◌, ◌==◌, ◌&&◌, ◌++◌, ◌∷◌, [], ℕ, All, List, None, Ok, Option, Some}
 use Rattle.std.specs.Prelude.{length, map, nat_le, nat_lt, slice_get}
 use Rattle.adapter.specs.HostFrames.{frames_held, frames_to_send}
@@ -28,11 +27,11 @@ use Rattle.stations.specs.Stations.{world_at}
 use Rattle.stations.specs.declared.outcomes.Numbered.{Numbered}
 use Rattle.stations.specs.declared.tick.Tick.{Tick}
 use Rattle.stations.specs.declared.tick.Tick.TheVariants.{Deliver, Go, Step}
-use Rattle.delivery.specs.Counts.{counts_of}
-use Rattle.delivery.specs.Happenings.{Accepted, Disabled, Enabled, Given, GivenUp, Happening, Joined as HasJoined, Left as HasLeft, put}
-use Rattle.delivery.specs.Happenings.{stored, tick_happenings, lone_tick_happenings, tick_happenings_around, tick_happenings_where}
-use Rattle.delivery.specs.StepOutcomes.{AreAnswered, OfEachTick, counts_at}
-use Rattle.delivery.specs.TickNumbers.{numbers, noted_numbers}
+use Rattle.host_calls.specs.Counts.{counts_of}
+use Rattle.host_calls.specs.Happenings.{Accepted, Disabled, Enabled, Given, GivenUp, Happening, Joined as HasJoined, Left as HasLeft, put}
+use Rattle.host_calls.specs.Happenings.{stored, tick_happenings, lone_tick_happenings, tick_happenings_around, tick_happenings_where}
+use Rattle.host_calls.specs.StepOutcomes.{AreAnswered, OfEachTick, counts_at}
+use Rattle.host_calls.specs.TickNumbers.{numbers, noted_numbers}
 use Rattle.network_plan.specs.Answers.{FrameAnswer, event_answer}
 use Rattle.network_plan.specs.EventCalls.{Alone, ByCall, ByReset, EventCall, EventKind, in_event}
 use Rattle.network_plan.specs.declared.event.Event.{Event}
@@ -44,34 +43,33 @@ use Rattle.host_calls.specs.Networks.{IsHost, NetworkState}
 use Rattle.host_calls.specs.ResetsInSteps.{ResetsInSteps}
 use Rattle.wire.specs.Equations.{MeetsEquations, NetworkStands}
 
--- 1. What happened to frames in an event, by its reply. `FrameAnswer` is a reply's answer, with the bytes of the frame
+-- 1. What happened in an event, by its reply. `FrameAnswer` is a reply's answer, with the bytes of the frame
 -- that a socket returned.
 
--- the frame that was accepted, if any, by the answer
+-- Accepted with this frame if the answer is that the frame was accepted, else no happening
 abbrev pub accepted_by_answer : (host : ℕ) (frame : List ℕ) → FrameAnswer → List Happening
 accepted_by_answer host frame (Sent (Ok u)) = Accepted host frame ∷ []
 accepted_by_answer host frame _ = []
 
--- the frame that a socket returned, if any, by the answer
+-- Given with the frame in the answer if a socket returned a frame, else no happening
 abbrev pub given_by_answer : (host socket : ℕ) → FrameAnswer → List Happening
 given_by_answer host socket (Received (Ok frame)) = Given host socket frame ∷ []
 given_by_answer host socket _ = []
 
--- the group that was joined, if any, by the answer
+-- HasJoined with this group if the answer is that the host joined it, else no happening
 abbrev pub joined_of : (host : ℕ) (group : List ℕ) → FrameAnswer → List Happening
 joined_of host group (Joined (Ok u)) = HasJoined host group ∷ []
 joined_of host group _ = []
 
--- the group that was left, if any, by the answer
+-- HasLeft with this group if the answer is that the host left it, else no happening
 abbrev pub left_by_answer : (host : ℕ) (group : List ℕ) → FrameAnswer → List Happening
 left_by_answer host group (Left (Ok u)) = HasLeft host group ∷ []
 left_by_answer host group _ = []
 
--- The happenings of a call: the frame that was accepted, the happenings of its ticks, and the frame that was returned.
--- `tick_happenings`: for each tick that isn't Go, by its outcome, a frame that was put on the wire, that reached a host
--- with its fate, or that left the receive packet buffer for memory. A join or a leave comes after the happenings of the
--- ticks before the call's only access, and before the others (`tick_happenings_around`). If the call makes no access,
--- the join or leave comes after all these happenings.
+-- The happenings of a call: the frame that was accepted, the happenings of its ticks, and the frame that was returned. `tick_happenings`:
+-- for each outcome Put, Delivered or Moved of a tick, a frame that was put on the wire, that reached a host with its fate, or that left
+-- the receive packet buffer for memory. A join or a leave comes after the happenings of the ticks before the call's only access, and
+-- before the others (`tick_happenings_around`). If the call makes no access, the join or leave comes after all these happenings.
 abbrev pub happenings_in_call : (host : ℕ) → Request → FrameAnswer → (ticks : List Tick) → (outcomes : List Numbered) → List Happening
 happenings_in_call host (Sending frame) answer ticks outcomes = accepted_by_answer host frame answer ++ tick_happenings ticks outcomes
 happenings_in_call host (Receiving socket) answer ticks outcomes = tick_happenings ticks outcomes ++ given_by_answer host socket answer
@@ -99,7 +97,8 @@ reset_answer answer = None
 
 -- The happenings of a reset, in order. The happenings of ticks with no access before them come before Disabled. Those
 -- of ticks with 1 or 2 accesses before them come before GivenUp. Those of ticks with 3 or more, but fewer than
--- `on_after`, accesses before them come before Enabled. Those of the other ticks come last.
+-- `on_after`, accesses before them come before Enabled. Those of the other ticks come last. If the answer isn't that
+-- of a reset (`None`), only the ticks have happenings.
 abbrev pub said_in_reset : (host : ℕ) → Option ResetAnswer → (ticks : List Tick) → (outcomes : List Numbered) → List Happening
 said_in_reset host None ticks outcomes = tick_happenings ticks outcomes
 said_in_reset host (Some answer) ticks outcomes =
@@ -119,7 +118,7 @@ kind_happenings (Alone tick) reply = lone_tick_happenings tick reply.outcomes.li
 abbrev pub said : Event → Reply → List Happening
 said event reply = kind_happenings (in_event event) reply
 
--- what happened in several events, in order, by their replies
+-- what happened in several events, in order, by their replies; nothing for an event without a reply
 abbrev pub happenings : List Event → List Reply → List Happening
 happenings [] replies = []
 happenings (event ∷ events) [] = []
@@ -127,12 +126,13 @@ happenings (event ∷ events) (reply ∷ replies) = said event reply ++ happenin
 
 -- 2. The atomic steps of an event, for each host.
 
--- The outcome of each tick follows from counts: the number of frames in the packet buffers, the bytes of each that are
--- still to be moved, each ring's head and tail, whether a piece is in progress, whether each side is enabled, what is
--- pending at the EEPROM and the PHY, and the frames that wait at the ends of the wires. The frame of Put or Delivered
--- is the oldest frame there (`sent_is_accepted` and `reached_is_put` of specs/Equations), and its fate is right
--- (`fates_are_right`). `counts_of` are the counts of an adapter. `counts_at start steps k` are those of the k-th host
--- after the steps, computed from the counts at the start, each outcome and each register write.
+-- The outcome of each tick follows from counts. The counts contain the number of frames in the transmit packet buffer. For each frame in
+-- the receive packet buffer, they contain the number of bytes still to be moved. They contain the size of a receive buffer, and each
+-- ring's number of slots, head and tail. They also contain whether a piece is in progress, whether each side is enabled, and what is
+-- pending at the EEPROM and the PHY. Outcomes also follow from the frames that wait at the ends of the wires. The frame of Put or
+-- Delivered is the oldest frame there (`sent_is_accepted` and `reached_is_put` of specs/Equations), and its fate is right
+-- (`fates_are_right`). `counts_of` are the counts of an adapter. `counts_at start steps k` are those of the k-th host after the steps,
+-- computed from the counts at the start, each outcome and each register write.
 pub record TicksAnswered (steps : List AtomicStep) (old new : NetworkState) : Type 0 where
   -- The outcome of each tick of a host follows from the counts at the start, changed by the outcomes and register
   -- writes before the tick (`AreAnswered`). The table of `AreAnswered` is in docs/DELIVERY, "Answers".
@@ -147,14 +147,14 @@ pub record TicksAnswered (steps : List AtomicStep) (old new : NetworkState) : Ty
 -- These atomic steps lead from one state to the other, and `happened` happened in between. Each host satisfies the
 -- equations of delivery, and `HostStands` at the end.
 pub record HostsGo (caller : ℕ) (happened : List Happening) (steps : List AtomicStep) (old new : NetworkState) : Type 0 where
-  -- Each atomic step can happen in the state before it, and changes the stations exactly as its access, adapter step or
-  -- delivery does (`LeadsTo`). Each access is made by the host that is called.
+  -- Each atomic step can happen in the state before it, and changes the stations exactly as its access, adapter step
+  -- or delivery does (`LeadsTo`). Each access is made by host `caller`. No step is Go.
   pub leads : LeadsTo caller steps old.stations new.stations
   -- the number of hosts is the same
   pub hosts : length new.hosts ≡ length old.hosts
   -- the equations over this event (specs/Equations)
   pub delivers : (k : ℕ) (h h' : HostState) → IsHost old k h → IsHost new k h' → MeetsEquations k happened old.stations new.stations h h'
-  -- the outcome of each tick follows from counts
+  -- the outcome of each tick follows from the counts, and the counts at the end from those at the start
   pub ticks : TicksAnswered steps old new
   -- at the end `HostStands` holds for each host: one owner for each buffer, no forgotten work, and more
   -- (specs/Equations)
@@ -197,8 +197,8 @@ pub record AnswersReset (host : ℕ) (ticks : List Tick) (answer : FrameAnswer) 
     pub given_up : ResetAnswer
     -- the event's answer is that of the reset
     pub is : reset_answer answer ≡ Some given_up
-    -- The frames put by ticks with at most 2 accesses before them, followed by the frames in `given_up.sending`, are
-    -- the frames to be sent at the beginning.
+    -- The frames that the host put after at most 2 accesses, followed by `given_up.sending`, are the host's frames to
+    -- be sent at the beginning.
     pub sending : put host (tick_happenings_where (λ number. nat_lt number 3) ticks (noted_of 0 steps)) ++ given_up.sending
         ≡ frames_to_send (world_at old.stations host)
     -- the frames held that the reset dropped are those held at the beginning, and then those stored before the first
@@ -234,8 +234,8 @@ pub record IsCallReply (host : ℕ) (ticks : List Tick) (reply : Reply) (steps :
   -- (`numbers`). `noted_numbers` are these numbers in the reply. So ticks after i Gos are played right before access i
   -- + 1, or after the last access if the call makes at most i accesses.
   pub numbered : noted_numbers reply.outcomes.list ≡ numbers ticks 0 reply.accesses
-  -- The driver, the queues and the count of frames without a socket of a host that isn't called don't change. How ticks
-  -- change its station is stated by `leads` of `HostsGo`.
+  -- Every other host has the same `HostState`: driver, sockets, queues and count of frames without a socket. `leads`
+  -- of `HostsGo` states how ticks change this host's station.
   pub others : (k : ℕ) → k ≢ host → slice_get new.hosts k ≡ slice_get old.hosts k
 
 -- The outcome of a tick outside a call is that of its atomic step. Go has no atomic step, and its outcome is Nothing.
@@ -258,7 +258,7 @@ pub record IsTickReply (tick : Tick) (reply : Reply) (steps : List AtomicStep) (
   pub numbered : noted_numbers reply.outcomes.list ≡ 0 ∷ []
   -- the answer is NoCall
   pub answer : reply.answer ≡ NoCall
-  -- no driver and no queue changes
+  -- no host's driver, sockets, queues or count of frames without a socket change
   pub others : new.hosts ≡ old.hosts
 
 -- 5. One event with its reply
@@ -270,7 +270,7 @@ caller_in (ByCall call) = call.host
 caller_in (ByReset host ticks) = host
 caller_in (Alone tick) = 0
 
--- the host that an event calls or resets
+-- the host that an event calls or resets (`caller_in`)
 abbrev pub caller_of : Event → ℕ
 caller_of event = caller_in (in_event event)
 
@@ -280,7 +280,8 @@ IsReply (ByCall call) = IsCallReply call.host call.ticks
 IsReply (ByReset host ticks) = IsCallReply host ticks
 IsReply (Alone tick) = IsTickReply tick
 
--- what the answer to an event states about the called host and the atomic steps; a tick outside a call has the answer NoCall
+-- What the answer to an event states about the called host and the atomic steps, if the host exists. A tick outside a call has the answer
+-- NoCall.
 abbrev pub IsEventAnswer : EventKind → FrameAnswer → List AtomicStep → (old new : ConnectedHost) → Type 0
 IsEventAnswer (ByCall call) = AnswersCall call
 IsEventAnswer (ByReset host ticks) = AnswersReset host ticks
@@ -297,7 +298,8 @@ pub record EventRuns (old : NetworkState) (event : Event) (reply : Reply) (new :
   pub go : HostsGo (caller_of event) (said event reply) steps old new
   -- what the reply states about the atomic steps
   pub replied : IsReply (in_event event) reply steps old new
-  -- the answer, and exactly which accesses the call made (`connected h stations`: the host h with all stations)
+  -- if the called host exists: the answer, and exactly which accesses the call or the reset made (`connected h
+  -- stations`: the host h with all stations)
   pub answer : (h h' : HostState) → IsHost old (caller_of event) h → IsHost new (caller_of event) h'
       → IsEventAnswer (in_event event) reply.answer steps (connected h old.stations) (connected h' new.stations)
 
@@ -341,9 +343,9 @@ abbrev pub IsResetOf : (hosts : ℕ) → EventKind → Type 0
 IsResetOf hosts (ByReset host ticks) = host < hosts
 IsResetOf hosts kind = ⊥
 
--- A run stopped before the event `event`. In its state `asked`, after the earlier events, the observer may refuse to
--- make room for the event (`refuses`). Or the event is a reset of a host that exists, and memory for the dropped frames
--- may be refused. No clause states which of these was the reason.
+-- A run stopped before the event `event`. In its state `asked`, after the earlier events, the observer may refuse to make room for the
+-- event (`refuses`). Or the event is a reset of a host that exists, and memory for the dropped frames may not be available. No clause
+-- states which of these was the reason.
 pub record StopsAt {O : Type 0} (refuses : O → Event → Type 0) (hosts : ℕ) (next : Option Event) (Told : O → Type 0) : Type 0 where
   pub event : Event
   pub is : next ≡ Some event

@@ -15,7 +15,7 @@ pub(crate) struct Collector {
     pub(crate) replies: Vec<Reply>,
     /// The outcomes of the ticks of the current event.
     pub(crate) outcomes: Outcomes,
-    /// An empty place for a frame that a socket returns.
+    /// A place for a frame that a socket returns; `None` until `reserve` makes one.
     pub(crate) frame: Option<HeapFrame>,
 }
 
@@ -23,7 +23,7 @@ impl Collector {
     ghost use Rattle.std.specs.Prelude.{◌≡◌, ◌≤◌, [], IfOk};
     ghost use Rattle.wire.specs.Collecting.{CollectsTicks, HasPlaceForReply};
 
-    /// A collector that appends replies to these.
+    /// Returns a collector that appends replies to `replies`.
     pub(crate) fn new(alloc: Global, replies: Vec<Reply>) -> Collector
         ensures replies { result.replies ≡ replies }
         ensures none { result.outcomes.list ≡ [] }
@@ -40,7 +40,7 @@ impl Collector {
     ///
     /// # Errors
     ///
-    /// If memory is refused.
+    /// Returns an error only if an allocation fails.
     fn reserve(&mut self, ticks: usize) -> Result<(), AllocError>
         ensures nothing { CollectsTicks self.old self.new [] }
         ensures reply { IfOk result (λ done. HasPlaceForReply self.new) }

@@ -12,24 +12,26 @@ use crate::Lan;
 /// The counts of a host.
 #[derive(Clone, Copy, Debug, PartialEq, Eq)]
 pub struct Counts {
-    /// The number of frames that the adapter missed because the receive packet buffer had no room. It is the sum of the
-    /// values that the driver read from MPC, plus MPC, up to the greatest `u64`.
+    /// The number of frames that the adapter missed because the receive packet buffer had no room. This number is the
+    /// sum of the values that the driver read from MPC, plus MPC, up to the greatest `u64`.
     pub missed: u64,
     /// Whether `missed` is exact; if not, there may have been more missed frames. A value of `missed` below 0xFFFF_FFFF
     /// is always exact.
     pub exact: bool,
-    /// RNBC: the number of frames that were stored or missed while RDH was equal to RDT.
+    /// RNBC: the number of frames that were stored or missed while RDH was equal to RDT, since the adapter's last
+    /// reset.
     pub without_descriptor: u32,
-    /// GPRC: the number of received frames whose last descriptor was written back.
+    /// GPRC: the number of received frames whose last descriptor was written back, since the adapter's last reset.
     pub received: u32,
-    /// GPTC: the number of frames that were put onto the wire.
+    /// GPTC: the number of frames that were put onto the wire, since the adapter's last reset. RNBC, GPRC and GPTC
+    /// saturate at 0xFFFF_FFFF.
     pub transmitted: u32,
     /// The number of received frames that went to no socket; it saturates at the greatest `u64`.
     pub unclaimed: u64,
 }
 
 impl Lan {
-    /// The counts of a host, or `None` if there is no such host. No count is cleared.
+    /// Returns the counts of a host, or `None` if there is no such host. No count is cleared.
     ///
     /// - `stands`: `HostStands` holds for each host of the network.
     pub fn counts(&self, host: usize) -> Option<Counts>

@@ -12,9 +12,9 @@ use host_calls::FrameSink;
 use rx_engine::MOST_FRAMES;
 
 impl Lan {
-    /// The number of frames for which a [`drain`](Lan::drain) of a host needs room: the number of its receive buffers,
-    /// plus [`MOST_FRAMES`] (614) for its packet buffer. A host never holds more frames than this number. Returns 0 if
-    /// there is no such host.
+    /// Returns the number of frames for which a [`drain`](Lan::drain) of a host needs room: the number of its receive
+    /// buffers, plus [`MOST_FRAMES`] (614) for its packet buffer. A host never holds more frames than this number.
+    /// Returns 0 if there is no such host.
     pub fn drain_room(&self, host: usize) -> usize
         ensures there { (state : HostState) → IsHost self.now host state
             → result ≡ state.driver.layout.buffers + MOST_FRAMES }
@@ -29,8 +29,8 @@ impl Lan {
     }
 
     /// Drains a host: passes each frame that the host holds for its sockets to `sink`, with the socket's number, and
-    /// returns the number of steps. If there is no such host, nothing changes, and the result is 0. No memory is
-    /// allocated. `sink` must have room for the number of frames that [`drain_room`](Lan::drain_room) returns.
+    /// returns the number of steps. If there is no such host, nothing changes, and the result is 0. The call allocates
+    /// no memory. `sink` must have room for the number of frames that [`drain_room`](Lan::drain_room) returns.
     ///
     /// Each step is the first of these that applies. If a piece of a frame is in progress, the host's adapter writes
     /// back the descriptor of the piece. If the interrupt line is asserted, the host handles an interrupt. If a frame

@@ -43,7 +43,7 @@ pub(crate) enum Part<'a> {
 }
 
 impl<'a> Part<'a> {
-    /// The call, the reset or the tick of an event.
+    /// Returns the call, the reset or the tick of an event.
     #[inline(always)]
     pub(crate) fn of(event: &'a Event) -> Part<'a>
         ensures { part_in result ≡ in_event event.now }
@@ -87,7 +87,8 @@ impl<'a> Part<'a> {
     }
 }
 
-/// The answer of the event of a call, without its frame, and the size of the frame in bytes; 0 if there is no frame.
+/// Returns the answer of an event, without a frame, by the answer of its call. Also returns the size of the returned
+/// frame in bytes, or 0 if no frame is returned.
 fn ending_of(answer: HostAnswer<usize>) -> (Answer<()>, usize)
     requires legal { IsLegalAnswer answer }
     ensures short { result.1 ≤ 1518 }
@@ -104,7 +105,8 @@ fn ending_of(answer: HostAnswer<usize>) -> (Answer<()>, usize)
     }
 }
 
-/// Plays the ticks of a call for a host that doesn't exist, and answers `NoHost`.
+/// Plays the ticks of a call or a reset for a host that doesn't exist, and reports the answer `NoHost` with 0
+/// accesses.
 #[inline(never)]
 fn no_host<O: RunObserver>(network: &mut Network, event: &Event, ticks: &[Tick], observer: &mut O)
     requires answer { O.ready observer.old event.now }
@@ -118,8 +120,9 @@ fn no_host<O: RunObserver>(network: &mut Network, event: &Event, ticks: &[Tick],
     observer.answer(event, 0, Answer::NoHost, &[]);
 }
 
-/// Makes the call of an event, while its ticks are played. A frame that a socket returns is copied to the front of
-/// `given`, and lent to the observer.
+/// Makes the call of an event, while its ticks are played, and reports the answer to the observer. If there is no such
+/// host, only the ticks are played. A frame that a socket returns is copied to the front of `given`, and lent to the
+/// observer.
 #[inline(always)]
 pub(crate) fn make_call<O: RunObserver>(
     network: &mut Network,
@@ -144,12 +147,13 @@ pub(crate) fn make_call<O: RunObserver>(
     observer.answer(event, called.accesses, answer, &given[..size]);
 }
 
-/// Resets the adapter of the host of an event, while its ticks are played. The observer gets the frames that the reset
-/// drops.
+/// Resets the adapter of the host of an event, while its ticks are played. If there is no such host, only the ticks
+/// are played. The observer gets the answer, with the frames that the reset drops.
 ///
 /// # Errors
 ///
-/// Only if memory for these frames can't be allocated. After this error, nothing has changed.
+/// Returns an error only if the host exists and memory for the dropped frames can't be allocated. After this error,
+/// nothing has changed.
 #[inline(never)]
 pub(crate) fn make_reset<O: RunObserver>(
     network: &mut Network,

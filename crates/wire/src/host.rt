@@ -63,7 +63,7 @@ fn host_over(alloc: Global, plan: &HostPlan, machine: &mut Machine) -> Result<Ho
     Ok(host)
 }
 
-/// A new adapter with the plan's EEPROM and link, and a memory with the size of the plan's layout.
+/// Returns a new adapter with the plan's EEPROM and link, and a memory with the size of the plan's layout.
 ///
 /// # Errors
 ///
@@ -81,7 +81,7 @@ fn machine_of(alloc: Global, plan: &HostPlan) -> Result<Machine, InitError>
     Ok(Machine::new(adapter, memory))
 }
 
-/// The Ethernet address in an EEPROM.
+/// Returns the Ethernet address in an EEPROM.
 fn address_of(image: &Image) -> [u8; 6]
     ensures address { result ≡ address_bytes image.now }
     ensures is { IsAddress result }
@@ -89,7 +89,7 @@ fn address_of(image: &Image) -> [u8; 6]
     image.address()
 }
 
-/// The table of these sockets.
+/// Returns the table of these sockets.
 fn table_of(kinds: &[SocketKind]) -> ArrayVec<SocketKind, MOST_SOCKETS>
     requires { length kinds.now ≤ MOST_SOCKETS }
     ensures { result.items ≡ kinds.now }

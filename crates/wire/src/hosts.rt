@@ -63,7 +63,7 @@ fn bring_up_one(
     }
 }
 
-/// The error of a plan, if the initialization of a host failed with this error.
+/// Returns the error of a plan if the initialization of host `number` failed with `error`.
 fn refusal(number: usize, error: InitError) -> PlanError
     ensures memory { error ≡ InitError.Memory → result ≡ PlanError.Memory }
     ensures device { error ≢ InitError.Memory → result ≡ PlanError.Init number error }
@@ -74,14 +74,15 @@ fn refusal(number: usize, error: InitError) -> PlanError
     }
 }
 
-/// The first host whose plan names a wire.
+/// Returns the number of the first host whose plan names this wire, if there is such a host.
 fn first_on(plans: &[HostPlan], wire: &String) -> Option<usize>
     ensures { result ≡ position (λ plan. string_eq plan.wire wire.now) plans.now }
 {
     plans.iter().position(|plan| plan.wire == *wire)
 }
 
-/// The number of a wire: the number of the first host whose plan names it.
+/// Returns the number of a wire: the number of the first host whose plan names the wire. Returns the number of plans
+/// if no plan names the wire.
 fn wire_number(plans: &[HostPlan], wire: &String) -> usize
     ensures { result ≡ up.wire_number plans.now wire.now }
 {

@@ -16,7 +16,7 @@ pub struct Lan {
     /// The allocator of the lists of frames that a reset drops.
     pub(crate) alloc: Global,
     pub(crate) network: Network,
-    /// The bytes of the frame that a socket returned last. They are lent to the observer.
+    /// The bytes of the frame that a socket returned last. The bytes are lent to the observer.
     pub(crate) given: [u8; 1518],
 }
 
@@ -42,8 +42,8 @@ impl Lan {
     ///
     /// # Errors
     ///
-    /// Only if the event is a reset, and memory for the frames that it drops can't be allocated. After this error,
-    /// nothing has changed.
+    /// Returns an error only if the event is a reset of a host that exists, and memory for the dropped frames can't be
+    /// allocated. After this error, nothing has changed.
     #[inline(always)]
     fn event<O: RunObserver>(&mut self, event: &Event, observer: &mut O) -> Result<(), AllocError>
         requires room { HasRoomForEvent O.ready O.room_left event.now observer.old }
@@ -68,12 +68,14 @@ impl Lan {
     }
 
     /// Runs events in order. Before each event, the observer is asked to make room for it. During the event, the
-    /// observer is told the outcome of each tick, and at its end the answer.
+    /// observer is told the outcome of each tick except each `Go` inside a call or a reset. At the event's end, it is
+    /// told the answer.
     ///
     /// # Errors
     ///
-    /// Only if the observer refuses to make room for an event, or if memory for the frames that a reset drops can't be
-    /// allocated. The events before this event were run and told, and this event changed nothing in the network.
+    /// Returns an error only if the observer refuses to make room for an event, or if memory for the frames that a
+    /// reset drops can't be allocated. The events before this event were run and told, and this event changed nothing
+    /// in the network.
     #[inline(always)]
     pub fn play<O: RunObserver>(
         &mut self,
@@ -98,20 +100,21 @@ impl Lan {
         Ok(())
     }
 
-    /// Runs events in order, and appends a reply for each. Whatever the events are, each socket returns the frames for
-    /// it in order, each once, or the host still holds them, or a reset dropped them. `delivers` of `RunsTo` states
-    /// this for the whole run, and [`runs_join`](crate::runs_join) for several runs. Before and after each event, each
-    /// buffer has one owner. A frame is lost only if its size is illegal (fewer than 60 or more than 1,518 bytes), the
-    /// filter rejects it, the receive packet buffer has no room for it, or no socket takes it. A frame is also lost if
-    /// a reset drops it, or disables the receiver before it arrives. In runs that follow each other, the first from a
-    /// network that [`new`](Lan::new) made, no frame is illegal ([`frames_are_legal`](crate::frames_are_legal)). Missed
-    /// frames and frames without a socket are counted, until a count saturates; replies report the other losses.
+    /// Runs events in order, and appends a reply for each. Whatever the events are, each socket returns its frames in
+    /// order, each once, except frames that the host still holds or that a reset dropped. `delivers` of `RunsTo`
+    /// states this for the whole run, and [`runs_join`](crate::runs_join) for several runs. Before and after each
+    /// event, each buffer has one owner. A frame is lost only if its size is illegal (fewer than 60 or more than 1,518
+    /// bytes), the filter rejects it, the receive packet buffer has no room for it, or no socket takes it. A frame is
+    /// also lost if a reset drops it, or disables the receiver before it arrives. In runs that follow each other, the
+    /// first from a network that [`new`](Lan::new) made, no frame is illegal
+    /// ([`frames_are_legal`](crate::frames_are_legal)). Missed frames and frames without a socket are counted, until a
+    /// count saturates; replies report the other losses.
     ///
     /// # Errors
     ///
-    /// If memory for the reply to an event, or for the frames that a reset drops, can't be allocated. The first `done`
-    /// events were run and have replies, and the next event changed nothing. A contract can't name the results of an
-    /// allocator, so no clause states that this is the only reason.
+    /// Returns an error if memory for the reply to an event, or for the frames that a reset drops, can't be allocated.
+    /// The first `done` events were run and have replies, and the next event changed nothing. A contract can't name
+    /// the results of an allocator, so no clause states that this is the only reason.
     pub fn run(
         &mut self,
         alloc: Global,

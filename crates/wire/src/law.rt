@@ -11,7 +11,7 @@ pub fn runs_join()
 /// frame is legal if it has 60 to 1,518 bytes.
 /// - `made`: a network that [`new`](crate::Lan::new) made has only legal frames, because it has no frames.
 /// - `stays`: if a network has only legal frames before a run, no frame has the fate Illegal in the run. The network
-/// has only legal frames after the run.
+///   has only legal frames after the run.
 pub fn frames_are_legal()
     ensures made { NewNetworksAreLegal }
     ensures stays { RunsStayLegal }

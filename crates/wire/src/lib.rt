@@ -1,5 +1,5 @@
 //! Networks of hosts on wires, initialized by a plan, and runs of events: calls, resets, adapter steps and deliveries.
-//! Steps and deliveries may also come between any two accesses of a call.
+//! Steps and deliveries may also come before, between and after the accesses of a call or a reset.
 #![tactic(auto)]
 
 mod collector;

@@ -9,9 +9,9 @@ use descriptors::Frame;
 use stations::LOG_ENTRIES;
 
 impl Lan {
-    /// The log of a host's wire: frames that hosts put on the wire, in order, each with the number of its sender. The
-    /// log has at most 1,024 entries. If the log is full when a host puts a frame, entries that all ends except their
-    /// senders' have read are dropped. If there is no such host, the result is empty.
+    /// Returns the log of a host's wire: frames that hosts put on the wire, in order, each with the number of its
+    /// sender. The log has at most 1,024 entries. If the log is full when a host puts a frame, entries that all ends
+    /// except their senders' have read are dropped. If there is no such host, the result is empty.
     ///
     /// - `waits`: the frames that wait at the host's end are the last entries of other senders in the log.
     pub fn log(&self, host: usize) -> &[(usize, Frame)]

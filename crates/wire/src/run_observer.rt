@@ -12,7 +12,8 @@ ghost use Rattle.wire.specs.RunObservers.{AreOfTicks, ComposesRuns, HasRoomForEv
 use network_plan::{Answer, Event};
 use stations::Observer;
 
-/// An observer of a run. It is told the outcome of each tick, as any [`Observer`], and the answer of each event.
+/// An observer of a run. The observer is told the outcome of each tick, as any [`Observer`], and the answer of each
+/// event.
 ///
 /// The contract of a run states `ran` of its observer. A run ends early only before an event for which the observer may
 /// refuse room (`refuses`), or before a reset. Before a reset, the run ends if memory for the frames that the reset
@@ -28,8 +29,9 @@ pub trait RunObserver: Observer {
     /// The observer, in this state, may refuse to make room for this event.
     ghost refuses: { Self → Event → Type 0 };
 
-    /// Makes room for the answer of an event, and for the outcomes of its `ticks` ticks, before the first tick. Returns
-    /// whether there is room.
+    /// Makes room for the answer of an event, and for the outcomes of its `ticks` ticks, before the first tick.
+    /// Returns `true` only if there is room, and `false` only if the observer may refuse (`refuses`). The number
+    /// `ticks` includes each `Go`.
     fn make_room(&mut self, event: &Event, ticks: usize) -> bool
         requires count { ticks ≡ length (ticks_of event.now) }
         ensures nothing { Self.heard self.old self.new [] }
@@ -37,14 +39,14 @@ pub trait RunObserver: Observer {
         ensures refused { OnFalse result (refuses self.old event.now) };
 
     /// Reports to the observer the answer of an event, and the number of accesses of its call. `frame` is the frame
-    /// that a socket returned, of at most 1,518 bytes; it has no meaning for other answers.
+    /// that a socket returned, of at most 1,518 bytes. For other answers, `frame` has no meaning.
     fn answer(&mut self, event: &Event, accesses: u64, answer: Answer<()>, frame: &[u8])
         requires room { ready self.old event.now }
         requires fits { length frame.now ≤ longest_frame }
         ensures { (begin : Self) (ticks : List TickTold) → Self.heard begin self.old ticks → AreOfTicks event.now ticks
             → TellsReply ran event.now (ending accesses (answer_with frame.now answer) ticks) begin self.new };
 
-    /// In two consecutive intervals together, the observer was told the replies of both, in order. Ticks don't use its
-    /// room for an answer.
+    /// An observer that was told nothing was told no reply. In two consecutive intervals together, the observer was
+    /// told the replies of both, in order. Ticks don't use the observer's room for an answer.
     ghost composes_runs: { ComposesRuns Self.heard ran ready };
 }

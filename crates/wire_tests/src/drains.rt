@@ -74,7 +74,7 @@ const ROWS: [(&[&str], u64); 6] = [
     ),
 ];
 
-/// The network after these lines, or `None` if memory is refused.
+/// Returns the network after these lines, or `None` if an allocation fails.
 fn played(rt: &impl Abort, alloc: Global, lines: &[&str]) -> Option<Lan> {
     let mut text = String::from_str(alloc, HOSTS).ok()?;
     for line in lines {
@@ -89,8 +89,8 @@ fn played(rt: &impl Abort, alloc: Global, lines: &[&str]) -> Option<Lan> {
     Some(lan)
 }
 
-/// Only the first drain of host `b` takes steps. All calls succeed even if every allocation after that of the room
-/// for the frames is refused.
+/// Only the first drain of host `b` takes steps. All calls succeed even if every allocation fails after the room for
+/// the frames is allocated.
 #[test]
 fn drains_take_these_steps_and_no_memory(rt: HostRuntime) {
     let alloc = rt.alloc();

@@ -1,4 +1,4 @@
-//! A sink that keeps the frames of a drain.
+//! A sink that stores the frames of a drain.
 
 ghost use Rattle.std.specs.Prelude.{◌≤◌, ◌-◌, IfOk, length, map, vec_capacity};
 ghost use Rattle.packet_socket.specs.HostCalls.{Given};
@@ -14,7 +14,7 @@ pub(crate) struct TakenFrame {
     pub(crate) frame: Frame,
 }
 
-/// Keeps the frames of a drain.
+/// Stores the frames of a drain.
 #[derive(Drop)]
 pub(crate) struct Taken {
     pub(crate) list: Vec<TakenFrame>,

@@ -1,4 +1,4 @@
-//! A test that a run continues after an allocation was refused.
+//! A test that a run continues after a failed allocation.
 
 use crate::texts::prepared;
 use network_plan::PlanError;
@@ -6,7 +6,7 @@ use std::process::Abort;
 use wire::Lan;
 
 /// Two frames go from host `a` to host `b`. A socket of `b` returns the first frame; the second waits in the ring of
-/// `b`. A reset of `a` gives up a third frame. Ticks are played inside sends, an interrupt, calls of a socket, and the
+/// `b`. A reset of `a` drops a third frame. Ticks are played inside sends, an interrupt, calls of a socket, and the
 /// reset.
 const TEXT: &str = "host a 02:00:00:00:00:01 w
 host b 02:00:00:00:00:02 w
@@ -38,8 +38,8 @@ const COUNTS: [(u64, usize); 10] = [
     (325, 1),
 ];
 
-/// The test passes whichever allocation is refused. After the refusal, a network can be made, or the events that
-/// weren't done can be run. The contract of `run` states the network after the run, also if the run stops early.
+/// The test passes whichever allocation fails. After the failure, a network can be made, or the events that weren't
+/// done can be run. The contract of `run` states the network after the run, even if the run stops early.
 #[test]
 fn a_refused_allocation_is_memory(rt: HostRuntime) {
     let alloc = rt.alloc();

@@ -22,7 +22,7 @@ fn the_code_of_the_readme_of_wire(rt: HostRuntime) -> Result<(), Fail> {
     let text = b"host a 02:00:00:00:00:01 w\nhost b 02:00:00:00:00:02 w\nsocket b all\n";
     let plan = Scenario::read(rt.alloc(), text)?.plan;
     let mut lan = Lan::new(rt.alloc(), &plan)?;
-    // A frame of host 0 is delivered to host 1, whose adapter finishes it just before its handler reads ICR.
+    // A frame of host 0 is delivered to host 1, whose adapter finishes the frame just before the handler reads ICR.
     let late = [
         Tick::Step(1, StepKind::RxData),
         Tick::Step(1, StepKind::RxDone),
@@ -90,7 +90,7 @@ fn the_code_of_the_readme_of_stations(rt: HostRuntime) -> Result<(), Fail> {
     let adapter = Adapter::new(rt.alloc(), &image, Link::Never)?;
     let machine = Machine::new(adapter, HostMemory::new(rt.alloc(), 4096)?);
     let mut stations = Stations::new(rt.alloc());
-    stations.connect(rt.alloc(), machine, 0)?; // host 0 is on wire 0, and alone there
+    stations.connect(rt.alloc(), machine, 0)?; // host 0 is the only host on wire 0
     let mut outcomes = Outcomes::with_room(rt.alloc(), 1)?;
     stations.play(Tick::Deliver(0), 0, &mut outcomes); // after no access
     for one in outcomes.as_slice() {
@@ -120,7 +120,7 @@ fn the_code_of_the_readme_of_stations_where_a_bus_is_lent(rt: HostRuntime) -> Re
         accesses: 0,
         observer: &mut outcomes,
     };
-    bus.write(EERD, 1); // word 0 is asked for
+    bus.write(EERD, 1); // begins a read of word 0
     assert_eq!(rt; bus.read(EERD), 0x0002_0010); // the word, and DONE
     bus.finish();
     assert_eq!(rt; bus.accesses, 2);

@@ -5,7 +5,7 @@ use scenario::{Command, Refusal, Scenario};
 use std::alloc::Global;
 use std::process::Abort;
 
-/// The plan and the events of a valid text of a scenario, or `None` if memory is refused.
+/// Returns the plan and the events of a valid text of a scenario, or `None` if an allocation fails.
 pub(crate) fn prepared(rt: &impl Abort, alloc: Global, text: &str) -> Option<(Plan, Vec<Event>)> {
     let scenario = match Scenario::read(alloc, text.as_bytes()) {
         Ok(scenario) => scenario,

@@ -14,7 +14,7 @@ use Rattle.driver_law.specs.DriverState.{DriverSetup, DriverState, owners}
 use Rattle.driver_law.specs.Calls.{Ran, at, only}
 use Rattle.bus.proofs.Keeping.{keeps-on}
 use Rattle.bus.specs.Pasts.{nothing}
-use Rattle.joined_groups.specs.Groups.{AreNamedOnce}
+use Rattle.bring_up.specs.Groups.{AreNamedOnce}
 use Rattle.driver.specs.Initialisation.{OffersFirst, RefusesInit, transmit_accesses}
 use Rattle.driver.specs.InsideSetup.{setup_in}
 use Rattle.driver.proofs.Initialisation.{initialises, new-still, stays-quiet, vlans-named}

@@ -6,7 +6,7 @@ use Rattle.scenario_bench.proofs.Puts.{socket_text_at}
 use Rattle.scenario_bench.proofs.Writing.{sink_failed, sink_written, still_countable}
 use Rattle.scenario_bench.proofs.kept.KeptFrames.write_sockets.Goals as goal
 
--- a socket by its place
+-- the socket at a place
 abbrev socket_at : List (ℕ × ℕ) → ℕ → ℕ × ℕ
 socket_at sockets place = get_or sockets place (0, 0)
 
