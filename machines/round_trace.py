@@ -8,11 +8,11 @@ from typing import Iterable, NamedTuple, Optional
 
 from needs import TOP
 
-sys.path.insert(0, os.path.join(TOP, "tools"))
-from race_finder.chart import BAR, STAR, ChartRow, moved_head, of_access, of_step  # noqa: E402
-from race_finder.names import REGISTERS  # noqa: E402
-from race_finder.rings import Both, Ring, name_in  # noqa: E402
-from race_finder.schedule import Deviation, Place, text_of  # noqa: E402
+sys.path.insert(0, TOP)
+from finder.chart import BAR, STAR, ChartRow, moved_head, of_access, of_step  # noqa: E402
+from finder.names import REGISTERS  # noqa: E402
+from finder.rings import Both, Ring, name_in  # noqa: E402
+from finder.schedule import Deviation, Place, text_of  # noqa: E402
 
 PAGE = 0x1000
 PREFIX = "e1000_"  # of most functions of the driver; charts don't show it

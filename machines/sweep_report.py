@@ -11,9 +11,9 @@ from typing import Optional, TYPE_CHECKING
 from needs import TOP
 from round_trace import Symbols, Trace, chart_rows
 
-sys.path.insert(0, os.path.join(TOP, "tools"))
-from race_finder.chart import COLUMNS, ChartRow, cut, layout, line_of  # noqa: E402
-from race_finder.names import REGISTERS  # noqa: E402
+sys.path.insert(0, TOP)
+from finder.chart import COLUMNS, ChartRow, cut, layout, line_of  # noqa: E402
+from finder.names import REGISTERS  # noqa: E402
 
 if TYPE_CHECKING:
     from argparse import Namespace

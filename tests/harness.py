@@ -28,9 +28,10 @@ DRIVERS = os.path.join(TOP, "examples", "drivers")
 EMULATORS = os.path.join(TOP, "examples", "emulators")
 MACHINES = os.path.join(TOP, "machines")
 PYTHON = os.path.join(TOP, "bindings", "python")
-# The folders of tests by what they test come first: `race_finder` is a module of tests, and a package of tools.
-TESTS = [os.path.join(TOP, "tests", name) for name in ("finder", "guests")]
-sys.path += [folder for folder in (*TESTS, TOOLS, DRIVERS, EMULATORS, MACHINES, os.path.join(MACHINES, "bugs"), PYTHON)
+# The tests of a product are in its folder. `finder` is a package.
+TESTS = [os.path.join(TOP, "finder", "tests"), os.path.join(MACHINES, "tests", "guests")]
+sys.path += [folder for folder in (*TESTS, TOOLS, DRIVERS, EMULATORS, MACHINES, os.path.join(MACHINES, "bugs"), PYTHON,
+                                   TOP)
              if folder not in sys.path]
 # The seconds that a program may take, unless a test states another limit.
 LIMIT = 60

@@ -250,10 +250,10 @@ def typed_bits():
     macro = r"^#define NIC_(\w+?)(?:\(\w+\))? \((?:1u|\(uint32_t\)\(\w+\)) << (\d+)\)$"
     for name, place in re.findall(macro, text_of(top, "bindings", "c", "nic82540em.h"), re.M):
         yield "nic82540em.h", name.lower(), int(place)
-    bits = re.search(r"^BITS = \{(.*?)^\}", text_of(top, "tools", "race_finder", "names.py"), re.M | re.S).group(1)
+    bits = re.search(r"^BITS = \{(.*?)^\}", text_of(top, "finder", "names.py"), re.M | re.S).group(1)
     for register, names in re.findall(r'"([A-Z]+)": \{([^}]*)\}', bits):
         for place, name in re.findall(r'(\d+): "(\w+)"', names):
-            yield "race_finder/names.py", f"{register}_{name}".lower(), int(place)
+            yield "finder/names.py", f"{register}_{name}".lower(), int(place)
 
 
 def check_bits(check):
@@ -264,7 +264,7 @@ def check_bits(check):
         if name in places:
             seen.add(file)
             check(f"{file}: place of {name}", place, places[name])
-    check("files that type places of bits", sorted(seen), ["nic82540em.h", "race_finder/names.py"])
+    check("files that type places of bits", sorted(seen), ["finder/names.py", "nic82540em.h"])
 
 
 def check_all(check):

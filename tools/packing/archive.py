@@ -9,7 +9,7 @@ import tarfile
 import tempfile
 
 # What builds and runs leave in folders
-LEFT = ("out", "__pycache__", "target", ".gitignore")
+LEFT = ("out", "__pycache__", "target", "tests", ".gitignore")
 
 
 class Tree:
@@ -28,7 +28,7 @@ class Tree:
             self.add(path, file.read(), os.access(source, os.X_OK))
 
     def add_folder(self, source, path):
-        """Adds what is in a folder, without what builds and runs leave there."""
+        """Adds what is in a folder, without tests and without what builds and runs leave there."""
         for folder, folders, names in os.walk(source):
             folders[:] = [name for name in folders if name not in LEFT]
             for name in (name for name in names if name not in LEFT):

@@ -10,7 +10,7 @@ from packing.archive import Tree
 from page_maker.command import MARK, make_site
 
 NAME = sources.LIBRARY
-FOLDERS = ("docs", "examples", "machines", "bench", "bindings", "crates", os.path.join("tools", "race_finder"))
+FOLDERS = ("docs", "examples", "machines", "bench", "bindings", "crates", "finder")
 FILES = ("README.md", "CHANGELOG.md", "LICENSE", os.path.join("tools", "races"), os.path.join("tools", "run_chart"))
 # The site of tools/pages
 SITE = os.path.join("share", "doc", "nicbench", "site")

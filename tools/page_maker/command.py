@@ -47,7 +47,7 @@ def make_site(out: str, kit: str) -> Site:
         overview.crate_page(crate)
     docs.make()
     overview.first_page([statements.make(*statement) for statement in STATEMENTS], docs)
-    overview.names_page()
+    overview.names_page(docs)
     overview.notation_page()
     for name in ("style.css", "search.js"):
         site.copy(name)

@@ -6,16 +6,18 @@ import os
 import re
 import shutil
 
-from .markdown import COMMENT, Markdown, anchor
+from .markdown import COMMENT, HEADING, Markdown, anchor, cells
 from .site import HOME, Page
 from .texts import first_sentence
 
 # The pages, by their places in the repository.
 PATTERNS = ["README.md", "CHANGELOG.md", "docs/*.md", "crates/*/README.md", "examples/*.md", "examples/*/README.md",
-            "bench/README.md", "machines/README.md", "tools/*/README.md"]
+            "bench/README.md", "finder/README.md", "machines/README.md"]
 EDITS = "docs/EDITS.md"
 # What the first page shows of README: the paragraph that begins in this way, and the list after it.
 LIMITS = "The proofs hold only"
+# The search finds the first cell of a row only if the cell has at most this many characters.
+LONGEST_FOUND = 60
 
 
 def address(path: str) -> str:
@@ -114,6 +116,24 @@ class DocPages:
                         lambda target, shown: self.link(page, path, target, shown)).page(text)
 
     # Pages
+
+    def sections(self) -> list[tuple[str, str, str, str]]:
+        """What the search finds in pages: headings, and the first cells of rows with the heading before them.
+
+        Each has a text, a kind, its page, and a link.
+        """
+        rows = {}
+        for path in self.paths:
+            url, name = address(path), path.removesuffix(".md")
+            for line in re.sub(r"^```.*?^```$", "", COMMENT.sub("", self.texts[path]), flags=re.M | re.S).split("\n"):
+                heading = HEADING.match(line)
+                if heading:
+                    url = f"{address(path)}#{anchor(heading[2])}"
+                said = heading[2] if heading else cells(line)[0] if line.startswith("|") else ""
+                said = re.sub(r"\[([^\]]*)\]\([^)]*\)|[`*]", r"\1", said)
+                if re.search(r"\w", said) and len(said) <= LONGEST_FOUND:
+                    rows.setdefault((said, name), (said, "section" if heading else "row", name, url))
+        return list(rows.values())
 
     def title(self, path: str) -> str:
         """The heading of a page."""

@@ -153,8 +153,8 @@ class OverviewPages:
             body.append(f"<table>{lines}</table>")
         self.site.write(page, "Notation", [(HOME, "index.html"), ("notation", None)], "".join(body))
 
-    def names_page(self):
-        """The index of names, and the names that the search looks in."""
+    def names_page(self, docs):
+        """The index of names, and what the search looks in: names, and headings and rows of the pages in `docs`."""
         rows = []
         for module in self.repository.own():
             rows += [(one.full(), KINDS.get(one.kind, one.kind), one.crate, one.url) for one in module.all
@@ -165,5 +165,5 @@ class OverviewPages:
                         for name, kind, crate, url in rows)
         body = f'<h1>Names</h1><ul class="names">{items}</ul>'
         self.site.write(page, "Names", [(HOME, "index.html"), ("names", None)], body)
-        names = json.dumps(rows, ensure_ascii=False, separators=(",", ":"))
+        names = json.dumps(rows + docs.sections(), ensure_ascii=False, separators=(",", ":"))
         self.site.store("names.js", f"found({names});\n")

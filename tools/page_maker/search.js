@@ -2,13 +2,13 @@
 const up = document.body.dataset.up, box = document.createElement('input'), hits = document.createElement('div');
 let names = null;
 box.id = 'q';
-box.placeholder = 'Find a name';
+box.placeholder = 'Find a name or a section';
 box.autocomplete = 'off';
-box.setAttribute('aria-label', 'Find a name');
+box.setAttribute('aria-label', 'Find a name or a section');
 hits.id = 'hits';
 document.querySelector('header').append(box, hits);
 
-// names.js calls this with all names.
+// names.js calls this with all names, and with headings and rows of pages.
 function found(rows) {
   names = rows;
   show();

@@ -65,7 +65,7 @@ PARTS = {
     "bindings/c/nic82540em.h": {"offsets": c_offsets, "causes": c_causes},
     "bindings/python/nic82540em/__init__.py": {"names": binding_names},
     "bindings/rust/src/lib.rs": {"offsets": rust_offsets},
-    "tools/race_finder/names.py": {"names": finder_names},
+    "finder/names.py": {"names": finder_names},
     "examples/emulators/registers.py": {"names": emulator_names},
 }
 

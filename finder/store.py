@@ -1,0 +1,61 @@
+"""Stores a run: its schedule, its log, and its charts."""
+
+from __future__ import annotations
+
+import errno
+import os
+from typing import TYPE_CHECKING
+
+from finder.chart import chart
+from finder.svg import svg
+from finder.vcd import vcd
+
+if TYPE_CHECKING:
+    from finder.run import Run
+
+
+def log_of(run: Run) -> str:
+    """The complete log of a run. After `->`, an access or an arrival has its answer, and a step its outcome."""
+    return "".join(f"{row.line} -> {row.answer}\n" if row.answer else f"{row.line}\n" for row in run.rows)
+
+
+def is_folder(path: str) -> bool:
+    """Whether a path names a folder: one that is there, or one that is to be made."""
+    return path.endswith("/") or os.path.isdir(path)
+
+
+def check(path: str) -> None:
+    """Checks that something can be stored there, and makes nothing. Raises OSError."""
+    if os.path.exists(path) and not path.endswith("/"):
+        check_access(path)
+        return
+    folder = os.path.dirname(path) or "."
+    while path.endswith("/") and not os.path.lexists(folder):
+        folder = os.path.dirname(folder) or "."  # the ones after it are made
+    os.stat(folder)
+    if not os.path.isdir(folder):
+        raise OSError(errno.ENOTDIR, os.strerror(errno.ENOTDIR), folder)
+    check_access(folder)
+
+
+def check_access(path: str) -> None:
+    if not os.access(path, os.W_OK):
+        raise OSError(errno.EACCES, os.strerror(errno.EACCES), path)
+
+
+def texts_of(run: Run, schedule: str, is_whole: bool) -> dict[str, str]:
+    """The files of a folder."""
+    return {"schedule.txt": schedule, "log.txt": log_of(run), "chart.txt": chart(run, is_whole),
+            "chart.svg": svg(run, is_whole), "run.vcd": vcd(run)}
+
+
+def store(path: str, run: Run, schedule: str, is_whole: bool) -> None:
+    """Stores a schedule in a file, or in a folder with the log and the charts of its run, which may have all rows.
+    Raises OSError.
+    """
+    if is_folder(path):
+        os.makedirs(path, exist_ok=True)
+    texts = texts_of(run, schedule, is_whole) if is_folder(path) else {"": schedule}
+    for name, text in texts.items():
+        with open(os.path.join(path, name) if name else path, "w", encoding="utf-8", errors="surrogateescape") as file:
+            file.write(text)

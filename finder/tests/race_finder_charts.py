@@ -1,0 +1,491 @@
+"""The finder of races: its charts in docs/RACES.md and race_charts.txt, the picture, the value change dump, and the
+files of `--out`.
+
+The dump is read by a small parser here, and by `vcd2fst` of GTKWave if it is installed (Debian: package gtkwave).
+"""
+
+import os
+import re
+import shutil
+import subprocess
+import sys
+import xml.etree.ElementTree as ElementTree
+
+from harness import TOP
+from race_finder import FINDER, FOUND, FRAME, PASSES, SMALL, SMALLEST, USAGE, find, replay
+from race_finder_output import REGISTERS, read, script, whole, write
+from race_finder_stages import ARRIVAL_BUGS, BUGS, MORE_BUGS, RESET_BUGS, STAGED, rows
+from server import LIMIT, lines
+from server_pages import read_page
+
+FILES = ["chart.svg", "chart.txt", "log.txt", "run.vcd", "schedule.txt"]
+MOST_LINES, LONGEST = 25, 155
+
+# The charts of docs/RACES.md and race_charts.txt
+
+FINISHED = "A frame is finished while the handler runs"
+SECTIONS = {
+    "late": FINISHED, "masks-late": FINISHED, "length": "A descriptor is written back between two loads of it",
+    "head": "The head has passed a slot that is in progress", "part": "A frame spans several descriptors",
+    "rdt": "A slot is used before its descriptor is stored", "tdt": "A frame is taken before it is stored",
+    "freed": "The head has passed a frame that isn't sent", "eerd": "A word is read before it is there",
+    "cuts": "The handler cuts in on a send", "rxo": "A frame is missed while misses are counted",
+    "clears": "A word of the group table is cleared for a moment", "mpc": "A miss is lost in a reset",
+}
+# The bugs that are no races have no chart.
+NO_RACES = ["group", "wraps", "offers-queued"]
+CHART = (re.compile(r"^```\n\$ ([^\n]*examples/drivers/staged_test\.py (?:stages|cuts|offers|groups|resets) (\S+))\n"
+                    r"(.*?)^```$", re.M | re.S))
+
+
+def charts_of(page):
+    """The charts of a page: the bug, the heading of its section, the command and what it prints."""
+    for section in re.split("^## ", page, flags=re.M)[1:]:
+        for command, bug, shown in CHART.findall(section):
+            yield bug, section.partition("\n")[0], command, shown
+
+
+def command_of(test, bug, deviations):
+    """The command that draws the chart of a bug, by the row of the table in examples/drivers/README.md."""
+    begin, schedule = (f"echo '{deviations[0]}' | ", "/dev/stdin") if deviations else ("", "/dev/null")
+    return f"{begin}tools/races --replay {schedule} -- python3 examples/drivers/staged_test.py {test} {bug}"
+
+
+def pages(server):
+    """Each bug has a chart in the section of its race, which the finder prints character by character, and a word in
+    this section.
+    """
+    races = read_page("docs", "RACES.md")
+    text = f"{races}\n{read_page('finder', 'tests', 'race_charts.txt')}"
+    found = {bug: rest for bug, *rest in charts_of(text)}
+    wanted = {*BUGS, *MORE_BUGS, *ARRIVAL_BUGS, *RESET_BUGS} - {*NO_RACES}
+    server.check("pages: all races have a chart", sorted(found), sorted(wanted))
+    server.check("pages: there is one chart for each", len(list(charts_of(text))), len(found))
+    sections = {section.partition("\n")[0]: section for section in re.split("^## ", races, flags=re.M)[1:]}
+    finder = " ".join([*FINDER, "--server", server.program])
+    for bug, test, _, _, deviations in rows():
+        if bug in NO_RACES:
+            continue
+        heading, command, shown = found.get(bug, ("", "false", ""))
+        server.check(f"pages: {bug}, its section", heading, SECTIONS.get(bug))
+        server.check(f"pages: {bug}, a word of it", f"`{bug}`" in sections.get(heading, ""), True)
+        server.check(f"pages: {bug}, its command", command, command_of(test, bug, deviations))
+        shell = command.replace("tools/races", finder, 1).replace("-- python3", f"-- {sys.executable} -S -E", 1)
+        ran = subprocess.run(shell, shell=True, cwd=TOP, capture_output=True, timeout=LIMIT)
+        server.check(f"pages: {bug}, its chart", (ran.returncode, ran.stdout.decode(), ran.stderr), (FOUND, shown, b""))
+        stars = [line for line in shown.splitlines() if line.startswith("*")]
+        server.check(f"pages: {bug}, its stars", len(stars), len(deviations))
+        long = [line for line in shown.splitlines() if len(line) > LONGEST]
+        server.check(f"pages: {bug}, its size", (shown.count("\n") <= MOST_LINES, long), (True, []))
+
+
+# The text and the picture
+
+COLUMNS = ("place", "driver", "registers", "memory", "adapter", "wire", "line")
+ARROW = re.compile(" (<--+|--+>) ")
+SVG = "{http://www.w3.org/2000/svg}"
+
+
+def columns_of(starts, begin, end):
+    """The columns left of and right of an arrow, by where columns start."""
+    return [name for name in COLUMNS if starts[name] <= begin][-1], [name for name in COLUMNS if starts[name] > end][0]
+
+
+def text_rows(text):
+    """The rows of a chart's text: for each its star, its texts by column, its arrow, and its bar; and the last line."""
+    heading, *body, last = text.splitlines()
+    starts = {name: heading.index(name) for name in COLUMNS}
+    ends = dict(zip(COLUMNS, [*list(starts.values())[1:], None]))
+    found = []
+    for line in body:
+        arrow = ARROW.search(line)
+        told = arrow and (columns_of(starts, arrow.start(1), arrow.end(1)), ">" in arrow[1])
+        line = ARROW.sub(lambda one: " " * len(one[0]), line)
+        cells = {name: line[starts[name]:ends[name]].strip() for name in COLUMNS}
+        bar = cells.pop("line")
+        found.append((line[0], {name: cell for name, cell in cells.items() if cell}, told, bar))
+    return found, last.strip()
+
+
+def arrow_of(row, starts):
+    """The arrow of a row of the picture: its columns, and whether it points to the right; None if it has none."""
+    paths = row.findall(f"{SVG}path")
+    if not paths:
+        return None
+    tail, y, tip, *head = map(int, re.findall(r"\d+", paths[0].get("d")))
+    begin, end = sorted((tail, tip))
+    is_head = head[2:4] == [tip, y] and begin < head[0] == head[4] < end and y - head[1] == head[5] - y > 2
+    return (columns_of(starts, begin, end), tip > tail) if is_head else paths[0].get("d")
+
+
+def picture_rows(root):
+    """The same rows of a picture, and its last line. A bar is told by the places of its rectangles."""
+    heading = root.find(f"{SVG}g[@class='heading']")
+    starts = {text.get("class"): int(text.get("x")) for text in heading if text.get("class") == text.text}
+    bars = [[int(bar.get(key)) for key in ("x", "y", "height")] for bar in root.findall(f"{SVG}rect[@class='bar']")]
+    found = []
+    for row in root.findall(f"{SVG}g"):
+        if row is heading:
+            continue
+        texts = {text.get("class"): text for text in row.findall(f"{SVG}text")}
+        y = {int(text.get("y")) for text in texts.values()}
+        middle = min(y) - 4
+        is_up = any(x == starts["line"] and at < middle < at + height for x, at, height in bars)
+        star = texts.pop("star").text if "star" in texts else " "
+        in_place = len(y) == 1 and all(int(text.get("x")) == starts[name] for name, text in texts.items())
+        has_mark = (row.find(f"{SVG}rect[@class='mark']") is not None, row.get("class") == "row deviation")
+        cells = {name: text.text for name, text in texts.items()} if in_place and has_mark == (star == "*",) * 2 else {}
+        found.append((star, cells, arrow_of(row, starts), "|" if is_up else ""))
+    return found, root.find(f"{SVG}text[@class='end']").text
+
+
+def light(color):
+    """The relative luminance of a color such as #1f1f1f, by WCAG."""
+    parts = [int(color[at:at + 2], 16) / 255 for at in (1, 3, 5)]
+    parts = [part / 12.92 if part <= 0.04045 else ((part + 0.055) / 1.055) ** 2.4 for part in parts]
+    return sum(part * weight for part, weight in zip(parts, (0.2126, 0.7152, 0.0722)))
+
+
+def contrasts(style):
+    """The smallest contrast of texts and arrows, and that of the bar, for each of two backgrounds."""
+    for scheme in style.split("@media (prefers-color-scheme: dark)"):
+        color = {name: light(one) for name, one in re.findall(r"([.\w]+) \{ (?:fill|stroke): (#[0-9a-f]{6})", scheme)}
+        pairs = [(color[one], color[back]) for one in ("text", "path", ".bar") for back in (".page", ".mark")]
+        ratios = [(max(pair) + 0.05) / (min(pair) + 0.05) for pair in pairs]
+        yield min(ratios[:4]), min(ratios[4:])
+
+
+def check_picture(server, name):
+    """The picture has the rows of the text, and nothing from outside."""
+    root = ElementTree.fromstring((server.get("charts/chart.svg") or b"").decode())
+    wanted, last = text_rows(server.get("charts/chart.txt").decode())
+    got, end = picture_rows(root)
+    server.check(f"picture: {name}, its last line", end, last)
+    server.check(f"picture: {name}, its number of rows", len(got), len(wanted))
+    for at, (one, other) in enumerate(zip(got, wanted)):
+        server.check(f"picture: {name}, row {at + 1}", one, other)
+    kinds = {one.tag.removeprefix(SVG) for one in root.iter()}
+    wanted_kinds = {"g", "path", "rect", "style", "svg", "text", "title"}
+    server.check(f"picture: {name}, its elements", kinds, wanted_kinds)
+    sizes = {"x": int(root.get("width")), "y": int(root.get("height"))}
+    outside = [one.tag for one in root.iter() for key in sizes if not 0 <= int(one.get(key, 0)) < sizes[key]]
+    server.check(f"picture: {name}, all is inside", outside, [])
+    return wanted
+
+
+def looks(server):
+    """The picture is readable on light and on dark backgrounds, and has a generic font."""
+    root = ElementTree.fromstring(server.get("charts/chart.svg").decode())
+    page = root.find(f"{SVG}rect[@class='page']")
+    size = [root.get("width"), root.get("height")]
+    server.check("picture: its background", [page.get("width"), page.get("height")], size)
+    server.check("picture: its view", root.get("viewBox").split(), ["0", "0", *size])
+    found = list(contrasts(root.find(f"{SVG}style").text))
+    server.check("picture: two backgrounds", len(found), 2)
+    server.check("picture: its contrasts", [(text > 7, bar > 3) for text, bar in found], [(True, True)] * 2)
+    server.check("picture: its font", root.get("font-family"), "monospace")
+
+
+def pictures(server):
+    """Pictures of several runs have the rows of their texts; all kinds of rows are among them."""
+    seen = []
+    for test, bug, schedule in [("cuts", "cuts", "2.6 rxdone before write tx[1]"), ("stages", "part", ""),
+                                ("stages", "eerd", "0.9 hold eeprom before read EERD"),
+                                ("stages", "late", "4.6 rxdone before read ICR")]:
+        replay(server, schedule, "--out", "charts/", command=[*STAGED, test, bug])
+        seen += check_picture(server, bug)
+    looks(server)
+    arrows = {row[2] for row in seen if row[2]}
+    pairs = [("driver", "registers"), ("driver", "memory"), ("memory", "adapter")]
+    ways = [(pair, way) for pair in pairs for way in (True, False)]
+    ways += [(("registers", "adapter"), False), (("adapter", "wire"), True)]
+    server.check("pictures: arrows that are seen", sorted(arrows), sorted(ways))
+    marks = [{row[3] for row in seen}, {row[0] for row in seen}]
+    server.check("pictures: bars and stars", marks, [{"", "|"}, {" ", "*"}])
+    server.check("pictures: rows that are cut", ".." in [row[1].get("place") for row in seen], True)
+    server.put("small", SMALL.encode())
+    replay(server, SMALLEST, "--out", "charts/", command=["sh", "small", "fails"])
+    seen = check_picture(server, "small")
+    arrival = [row[2] for row in seen if row[1].get("adapter") == "stored"]
+    server.check("pictures: an arrival", arrival, [(("adapter", "wire"), False)])
+    replay(server, "", "--out", "charts/", command=["sh", "-c", r"printf '<a&b>]]>\033\377' >&2; exit 1"])
+    root = ElementTree.fromstring(server.get("charts/chart.svg").decode())
+    end = root.find(f"{SVG}text[@class='end']").text
+    server.check("pictures: any fault", end, "exit status 1: <a&b>]]>\ufffd\ufffd")
+    shutil.rmtree(server.path("charts"))
+
+
+# The dump
+
+TABLES = {"MTA": (0x5200, 4, 128), "VFTA": (0x5600, 4, 128), "RAL": (0x5400, 8, 16), "RAH": (0x5404, 8, 16)}
+NAMES = {offset: name for name, offset in REGISTERS.items() if name not in TABLES}
+NAMES |= {begin + step * at: f"{name}_{at}" for name, (begin, step, count) in TABLES.items() for at in range(count)}
+RINGS = ("RDH", "RDT", "TDH", "TDT")
+BASE, SIZE, UNITS = 0xFEB00000, 0x20000, 16
+
+
+def parse_dump(text):
+    """The variables of a dump (type, size) and their changes (time, value) by path. The dump must be well-formed."""
+    head, end, body = text.partition("$enddefinitions $end\n")
+    assert end
+    sections = re.findall(r"\$(\w+)\s(.*?)\$end", head, re.S)
+    scopes, variables, codes = [], {}, {}
+    for word, rest in sections:
+        rest = rest.split()
+        if word == "scope":
+            scopes.append(rest[1])
+        elif word == "upscope":
+            scopes.pop()
+        elif word == "var":
+            path = ".".join([*scopes, rest[3]])
+            assert path not in variables and rest[2] not in codes and re.fullmatch(r"[A-Za-z_]\w*", rest[3])
+            variables[path], codes[rest[2]] = (rest[0], int(rest[1])), path
+        else:
+            assert word in ("date", "version", "comment", "timescale")
+    assert not scopes and re.search(r"\$timescale\s+1\s?ns\s+\$end", head)
+    return variables, changes_of(body, variables, codes)
+
+
+def changes_of(body, variables, codes):
+    """The changes in the body of a dump."""
+    changes, time = {path: [] for path in variables}, -1
+    for line in body.splitlines():
+        if line.startswith("#"):
+            assert int(line[1:]) > time
+            time = int(line[1:])
+        elif not line.startswith("$"):
+            value, code = line[1:].split(" ") if line[0] == "b" else (line[0], line[1:])
+            path = codes[code]
+            assert time >= 0 and (set(value) == {"x"} or len(value.lstrip("0")) <= variables[path][1])
+            changes[path].append((time, None if "x" in value else int(value, 2)))
+    return changes
+
+
+class Wanted:
+    """What a dump must have, by the complete log of its run."""
+
+    def __init__(self, log):
+        self.time, self.changes, self.wrong = 0, {}, []
+        self.ring = dict.fromkeys([*RINGS, "RDLEN", "TDLEN"], 0)
+        for name in ("irq", *RINGS):
+            self.note(name, 0)
+        for line in log.splitlines():
+            self.line(line.split(" "))
+            for name in RINGS:
+                self.note(name, self.ring[name])
+
+    def note(self, name, value):
+        told = self.changes.setdefault(name, [])
+        if not told or told[-1][1] != value:
+            told.append((self.time, value))
+
+    def happen(self, name):
+        self.changes.setdefault(name, []).append((self.time, 1))
+
+    def line(self, words):
+        if words[0] == "IRQ":
+            self.note("irq", int(words[1] == "raise"))
+        elif words[0] == "frame":
+            self.happen("frame")
+        elif words[0] == "fault":
+            return  # a dump has the outcome of the step
+        elif words[1] in ("offer", "settle"):
+            return
+        elif words[1] in ("step", "arrive", "hold"):
+            if words[-1] != "nothing":
+                self.time += 1
+                self.happen("_".join([words[1], words[-1]] if words[1] != "step" else [words[2], words[-1]]))
+                self.step(words[2], words[-1])
+        else:
+            self.time = (self.time // UNITS + 1) * UNITS
+            self.access(words[1:])
+
+    def step(self, kind, outcome):
+        letter = {"part": "R", "moved": "R", "took": "T"}.get(outcome)
+        if letter:
+            self.ring[f"{letter}DH"] = (self.ring[f"{letter}DH"] + 1) % (self.ring[f"{letter}DLEN"] // 16)
+
+    def access(self, words):
+        is_write, offset = not words[0].startswith("read"), int(words[1], 0) - BASE
+        is_register = words[0].endswith("l") and 0 <= offset < SIZE
+        self.happen(f"{'write' if is_write else 'read'}_{'register' if is_register else 'memory'}")
+        if not is_register:
+            return
+        name, value = NAMES.get(offset, f"register_{offset:#x}"), int(words[2 if is_write else -1], 0)
+        if is_write and name == "CTRL" and value >> 26 & 1:
+            self.ring = dict.fromkeys(self.ring, 0)
+        if name in RINGS and not is_write and self.ring[name] != value:
+            self.wrong.append((self.time, name, value))
+        if name in self.ring and is_write:
+            self.ring[name] = value & (0xFFFF if name in RINGS else 0xFFF80)
+        if name not in RINGS:
+            self.note(name, value)
+
+
+def readers(server, name, variables, changes):
+    """GTKWave's own reader has the same variables and changes."""
+    if not (shutil.which("vcd2fst") and shutil.which("fst2vcd")):
+        print(f"dump: {name}: vcd2fst (Debian: package gtkwave) isn't installed: only the parser of the test reads it")
+        return
+    folder = server.path("charts")
+    ran = subprocess.run(["vcd2fst", "run.vcd", "run.fst"], cwd=folder, capture_output=True, timeout=LIMIT)
+    server.check(f"dump: {name}, vcd2fst", (ran.returncode, ran.stderr), (0, b""))
+    ran = subprocess.run(["fst2vcd", "run.fst"], cwd=folder, capture_output=True, timeout=LIMIT)
+    got, again = parse_dump(ran.stdout.decode())
+    server.check(f"dump: {name}, its variables in GTKWave", got, variables)
+    others = [path for path in changes if again[path] != changes[path]]
+    server.check(f"dump: {name}, its changes in GTKWave", others, [])
+
+
+def check_dump(server, name):
+    """A dump has what the log has."""
+    variables, changes = parse_dump(server.get("charts/run.vcd").decode())
+    wanted = Wanted(server.get("charts/log.txt").decode())
+    got = {path.rpartition(".")[2]: told for path, told in changes.items()}
+    server.check(f"dump: {name}, heads and tails are what the driver reads", wanted.wrong, [])
+    for one, told in got.items():
+        if one not in ("round", "access", "deviation"):  # these aren't in the log
+            known = told[1:] if told[:1] == [(0, None)] else told  # a register isn't known before its first access
+            server.check(f"dump: {name}, {one}", known, wanted.changes.pop(one, []))
+    server.check(f"dump: {name}, nothing is left out", sorted(wanted.changes), [])
+    readers(server, name, variables, changes)
+    return variables, got
+
+
+def dumps(server):
+    """Dumps of runs of drivers, and of requests that reach everything."""
+    # At the end: an offset without a register, an interrupt, and a reset, after which heads and tails are 0.
+    more = ["readl 0xFEB00044", "writel 0xFEB00044 5", write("IMS", 255), write("ICS", 4), read("ICR"),
+            write("TDT", 0x70005), read("TDT"), write("CTRL", 1 << 26), read("RDH"), read("TDT")]
+    server.put("requests", lines([*whole(), *more]))
+    for name, schedule, command in [("late", "4.6 rxdone before read ICR", [*STAGED, "stages", "late"]),
+                                    ("cuts", "2.6 rx before write tx[1]", [*STAGED, "cuts", "cuts"]),
+                                    ("eerd", "0.9 hold eeprom before read EERD", [*STAGED, "stages", "eerd"]),
+                                    ("all", "", ["sh", "-c", "exec 3<&0; cat requests & exec cat <&3 >answers"])]:
+        status, _, errors = replay(server, schedule, "--any-access", "--out", "charts/", command=command)
+        server.check(f"dump: {name}, it is stored", (status, errors), (PASSES if name == "all" else FOUND, ""))
+        variables, got = check_dump(server, name)
+        deviations = [time for time, _ in got["deviation"]]
+        server.check(f"dump: {name}, its deviations", len(deviations), bool(schedule))
+        for at in [(time // UNITS + 1) * UNITS for time in deviations]:  # the access after the deviation
+            place = [[value for time, value in got[word] if time <= at][-1] for word in ("round", "access")]
+            server.check(f"dump: {name}, the place of its deviation", "{}.{}".format(*place), schedule.split(" ")[0])
+    kinds = {tuple(path.split(".")[:-1]): kind for path, kind in variables.items() if kind[0] != "event"}
+    wanted = {"adapter": ("wire", 1), "rings": ("reg", 16), "driver": ("integer", 32), "registers": ("reg", 32),
+              **dict.fromkeys(TABLES, ("reg", 32))}
+    server.check("dump: its scopes", kinds, {("race", scope): kind for scope, kind in wanted.items()})
+    shutil.rmtree(server.path("charts"))
+
+
+def dump_of_any_fault(server):
+    """A fault with keywords and other characters doesn't end the comment of a dump."""
+    replay(server, "", "--out", "charts/", command=["sh", "-c", "echo 'a $end $var \"b\" \N{EURO SIGN}' >&2; exit 1"])
+    comment = re.findall(r"^\$comment (.*) \$end$", server.get("charts/run.vcd").decode(), re.M)
+    server.check("dump: any fault", comment, ['exit status 1: a ?end ?var "b" ?'])
+    check_dump(server, "any fault")
+    shutil.rmtree(server.path("charts"))
+
+
+# The files
+
+FIELDS = """
+import sys
+sys.dont_write_bytecode = True
+sys.path.insert(0, sys.argv[2])
+from finder.names import fields_of, value_in
+for name, data in [("rx[3]+8", "f205000001"), ("rx[3]+8", "0000000000"), ("rx[12]", "00" * 16), ("tx[0]+12", "01"),
+                   ("tx[7]", "00000200000000003c00000911000000"), ("rx[0]+7", "0000"), ("rx[0]+8", "07"),
+                   ("rx[0]+12", "00" * 8), ("0x1000", "00000000"), ("rx[0]", "00010000" * 2)]:
+    print(fields_of(name, len(data) // 2, int.from_bytes(bytes.fromhex(data), "little")))
+for register, value in [("ICR", 0x80), ("RCTL", 0x04038002), ("TCTL", 0xA), ("EERD", 0x110), ("RAH[0]", 1 << 31),
+                        ("MTA[0]", 1), ("RDT", 0)]:
+    print(value_in(register, value))
+"""
+FIELDS_TOLD = """\
+length 1522, status 0x1 DD
+length 0, status 0x0
+buffer 0x0, length 0, checksum 0x0, status 0x0, errors 0x0, special 0x0
+status 0x1 DD
+buffer 0x20000, length 60, command 0x9 EOP RS, status 0x11 DD
+None
+None
+None
+None
+buffer 0x10000000100
+0x80 RXT0
+0x4038002 EN BAM SECRC
+0xa EN PSP
+0x110 DONE
+0x80000000 AV
+0x1
+0x0
+"""
+
+
+# Charts of rows with numbers: each line has the stars, what other rows have in memory, and the number of rows.
+CUT = """
+import sys
+sys.dont_write_bytecode = True
+sys.path.insert(0, sys.argv[2])
+from finder.chart import ChartRow, cut
+slots = {11: "tx[1]+8 a", 18: "tx[1] b", 19: "tx[1]+8 a", 20: "tx[0] c", 21: "buffer of tx[1] d", 25: "tx[1] b",
+         28: "tx[1] e", 30: "tx[1] f"}
+for stars, memory, count in [((), {}, 30), ((), {}, 3), ((10,), {}, 40), ((10, 30), {}, 60), ((10, 21), {}, 32),
+                             ((0,), {}, 2), ((10,), {at: "read" for at in range(35, 40)}, 40), ((10,), slots, 60)]:
+    rows = [ChartRow({"": "*"} if at in stars else {"": "", "place": str(at), "memory": memory.get(at, str(at))})
+            for at in range(count)]
+    print(*(row.cells.get("") or row.cells.get("driver") or row.cells["place"] for row in cut(rows)))
+"""
+CUT_TOLD = """\
+10 11 12 13 14 15 16 17 18 19 20 21 22 23 24 25 26 27 28 29
+0 1 2
+6 7 8 9 * 11 12 13 14 15 18 rows 34 35 36 37 38 39
+6 7 8 9 * 11 12 13 14 15 10 rows 26 27 28 29 * 31 32 33 34 35 18 rows 54 55 56 57 58 59
+6 7 8 9 * 11 12 13 14 15 16 17 18 19 20 * 22 23 24 25 26 27 28 29 30 31
+* 1
+6 7 8 9 * 11 12 13 14 15 18 rows 34 4 rows 39
+6 7 8 9 * 11 12 13 14 15 2 rows 18 2 rows 21 6 rows 28 25 rows 54 55 56 57 58 59
+"""
+
+
+def cuts(server):
+    """The rows that a chart shows: near deviations, at the end, other uses of a slot; 20 rows without a deviation."""
+    status, out, errors = script(server, CUT)
+    server.check("cuts: it runs", (status, errors), (0, ""))
+    for at, (got, wanted) in enumerate(zip([*out.splitlines(), *[""] * 8], CUT_TOLD.splitlines())):
+        server.check(f"cuts: chart {at + 1}", got, wanted)
+
+
+def files(server):
+    """`--out` stores a schedule, or a folder with the charts, after a search and after a replay; or reports why not."""
+    server.put("small", SMALL.encode())
+    schedule = f"# sh small fails\n# exit status 1: finished too late\n{SMALLEST}".encode()
+    small = ["sh", "small", "fails"]
+    status, out, errors = find(server, "--explore", "2", "--out", "charts/", command=small)
+    first = {name: server.get(f"charts/{name}") for name in sorted(os.listdir(server.path("charts")))}
+    server.check("files: of a search", (status, list(first), errors), (FOUND, FILES, ""))
+    server.check("files: its chart", out.endswith("\n" + first["chart.txt"].decode()), True)
+    server.check("files: its schedule", first["schedule.txt"], schedule)
+    ran, _, errors = replay(server, SMALLEST, "--json", "--out", "charts", command=small)
+    second = {name: server.get(f"charts/{name}") for name in sorted(os.listdir(server.path("charts")))}
+    server.check("files: of a replay, the same", (ran, second == first, errors), (FOUND, True, ""))
+    log = second["log.txt"].decode().splitlines()
+    wanted = [f"# readl 0xFEB02810 -> {0:#018x}", "# step rxdata -> moved", f"# readl 0xFEB02810 -> {1:#018x}",
+              f"# readb 12 -> {0:#018x}", "# step rxdone -> done", f"# readb 12 -> {3:#018x}"]
+    server.check("files: answers in the log", log[5:], wanted)
+    wanted = ["# writel 0xFEB00100 0x8002", f"# arrive {FRAME} -> stored"]
+    server.check("files: a write and an arrival in the log", log[3:5], wanted)
+    replay(server, SMALLEST, "--out", "found", command=small)
+    server.check("files: a schedule alone", server.get("found"), schedule)
+    for path in ("small/", "none/x", "found/"):
+        status, _, errors = replay(server, "", "--out", path, command=["true"])
+        is_told = re.fullmatch(r"races: --out: \S+: [A-Z][a-z ]+\nFor more information, try '--help'.\n",
+                               errors) is not None
+        server.check(f"files: {path} can't be written", (status, is_told), (USAGE, True))
+    shutil.rmtree(server.path("charts"))
+    server.check("files: fields and bits", script(server, FIELDS), (0, FIELDS_TOLD, ""))
+
+
+def all_cases(server):
+    for part in [pages, pictures, dumps, dump_of_any_fault, cuts, files]:
+        part(server)
