@@ -1,4 +1,4 @@
--- The conditions under which a driver and its adapter share memory, and on the sizes of receive buffers and pieces (our choice).
+-- The conditions under which a driver and its adapter share memory, and conditions on the sizes of receive buffers and pieces (our choice).
 use Rattle.std.specs.Prelude.{◌≡◌, ◌≤◌, ◌<◌, ◌++◌, ℕ, true, All, length, map}
 use Rattle.descriptors.specs.Frames.{IsLegal, longest_frame}
 use Rattle.dma_memory.specs.Areas.{AreSeparate}

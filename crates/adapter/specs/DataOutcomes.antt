@@ -1,4 +1,4 @@
--- The outcomes of steps, and the causes that they record, by the answers of the engines and the PHY.
+-- The outcomes of steps, and the causes and counts that the steps record, by the answers of the engines and the PHY.
 use Rattle.std.specs.Prelude.{ℕ, Option, Some, None, if◌then◌else◌}
 use Rattle.mdic_phy.specs.declared.mdic.Ticked.{Ticked}
 use Rattle.registers.specs.Bits.{union}

@@ -1,4 +1,4 @@
--- The value of a register, from the list of all events at an adapter since power-on.
+-- The value of a register whose kept bits are its whole rule, from the list of all events at an adapter since power-on.
 use Rattle.std.specs.Prelude.{◌≡◌, ◌==◌, ◌&&◌, ◌||◌, ℕ, Bool, true, false, List, [], ◌∷◌, ◌++◌, Some, bit_and}
 use Rattle.std.specs.List.{list_any}
 use Rattle.mdic_phy.specs.declared.phy.Link.{Link}

@@ -22,7 +22,7 @@ abbrev pub work_areas : List ℕ → Option Work → List Area
 work_areas memory None = []
 work_areas memory (Some work) = record { address = receive.named_address memory work.descriptor; size = work.length } ∷ []
 
--- The size of each receive buffer in bytes, by RCTL.BSIZE.
+-- The size of each receive buffer in bytes, by RCTL.BSIZE while RCTL.BSEX is 0.
 abbrev pub buffer_size : World → ℕ
 buffer_size world = buffer_size_of (field world.adapter.filter.rctl rctl_bsize 2)
 

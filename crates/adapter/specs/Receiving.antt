@@ -1,5 +1,5 @@
 -- The reception of a frame ("3.2 Packet Reception"). The frame arrives, and data steps move it to memory piece by piece. After a data step
--- has moved a piece, a done step writes back the piece's descriptor.
+-- has moved a piece, a done step writes back the piece's descriptor, if the descriptor is inside memory.
 use Rattle.std.specs.Prelude.{◌≡◌, ◌+◌, ◌*◌, ◌==◌}
 use Rattle.std.specs.Prelude.{ℕ, Bool, true, false, List, Option, None, Some, length, if◌then◌else◌}
 use Rattle.dma_memory.specs.Areas.{ChangesOnly, area_at}

@@ -1,4 +1,4 @@
--- Proofs of the effect of writes on later reads.
+-- Proofs of the effect of accesses, resets and power-on on later reads.
 use Rattle.std.proofs.Common.{◌≡◌, ◌≢◌, ◌/◌, ◌%◌, ◌^◌, ◌<◌, ◌==◌, ◌&&◌, ℕ, zero, suc, Bool, true, false, List, ◌∷◌, Option, Some, bit_and}
 use Rattle.std.proofs.Common.{replicate, slice_index, refl, sym, ◌∙◌, ap, subst, if◌then◌else◌, arith}
 use Rattle.std.proofs.lemmas.Bool.{ne_eqb}
@@ -146,7 +146,7 @@ no_link : (up : Bool) → (if up && false then status_of_link_up else 0) ≡ 0
 no_link true = refl
 no_link false = refl
 
--- Each register except PBA reads its reset value from the table.
+-- After a reset, each register except PBA reads its reset value from the table.
 pub answer-at_reset : (register : Register) (words : List ℕ) (phy : PhyState) (kilobytes : ℕ) → IsInTable register → register ≢ Pba
     → answer register (adapter_at_reset words phy kilobytes) ≡ (row_of register).reset words
 answer-at_reset Status words phy kilobytes within differ = no_link (link_is_up phy)

@@ -1,5 +1,6 @@
 -- The table of registers (chapter 13 "Register Descriptions"): the offset of each register, the bits that a write stores, and the reset
--- value. PBA's reset value is the manual's. The other reset values, and the kept bits if the manual has more, are our choice.
+-- value. The reset values of PBA, RAL(0) and RAH(0) are the manual's. Any other reset value that isn't in the manual or differs from the
+-- manual's is our choice. The kept bits, if the manual has more, are our choice too.
 use Rattle.std.specs.Prelude.{◌≡◌, ◌+◌, ◌-◌, ◌*◌, ◌/◌, ◌%◌, ◌<◌, ◌==◌, ◌&&◌, ℕ, List, [], ◌∷◌, Option, Some, None, find, nat_lt, nat_le}
 use Rattle.std.specs.Prelude.{slice_index, if◌then◌else◌}
 use Rattle.adapter.specs.declared.register.RingRegister.TheVariants.{BaseLow, BaseHigh, Length, Head, Tail}
@@ -29,11 +30,12 @@ plain offset kept reset = record { offset = offset; kept = Some kept; reset = λ
 abbrev pub ruled : ℕ → ℕ → Row
 ruled offset reset = record { offset = offset; kept = None; reset = λ words. reset }
 
--- RAL(0) is words 0 and 1 of the EEPROM, word 0 in the low half; the other entries are 0 (our choice)
+-- RAL(0) is words 0 and 1 of the EEPROM, word 0 in the low half (13.5.3 "Receive Address High"); that the other entries are 0 is our choice
 abbrev pub address_low_at_reset : ℕ → List ℕ → ℕ
 address_low_at_reset entry words = if entry == 0 then slice_index words 1 * 65536 + slice_index words 0 else 0
 
--- RAH(0) is word 2 of the EEPROM with AV, bit 31; the other entries are 0 (our choice)
+-- RAH(0) is word 2 of the EEPROM with AV, bit 31, and AV of the other entries is 0 (13.5.3 "Receive Address High"); that their other bits
+-- are 0 is our choice
 abbrev pub address_high_at_reset : ℕ → List ℕ → ℕ
 address_high_at_reset entry words = if entry == 0 then alone rah_av + slice_index words 2 else 0
 

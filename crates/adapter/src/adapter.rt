@@ -24,8 +24,9 @@ use tx_engine::TxEngine;
 /// wire and a host's memory.
 ///
 /// In contracts, the value is an `AdapterState`, plain data that `specs/State.antt` defines. Each register access has
-/// the effect in the table of [`offsets`](crate::offsets). The adapter does all other work in steps: one call of
-/// [`step`](Adapter::step) is one step.
+/// the effect in the table of [`offsets`](crate::offsets). The adapter does all other work in steps and arrivals: one
+/// call of [`step`](Adapter::step) is one step, and one call of [`arrive`](Adapter::arrive) is the arrival of one
+/// frame.
 #[derive(Drop)]
 pub struct Adapter {
     image: Image,
@@ -81,9 +82,9 @@ impl Adapter {
     ghost use Rattle.eeprom.specs.Eerd.{is_pending};
     ghost use Rattle.mdic_phy.specs.Mdic.{has_work};
 
-    /// Returns an adapter after power-on, with this EEPROM. `link` states after how many ticks of the PHY the link is
-    /// up, if ever. Both packet buffers are empty. This call allocates their memory, and no later call except `clone`
-    /// allocates memory.
+    /// Returns an adapter after power-on, with this EEPROM. `link` states how many ticks of the PHY negotiation takes
+    /// until the link is up, if it ever is. Both packet buffers are empty. This call allocates their memory, and no
+    /// later call except `clone` allocates memory.
     ///
     /// # Errors
     ///
@@ -175,8 +176,10 @@ impl Adapter {
     /// Performs one step of the adapter on its host's memory. `wire_free` is whether the wire has room for a frame. If
     /// the outcome is `Nothing`, the adapter and the memory are unchanged.
     ///
-    /// After a `Fault`, steps of the same kind return `Nothing` until a write of CTRL with RST. Steps of other kinds
-    /// and arrivals aren't affected. A fault changes neither memory nor a register of a ring (our choice).
+    /// Only `TxTake` and `RxData` can return `Fault`. A fault changes neither memory nor a register of a ring (our
+    /// choice). After a fault, steps of the same kind return `Nothing` until a write of CTRL with RST, as the contract
+    /// of [`write`](Adapter::write) states. Steps of other kinds don't depend on the fault. Nor do arrivals, as the
+    /// contract of [`arrive`](Adapter::arrive) states.
     ///
     /// A step changes at most these bytes of memory:
     /// - [`RxData`](StepKind::RxData): the bytes of the piece, in the buffer that the receive descriptor at RDH points
@@ -209,7 +212,7 @@ impl Adapter {
     }
 }
 
-/// The effect of each register access.
+/// The effects of register accesses and of a reset, and the ticks of the EEPROM and the PHY.
 impl Adapter {
     ghost use Rattle.adapter.specs.Registers.{after_reset, answer, answer_of, left_by_read, left_by_write};
     ghost use Rattle.adapter.specs.State.{IsAdapter};
@@ -271,7 +274,7 @@ impl Adapter {
         }
     }
 
-    /// Resets the adapter with its packet buffers and engines, but not PBA and the PHY.
+    /// Resets the adapter with its packet buffers and engines, but not PBA, the PHY and the image of the EEPROM.
     fn reset(&mut self)
         ensures { self.new ≡ after_reset self.old }
     {

@@ -11,7 +11,7 @@ pub struct FrameCounts {
     pub missed: u32,
     /// RNBC: frames that were stored or missed while RDH equaled RDT, so that no descriptor was offered.
     pub without_descriptor: u32,
-    /// GPRC: frames that were received, each counted when the descriptor of its last piece is written back.
+    /// GPRC: frames that were received, each counted by the `RxDone` of its last piece.
     pub received: u32,
     /// GPTC: frames that were transmitted, each counted when it is put onto the wire.
     pub transmitted: u32,

@@ -69,37 +69,37 @@ pub const RCTL: u32 = 0x0100;
 /// TCTL, transmit control (13.4.33).
 pub const TCTL: u32 = 0x0400;
 
-/// PBA, packet buffer allocation.
+/// PBA, packet buffer allocation (13.4.16).
 pub const PBA: u32 = 0x1000;
 
-/// RDBAL, receive descriptor base address, its low word.
+/// RDBAL, receive descriptor base address, its low word (13.4.25).
 pub const RDBAL: u32 = 0x2800;
 
-/// RDBAH, receive descriptor base address, its high word.
+/// RDBAH, receive descriptor base address, its high word (13.4.26).
 pub const RDBAH: u32 = 0x2804;
 
-/// RDLEN, receive descriptor length in bytes.
+/// RDLEN, receive descriptor length in bytes (13.4.27).
 pub const RDLEN: u32 = 0x2808;
 
-/// RDH, receive descriptor head.
+/// RDH, receive descriptor head (13.4.28).
 pub const RDH: u32 = 0x2810;
 
-/// RDT, receive descriptor tail.
+/// RDT, receive descriptor tail (13.4.29).
 pub const RDT: u32 = 0x2818;
 
-/// TDBAL, transmit descriptor base address, its low word.
+/// TDBAL, transmit descriptor base address, its low word (13.4.36).
 pub const TDBAL: u32 = 0x3800;
 
-/// TDBAH, transmit descriptor base address, its high word.
+/// TDBAH, transmit descriptor base address, its high word (13.4.37).
 pub const TDBAH: u32 = 0x3804;
 
-/// TDLEN, transmit descriptor length in bytes.
+/// TDLEN, transmit descriptor length in bytes (13.4.38).
 pub const TDLEN: u32 = 0x3808;
 
-/// TDH, transmit descriptor head.
+/// TDH, transmit descriptor head (13.4.39).
 pub const TDH: u32 = 0x3810;
 
-/// TDT, transmit descriptor tail.
+/// TDT, transmit descriptor tail (13.4.40).
 pub const TDT: u32 = 0x3818;
 
 /// MPC, missed packets count (13.7 "Statistics Registers").

@@ -21,7 +21,7 @@ pub enum Outcome<F> {
     Part,
     /// The last piece of a received frame was written to memory. The piece's descriptor isn't written back yet.
     Moved,
-    /// A receive descriptor was written back.
+    /// The adapter is done with a receive descriptor. The descriptor was written back, if it is inside memory.
     Done,
     /// This frame was delivered, and had this fate.
     Delivered(F, Fate),

@@ -18,11 +18,12 @@ use tx_engine::{TxEngine, append_queued};
 
 impl Adapter {
     /// Appends the frames still to be sent to `sending`: first those in the transmit packet buffer, then those of the
-    /// offered transmit descriptors, padded.
+    /// offered transmit descriptors, padded to 60 bytes whether TCTL.PSP is set or not.
     ///
     /// Appends the frames that the host holds to `holding`. First come the frames that end in finished slots or in the
     /// piece in progress, from slot `oldest` of the receive ring on. The frames in the receive packet buffer follow.
-    /// Both lists must have room for these frames: the call allocates no memory.
+    /// The rings and the bytes of these frames must be inside memory, and no frame may exceed 1,518 bytes
+    /// (`specs/Pending.antt`). Both lists must have room for these frames: the call allocates no memory.
     pub fn pending(
         &self,
         memory: &HostMemory,

@@ -51,8 +51,8 @@ impl Adapter {
         outcome_of(answer)
     }
 
-    /// Performs a done step: writes back the descriptor of the piece in progress. If the frame ends in this piece, the
-    /// step records RXT0, and GPRC counts the frame.
+    /// Performs a done step: writes back the descriptor of the piece in progress, if the descriptor is inside memory.
+    /// If the frame ends in this piece, the step records RXT0, and GPRC counts the frame.
     pub(crate) fn finish_piece(&mut self, memory: &mut HostMemory) -> Outcome<()>
         ensures answer { DoneAnswers self.old (framed result self.old) }
         ensures state { self.new ≡ after_done (framed result self.old) self.old }

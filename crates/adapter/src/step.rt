@@ -5,12 +5,13 @@
 pub enum StepKind {
     /// Copies the frame that the transmit descriptor at TDH points to into the transmit packet buffer.
     TxTake,
-    /// Puts the oldest frame of the transmit packet buffer onto the wire.
+    /// Puts the oldest frame of the transmit packet buffer onto the wire, and sets DD in its descriptor if RS is set
+    /// and the status byte is inside memory.
     TxPut,
     /// Writes the next piece of the oldest frame of the receive packet buffer to the buffer of the receive descriptor
     /// at RDH. A piece has at most the size of that buffer (RCTL.BSIZE).
     RxData,
-    /// Writes back the descriptor of the piece that `RxData` wrote.
+    /// Writes back the descriptor of the piece that `RxData` wrote, if the descriptor is inside memory.
     RxDone,
     /// Ends a pending read of the EEPROM.
     EepromTick,

@@ -1,4 +1,4 @@
-// Steps of transmission.
+// Steps of transmission, and the frame that the next one puts onto the wire.
 
 ghost use Rattle.std.specs.Prelude.{◌≡◌, ◌≤◌, ◌↔◌, [], length};
 ghost use Rattle.std.specs.Prelude.{IfSome, IsNone};
@@ -44,8 +44,8 @@ impl Adapter {
     }
 
     /// Puts the oldest frame of the packet buffer onto the wire, if there is such a frame, and the wire has room. GPTC
-    /// counts the frame. If the frame's descriptor asks for a report, the step writes DD to this descriptor and
-    /// records TXDW.
+    /// counts the frame. If the frame's descriptor asks for a report, the step writes DD to this descriptor, if the
+    /// status byte is inside memory, and records TXDW.
     pub(crate) fn put_frame(&mut self, memory: &mut HostMemory, wire_free: bool) -> Outcome<()>
         ensures answer { PutAnswers wire_free self.old (framed result self.old) }
         ensures state { self.new ≡ after_put (framed result self.old) self.old }

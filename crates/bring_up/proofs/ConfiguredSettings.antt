@@ -39,7 +39,7 @@ adapter_before_rings config address groups vlans image link = record (adapter_at
   filter = filter_written address groups vlans;
 }
 
--- after a reset
+-- If the adapter was reset, and then PBA and CTRL were written, the writes of tables and receive addresses set the filter.
 tables-set : (config : Config) (address groups vlans image : List ℕ) (link : Link)
     → IsAddress address → length groups ≡ 128 → length vlans ≡ 128 → AreWords groups → AreWords vlans
     → SetTo (table_writes 0x5200 groups ++ (table_writes 0x5600 vlans ++ address_writes address))

@@ -38,7 +38,7 @@ use Rattle.driver_law.proofs.Intervals.{goes_join, joined-nothing}
 use Rattle.bring_up.specs.DriverSteps.{MakesAccesses, EnablesCauses, LeavesDriver, LetsFramesIn}
 use Rattle.bring_up.specs.RingRegisters.{receive_control, receive_writes, transmit_writes}
 
--- One access, from the world right before it.
+-- A driver goes through one access if it does so from the world right before the access.
 unfoldable pub ran_by-begins : {first_up up : Bool} {B : Type 0} (bus : Ghosts B) (old new : B) (access : Access)
     (effect : World → World → Type 0) (d : DriverState) (acts : Acts (view_of bus) old new access effect)
     → SetsBy access effect (bus.world new)
@@ -61,7 +61,7 @@ abbrev pub WriteActs : {B : Type 0} (bus : Ghosts B) (old new : B) (offset value
 WriteActs bus old new offset value = Acts (view_of bus) old new (Writes offset value)
     (λ before after. after ≡ world_after_write offset value before)
 
--- An access, whatever the state of the driver.
+-- An interval with exactly one access, whatever the state of the driver.
 unfoldable pub accessed-by : {B : Type 0} (bus : Ghosts B) (old new : B) (access : Access) (effect : World → World → Type 0)
     → Acts (view_of bus) old new access effect → SetsBy access effect (bus.world new) → MakesAccesses bus (access ∷ []) old new
 accessed-by bus old new access effect acts sets =
@@ -164,7 +164,7 @@ lets-frames-out bus old new value d is written ready below knows =
 
 -- IMS
 
--- If no frame ended in finished slots before an interval or RXT0 was recorded, the same holds after it.
+-- If no frame ended in finished slots before an interval, or RXT0 was recorded before it, one of these holds after it.
 pub asked-still : (d : DriverState) (a b : World) (past : Past) → Goes (driver_in d a) (driver_in d b) (driver_did [] []) past
     → (frames_ended (driver_in d a) ≡ []) ⊎ HasBit a.adapter.causes.recorded 7
     → (frames_ended (driver_in d b) ≡ []) ⊎ HasBit b.adapter.causes.recorded 7

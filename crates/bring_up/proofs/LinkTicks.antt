@@ -145,7 +145,7 @@ both-bits false latched set = absurd (set refl)
 abbrev HasBoth : ℕ → Type 0
 HasBoth value = HasBit value 5 × HasBit value 2
 
--- If a status has bits 5 and 2, negotiation is complete.
+-- If a read of the status shows bit 2, MDIC contains a status with bits 5 and 2.
 pub seen-of : (lively : Type 0) (all : ℕ) (a b : Management) (answer : ℕ) → EndsCommand lively status_word all a b answer
     → bit_and answer 0x04 ≢ 0 → HasBit b.mdic.value 5 × HasBit b.mdic.value 2
 seen-of lively all a b answer ends set =
@@ -154,7 +154,7 @@ seen-of lively all a b answer ends set =
     let both = both-bits (link_is_up at) at.latched_low (λ unset. set (ap (λ (v : ℕ). bit_and v 0x04) ends.answers ∙ unset)) in
     subst HasBoth (sym (value ∙ ends.answers)) both
 
--- If a status has bits 5 and 2, the link is up.
+-- If a read of the status shows bit 2, the link is up, and no command is pending.
 pub up-of : (lively : Type 0) (all : ℕ) (a : Management) (world : World) (answer : ℕ)
     → EndsCommand lively status_word all a (management_of world.adapter) answer → bit_and answer 0x04 ≢ 0 → HasLink world
 up-of lively all a world answer ends set =
@@ -168,8 +168,8 @@ up-of lively all a world answer ends set =
 
 -- Rounds of the wait
 
--- At least this number of rounds after negotiation started: two ticks in each round, and the latch is clear after the
--- first round.
+-- At least this number of rounds after negotiation started: two ticks in each round. The latch is clear after the first round. After the
+-- second round, the link needs more ticks than those of all rounds.
 pub record Rounds (rounds : ℕ) (management : Management) : Type 0 where
   pub no_command : management.mdic.pending ≡ None
   pub counted : HasCounted (2 * rounds) management.phy

@@ -97,7 +97,7 @@ elsewhere small big k n more apart = (
   ]),
 )
 
--- A word of a table that has these numbers.
+-- Each word of a table has exactly the bits of those of the table's numbers that are in this word.
 pub word-of-table : (table numbers : List ℕ) (w : ℕ) → w < 128 → HasNumbers table numbers → IsWord w numbers (slice_index table w)
 word-of-table table numbers w within holds = λ place below.
     let n = w * 32 + place in
@@ -106,7 +106,7 @@ word-of-table table numbers w within holds = λ place below.
     let both = holds.bits n (omega (arith, within, below)) in
     rw (q, r) at both
 
--- A table after one word was written.
+-- If a word gets the bits of the new numbers, and no number of another word has come or gone, the table has the bits of the new numbers.
 pub word-written : (table old new : List ℕ) (w value : ℕ) → w < 128 → HasNumbers table old → IsWord w new value
     → ((n : ℕ) → (n / 32 ≡ w → ⊥) → Contains old n ↔ Contains new n) → HasNumbers (slice_set table w value) new
 word-written table old new w value within holds word same = record {

@@ -113,7 +113,7 @@ rests-write bus old new part value word rx before after is written idle first sh
           ap (λ (w : World). w.memory) acts.effect_is ∙ rest_keeps_memory (bus.world old) middle acts.past acts.before state.rest;
     }
 
--- Two consecutive calls.
+-- Two consecutive calls join.
 rests-join : {B : Type 0} (bus : Ghosts B) → IntervalsJoin bus
     → (a b c : B) (first later : List Write) (P Q R : World → Type 0) → SetsAtRest bus first P Q a b
     → SetsAtRest bus later Q R b c

@@ -15,7 +15,7 @@ use Rattle.bring_up.specs.WrittenRegisters.{allocation_writes, enable_link_write
 abbrev pub SetTo : List Write → (old new : AdapterState) → Type 0
 SetTo writes old new = settings_after_all writes (settings_of old) ≡ settings_of new
 
--- Two consecutive groups of writes.
+-- If the first writes change the settings `old` to `middle`, and the later ones `middle` to `new`, all together change `old` to `new`.
 pub groups-join : (first later : List Write) (old middle new : Settings)
     → settings_after_all first old ≡ middle → settings_after_all later middle ≡ new → settings_after_all (first ++ later) old ≡ new
 groups-join first later old middle new one two = settings-append first later old ∙ ap (settings_after_all later) one ∙ two
@@ -24,7 +24,7 @@ pub set-join : (first later : List Write) (old middle new : AdapterState)
     → SetTo first old middle → SetTo later middle new → SetTo (first ++ later) old new
 set-join first later old middle new one two = groups-join first later (settings_of old) (settings_of middle) (settings_of new) one two
 
--- A reset doesn't change the EEPROM and PBA.
+-- The writes of a reset give each setting its reset value, except the EEPROM, the PHY's link and PBA, which don't change.
 pub reset-sets : (settings : Settings)
     → settings_after_all reset_writes settings
     ≡ settings_of (adapter_at_reset settings.image (new_phy settings.link) settings.receive_kilobytes)
@@ -64,7 +64,7 @@ pub transmit-sets : (adapter : AdapterState) → SetTo transmit_writes adapter (
 unfolding register_at array_register_at
 transmit-sets adapter = refl
 
--- if no cause was in the mask
+-- If no cause was in the mask, the write of IMS sets the mask to the causes that a driver handles.
 pub mask-sets : (adapter : AdapterState) → adapter.causes.mask ≡ 0
     → SetTo mask_writes adapter (record adapter { causes = record adapter.causes { mask = 0xD1 } })
 unfolding register_at array_register_at

@@ -116,7 +116,7 @@ high-kept address is =
 abbrev pub with_address : (low high : ℕ) → FilterRegisters → FilterRegisters
 with_address low high filter = record filter { ral = low ∷ replicate 15 0; rah = high ∷ replicate 15 0 }
 
--- if the other 15 entries are 0
+-- If the other 15 receive addresses are 0, the writes set the first one, and the others remain 0.
 pub address-set : (address : List ℕ) (low high : ℕ) (adapter : AdapterState) → IsAddress address
     → SetTo (address_writes address) (record adapter { filter = with_address low high adapter.filter })
     (record adapter { filter = with_address (low_word address) (high_word address + 2 ^ 31) adapter.filter })

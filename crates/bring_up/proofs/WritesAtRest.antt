@@ -15,7 +15,7 @@ use Rattle.driver_law.specs.Resets.{reset_world}
 use Rattle.bring_up.specs.SettingSteps.{IsAside}
 use Rattle.bring_up.specs.WrittenRegisters.{allocation_writes, enable_link_writes, write_at}
 
--- A register other than RCTL and those of the rings.
+-- `IsAside` holds for a write of a register other than RCTL and those of the rings.
 pub aside-of : (register : Register) (value : ℕ) → IsInTable register → IsElsewhere (Some register)
     → All IsAside (write_at (row_of register).offset value ∷ [])
 aside-of register value within elsewhere =
@@ -31,7 +31,7 @@ allocation-aside kilobytes = aside-of Pba kilobytes tt tt
 pub link-aside : All IsAside enable_link_writes
 link-aside = aside-of Ctrl 0x60 tt tt
 
--- CTRL.RST is written.
+-- A write of CTRL with RST resets the adapter, which is then at rest.
 pub reset-written : (world : World) → world_after_write 0x0000 0x04000000 world ≡ reset_world world
 reset-written world =
     ap (λ (found : Option Register). let after : World = record world

@@ -32,7 +32,7 @@ of-both P first later one two = All-append (λ (write : Write). P (register_at w
 
 -- The tables
 
--- a table whose words begin at an offset
+-- the writes of a table's words, from an offset on
 words-of : (P : Option Register → Type 0) (start : ℕ) (register : ℕ → Register)
     → ((n : ℕ) → n < 128 → register_at (start + 4 * n) ≡ Some (register n)) → ((n : ℕ) → P (Some (register n)))
     → (offset n : ℕ) (words : List ℕ) → offset ≡ start + 4 * n → n + length words ≤ 128 → AreOf P (table_writes offset words)
@@ -45,7 +45,7 @@ words-of P start register there each offset n (word ∷ words) at fits =
     (of-one P offset word (subst P (sym (ap register_at at ∙ there n within)) (each n)))
     (words-of P start register there each (offset + 4) (suc n) words next room)
 
--- the receive addresses
+-- the writes of the receive addresses
 entry-of : (P : Option Register → Type 0) → ((n : ℕ) → P (Some (Ral n))) → ((n : ℕ) → P (Some (Rah n)))
     → (entry low high : ℕ) → entry < 16 → AreOf P (entry_writes entry low high)
 entry-of P ral rah entry low high within =

@@ -1,4 +1,5 @@
--- The settings of an adapter after initialization, by its configuration and its Ethernet address.
+-- The writes of initialization in order, the settings that they give an adapter by its configuration and its Ethernet address, the setup
+-- that a driver keeps, and laws about these.
 use Rattle.std.specs.Prelude.{◌≡◌, ◌<◌, ◌+◌, ◌-◌, ◌*◌, ◌++◌, ℕ, Bool, true, false, List, ◌∷◌, [], All, Option, None, Some, length}
 use Rattle.std.specs.Prelude.{replicate}
 use Rattle.adapter.specs.declared.offsets.TheConstants.{MTA, RDBAL, RDT, TDBAL, VFTA}

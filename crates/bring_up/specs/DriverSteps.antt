@@ -36,8 +36,8 @@ pub record LetsFramesIn {B : Type 0} (bus : Ghosts B) (writes : List Write) (d :
   pub none_finished : finished d.oldest_receive (bus.world new) ≡ []
   pub no_arrival : NoArrival ran.past
 
--- The transmit ring can be set up. The driver's oldest transmit slot is slot 0, and the ring's registers have their
--- reset values. The sizes of both rings are valid, and the new ring begins after the receive ring.
+-- The transmit ring can be set up. The driver's oldest transmit slot is slot 0, and the ring's registers have their reset values. The sizes
+-- of both rings are valid. The new ring begins right after the receive ring, and has the layout's number of slots.
 pub record CanSetTransmitRing (base bytes : ℕ) (d : DriverState) (world : World) : Type 0 where
   pub oldest : d.oldest_transmit ≡ 0
   pub new : world.adapter.transmit_ring ≡ new_ring

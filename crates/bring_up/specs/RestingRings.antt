@@ -47,17 +47,17 @@ pub record BeginsAtRest (counts : Counts) (setup : DriverSetup) (groups : List (
   pub ready : ReadyWith false (new_driver counts setup groups pool) world
   pub quiet : HasNoFrames (new_driver counts setup groups pool) world
 
--- `BeginsAtRest` holds if the adapter is at rest with its receive ring set up, the counts are valid, and each buffer
--- has one owner.
+-- `BeginsAtRest` holds if the adapter is at rest with its receive ring set up, the counts are valid, memory contains the whole layout, and
+-- each buffer is in `pool` exactly once.
 abbrev pub DriversBeginAtRest : Type 0
 DriversBeginAtRest =
     (counts : Counts) (setup : DriverSetup) (groups : List (List ℕ)) (pool : List ℕ) (world : World)
     → IsAllowed counts → HasOneOwner counts.buffers pool → size_of counts ≤ length world.memory
     → HasReceiveRing counts.rx world → BeginsAtRest counts setup groups pool world
 
--- A driver whose adapter was reset is ready again after its receive ring is set up at rest, with no slot offered. Its
--- transmit side is off, and RCTL.EN is 0. The same buffers are free, the pieces of frames that others hold are in
--- their buffers, and no frame is held or to be sent.
+-- If the counts of its layout are valid, a driver whose adapter was reset is ready again after its receive ring is set up at rest, with no
+-- slot offered. Its transmit side is off, and RCTL.EN is 0. The same buffers are free, the pieces of frames that others hold are in their
+-- buffers, and no frame is held or to be sent.
 abbrev pub DriversBeginAgain : Type 0
 DriversBeginAgain =
     (driver : DriverState) (pool : List ℕ) (world : World) → (let again = reset_driver pool driver in

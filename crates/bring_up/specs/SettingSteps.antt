@@ -10,7 +10,7 @@ use Rattle.bus.specs.Settings.{Write, settings_after_all, settings_of, writes_in
 use Rattle.bus.specs.declared.bus.Bus.{Ghosts}
 use Rattle.bring_up.specs.DriverSteps.{accesses_of}
 
--- The write changes neither RCTL nor a register of a ring.
+-- The write is neither a write of RCTL nor of a register of a ring.
 abbrev pub IsAside : Write → Type 0
 IsAside write = IsElsewhere (register_at write.offset)
 

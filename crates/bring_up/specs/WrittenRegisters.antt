@@ -1,5 +1,5 @@
--- The writes of initialization, register by register ("14.3 General Initialization", "14.4 Receive Initialization",
--- "14.5 Transmit Initialization"). The order is our choice.
+-- The writes of initialization to CTRL, IMC, PBA and IMS ("14.3 General Initialization"). The order is our choice. The writes to the filter
+-- are in `FilterTables`, and those to RCTL, TCTL and the rings' registers in `RingRegisters`.
 use Rattle.std.specs.Prelude.{◌+◌, ◌^◌, ℕ, List, [], ◌∷◌}
 use Rattle.adapter.specs.declared.offsets.TheConstants.{CTRL, IMC, IMS, PBA}
 use Rattle.bus.specs.Settings.{Write}

@@ -33,7 +33,8 @@ pub struct Config {
     /// Whether frames to every destination pass the filter (RCTL.UPE and RCTL.MPE). The VLAN filter still applies to
     /// these frames.
     pub promiscuous: bool,
-    /// The groups whose frames pass the filter. Each has the low bit of its first byte set.
+    /// The groups whose frames pass the filter. Frames to other groups with the same bits 47:36 pass too. Each group
+    /// has the low bit of its first byte set.
     pub groups: ArrayVec<[u8; 6], MOST_GROUPS>,
     /// The VLANs whose tagged frames pass the filter, each below 4,096; `None` if tagged frames of all VLANs pass.
     pub vlans: Option<ArrayVec<u16, MOST_VLANS>>,

@@ -34,7 +34,8 @@ pub fn reset_device<B: Bus>(bus: &mut B)
     bus.read(ICR);
 }
 
-/// Assigns `kilobytes` of the packet buffer to received frames (PBA.RXA).
+/// Assigns `kilobytes` of the packet buffer to received frames (PBA.RXA). The adapter ignores a number that isn't even
+/// or isn't from 2 to 48.
 pub fn allocate_packet_buffer<B: Bus>(bus: &mut B, kilobytes: u8)
     ensures keeps { Keeps B.Bus bus.old bus.new }
     ensures sets { B.honest bus.old → SetsOnly B.Bus (allocation_writes kilobytes) bus.old bus.new }
@@ -42,7 +43,8 @@ pub fn allocate_packet_buffer<B: Bus>(bus: &mut B, kilobytes: u8)
     bus.write(PBA, u32::from(kilobytes));
 }
 
-/// Enables the link, at the speed that the PHY detects (CTRL.SLU and CTRL.ASDE). A link that is up remains up.
+/// Enables the link, at the speed that the PHY detects (CTRL.SLU and CTRL.ASDE). If the link is up and no MDIC command
+/// is pending, both remain true.
 pub fn set_link_up<B: Bus>(bus: &mut B)
     ensures keeps { Keeps B.Bus bus.old bus.new }
     ensures sets { B.honest bus.old → SetsOnly B.Bus enable_link_writes bus.old bus.new }
@@ -51,8 +53,9 @@ pub fn set_link_up<B: Bus>(bus: &mut B)
     bus.write(CTRL, Ctrl::SLU.union(Ctrl::ASDE).bits());
 }
 
-/// Returns the causes that a driver enables: TXDW (a transmit descriptor was written back), RXT0 (a frame was
-/// received), RXDMT0 (few receive descriptors are still offered) and RXO (a frame was missed).
+/// Returns the causes that a driver enables: TXDW (a frame whose descriptor asks for a report is on the wire), RXT0
+/// (the adapter is done with the last descriptor of a frame), RXDMT0 (half of the receive descriptors are still
+/// offered) and RXO (a frame was missed).
 pub fn interrupt_causes() -> Cause
     ensures { result.0 ≡ handled_causes }
 {
@@ -62,8 +65,8 @@ pub fn interrupt_causes() -> Cause
         .union(Cause::RXT0)
 }
 
-/// Enables the causes that a driver handles. A driver that is ready remains ready. No work is forgotten after the write
-/// if no frame ended in finished slots before the write, or RXT0 was recorded.
+/// Enables the causes that a driver handles. A driver that is ready with its transmit side set up remains ready. No
+/// work is forgotten after the write if no frame ended in finished slots before the write, or RXT0 was recorded.
 pub fn enable_interrupts<B: Bus>(bus: &mut B)
     ensures keeps { Keeps B.Bus bus.old bus.new }
     ensures sets { B.honest bus.old → SetsOnly B.Bus mask_writes bus.old bus.new }

@@ -11,8 +11,8 @@ use crate::link::{await_link, negotiate};
 use bus::Bus;
 use eeprom::{Image, checksum_ok};
 
-/// Resets the device, reads its EEPROM, assigns `kilobytes` of the packet buffer to received frames, and waits until
-/// its link is up. Returns the image of the EEPROM.
+/// Resets the device, reads its EEPROM, assigns `kilobytes` of the packet buffer to received frames, enables the link,
+/// starts negotiation, and waits until the link is up and negotiated. Returns the image of the EEPROM.
 ///
 /// # Errors
 ///

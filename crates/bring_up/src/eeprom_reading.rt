@@ -22,8 +22,8 @@ const ADDR_SHIFT: u32 = 8;
 /// The lowest bit of DATA, bits 31:16 of EERD.
 const DATA_SHIFT: u32 = 16;
 
-/// Reads the 64 words of the EEPROM, in order. For each word, writes EERD once, and reads EERD until DONE is set. Over
-/// a lively bus no timeout occurs.
+/// Reads the 64 words of the EEPROM, in order. For each word, writes EERD once, and reads EERD until DONE is set, at
+/// most 1,000 times. Over a lively bus that obeys the law, no timeout occurs.
 ///
 /// # Errors
 ///

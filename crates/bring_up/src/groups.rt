@@ -60,7 +60,8 @@ impl Model for Groups {
 impl Groups {
     ghost use Rattle.bring_up.specs.Groups.{AreJoined};
 
-    /// Returns the groups of a configuration, each once.
+    /// Returns the groups of a configuration, each once. At most 32 addresses may be named, and each must be that of a
+    /// group.
     pub fn of(named: &[[u8; 6]]) -> Groups
         requires most { length named.now ≤ MOST_GROUPS }
         requires groups { All IsGroup named.now }

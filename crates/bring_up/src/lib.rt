@@ -1,5 +1,5 @@
-//! Initializes an 82540EM over any bus: separate calls for reset, EEPROM, PHY, filter, rings and interrupts. Keeps the
-//! list of joined multicast groups and the group table (MTA) together.
+//! Initializes an 82540EM over any bus: separate calls for reset, EEPROM, packet buffer, PHY and link, filter,
+//! descriptors, rings and interrupts. Keeps the list of joined multicast groups and the group table (MTA) together.
 //!
 //! Section numbers are those of Intel's "PCI/PCI-X Family of Gigabit Ethernet Controllers Software
 //! Developer's Manual": "14.3 General Initialization", "14.4 Receive Initialization" and "14.5 Transmit

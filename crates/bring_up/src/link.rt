@@ -12,7 +12,7 @@ use crate::init_error::InitError;
 use adapter::offsets::MDIC;
 use bus::Bus;
 
-/// The PHY's address in PHYADD, bits 25:21 of MDIC.
+/// The PHY's address, 1, in PHYADD, bits 25:21 of MDIC.
 const PHY_ADDRESS: u32 = 1 << 21;
 
 /// The PHY's register 1, its status, in REGADD, bits 20:16 of MDIC.

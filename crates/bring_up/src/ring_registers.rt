@@ -22,7 +22,8 @@ use bitflags::Flags;
 use bus::Bus;
 use registers::{Rctl, Tctl};
 
-/// The collision threshold of full duplex, 0x0F, in TCTL.CT. The threshold has no effect in the adapter's model.
+/// The collision threshold, 15 retransmissions (13.4.33), in TCTL.CT. The threshold matters only in half duplex, and
+/// has no effect in the adapter's model.
 const COLLISION_THRESHOLD: u32 = 0x0F << 4;
 
 /// The collision distance of full duplex, 0x40, in TCTL.COLD. The distance has no effect in the adapter's model.
@@ -40,9 +41,9 @@ pub struct RingPlace {
     pub bytes: u32,
 }
 
-/// Sets up the receive ring, with no slot offered. Let the ring begin at address 0, and memory have room for it. Then
-/// an adapter at rest whose rings have their reset values remains at rest. After the writes, its receive ring has this
-/// base and size (`HasReceiveRing`).
+/// Sets up the receive ring, with no slot offered. Let the ring begin at address 0 and have from 8 to 4,096 slots, a
+/// multiple of 8, and let memory have room for it. Then an adapter at rest whose rings have their reset values remains
+/// at rest. After the writes, its receive ring has this base and size (`HasReceiveRing`).
 pub fn set_receive_ring<B: Bus>(bus: &mut B, ring: RingPlace)
     ensures keeps { Keeps B.Bus bus.old bus.new }
     ensures sets { B.honest bus.old → SetsOnly B.Bus (ring_setup_writes RDBAL ring.base ring.bytes) bus.old bus.new }
@@ -88,8 +89,8 @@ pub fn disable_receiver<B: Bus>(bus: &mut B)
 
 /// Enables the receiver, with broadcast frames and buffers of 256 bytes. If `promiscuous` is true, frames to every
 /// destination pass the filter. If `by_vlan` is true, a tagged frame passes only if its VLAN is in the VLAN table. If
-/// RCTL.EN was 0, no frame was held, and the transmit side was off, a driver that is ready remains ready. No frame is
-/// held after the write.
+/// RCTL.EN was 0, no frame was held, and the transmit side was off, a driver that is ready remains ready, and no frame
+/// is held after the write.
 pub fn enable_receiver<B: Bus>(bus: &mut B, promiscuous: bool, by_vlan: bool)
     ensures keeps { Keeps B.Bus bus.old bus.new }
     ensures sets { B.honest bus.old → SetsOnly B.Bus (receive_writes promiscuous by_vlan) bus.old bus.new }

@@ -59,7 +59,7 @@ rest_after_reset world = record
 
 -- What happens.
 
--- Nothing is held, and nothing is to be sent.
+-- An adapter at rest holds no frame, and no frame is to be sent.
 none-held : (world : World) → IsAtRest world → frames_held world.adapter.receive_ring.tail world ≡ []
 none-held world rest =
     let ring = receive_ring world in
@@ -82,7 +82,7 @@ new-again : (receiver : Receiver) → receiver.buffer ≡ [] → receiver.moved 
     → receiver ≡ new_receiver
 new-again receiver buffer moved work stopped = rw (buffer, moved, work, stopped) refl
 
--- Of no frame no byte is moved.
+-- If the packet buffer is empty, no byte of its oldest frame is moved.
 none-moved : (receiver : Receiver) → receiver.moved ≤ length (oldest receiver.buffer) - 1 → receiver.buffer ≡ [] → receiver.moved ≡ 0
 none-moved receiver begun none =
     let most = subst (λ (frames : List (List ℕ)). receiver.moved ≤ length (oldest frames) - 1) none begun in omega (arith, most)
@@ -116,7 +116,7 @@ happenings_keep_rest a b past happens is rest =
 
 -- Accesses.
 
--- At rest by the parts of the adapter that this rests on.
+-- An idle adapter with the engines and RCTL of an adapter at rest, and with MPC 0, is at rest.
 rest-by : (world : World) (b : AdapterState) → IsIdle (record world { adapter = b }) → b.receiver ≡ world.adapter.receiver
     → b.transmitter ≡ world.adapter.transmitter → b.filter.rctl ≡ world.adapter.filter.rctl → b.missed_packets ≡ 0
     → IsAtRest world → IsAtRest (record world { adapter = b })

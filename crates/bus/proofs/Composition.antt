@@ -31,7 +31,7 @@ iterate-add h (suc m) n x =
 
 -- Registers.
 
--- A head that didn't move in either interval didn't move in both, and a head that moved is a slot.
+-- A head that moved in neither interval didn't move in both together, and a head that moved is a slot.
 head_trans : (a b c : RingRegisters) → OnlyHeadMoves a b → OnlyHeadMoves b c → OnlyHeadMoves a c
 head_trans a b c one two = record {
   others = two.others ∙ ap (λ (ring : RingRegisters). let moved : RingRegisters = record ring { head = c.head } in moved) one.others;
@@ -99,7 +99,7 @@ steady_refl a = record {
 
 -- Frames.
 
--- A cause that is recorded if a frame ended in a first interval still is after a later one.
+-- If a frame ends in the new pieces of either interval, RXT0 is recorded after both, because recorded causes remain recorded.
 told-joined : (first later : List Piece) (b c : World) → All IsPart first ⊎ HasBit b.adapter.causes.recorded rxt0
     → All IsPart later ⊎ HasBit c.adapter.causes.recorded rxt0
     → ((place : ℕ) → HasBit b.adapter.causes.recorded place → HasBit c.adapter.causes.recorded place)

@@ -38,7 +38,7 @@ pairs-across R (x ∷ xs) ys pairs =
     All-cons (λ z. All (R z) ys) x xs (all-right (R x) xs ys (pairs-head R x (xs ++ ys) pairs))
     (pairs-across R xs ys (pairs-tail R x (xs ++ ys) pairs))
 
--- The parts of what the adapter may write, of a sound world.
+-- In a sound world, both rings and the areas of frames are apart. The descriptor bytes that the adapter may write are inside the rings.
 pub record Parts (o : ℕ) (a : World) : Type 0 where
   pub rings : AreApart (ring_area (receive_ring a)) (ring_area (transmit_ring a))
   pub receive_rest : All (AreApart (ring_area (receive_ring a))) (frame_areas o a)
@@ -52,7 +52,7 @@ half-inside r d inside = record { from = omega (arith, inside.from); to = omega 
 byte-inside : (t : Area) (d : ℕ) → IsInside (descriptor_area d) t → IsInside (status_byte d) t
 byte-inside t d inside = record { from = omega (arith, inside.from); to = omega (arith, inside.to) }
 
--- An area apart from a descriptor is apart from the bytes of the descriptor that the adapter reports in.
+-- A descriptor that is apart from another one is apart from bytes 8 to 15 of the other one.
 half-apart : (x y : ℕ) → AreApart (descriptor_area x) (descriptor_area y) → AreApart (descriptor_area x) (reported_half y)
 half-apart x y apart = inside-apart (descriptor_area x) (reported_half y) (descriptor_area y)
     (half-inside (descriptor_area y) y (record { from = omega arith; to = omega arith })) apart
@@ -82,7 +82,7 @@ parts-of o p a sound =
           (λ k d below. byte-inside t _ (sent k d below));
     }
 
--- The last of the areas of frames are the offered buffers.
+-- A fact of all areas of frames holds for the offered buffers, which are the last of these areas.
 last-buffers : (P : Area → Type 0) (o : ℕ) (a : World) → All P (frame_areas o a) → All P (offered_buffers a)
 last-buffers P o a all =
     let names = map (named a.memory) (finished o a) in
@@ -91,7 +91,7 @@ last-buffers P o a all =
     (all-right P names (work ++ offered_buffers a)
     (all-right P (map (data_of a.memory) (offered (transmit_ring a))) (names ++ (work ++ offered_buffers a)) all))
 
--- An area of the receive ring that is apart from the halves that are reported in isn't the adapter's.
+-- The adapter may not write an area of the receive ring that is apart from bytes 8 to 15 of each descriptor in progress or offered.
 foreign-in_ring : (o p : ℕ) (a : World) (area : Area) → Sound o p a → IsInside area (ring_area (receive_ring a))
     → All (λ d. AreApart area (reported_half d)) (in_work a ++ offered (receive_ring a)) → IsForeign a area
 foreign-in_ring o p a area sound inside apart =
@@ -107,7 +107,7 @@ foreign-in_ring o p a area sound inside apart =
     (All-map (AreApart area) reported_half (in_work a ++ offered (receive_ring a)) apart)
     (All-append (AreApart area) (map status_byte (buffered a ++ offered (transmit_ring a))) (offered_buffers a) bytes buffers)
 
--- Descriptors of finished slots.
+-- The adapter may not write the descriptors of finished slots.
 foreign-finished : (o p : ℕ) (a : World) → Sound o p a → All (λ d. IsForeign a (descriptor_area d)) (finished o a)
 foreign-finished o p a sound =
     let ring = receive_ring a in
@@ -123,7 +123,7 @@ foreign-finished o p a sound =
     let inside = all-left (λ d. IsInside (descriptor_area d) (ring_area ring)) (finished o a) behind whole in
     λ k d below. foreign-in_ring o p a _ sound (inside k d below) (λ j e within. half-apart _ _ (across k d below j e within))
 
--- The bytes that finished slots name.
+-- The adapter may not write the pieces in finished slots.
 pub foreign-named : (o p : ℕ) (a : World) → Sound o p a → All (λ d. IsForeign a (named a.memory d)) (finished o a)
 foreign-named o p a sound =
     let parts = parts-of o p a sound in
@@ -149,7 +149,7 @@ foreign-named o p a sound =
     (all-right (AreApart _) work (offered_buffers a) (across k d below))) in
     all-unmapped (λ area. IsForeign a area) (named a.memory) (finished o a) each
 
--- The same of the transmit ring, and of status bytes.
+-- The adapter may not write an area of the transmit ring that is apart from the status byte of each descriptor that is buffered or offered.
 foreign-in_transmit : (o p : ℕ) (a : World) (area : Area) → Sound o p a → IsInside area (ring_area (transmit_ring a))
     → All (λ d. AreApart area (status_byte d)) (buffered a ++ offered (transmit_ring a)) → IsForeign a area
 foreign-in_transmit o p a area sound inside apart =
@@ -167,7 +167,7 @@ foreign-in_transmit o p a area sound inside apart =
     (All-map (AreApart area) status_byte (buffered a ++ offered (transmit_ring a)) apart)
     buffers)
 
--- Descriptors of written-back slots.
+-- The adapter may not write the descriptors of written-back slots.
 foreign-written : (o p : ℕ) (a : World) → Sound o p a → All (λ d. IsForeign a (descriptor_area d)) (written_back p a)
 foreign-written o p a sound =
     let ring = transmit_ring a in
@@ -283,7 +283,7 @@ same_fields : (address address' size size' cso cso' : ℕ) (command command' : T
 same_fields address address' size size' cso cso' command command' status css css' special special' e1 e2 e3 e4 e5 e6 = rw
     (e1, e2, e3, e4, e5, e6) refl
 
--- Bytes that agree but in place 12.
+-- Transmit descriptors whose bytes agree except for byte 12 agree except for the status.
 fields-same : (xs ys : List ℕ) → ((i : ℕ) → i < 12 → slice_index xs i ≡ slice_index ys i)
     → ((i : ℕ) → i < 3 → slice_index xs (13 + i) ≡ slice_index ys (13 + i))
     → tx_desc_of xs ≡ record (tx_desc_of ys) { status = (tx_desc_of xs).status }

@@ -91,7 +91,7 @@ drivers_stores_leave_frames o p a address bytes sound lies own =
       };
     }
 
--- What the adapter may write is the same.
+-- After the store, the adapter may not write an area that it might not write before.
 pub drivers_stores_leave_foreign : DriversStoresLeaveForeign
 drivers_stores_leave_foreign o p a address bytes sound lies own area foreign =
     subst (λ (buffers : List Area). All (AreApart area) (map reported_half (in_work a ++ offered (receive_ring a))

@@ -60,7 +60,7 @@ buffers-none : (on : Bool) (f : ℕ → Area) (slots : List ℕ) → slots ≡ [
 buffers-none true f slots none = ap (map f) none
 buffers-none false f slots none = refl
 
--- Only the two rings are named.
+-- If an adapter is idle, the conditions of the law name only the areas of both rings.
 pub idle-areas : (world : World) → IsIdle world
     → areas world.adapter.receive_ring.tail world ≡ ring_area (receive_ring world) ∷ ring_area (transmit_ring world) ∷ []
 idle-areas world idle =
@@ -72,7 +72,7 @@ idle-areas world idle =
     areas-same _ _ [] _ [] _ [] _ [] _ (ap (map (data_of memory)) unsent) (ap (map (named memory)) unfinished)
     (ap (work_areas memory) idle.work) (buffers-none _ (buffer_of world) (offered ring) unoffered)
 
--- Where no slot is finished and no piece is in progress, there are no pieces in slots.
+-- If no slot is finished and no piece is in progress, there are no pieces in slots.
 pub no-pieces : (memory : List ℕ) (finished : List Piece) (receiver : Receiver) → finished ≡ [] → receiver.work ≡ None
     → engine.in_slots memory finished receiver ≡ []
 no-pieces memory finished receiver none free =
@@ -100,7 +100,7 @@ idle_rings_are_sound world idle =
 
 -- Power-on and reset.
 
--- Rings of no descriptors.
+-- Two rings without descriptors are separate areas.
 empty_rings : (memory : List ℕ) → AreSeparate memory (record { address = 0; size = 0 } ∷ record { address = 0; size = 0 } ∷ [])
 empty_rings memory =
     let e : Area = record { address = 0; size = 0 } in
@@ -147,7 +147,7 @@ head-is-tail ring slots none =
     ⊎_elim (λ (same : ring.head ≡ ring.tail). same)
     (λ (differ : ¬ (ring.head ≡ ring.tail)). let first = offered-head ring slots differ in absurd (cc)) (cases_eq ring.head ring.tail)
 
--- The head is still at the tail, or head and tail are slots.
+-- If the head was at the tail, and no slot is offered after the head may have moved, the head is at the tail.
 pub still-idle : (a b : RingRegisters) → OnlyHeadMoves a b → a.head ≡ a.tail → offered (ring_of b) ≡ [] → b.head ≡ b.tail
 still-idle a b moves idle none =
     ⊎_elim
@@ -192,7 +192,7 @@ happenings_keep_idle a b past happens idle =
 
 -- Idle rings are idle after accesses.
 
--- Idle by the parts of the adapter that this rests on.
+-- Whether an adapter is idle depends only on the size of memory, the receive engine, the transmit packet buffer and the rings.
 idle-same : (memory memory' : List ℕ) (a b : AdapterState) → length memory' ≡ length memory → b.receiver ≡ a.receiver
     → b.transmitter.buffer ≡ a.transmitter.buffer → b.receive_ring ≡ a.receive_ring → b.transmit_ring ≡ a.transmit_ring
     → IsIdle (record { memory = memory; adapter = a }) → IsIdle (record { memory = memory'; adapter = b })
@@ -240,7 +240,7 @@ reads_keep_idle offset world idle = by_case (register_at offset)
 pub stores_keep_idle : StoresKeepIdle
 stores_keep_idle address bytes world size idle = idle-same world.memory _ world.adapter world.adapter size refl refl refl refl idle
 
--- A write adds no frame.
+-- No piece is in progress. No byte of the oldest frame in the receive packet buffer has been moved. No frame is in the transmit packet buffer.
 record NoFrames (state : AdapterState) : Type 0 where
   work : state.receiver.work ≡ None
   unmoved : moved_bytes state.receiver ≡ []

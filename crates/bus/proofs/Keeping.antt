@@ -1,4 +1,4 @@
--- What each of several calls over a bus keeps, the calls one after the other keep.
+-- If `Keeps` holds for each of several calls over a bus, it holds for the calls one after the other.
 use Rattle.std.proofs.Common.{refl, ◌∙◌}
 use Rattle.bus.specs.Keeping.{Keeps}
 use Rattle.bus.specs.declared.bus.Bus.{Ghosts}

@@ -23,7 +23,7 @@ use Rattle.bus.proofs.Settings.{writes-append}
 
 -- Ticks.
 
--- The link is up, and no command waits.
+-- The link is up, and no command is pending.
 record IsUp (management : Management) : Type 0 where
   up : link_is_up management.phy ≡ true
   no_command : management.mdic.pending ≡ None
@@ -65,7 +65,7 @@ happenings_keep_link a b past happens link =
 
 -- Accesses.
 
--- MDIC and the PHY are unchanged.
+-- If MDIC and the PHY are unchanged, a link that is up remains up.
 same-management : (a b : World) → management_of b.adapter ≡ management_of a.adapter → HasLink a → HasLink b
 same-management a b same link =
     let before : IsUp (management_of a.adapter) = record { up = link.up; no_command = link.no_command } in

@@ -113,7 +113,7 @@ pairs-mapped R f (x ∷ xs) pairs =
 
 -- The first elements.
 
--- They pass.
+-- The first elements pass the test.
 pub take_while-passes : {X : Type 0} (p : X → Bool) (xs : List X) → All (λ x. p x ≡ true) (take_while p xs)
 take_while-passes p [] = all-none (λ x. p x ≡ true)
 take_while-passes {X} p (x ∷ xs) =

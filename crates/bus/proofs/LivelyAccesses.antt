@@ -66,7 +66,7 @@ lively-acts a p b access effect prepared is adapter does =
       effect_is = does;
     }
 
--- Both steps don't change the size of memory.
+-- Neither step changes the size of memory.
 pub size-prepared : (a p : LivelyBus) → IsPrepared a p → machine_bytes p ≡ machine_bytes a
 size-prepared a p prepared =
     (trail_happens (both_ticks prepared.eeprom prepared.phy) (machine_world a) (machine_world p) (are-steps a p prepared)

@@ -10,7 +10,7 @@ use Rattle.bus.specs.LargeBuffers.{LargeBuffersTakeFrames}
 use Rattle.adapter.specs.HostFrames.{pieces_in_slots}
 use Rattle.bus.proofs.Lists.{all-head, all-none, all-tail}
 
--- A piece in which its frame ends is a last piece.
+-- If a piece is a last piece, its frame ends in this piece.
 pub last-ends : (ends : Bool) (bytes : List ℕ) → IsLast (piece_of ends bytes) → ends ≡ true
 last-ends true bytes last = refl
 last-ends false bytes last = absurd last

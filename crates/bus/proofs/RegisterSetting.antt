@@ -140,7 +140,7 @@ transmit_ring_can_be_set o p ring world sound none same separate =
 
 -- Other accesses.
 
--- A world of these parts, which are all that the conditions, slots and frames rest on.
+-- A world of these parts. The conditions, slots and frames depend on no other part.
 abbrev of_parts : List ℕ → RingRegisters → RingRegisters → Receiver → Transmitter → ℕ → ℕ → World
 of_parts memory receive transmit receiver transmitter receive_control transmit_control = record {
   memory = memory;

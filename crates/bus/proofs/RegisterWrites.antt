@@ -14,8 +14,8 @@ pub record KeepsControls (register : Register) (a b : AdapterState) : Type 0 whe
   pub receive : b.filter.rctl ≡ a.filter.rctl
   pub transmit : b.transmit_control ≡ a.transmit_control
 
--- The engines are; the rings are, but for a write of a ring's register; and so are RCTL and TCTL where the conditions don't read the
--- register.
+-- The engines are unchanged. The rings are unchanged, unless a register of a ring is written. RCTL and TCTL are unchanged if the conditions
+-- don't depend on the written register.
 pub record Leaves (register : Register) (a b : AdapterState) : Type 0 where
   pub receiver : b.receiver ≡ a.receiver
   pub transmitter : b.transmitter ≡ a.transmitter

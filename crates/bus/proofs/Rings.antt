@@ -63,12 +63,12 @@ each-outstanding ring oldest P (inl below) fact =
     let k = distance_of ring oldest ring.tail in
     All-map P (address_of ring) (slots_from n oldest k) (λ i d inside. fact _ (slots-below n oldest k below i d inside))
 
--- The first bytes of a slot are in the ring,
+-- The first bytes of a slot, at most 16, are in the ring.
 pub slot-inside : (base n slot size : ℕ) → slot < n → size ≤ 16
     → IsInside (record { address = base + 16 * slot; size = size }) (record { address = base; size = 16 * n })
 slot-inside base n slot size below fits = record { from = omega arith; to = omega (arith, below, fits) }
 
--- so the outstanding slots are, too,
+-- The outstanding slots are in the ring.
 pub outstanding-inside : (ring : Ring) (oldest : ℕ) → (oldest < count_of ring) ⊎ (outstanding ring oldest ≡ [])
     → All (λ descriptor. IsInside (descriptor_area descriptor) (ring_area ring)) (outstanding ring oldest)
 outstanding-inside ring oldest first =
@@ -79,7 +79,7 @@ pub far-apart : (base a b : ℕ) → ¬ (b ≡ a)
     → AreApart (record { address = base + 16 * a; size = 16 }) (record { address = base + 16 * b; size = 16 })
 far-apart base a b differ = grind arith
 
--- and apart from one another.
+-- The outstanding slots are apart from one another.
 pub outstanding-apart : (ring : Ring) (oldest : ℕ) → (oldest < count_of ring) ⊎ (outstanding ring oldest ≡ [])
     → AllPairs (λ a b. AreApart (descriptor_area a) (descriptor_area b)) (outstanding ring oldest)
 unfolding offered_places
@@ -105,13 +105,13 @@ pub dealt-left : (memory : List ℕ) (ring : Ring) (oldest : ℕ) (taken : List 
 dealt-left memory ring oldest taken P dealt all =
     all-left P (done_slots memory ring oldest) (taken ++ offered ring) (subst (λ (slots : List ℕ). All P slots) dealt.classes all)
 
--- Where the outstanding slots are as done as they were, the done ones are the same.
+-- If DD changes in no outstanding slot, the done slots are the same.
 pub done-same : (memory memory' : List ℕ) (ring : Ring) (oldest : ℕ)
     → All (λ d. is_done memory' d ≡ is_done memory d) (outstanding ring oldest)
     → done_slots memory' ring oldest ≡ done_slots memory ring oldest
 done-same memory memory' ring oldest same = take_while-same (is_done memory) (is_done memory') (outstanding ring oldest) same
 
--- Then all classes are.
+-- If DD changes in no outstanding slot, the slots are still dealt in the same way.
 pub dealt-same : (memory memory' : List ℕ) (ring : Ring) (oldest : ℕ) (taken : List ℕ)
     → All (λ d. is_done memory' d ≡ is_done memory d) (outstanding ring oldest) → IsDealt memory ring oldest taken
     → IsDealt memory' ring oldest taken
@@ -123,7 +123,7 @@ dealt-same memory memory' ring oldest taken same dealt =
       not_done = λ k d below. rest k d below ∙ dealt.not_done k d below;
     }
 
--- Where head differs from tail, the slot at the head is the first that is offered.
+-- If head differs from tail, the slot at the head is the first offered slot.
 pub offered-head : (ring : Ring) → HasValidIndices ring → ¬ (ring.head ≡ ring.tail)
     → offered ring ≡ address_of ring ring.head ∷ offered (record ring { head = next_of ring ring.head })
 offered-head ring sound apart = ap (map (address_of ring)) (places-head ring sound apart)
@@ -143,7 +143,7 @@ dealt-moved memory ring oldest taken sound apart dealt =
       not_done = subst (λ (slots : List ℕ). All (λ d. is_done memory d ≡ false) slots) same dealt.not_done;
     }
 
--- The first slot that is taken is done then, and the others don't change.
+-- The first of the taken slots is now done, and the other slots are dealt as before.
 pub record Reported (memory memory' : List ℕ) (ring : Ring) (oldest descriptor : ℕ) (taken : List ℕ) : Type 0 where
   pub dealt : IsDealt memory' ring oldest taken
   pub grown : done_slots memory' ring oldest ≡ done_slots memory ring oldest ++ descriptor ∷ []

@@ -36,7 +36,7 @@ use Rattle.bus.proofs.Rings.{dealt-right, offered-head, outstanding-inside}
 abbrev pub Lies : List ℕ → Area → Type 0
 Lies memory area = LiesIn memory area.address area.size
 
--- What a step that takes finds.
+-- If the engines can run, a take step that has something to take can take the descriptor at TDH.
 pub can_take : (o p : ℕ) (a : World) → Sound o p a → CanRun a → ¬ (HasNothingToTake a.adapter) → CanTake a.memory a.adapter
 can_take o p a sound can not_idle =
     let ring = transmit_ring a in
@@ -62,7 +62,7 @@ can_take o p a sound can not_idle =
 pub piece-fits : (control : ℕ) (engine : Receiver) → length (next_piece control engine) ≤ buffer_bytes control
 piece-fits control engine = omega (arith, length-take (buffer_bytes control) (drop engine.moved (oldest engine.buffer)))
 
--- What a data step finds.
+-- If the engines can run, a data step that has something to do can move the next piece.
 pub can_move : (o p : ℕ) (a : World) → Sound o p a → CanRun a → HasFrameAndDescriptor a.adapter → CanMovePiece a.memory a.adapter
 can_move o p a sound can has =
     let ring = receive_ring a in
@@ -110,7 +110,7 @@ faults_never_come o p a kind wire_free answer sound can answers same =
 
 -- What doesn't change.
 
--- Descriptors that don't change, in a memory of the same size.
+-- Descriptors that don't change can still be transmitted, in a memory of the same size.
 pub transmittable-kept : (memory memory' : List ℕ) (slots : List ℕ) → length memory' ≡ length memory → All (IsSame memory memory') slots
     → All (CanTransmit memory) slots → All (CanTransmit memory') slots
 transmittable-kept memory memory' slots size same can = λ k d below.

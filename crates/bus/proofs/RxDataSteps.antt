@@ -83,7 +83,7 @@ oldest-legal : (buffer : List (List ℕ)) → buffer ≢ [] → All IsLegal buff
 oldest-legal [] some legal = absurd (some refl)
 oldest-legal (frame ∷ later) some legal = all-head IsLegal frame later legal
 
--- The pieces in slots before the step, and then the next piece of the oldest frame.
+-- The finished pieces and the next piece of the oldest frame are cut in the same way.
 cut-moved : (ends : Bool) (size o : ℕ) (a : World) → buffer_size a ≡ size → a.adapter.receiver.work ≡ None → a.adapter.receiver.buffer ≢ []
     → IsReceiver a.adapter.receiver → is_last_piece a.adapter ≡ ends
     → HasBegun a.memory (finished_pieces o a) a.adapter.receiver → AreCut size o a

@@ -1,4 +1,4 @@
--- The descriptor of the piece in progress is written back.
+-- A done step: the descriptor of the piece in progress is written back, if the descriptor is inside memory.
 use Rattle.std.proofs.Common.{◌≡◌, ◌≤◌, ◌+◌, ◌⊎◌, ◌++◌, ◌∷◌, []}
 use Rattle.std.proofs.Common.{inl, inr, Bool, true, false, cond, nat_le, ℕ, List, Option, Some, None}
 use Rattle.std.proofs.Common.{length, map, refl, sym, ap, subst, ◌∙◌, append_assoc, arith, if◌then◌else◌}

@@ -54,7 +54,7 @@ reads-leave offset adapter = by_case (register_at offset)
     by_case None = refl
     by_case (Some register) = read-leaves register adapter
 
--- A write sets what it sets in an adapter at rest.
+-- A write changes the settings as it does in an adapter after a reset that has the same settings.
 row-sets : (register : Register) (value : ℕ) (adapter : AdapterState)
     → settings_of (by_row (row_of register).kept register value adapter)
     ≡ settings_of (by_row (row_of register).kept register value (adapter_with (settings_of adapter)))
@@ -107,7 +107,7 @@ settings_join a b c first later one two =
     ∙ sym (settings-append (writes_in first.accesses) (writes_in later.accesses) (settings_of a.adapter))
     ∙ ap (λ (list : List Write). settings_after_all list (settings_of a.adapter)) (sym (writes-append first.accesses later.accesses))
 
--- While frames don't come.
+-- While RCTL.EN is 0, no frame is stored or missed.
 
 row-leaves_receiver : (register : Register) (value : ℕ) (state : AdapterState) → IsNotReceiveControl (Some register)
     → (by_row (row_of register).kept register value state).filter.rctl ≡ state.filter.rctl
@@ -152,7 +152,7 @@ while_off-joins a b first later set one two = λ off leaves.
     let end = two still (all-right LeavesReceiver (writes_in first.accesses) (writes_in later.accesses) writes) in
     record { none_stored = rw (start.none_stored, end.none_stored) refl; none_missed = rw (start.none_missed, end.none_missed) refl }
 
--- What nothing changes.
+-- No write changes the words of the EEPROM or the setting of the link.
 
 record SameDevice (a b : Settings) : Type 0 where
   image : b.image ≡ a.image

@@ -35,7 +35,7 @@ use Rattle.tx_engine.specs.Laws.{to_send-offer}
 use Rattle.tx_engine.specs.Transmitter.{Queued}
 use Rattle.bus.proofs.Rings.{distance-whole}
 
--- The number of outstanding slots is the distance from the oldest slot to the tail.
+-- A mapped list has the length of the list.
 length-map : (f : ℕ → ℕ) (xs : List ℕ) → length (map f xs) ≡ length xs
 length-map f [] = refl
 length-map f (x ∷ xs) = ap suc (length-map f xs)
@@ -135,7 +135,7 @@ areas-more r t d n n' w b b' area same_n more =
 areas-still : (r t : Area) (d n n' w b b' : List Area) → n' ≡ n → b' ≡ b → r ∷ t ∷ (d ++ (n' ++ (w ++ b'))) ≡ r ∷ t ∷ (d ++ (n ++ (w ++ b)))
 areas-still r t d n n' w b b' same_n same_b = rw (same_n, same_b) refl
 
--- Memory that the adapter may not write remains such memory, except for the slot and its buffer.
+-- A fact of each taken and each offered slot, and of one more slot, holds for all slots after this slot is offered.
 all-grown : (P : Area → Type 0) (f : ℕ → Area) (taken xs ys : List ℕ) (x : ℕ) → ys ≡ xs ++ x ∷ [] → All P (map f (taken ++ xs)) → P (f x)
     → All P (map f (taken ++ ys))
 all-grown P f taken xs ys x grown all new =

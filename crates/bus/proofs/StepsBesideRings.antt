@@ -77,7 +77,7 @@ unchanged adapter = record {
   transmitter_stopped = adapter.transmitter.stopped;
 }
 
--- engines that are stopped, or not, go on
+-- Neither engine is stopped.
 pub record GoOn (receiver_stopped transmitter_stopped : Bool) : Type 0 where
   pub receiver_runs : receiver_stopped ≡ false
   pub transmitter_runs : transmitter_stopped ≡ false
@@ -91,7 +91,7 @@ HoldsQuietly o a buffer stored = Holds (frames_held o a)
     (held a.memory (finished_pieces o a) (record a.adapter.receiver { buffer = buffer })) stored
     a.memory (finished_pieces o a) (record a.adapter.receiver { buffer = buffer })
 
--- An unchanged packet buffer does.
+-- With an unchanged packet buffer, the same frames are held.
 pub holds-same : (o p : ℕ) (a : World) → Sound o p a → HoldsQuietly o a a.adapter.receiver.buffer []
 holds-same o p a sound = record { frames = sym (append-nil (frames_held o a)); begun = sound.begun }
 

@@ -13,7 +13,7 @@ use Rattle.bus.specs.declared.event.Event.{Event}
 use Rattle.bus.specs.declared.event.Event.TheVariants.{Accesses, Arrives, Steps}
 use Rattle.bus.proofs.Lists.{all-head, all-tail}
 
--- What may happen doesn't speak of accesses.
+-- Whether an interval may happen doesn't depend on the accesses in its past.
 pub happens_accesses : (a b : World) (past : Past) (accesses : List Access) → Happens a b past
     → Happens a b (record past { accesses = accesses })
 happens_accesses a b past accesses happens =
@@ -55,7 +55,7 @@ happens_accesses a b past accesses happens =
           };
     }
 
--- A step is no access.
+-- No access happens in a step or a delivery.
 event-no_access : (event : Event) → IsStep event → (past_of_event event).accesses ≡ []
 event-no_access (Steps TxTake wire_free answer) is = refl
 event-no_access (Steps TxPut wire_free answer) is = refl

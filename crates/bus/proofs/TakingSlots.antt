@@ -79,7 +79,7 @@ outstanding-first ring oldest slot later below some = by-way (distance_of ring o
         ap (λ (k : ℕ). map (address_of ring) (slots_from (count_of ring) oldest k)) way
         ∙ ap (λ (k : ℕ). address_of ring oldest ∷ map (address_of ring) (slots_from (count_of ring) (next_of ring oldest) k)) (sym shorter)
 
--- One place on in a ring of which slots are dealt.
+-- A ring whose slots are dealt, with the next slot as the oldest one.
 pub record Ahead (memory : List ℕ) (ring : Ring) (oldest : ℕ) (taken : List ℕ) (slot : ℕ) (later : List ℕ) : Type 0 where
   pub stands : slot ≡ address_of ring oldest
   pub first : outstanding ring oldest ≡ slot ∷ outstanding ring (next_of ring oldest)
@@ -150,7 +150,7 @@ dealt-ahead memory ring oldest taken slot later dealt done =
 abbrev pub behind_oldest_receive : ℕ → World → ℕ
 behind_oldest_receive oldest world = next_of (receive_ring world) oldest
 
--- One receive slot on: all of the law's conditions but what the slots contain.
+-- With the next receive slot as the oldest one, all conditions of the law hold, except those on what the slots contain.
 pub record Passed (o : ℕ) (a : World) (slot : ℕ) (later : List ℕ) : Type 0 where
   pub ahead : Ahead a.memory (receive_ring a) o (in_work a) slot later
   pub separate : AreSeparate a.memory (areas (behind_oldest_receive o a) a)

@@ -1,4 +1,4 @@
--- A frame is put onto the wire, and its descriptor is written back.
+-- A put step: a frame is put onto the wire, and DD is set in its descriptor, if RS is set and the status byte is inside memory.
 use Rattle.std.proofs.Common.{◌≡◌, ◌<◌, ◌+◌, ◌&&◌, inl, ◌++◌, ◌∷◌, [], Bool, true, false, cond, nat_lt, ℕ, List, length, map, slice_index}
 use Rattle.std.proofs.Common.{refl, sym, ap, subst, ◌∙◌, arith}
 use Rattle.std.specs.List.{All}
@@ -73,7 +73,7 @@ with_queue queue world = record world
 abbrev pub put_adapter : Queued → List Queued → World → AdapterState
 put_adapter queued later world = after_put (Put queued.frame) (with_queue (queued ∷ later) world).adapter
 
--- What is written as a report lies in the transmit ring.
+-- A descriptor inside the transmit ring and inside memory, with its status byte.
 pub record Place (world : World) (descriptor : ℕ) : Type 0 where
   pub inside : IsInside (descriptor_area descriptor) (ring_area (transmit_ring world))
   pub lies : LiesIn world.memory descriptor 16
@@ -202,7 +202,7 @@ between_put o p queued later a0 sound =
       };
     }
 
--- The report is written, since every frame asks for a report and its descriptor is inside memory.
+-- If a frame asks for a report, and the status byte of its descriptor is inside memory, the report is written.
 report-written : (memory : List ℕ) (queued : Queued) → queued.report ≡ true → LiesIn memory (queued.descriptor + 12) 1
     → reported_in memory queued ≡ with_bytes memory (queued.descriptor + 12) (1 ∷ [])
 report-written memory queued asks lies =

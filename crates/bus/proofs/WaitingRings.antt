@@ -1,4 +1,4 @@
--- What waits while initialisation goes on.
+-- What doesn't change while a driver initializes: the offered receive slots, and an idle transmit ring.
 use Rattle.std.proofs.Common.{◌≡◌, ◌≤◌, ◌++◌, ◌∷◌, []}
 use Rattle.std.proofs.Common.{inl, ℕ, List, Option, None, Some, length, length-append}
 use Rattle.std.proofs.Common.{refl, sym, ap, subst, ◌∙◌, take, arith}
@@ -63,7 +63,7 @@ no-pieces-cut size (Part bytes ∷ later) some cut none nothing =
     absurd (omega (arith, some, full, grows, empty))
 no-pieces-cut size (Last bytes ∷ later) some cut none nothing = absurd (cc)
 
--- The same is so if no frame is held.
+-- If no frame is held, no slot is finished, and no piece is in progress.
 pub holds-none : (size o p : ℕ) (world : World) → Sound o p world → 1 ≤ size → AreCut size o world
     → frames_held o world ≡ [] → HoldsNone o world
 holds-none size o p world sound some cut none =
@@ -78,7 +78,7 @@ holds-none size o p world sound some cut none =
       no_work = no_work-held world.memory receiver.work parts.1;
     }
 
--- Then all outstanding slots are offered.
+-- If no slot is finished and no piece is in progress, all outstanding slots are offered.
 pub all-offered : (o p : ℕ) (world : World) → Sound o p world → HoldsNone o world
     → outstanding (receive_ring world) o ≡ offered (receive_ring world)
 all-offered o p world sound none =

@@ -80,7 +80,7 @@ pub same-apart : (memory memory' : List ℕ) (area : Area) (slots : List ℕ) �
     → All (λ d. AreApart area (descriptor_area d)) slots → All (IsSame memory memory') slots
 same-apart memory memory' area slots keeps apart = λ k d below. keeps.others _ (apart k d below)
 
--- The outstanding ones of a ring that is apart.
+-- The outstanding descriptors of a ring that is apart from the written area don't change.
 pub same-outstanding : (memory memory' : List ℕ) (area : Area) (ring : Ring) (oldest : ℕ) (taken : List ℕ) → ChangesOnly memory memory' area
     → AreApart area (ring_area ring) → IsDealt memory ring oldest taken → All (IsSame memory memory') (outstanding ring oldest)
 same-outstanding memory memory' area ring oldest taken keeps apart dealt =

@@ -11,7 +11,7 @@ abbrev pub behind_oldest_transmit : ℕ → World → ℕ
 behind_oldest_transmit oldest world = next_of (transmit_ring world) oldest
 
 -- The slot is the driver's oldest one. If the driver counts the next slot as its oldest, the conditions hold, and the freed slot is the
--- driver's. The frames to be sent don't depend on which slot is the oldest.
+-- driver's. The slots of `later` are still written back. The frames to be sent don't depend on which slot is the oldest.
 pub record Freed (oldest_receive oldest_transmit : ℕ) (world : World) (slot : ℕ) (later : List ℕ) : Type 0 where
   pub stands : slot ≡ address_of (transmit_ring world) oldest_transmit
   pub sound : Sound oldest_receive (behind_oldest_transmit oldest_transmit world) world

@@ -67,7 +67,7 @@ pub record CountsArrivals (a b : World) (past : Past) : Type 0 where
   -- Each stored frame has 60 to 1,518 bytes.
   pub legal : All IsLegal past.stored
 
--- The registers that only ticks change.
+-- The registers that only ticks change between two accesses.
 pub record MovesByTicks (a b : World) (past : Past) : Type 0 where
   -- Each tick of the EEPROM has its effect on EERD. Nothing else changes EERD.
   pub eerd : b.adapter.eerd ≡ iterate (eeprom.after_tick a.adapter.image) past.eeprom_ticks a.adapter.eerd

@@ -1,4 +1,4 @@
--- Lemmas: the reports of a lively bus join over consecutive intervals.
+-- Lemmas: the reports of a lively bus join over consecutive intervals, and its count grows by one at each access.
 use Rattle.std.proofs.Common.{◌≡◌, ◌+◌, ◌++◌, [], length, min, refl, sym, ap, ◌∙◌, arith, length-append}
 use Rattle.std.proofs.lemmas.List.Elements.{All-append, All-nil}
 use Rattle.bus.specs.LivelyBuses.{IsQuietEvent, IsSameMachine, Lives, machine_world, most_accesses}

@@ -6,7 +6,7 @@ use Rattle.bus.specs.declared.event.Access.{Access}
 pub record Past : Type 0 where
   -- The frames that the adapter put onto the wire.
   pub put : List (List ℕ)
-  -- The frames from the wire that its packet buffer stored.
+  -- The frames from the wire that were stored in the adapter's packet buffer.
   pub stored : List (List ℕ)
   -- The number of frames that the adapter missed.
   pub missed : ℕ

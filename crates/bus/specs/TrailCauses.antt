@@ -1,4 +1,5 @@
--- The interrupt causes that each event of a trail records (13.4.17 "Interrupt Cause Read Register").
+-- The interrupt causes that each event of a trail records (13.4.17 "Interrupt Cause Read Register"), and when recorded causes and the mask
+-- don't change otherwise.
 use Rattle.std.specs.Prelude.{◌≡◌, ℕ, Bool, true, List, [], ◌∷◌, Option, Some, None, All, if◌then◌else◌}
 use Rattle.mdic_phy.specs.declared.mdic.Ticked.{Ticked}
 use Rattle.mdic_phy.specs.Mdic.{told}
@@ -23,7 +24,7 @@ use Rattle.bus.specs.Trails.{Trail, past_of, world_after}
 use Rattle.bus.specs.declared.event.Event.{Event}
 use Rattle.bus.specs.declared.event.Event.TheVariants.{Accesses, Arrives, Steps}
 
--- The causes of LSC and MDAC that a tick of the PHY records.
+-- The causes, LSC and MDAC, that a tick of the PHY with this result records.
 abbrev pub causes_by_tick : Option Ticked → ℕ
 causes_by_tick (Some ticked) = causes_told ticked
 causes_by_tick None = 0
@@ -84,7 +85,7 @@ pub record IsRecorded (later : List Event) (a b : World) : Type 0 where
       → is_half_offered (ring_of (moved_on a.adapter.receive_ring)) ≡ true → HasBit b.adapter.causes.recorded rxdmt0
   -- RXO, bit 6: a frame was missed.
   pub missed : (frame : List ℕ) → Trail (Arrives frame Missed ∷ later) a b → HasBit b.adapter.causes.recorded rxo
-  -- RXT0, bit 7: the descriptor of a frame's last piece was written back.
+  -- RXT0, bit 7: a done step finished the last piece of a frame.
   pub done : (wire_free : Bool) → Trail (Steps RxDone wire_free Done ∷ later) a b → is_ending a.adapter.receiver.work ≡ true
       → HasBit b.adapter.causes.recorded rxt0
   -- MDAC, bit 9: a command of MDIC with bit I set ended at a tick of the PHY.

@@ -1,4 +1,4 @@
--- Lemmas: if one trail begins in the world in which another ends, both together are one trail.
+-- Lemmas: if one trail begins in the world in which another ends, both together are one trail. What happened in both is then joined.
 use Rattle.std.proofs.Common.{◌≡◌, ℕ, List, [], ◌∷◌, ◌++◌, refl, sym, ap, subst, ◌∙◌, append_assoc, arith}
 use Rattle.bus.specs.Pasts.{Past, joined, nothing}
 use Rattle.bus.specs.declared.event.Access.{Access}

@@ -1,4 +1,4 @@
-// The bus: its ghost members, and what may happen between two accesses.
+// The bus with its ghost members, and the honest bus, which counts its accesses.
 
 ghost use Rattle.std.specs.Prelude.{◌≡◌, ◌+◌, ◌≤◌, ℕ, length, min};
 ghost use Rattle.adapter.specs.Registers.{answer_at};

@@ -1,4 +1,4 @@
-// Laws of what may happen between two accesses.
+// Laws of what may happen between two accesses, and of the accesses of a driver.
 
 ghost use Rattle.adapter.specs.World.{receive_ring, transmit_ring};
 ghost use Rattle.bus.specs.Composition.{HappeningsJoin, NothingHappens, SoundStays};
@@ -22,8 +22,8 @@ ghost use Rattle.bus.specs.FreedSlots.{WrittenSlotsCanBeFreed};
 ghost use Rattle.bus.specs.Trails.{TrailsHappen};
 
 /// The law of what may happen in consecutive intervals between two accesses.
-/// - `joins`: what happens in two consecutive intervals happens in the joined interval: the frames of both in order,
-///   and the sums of misses and of ticks.
+/// - `joins`: what happens in two consecutive intervals happens in the joined interval: the frames and accesses of both
+///   in order, and the sums of misses and of ticks.
 /// - `nothing`: an interval may be empty.
 /// - `sound`: if the conditions of the law hold before an interval, they hold after it, for the same oldest slots.
 pub fn between_composes()
@@ -51,20 +51,21 @@ pub fn faults_never_come()
     ensures { FaultsNeverCome }
 {}
 
-/// What doesn't change between two accesses of a driver. The conditions of the law hold again, and the lists of
-/// finished and written-back slots only grow. An area that the adapter may not write doesn't change, and remains such
-/// an area. The same slots are outstanding. The descriptors of finished slots and their pieces of frames don't change.
-/// The descriptors of written-back slots and of the driver's own slots of both rings don't change either. The
-/// addresses in receive descriptors don't change. Of a transmit descriptor, only the status may change.
+/// What doesn't change between two accesses of a driver, if the conditions of the law hold before. These conditions
+/// hold again, and the lists of finished and written-back slots only grow. An area that the adapter may not write
+/// doesn't change, and remains such an area. The same slots are outstanding. The descriptors of finished slots and
+/// their pieces of frames don't change. The descriptors of written-back slots and of the driver's own slots of both
+/// rings don't change either. The addresses in receive descriptors don't change. Of a transmit descriptor, only the
+/// status may change.
 pub fn drivers_side_stays()
     ensures { DriversSideStaysAlways }
 {}
 
-/// The effect of a driver's store to bytes that are apart from all outstanding descriptors, and from the frames and
-/// buffers that the conditions of the law name.
-/// - `frames`: the store doesn't change these conditions, the slots, or the frames held and to be sent. Frames that are
-///   cut into buffers of some size are still cut in this way. Pieces that fit into such buffers still fit, and engines
-///   that could run still can run.
+/// The effect of a driver's store to bytes inside memory that are apart from all outstanding descriptors, and from the
+/// frames and buffers that the conditions of the law name.
+/// - `frames`: the conditions still hold, and the slots, the frames held and the frames to be sent are the same. Frames
+///   that are cut into buffers of some size are still cut in this way. Pieces that fit into such buffers still fit, and
+///   engines that could run still can run.
 /// - `foreign`: an area that the adapter may not write remains such an area.
 pub fn drivers_stores_leave_frames()
     ensures frames { DriversStoresLeaveFrames }
@@ -152,8 +153,8 @@ pub fn idle_rings_are_sound()
 
 /// Idle rings remain idle until a register of a ring is written. The rings remain idle whatever happens between two
 /// accesses, whatever is read or stored, and after a write of any other register, even after a reset. After a write of
-/// a ring's register, the rings are idle if head equals tail and both rings are in memory, apart from each other. So
-/// the conditions of the law hold in each state of initialization up to the first offered slot.
+/// a ring's register, the rings are idle if head equals tail in each ring, and both rings are in memory, apart from
+/// each other. So the conditions of the law hold in each state of initialization up to the first offered slot.
 pub fn idle_rings_stay_idle()
     ensures happenings { HappeningsKeepIdle }
     ensures reads { ReadsKeepIdle }
@@ -184,8 +185,9 @@ pub fn registers_can_be_set()
 {}
 
 /// What doesn't change while a driver initializes, whatever happens between two of its accesses:
-/// - `offers`: the offered receive slots and the addresses of their buffers. RCTL.EN must be 0, no frame may be held,
-///   and frames must be cut into buffers of one size, at least one byte.
+/// - `offers`: the offered receive slots and the addresses of their buffers. RCTL.EN must be 0, and no frame may be
+///   held. Frames must be cut into buffers of one size, at least one byte. The driver's oldest slot must be a slot of
+///   the ring.
 /// - `transmit_ring`: a transmit ring without outstanding slots.
 pub fn rings_wait()
     ensures offers { OffersWait }

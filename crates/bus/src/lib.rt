@@ -1,4 +1,4 @@
-//! The bus between a driver and its adapter, and the law that it obeys.
+//! The bus between a driver and its adapter, the bus law, and a machine: an adapter with its host's memory.
 //!
 //! Section numbers are those of Intel's "PCI/PCI-X Family of Gigabit Ethernet Controllers Software
 //! Developer's Manual".

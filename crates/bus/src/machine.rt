@@ -23,7 +23,8 @@ use dma_memory::HostMemory;
 use std::hash::{DefaultHasher, Hasher};
 use std::marker::Model;
 
-/// An adapter and its host's memory. Each call, except [`report_line`](Machine::report_line), plays at most one event.
+/// An adapter and its host's memory. Each call plays at most one event. [`report_line`](Machine::report_line) plays no
+/// event, but stores which level of the interrupt line it reported.
 ///
 /// In contracts, the value is a `MachineState`, plain data that `specs/Machines.antt` defines.
 #[derive(Clone, Drop)]
@@ -227,8 +228,8 @@ impl Machine {
     }
 
     /// Returns a digest of the adapter and its memory, by SipHash-1-3. Machines with equal adapters and memories have
-    /// equal digests; different machines have the same digest only by chance. The image of the EEPROM, which no event
-    /// changes, and the level of the interrupt line at the last report aren't covered.
+    /// equal digests. It isn't proved that different machines have different digests. The image of the EEPROM, which no
+    /// event changes, and the level of the interrupt line at the last report aren't covered.
     #[tactic(auto, unfolding(crate::specs::Digests::digest_of))]
     pub fn digest(&self) -> u64
         ensures { result ≡ digest_of self.now.world }

@@ -1,4 +1,5 @@
-// Only a driver's writes change the settings of its adapter.
+// Only a driver's writes change the settings of its adapter, and an adapter at rest remains at rest while its driver
+// sets it up.
 
 ghost use Rattle.bus.specs.AdaptersAtRest.{AccessesKeepRest, HappeningsKeepRest, RestAfterReset, RestIsIdle};
 ghost use Rattle.bus.specs.Settings.{HappeningsLeaveSettings, SettingsJoin, StaysOff, WritesSet};
@@ -16,8 +17,9 @@ pub fn writes_alone_set()
 {}
 
 /// An adapter at rest, as after a reset, remains at rest while its driver sets it up. The adapter remains at rest
-/// whatever happens between two accesses, and after each read and store. It also remains at rest after a write of any
-/// register except RCTL and those of the rings. Meanwhile, no frame is stored, missed or put on the wire.
+/// whatever happens between two accesses, and after each read, load and store within memory. It also remains at rest
+/// after a write of any register except RCTL and those of the rings. Meanwhile, no frame is stored, missed or put on
+/// the wire. The rings of an adapter at rest are idle, and its engines can run.
 pub fn adapters_rest()
     ensures idle { RestIsIdle }
     ensures after_reset { RestAfterReset }

@@ -30,7 +30,8 @@ pub fn causes_are_those_of_steps()
 /// A load, a store, and a read of any register except ICR and the counters don't change the adapter.
 /// - `worlds`: a load, and a read of such a register, don't change memory either.
 /// - `interrupts`: these accesses aren't resets, and change neither the recorded causes nor the mask.
-/// - `rings`: a write of a ring's register, such as RDT or TDT, isn't a reset, and changes neither causes nor mask.
+/// - `rings`: a write of a ring's register, such as RDT or TDT, isn't a reset, and changes neither the recorded causes
+///   nor the mask.
 pub fn quiet_accesses_leave_adapters()
     ensures adapters { QuietAccessesLeaveAdapters }
     ensures worlds { QuietAccessesLeaveWorlds }

@@ -1,4 +1,5 @@
--- A frame is the list of its bytes, from the destination address to the end of the data, without the check sequence.
+-- Ethernet frames: which are legal, which a host may send, padding, and laws about them. A frame is the list of its bytes, from the
+-- destination address to the end of the data, without the check sequence.
 use Rattle.std.specs.Prelude.{◌≡◌, ◌≤◌, ◌-◌, ◌++◌, ◌&&◌, Bool, IsTrue, ℕ, List, length, take, replicate, nat_le}
 
 -- The number of bytes of the shortest frame on the wire (IEEE 802.3, 4.4.2).

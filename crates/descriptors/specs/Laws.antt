@@ -1,4 +1,4 @@
--- Lemmas about the conversion of descriptors to bytes and back, and about the padding of frames.
+-- Lemmas about the conversion of descriptors to bytes and back, and about frames that can be sent and their padding.
 use Rattle.std.proofs.Common.{◌≡◌, ◌≤◌, ◌<◌, ◌+◌, ◌-◌, ◌*◌, ◌/◌, ◌%◌, ◌^◌, ◌++◌, ◌∷◌, [], IsTrue, ℕ, zero, suc, List, length, take, drop}
 use Rattle.std.proofs.Common.{replicate, slice_index, refl, sym, ap, ◌∙◌, rules, arith}
 use Rattle.std.proofs.lemmas.List.{append-nil, length-append, length-replicate, take_all, take_at, length-drop, get_or-drop}
@@ -13,12 +13,12 @@ use Rattle.descriptors.specs.declared.tx_desc.TxDesc.{TxDesc}
 use Rattle.descriptors.specs.TxDesc.{tx_desc_bytes, tx_desc_of, TxDescriptorsComeBack, TxBytesComeBack}
 use Rattle.descriptors.specs.Frames.{IsLegal, is_sendable, padded}
 
--- A descriptor has sixteen bytes.
+-- A receive descriptor has sixteen bytes.
 pub length-rx_desc_bytes : (desc : RxDesc) → length (rx_desc_bytes desc) ≡ 16
 unfolding rx_desc_bytes
 length-rx_desc_bytes desc = refl
 
--- A descriptor that is converted to bytes and back is the same descriptor.
+-- A receive descriptor whose fields fit, converted to bytes and back, is the same descriptor.
 pub rx_desc_of-rx_desc_bytes : DescriptorsComeBack
 unfolding rx_desc_bytes rx_desc_of
 rx_desc_of-rx_desc_bytes desc fits =
@@ -86,7 +86,7 @@ join-same : (a a' b b' c c' d d' e e' : List ℕ) → a ≡ a' → b ≡ b' → 
     → a ++ b ++ c ++ d ++ e ≡ a' ++ b' ++ c' ++ d' ++ e'
 join-same a a' b b' c c' d d' e e' same_a same_b same_c same_d same_e = rw (same_a, same_b, same_c, same_d, same_e) refl
 
--- Sixteen bytes that are converted to a descriptor and back are the same bytes.
+-- Sixteen bytes that are converted to a receive descriptor and back are the same bytes.
 pub rx_desc_bytes-rx_desc_of : BytesComeBack
 unfolding rx_desc_bytes rx_desc_of
 rx_desc_bytes-rx_desc_of bytes are size =
@@ -102,7 +102,7 @@ pub length-tx_desc_bytes : (desc : TxDesc) → length (tx_desc_bytes desc) ≡ 1
 unfolding tx_desc_bytes
 length-tx_desc_bytes desc = refl
 
--- A transmit descriptor that is converted to bytes and back is the same descriptor.
+-- A transmit descriptor whose fields fit, converted to bytes and back, is the same descriptor.
 pub tx_desc_of-tx_desc_bytes : TxDescriptorsComeBack
 unfolding tx_desc_bytes tx_desc_of
 tx_desc_of-tx_desc_bytes desc fits =
@@ -122,7 +122,7 @@ tx_desc_bytes-tx_desc_of bytes are size =
     let special = little_bytes-drop 2 14 bytes are (omega arith) in
     join-same _ _ _ _ _ _ _ _ _ _ address length command status special ∙ in_pieces bytes size
 
--- A sendable frame has 14 to 1,518 bytes.
+-- A frame is sendable exactly if it has 14 to 1,518 bytes.
 pub is_sendable-bounds : (frame : List ℕ) → IsTrue (is_sendable frame) → (14 ≤ length frame) × (length frame ≤ 1518)
 is_sendable-bounds frame sendable = search rules
 

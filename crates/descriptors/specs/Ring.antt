@@ -1,5 +1,6 @@
--- A ring of descriptors as its registers define it ("13.4.25 Receive Descriptor Base Address Low" to "13.4.29 Receive Descriptor Tail", and
--- "13.4.36 Transmit Descriptor Base Address Low" to "13.4.40 Transmit Descriptor Tail" of Intel's manual). Slots are numbered from 0.
+-- A ring of descriptors as its registers define it, and laws about rings ("13.4.25 Receive Descriptor Base Address Low" to "13.4.29 Receive
+-- Descriptor Tail", and "13.4.36 Transmit Descriptor Base Address Low" to "13.4.40 Transmit Descriptor Tail" of Intel's manual). Slots are
+-- numbered from 0.
 use Rattle.std.specs.Prelude.{◌≡◌, ◌<◌, ◌+◌, ◌-◌, ◌*◌, ◌/◌, ◌%◌, ℕ, zero, suc, min, List, [], ◌∷◌, ◌++◌, length}
 use Rattle.descriptors.specs.declared.ring.Ring.{Ring}
 
@@ -37,7 +38,7 @@ slots_from n index (suc k) = index ∷ slots_from n ((index + 1) % n) k
 unfoldable pub offered_places : Ring → List ℕ
 offered_places ring = slots_from (count_of ring) ring.head (distance_of ring ring.head ring.tail)
 
--- Laws of rings whose head and tail are slots.
+-- Laws of rings. In the first and the last one, head and tail are slots.
 
 -- If head differs from tail, the first slot that the adapter owns is the one at the head. After the head advances by one slot, the adapter
 -- owns the same slots without this first slot.

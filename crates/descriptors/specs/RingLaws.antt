@@ -1,4 +1,4 @@
--- Which slots of a ring the adapter owns, and how they change when head or tail advances.
+-- Lemmas about the next slot and distances in a ring, and about the slots that the adapter owns, also after head or tail advances.
 use Rattle.std.proofs.Common.{◌≡◌, ⊎_elim, ◌≤◌, ◌<◌, ◌+◌, ◌-◌, ◌%◌, ◌++◌, ◌∷◌, [], ℕ, zero, suc, List, length, refl, ap, ◌∙◌, arith}
 use Rattle.std.proofs.lemmas.Bool.{cases_eq, cases_lt}
 use Rattle.std.proofs.lemmas.Nat.{mod_below}

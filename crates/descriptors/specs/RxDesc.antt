@@ -1,4 +1,4 @@
--- A receive descriptor is sixteen bytes ("3.2.3 Receive Descriptor Format" of Intel's manual).
+-- A receive descriptor as sixteen bytes ("3.2.3 Receive Descriptor Format" of Intel's manual), and laws about the conversion.
 use Rattle.std.specs.Prelude.{◌≡◌, ◌<◌, ◌^◌, ◌++◌, ℕ, List, [], ◌∷◌, length, drop, slice_index}
 use Rattle.byteorder.specs.Endian.{little_number, little_bytes}
 use Rattle.descriptors.specs.declared.rx_desc.RxDesc.{RxDesc}
@@ -35,7 +35,7 @@ pub record Fits (desc : RxDesc) : Type 0 where
 abbrev pub AreBytes : List ℕ → Type 0
 AreBytes bytes = (i : ℕ) → slice_index bytes i < 256
 
--- A descriptor that is converted to bytes and back is the same descriptor.
+-- A descriptor whose fields fit, converted to bytes and back, is the same descriptor.
 abbrev pub DescriptorsComeBack : Type 0
 DescriptorsComeBack = (desc : RxDesc) → Fits desc → rx_desc_of (rx_desc_bytes desc) ≡ desc
 

@@ -1,4 +1,4 @@
--- A transmit descriptor is sixteen bytes ("3.3.3 Legacy Transmit Descriptor Format" of Intel's manual).
+-- A transmit descriptor as sixteen bytes ("3.3.3 Legacy Transmit Descriptor Format" of Intel's manual), and laws about the conversion.
 use Rattle.std.specs.Prelude.{◌≡◌, ◌<◌, ◌^◌, ◌++◌, ℕ, List, [], ◌∷◌, length, drop, slice_index}
 use Rattle.byteorder.specs.Endian.{little_number, little_bytes}
 use Rattle.descriptors.specs.declared.tx_desc.TxDesc.{TxDesc}
@@ -34,7 +34,7 @@ pub record TxFits (desc : TxDesc) : Type 0 where
   pub css : desc.css < 2 ^ 8
   pub special : desc.special < 2 ^ 16
 
--- A descriptor that is converted to bytes and back is the same descriptor.
+-- A descriptor whose fields fit, converted to bytes and back, is the same descriptor.
 abbrev pub TxDescriptorsComeBack : Type 0
 TxDescriptorsComeBack = (desc : TxDesc) → TxFits desc → tx_desc_of (tx_desc_bytes desc) ≡ desc
 

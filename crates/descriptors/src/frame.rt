@@ -110,7 +110,7 @@ impl Clone for Frame {
     }
 }
 
-/// An empty frame.
+/// The default is an empty frame.
 impl Default for Frame {
     ghost is_default = { λ frame. frame ≡ [] };
 

@@ -19,7 +19,7 @@ pub struct Ring {
     pub bytes: u32,
     /// The slot that the adapter uses next.
     pub head: u16,
-    /// The slot after the last one that the adapter owns.
+    /// The slot after the last one that the adapter owns. If tail equals head, the adapter owns no slot.
     pub tail: u16,
 }
 

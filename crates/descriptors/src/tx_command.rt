@@ -14,7 +14,8 @@ bitflag_items! {
         const EOP = 1 << 0;
         /// Insert FCS: the adapter appends the check sequence.
         const IFCS = 1 << 1;
-        /// Report status: the adapter sets DD in the descriptor's status after the packet was sent.
+        /// Report status: the adapter sets DD in the descriptor's status after the packet is on the wire (the time is
+        /// our choice).
         const RS = 1 << 3;
         /// Descriptor extension: the descriptor has one of the extended formats.
         const DEXT = 1 << 5;

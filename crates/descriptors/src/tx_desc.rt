@@ -8,7 +8,8 @@ use byteorder::{ByteOrder, LittleEndian};
 pub const TX_DESC_BYTES: usize = 16;
 
 /// A transmit descriptor of the legacy format (Intel's manual, "3.3.3 Legacy Transmit Descriptor Format"): the address
-/// and length of a frame to be sent, the commands for the adapter, and whether the frame was sent.
+/// and length of a frame to be sent (by the manual, also of a part of a frame), the commands for the adapter, and
+/// whether the adapter is done with the descriptor.
 #[derive(Clone, Copy, Debug, PartialEq, Eq)]
 pub struct TxDesc {
     /// The address of the frame's bytes in the host's memory.

@@ -11,7 +11,8 @@ pub struct TxStatus(u8);
 
 bitflag_items! {
     impl TxStatus: u8 {
-        /// Descriptor done: the adapter is done with the descriptor, and its packet was sent.
+        /// Descriptor done: the adapter is done with the descriptor. Its packet is on the wire (the time is our
+        /// choice).
         const DD = 1 << 0;
     }
 }

@@ -1,4 +1,4 @@
--- The contents of a memory after a store.
+-- Lemmas about ranges of bytes: which are inside a memory, their lengths and parts, and what a store changes.
 use Rattle.std.proofs.Common.{◌≡◌, ◌≤◌, ◌<◌, ◌+◌, ◌-◌, inl, inr, ◌++◌, ◌∷◌, [], ℕ, zero, suc, List, length, take, drop, replicate, refl}
 use Rattle.std.proofs.Common.{sym, ap, ◌∙◌, append_assoc, arith}
 use Rattle.std.proofs.lemmas.List.{length-append, length-take-le, length-drop, length-replicate, take-replicate, drop-replicate}
@@ -30,7 +30,7 @@ bytes_at-rest front rest address n past =
     ∙ ap (take n) (sym (drop-drop (address - length front) (length front) (front ++ rest))
     ∙ ap (drop (address - length front)) (drop_at front rest (length front) refl))
 
--- A store keeps the memory's size.
+-- A store inside memory keeps the memory's size.
 pub length-with_bytes : (memory bytes : List ℕ) (address : ℕ) → LiesIn memory address (length bytes)
     → length (with_bytes memory address bytes) ≡ length memory
 length-with_bytes memory [] address fits = ap length (with_bytes-none memory address)
@@ -89,7 +89,8 @@ pub bytes_at-elsewhere : (memory bytes : List ℕ) (address i n : ℕ) → LiesI
 bytes_at-elsewhere memory bytes address i n fits (inl after) = bytes_at-after memory bytes address i n fits after
 bytes_at-elsewhere memory bytes address i n fits (inr before) = bytes_at-before memory bytes address i n fits before
 
--- Two stores to adjacent ranges are one store of the joined bytes, if the first range begins at or before the end of memory.
+-- Two stores to adjacent ranges have the same result as one store of the joined bytes, if the first range begins at or before the end of
+-- memory.
 adjacent : (memory first second : List ℕ) (address : ℕ) → address ≤ length memory
     → with_bytes (with_bytes memory address first) (address + length first) second ≡ with_bytes memory address (first ++ second)
 adjacent memory first second address fits =
@@ -105,7 +106,7 @@ adjacent memory first second address fits =
     drop-drop (length second) (address + length first) memory ∙ ap (λ (i : ℕ). drop i memory) (omega (arith, length-append first second)) in
     rw (kept, behind, both, append_assoc (take address memory) first second) refl
 
--- Two stores to adjacent ranges are equal to one store of the joined bytes.
+-- Inside memory, two stores to adjacent ranges have the same result as one store of the joined bytes.
 pub with_bytes-adjacent : (memory first second : List ℕ) (address : ℕ) → LiesIn memory address (length (first ++ second))
     → with_bytes (with_bytes memory address first) (address + length first) second ≡ with_bytes memory address (first ++ second)
 with_bytes-adjacent memory [] second address fits =
@@ -118,7 +119,7 @@ with_bytes-adjacent memory (x ∷ xs) second address fits = adjacent memory (x �
 pub length-bytes_at : (memory : List ℕ) (address n : ℕ) → LiesIn memory address n → length (bytes_at memory address n) ≡ n
 length-bytes_at memory address n fits = length-take-le n (drop address memory) (omega (arith, length-drop address memory))
 
--- Each range of bytes of a memory of zeros contains zeros.
+-- Each range of bytes of a memory of zeros contains only zeros.
 pub bytes_at-zeros : (size address n : ℕ) → LiesIn (replicate size 0) address n → bytes_at (replicate size 0) address n ≡ replicate n 0
 bytes_at-zeros size address n fits =
     ap (take n) (drop-replicate address size 0) ∙ take-replicate n (size - address) 0 (omega (arith, length-replicate {A = ℕ} size 0))

@@ -1,4 +1,4 @@
--- Where the rings and buffers of a driver are in its host's memory.
+-- Where the rings and buffers of a driver are in its host's memory: the allowed counts, the addresses and sizes, and laws about them.
 use Rattle.std.specs.Prelude.{◌≡◌, ◌≢◌, ◌≤◌, ◌<◌, ◌+◌, ◌*◌, ◌%◌, ℕ}
 use Rattle.std.specs.Int.{next_multiple_of}
 use Rattle.dma_memory.specs.Areas.{Area, area_at, AreApart}
@@ -29,7 +29,7 @@ pub record IsBufferCount (rx buffers : ℕ) : Type 0 where
   -- There are at most 8,192 buffers.
   pub most : buffers ≤ 8192
 
--- The counts of slots and buffers that a layout may have (our choice).
+-- The counts of descriptors and receive buffers that a layout may have.
 pub record IsAllowed (counts : Counts) : Type 0 where
   -- The receive ring has an allowed size.
   pub rx : IsRingSize counts.rx
@@ -87,7 +87,7 @@ bytes_of counts (ReceiveBuffer number) = receive_buffer_bytes
 abbrev pub size_of : Counts → ℕ
 size_of counts = start_of counts (ReceiveBuffer counts.buffers)
 
--- The bytes of a place.
+-- The area that a place occupies.
 abbrev pub area_of : Counts → Place → Area
 area_of counts place = area_at (start_of counts place) (bytes_of counts place)
 

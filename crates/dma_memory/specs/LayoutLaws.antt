@@ -1,4 +1,4 @@
--- The places of a layout don't overlap, and are inside the memory that the layout needs.
+-- Lemmas about layouts: where the buffers begin, that no two places overlap, and that all are inside the memory that the layout needs.
 use Rattle.std.proofs.Common.{◌≢◌, ◌+◌, ◌*◌, inl, inr, ℕ, refl, ap, arith}
 use Rattle.std.proofs.lemmas.Bool.{cases_lt}
 use Rattle.dma_memory.specs.Areas.{area_at, AreApart}

@@ -1,5 +1,5 @@
--- The owners of numbers (our choice). The numbers of an owner are a list. The numbers of several owners are their lists, joined. A number
--- has an owner for each place in the list at which it occurs.
+-- The owners of numbers, and laws about them (our choice). The numbers of an owner are a list. The numbers of several owners are their
+-- lists, joined. A number has an owner for each place in the list at which it occurs.
 use Rattle.std.specs.Prelude.{◌≡◌, ◌≤◌, ◌<◌, ◌+◌, ◌↔◌, ◌==◌, ◌++◌, ◌∷◌, ℕ, List, Some, length, count_by, nat_lt, slice_get, if◌then◌else◌}
 
 -- How many times a number occurs in a list.
@@ -10,7 +10,7 @@ copies k numbers = count_by (λ number. k == number) numbers
 abbrev pub HasOneOwner : ℕ → List ℕ → Type 0
 HasOneOwner n numbers = (k : ℕ) → copies k numbers ≡ (if nat_lt k n then 1 else 0)
 
--- No number below n has a second owner: it occurs in the list at most once. No other number occurs.
+-- No number below n has a second owner: each occurs in the list at most once. No other number occurs.
 abbrev pub HasNoSecondOwner : ℕ → List ℕ → Type 0
 HasNoSecondOwner n numbers = (k : ℕ) → copies k numbers ≤ (if nat_lt k n then 1 else 0)
 
@@ -24,7 +24,7 @@ pub record EachStandsOnce (n : ℕ) (numbers : List ℕ) : Type 0 where
   pub nowhere_else : (i j k : ℕ) → slice_get numbers i ≡ Some k → slice_get numbers j ≡ Some k → i ≡ j
   pub known : (i k : ℕ) → slice_get numbers i ≡ Some k → k < n
 
--- Each number has one owner by counts (`HasOneOwner`) if and only if it has one by places (`EachStandsOnce`).
+-- All numbers below n have one owner by counts (`HasOneOwner`) if and only if they have one by places (`EachStandsOnce`).
 abbrev pub CountsArePlaces : Type 0
 CountsArePlaces = (n : ℕ) (numbers : List ℕ) → HasOneOwner n numbers ↔ EachStandsOnce n numbers
 
@@ -46,11 +46,11 @@ OwnedIsNowhereElse = (n number : ℕ) (xs ys : List ℕ) → HasOneOwner n (xs +
 abbrev pub OneOwnerCounts : Type 0
 OneOwnerCounts = (n : ℕ) (numbers : List ℕ) → HasOneOwner n numbers → length numbers ≡ n
 
--- If no number has a second owner, the list has at most n numbers.
+-- If all numbers are below n, and no number has a second owner, the list has at most n numbers.
 abbrev pub NoSecondOwnerBounds : Type 0
 NoSecondOwnerBounds = (n : ℕ) (numbers : List ℕ) → HasNoSecondOwner n numbers → length numbers ≤ n
 
--- If no number has a second owner and a number below n is missing, the list has fewer than n numbers.
+-- If moreover a number below n is missing, the list has fewer than n numbers.
 abbrev pub MissingLeavesRoom : Type 0
 MissingLeavesRoom = (n number : ℕ) (numbers : List ℕ) → HasNoSecondOwner n numbers → number < n → copies number numbers ≡ 0
     → length numbers < n

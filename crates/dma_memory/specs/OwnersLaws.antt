@@ -1,4 +1,4 @@
--- Lemmas about how often numbers occur in lists.
+-- Lemmas about owners: how often numbers occur in lists, and how long these lists are.
 use Rattle.std.proofs.Common.{◌≡◌, ◌≢◌, ◌≤◌, ◌<◌, ◌+◌, ◌++◌, ◌∷◌, [], ℕ, zero, suc, List, length, refl, sym, arith}
 use Rattle.std.specs.Prelude.{◌==◌, nat_lt, if◌then◌else◌}
 use Rattle.std.proofs.lemmas.Bool.Decides.{nat_tests}
@@ -60,7 +60,7 @@ copies-append k xs ys = sum_by-append (λ y. if k == y then 1 else 0) xs ys
 pub no_second_from_one : (n : ℕ) (xs : List ℕ) → HasOneOwner n xs → HasNoSecondOwner n xs
 no_second_from_one n xs one k = omega (arith, one k)
 
--- If no number has a second owner in two joined lists, no number has a second owner in the first list.
+-- If no number has a second owner in two joined lists, no number has a second owner in either list.
 pub no_second-first : (n : ℕ) (xs ys : List ℕ) → HasNoSecondOwner n (xs ++ ys) → HasNoSecondOwner n xs
 no_second-first n xs ys once k = omega (arith, once k, copies-append k xs ys)
 
@@ -81,7 +81,7 @@ one_owner-same n xs ys one same k = omega (arith, one k, same k)
 pub one_owner-swap : (n : ℕ) (xs ys : List ℕ) → HasOneOwner n (xs ++ ys) → HasOneOwner n (ys ++ xs)
 one_owner-swap n xs ys one k = omega (arith, one k, copies-append k xs ys, copies-append k ys xs)
 
--- A number added to the first of two lists is added to the joined list.
+-- A number added to either of two lists is added to the joined list.
 pub taken-first : (number : ℕ) (xs xs' ys : List ℕ) → HaveSameNumbers (number ∷ xs) xs' → HaveSameNumbers (number ∷ (xs ++ ys)) (xs' ++ ys)
 taken-first number xs xs' ys same k =
     omega (arith, same k, copies-append k xs ys, copies-append k xs' ys, copies-cons k number xs, copies-cons k number (xs ++ ys))
@@ -90,7 +90,8 @@ pub taken-last : (number : ℕ) (xs ys ys' : List ℕ) → HaveSameNumbers (numb
 taken-last number xs ys ys' same k =
     omega (arith, same k, copies-append k xs ys, copies-append k xs ys', copies-cons k number ys, copies-cons k number (xs ++ ys))
 
--- If no number has a second owner, the same is true after a number is removed from the list.
+-- If no number has a second owner, the same is true after a number is removed from the list. The removed number is below n, and isn't in
+-- the rest of the list.
 pub no_second-taken : (n number : ℕ) (xs xs' : List ℕ) → HasNoSecondOwner n xs → HaveSameNumbers xs (number ∷ xs') → HasNoSecondOwner n xs'
 no_second-taken n number xs xs' once taken k = omega (arith, once k, taken k, copies-cons k number xs')
 
@@ -102,10 +103,10 @@ pub out_from_taken : (n number : ℕ) (xs xs' : List ℕ) → HasNoSecondOwner n
 out_from_taken n number xs xs' once taken =
     omega (arith, once_from_no_second n number xs once, taken number, copies-itself number xs')
 
--- If no number has a second owner and a number below n is missing, no number has a second owner after the missing number is added.
 if_same-fits : (k x n m : ℕ) → m ≤ if_below k n → (k ≡ x → m ≡ 0) → x < n → if_same k x + m ≤ if_below k n
 if_same-fits k x n m once out known = grind (arith, nat_tests)
 
+-- If no number has a second owner and a number below n is missing, no number has a second owner after the missing number is added.
 pub no_second-given : (n number : ℕ) (xs xs' : List ℕ) → HasNoSecondOwner n xs → number < n → copies number xs ≡ 0
     → HaveSameNumbers (number ∷ xs) xs' → HasNoSecondOwner n xs'
 no_second-given n number xs xs' once known out given k =
@@ -145,7 +146,7 @@ places-cons : (n x : ℕ) (xs : List ℕ) → places n (x ∷ xs) ≡ if_below x
 places-cons zero x xs = omega (arith, if_below-no x 0 (omega arith))
 places-cons (suc n) x xs = omega (arith, places-cons n x xs, copies-cons n x xs, if_below-next x n (suc n) (omega arith), if_same-swap x n)
 
--- If no number has a second owner, the list is as long as the number of places at which there are numbers below n.
+-- If no number has a second owner, the length of the list is the number of places at which there are numbers below n.
 length-places : (n : ℕ) (xs : List ℕ) → HasNoSecondOwner n xs → length xs ≡ places n xs
 length-places n [] once = sym (places-none n)
 length-places n (x ∷ xs) once =

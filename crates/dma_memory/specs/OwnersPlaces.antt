@@ -1,4 +1,4 @@
--- Each number has one owner by counts if and only if it has one by places.
+-- All numbers below n have one owner by counts if and only if they have one by places.
 use Rattle.std.proofs.Common.{◌≡◌, ◌≤◌, ◌<◌, inl, inr, ◌∷◌, [], ℕ, zero, suc, List, Some, refl, sym, ap, arith}
 use Rattle.std.specs.Prelude.{slice_get}
 use Rattle.std.proofs.lemmas.Bool.{cases_eq, cases_lt}

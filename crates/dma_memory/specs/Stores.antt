@@ -1,4 +1,5 @@
--- Laws of memory after stores: laws of `bytes_at` and `with_bytes` for all memories.
+-- Laws of `LiesIn`, `bytes_at` and `with_bytes` for all memories: which ranges are inside, and what stores change. Stores are inside
+-- memory, except that a store of no bytes may have any address.
 use Rattle.std.specs.Prelude.{◌≡◌, ◌<◌, ◌+◌, ◌↔◌, ◌++◌, ℕ, List, [], length}
 use Rattle.dma_memory.specs.HostMemory.{bytes_at, with_bytes, LiesIn}
 use Rattle.dma_memory.specs.Areas.{Area, area_at, bytes_in, AreApart}
@@ -22,7 +23,7 @@ abbrev pub OthersStay : Type 0
 OthersStay = (memory bytes : List ℕ) (address : ℕ) (other : Area) → LiesIn memory address (length bytes)
     → AreApart (area_at address (length bytes)) other → bytes_in (with_bytes memory address bytes) other ≡ bytes_in memory other
 
--- Two stores to adjacent ranges are equal to one store of the joined bytes.
+-- Two stores to adjacent ranges have the same result as one store of the joined bytes.
 abbrev pub AdjacentStoresAreOne : Type 0
 AdjacentStoresAreOne = (memory first second : List ℕ) (address : ℕ) → LiesIn memory address (length (first ++ second))
     → with_bytes (with_bytes memory address first) (address + length first) second ≡ with_bytes memory address (first ++ second)

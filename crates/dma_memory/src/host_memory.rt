@@ -14,7 +14,8 @@ pub struct OutOfRange;
 /// The memory of a host: bytes with the addresses from 0 to its size - 1. The host's driver and its adapter load and
 /// store these bytes.
 ///
-/// An empty range is in memory at every address, so a load or a store of no bytes never fails. The size never changes.
+/// An empty range is in memory at every address, so a load, a store or a view of no bytes never fails. The size never
+/// changes.
 #[derive(Clone, Drop)]
 pub struct HostMemory {
     bytes: Vec<u8>,

@@ -5,9 +5,9 @@ ghost use Rattle.dma_memory.specs.Stores.{LieWhereEachLies, StoreKeepsSize, Stor
 ghost use Rattle.dma_memory.specs.Stores.{AdjacentStoresAreOne, StoreOfNoneStays};
 
 /// Laws of memory, for all memories, addresses and bytes. Bytes are in memory exactly if the address of each is below
-/// the memory's size. A store doesn't change the size or other bytes, and a load returns what was stored. Two stores
-/// to adjacent ranges are equal to one store of the joined bytes. A store of no bytes changes nothing, whatever its
-/// address.
+/// the memory's size. A store inside memory doesn't change the size or other bytes, and a load of its range returns the
+/// stored bytes. Inside memory, two stores to adjacent ranges have the same result as one store of the joined bytes. A
+/// store of no bytes changes nothing, whatever its address.
 ///
 /// The function does nothing: its contract is the laws.
 pub fn stores_are_loaded()
@@ -29,11 +29,12 @@ pub fn places_are_apart()
     ensures next_multiple { (counts : Counts) → BeginsAtNextMultiple counts }
 {}
 
-/// Laws of owners, for all lists of numbers. Each number has one owner by counts exactly if it has one by places. The
-/// counts of a number in two lists add up to its count in the joined list. If each number below n has one owner, this
-/// remains true after a number moves to another owner. In this case each number that an owner has is below n, no other
-/// owner has it, and the list has n numbers. If no number has a second owner, the list has at most n numbers, and
-/// fewer if a number below n is missing.
+/// Laws of owners, for all lists of numbers. All numbers below n have one owner by counts (`HasOneOwner`) exactly if
+/// they have one by places (`EachStandsOnce`). The counts of a number in two lists add up to its count in the joined
+/// list. If each number below n has one owner, and no other number has an owner, this remains true after a number moves
+/// to another owner. Then each owner's numbers are below n, no other owner has them, and the joined list has n numbers.
+/// If all numbers of a list are below n, and no number has a second owner, the list has at most n numbers. The list has
+/// fewer numbers if a number below n is missing.
 ///
 /// The function does nothing: its contract is the laws.
 pub fn numbers_have_one_owner()

@@ -6,7 +6,8 @@ ghost use Rattle.dma_memory.specs.Layout.{receive_buffer_bytes, transmit_buffer_
 use std::marker::Model;
 use thiserror::Error;
 
-/// The number of bytes of a descriptor (Intel's manual, "3.2.3 Receive Descriptor Format").
+/// The number of bytes of a descriptor (Intel's manual, "3.2.3 Receive Descriptor Format" and "3.3.3 Legacy Transmit
+/// Descriptor Format").
 pub const DESCRIPTOR_BYTES: u64 = 16;
 
 /// The number of bytes of a transmit buffer, which has room for the longest frame (our choice).
@@ -161,7 +162,8 @@ impl Layout {
     pub fn size(&self) -> u64
         ensures end { result ≡ size_of self.now }
 
-        // The greatest size, in bytes: two rings of 4,096 descriptors, and 8,192 receive buffers.
+        // The greatest size, in bytes: two rings of 4,096 descriptors, 4,096 transmit buffers, and 8,192 receive
+        // buffers.
         ensures most { result ≤ 10616832 }
     {
         self.first_receive_buffer() + RECEIVE_BUFFER_BYTES * u64::from(self.buffers)

@@ -4,7 +4,7 @@ ghost use Rattle.dma_memory.specs.Owners.{copies, HasOneOwner, HaveSameNumbers};
 use std::alloc::{AllocError, Global};
 use std::marker::Model;
 
-/// The number of a receive buffer. The holder of the `BufId` is the only owner of the buffer.
+/// The number of a receive buffer. The holder of the `BufId` owns the buffer.
 ///
 /// A `BufId` can't be copied, and only a [`Pool`] makes one. If a `BufId` is dropped, its number is lost.
 #[derive(Drop)]
@@ -30,7 +30,7 @@ impl BufId {
 }
 
 /// The numbers of the free receive buffers. A new pool contains all numbers below a count. Later each number is in the
-/// pool, or belongs to the caller that took it.
+/// pool or in a [`BufId`], unless this `BufId` was dropped.
 #[derive(Drop)]
 pub struct Pool {
     free: Vec<BufId>,
@@ -94,7 +94,8 @@ impl Pool {
         self.free.pop()
     }
 
-    /// Puts a number back into the pool from which the number was taken. The call allocates no memory and never fails.
+    /// Puts a number back into the pool. The number must be below the pool's number of buffers, and must not be in the
+    /// pool. The call allocates no memory and never fails.
     pub fn give(&mut self, buffer: BufId)
         requires known { buffer < self.old.buffers }
         requires out { copies buffer self.old.free ≡ 0 }

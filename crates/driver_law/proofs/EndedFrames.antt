@@ -24,7 +24,7 @@ frames-none begun [] are_parts = refl
 frames-none begun (Part bytes ∷ later) are_parts = frames-none (begun ++ bytes) later (all-tail IsPart (Part bytes) later are_parts)
 frames-none begun (Last bytes ∷ later) are_parts = absurd (all-head IsPart (Last bytes) later are_parts)
 
--- If no slot is finished or in progress, there is no piece, whatever size buffers have.
+-- If no slot is finished or in progress, there is no piece, so `AreCut` holds for the size that RCTL.BSIZE selects.
 pub none-cut : (size o : ℕ) (world : World) → (HasBit world.adapter.filter.rctl rctl_en → buffer_size world ≡ size)
     → finished o world ≡ [] → world.adapter.receiver.work ≡ None → AreCut size o world
 none-cut size o world sized none idle =
@@ -40,8 +40,7 @@ none-cut size o world sized none idle =
       short = subst (λ (list : List Piece). length (begun_of list) < longest_frame) (sym pieces) (omega arith);
     }
 
--- The bytes of a frame that hasn't ended yet are no longer than the longest frame, because the frame isn't when it
--- ends.
+-- A frame that hasn't ended yet has at most the number of bytes of the longest frame, because the frame is legal when it ends.
 begun-short : (begun : List ℕ) (pieces : List Piece) → All IsLegal (frames_from begun pieces)
     → length (begun_from begun pieces) < longest_frame
     → length begun ≤ longest_frame

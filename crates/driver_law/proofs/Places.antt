@@ -39,7 +39,7 @@ place-sum n from (suc i) slot =
 place-around : (n from : ℕ) → from < n → place n from n ≡ from
 place-around n from slot = place-sum n from n slot ∙ add-mod_right from n ∙ mod-eq_of_lt slot
 
--- If advancing by the same distance leads to the same place, it began at the same place.
+-- If two advances by the same distance lead to the same place, they began at the same place.
 pub place-same : (n i from other : ℕ) → from < n → other < n → i ≤ n → place n from i ≡ place n other i → from ≡ other
 place-same n i from other slot other_slot short same =
     let whole : i + (n - i) ≡ n = omega (arith, short) in

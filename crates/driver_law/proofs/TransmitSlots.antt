@@ -102,8 +102,8 @@ buffer-spare driver slot world ready own =
       sources = sources-apart driver slot world ready own;
     }
 
--- Memory contains the slot's buffer, a store to its first bytes keeps the conditions of the bus law, and the adapter
--- doesn't write it.
+-- Memory contains the slot's buffer. The buffer is apart from all areas in the conditions of the bus law, and the adapter may not write the
+-- buffer.
 pub record DriversBuffer (driver : DriverState) (slot : ℕ) (world : World) : Type 0 where
   pub below : slot < driver.layout.tx
   pub lies : LiesIn world.memory (transmit_buffer driver.layout slot) transmit_buffer_bytes

@@ -14,12 +14,12 @@ TransmitRingWrites =
     → world_after_write (TDBAL + ring_distance part) value world ≡ with_transmit_ring
     (ring_written part value world.adapter.transmit_ring) world
 
--- A write of RCTL stores only the kept bits of RCTL.
+-- A write of RCTL changes only RCTL, which stores the kept bits of the value.
 abbrev pub ReceiveControlWrites : Type 0
 ReceiveControlWrites = (value : ℕ) (world : World)
     → world_after_write RCTL value world ≡ with_receive_control (bit_and value receive_control_mask) world
 
--- A write of TCTL stores only the kept bits of TCTL.
+-- A write of TCTL changes only TCTL, which stores the kept bits of the value.
 abbrev pub TransmitControlWrites : Type 0
 TransmitControlWrites = (value : ℕ) (world : World)
     → world_after_write TCTL value world ≡ with_transmit_control (bit_and value transmit_control_mask) world

@@ -73,7 +73,7 @@ pub record TransmitIsUp (counts : Counts) (oldest sending : ℕ) (memory : List 
 -- The transmit side is off, as during initialization: its ring ends before the buffers, no slot is outstanding, and
 -- the transmit packet buffer is empty. TDH and TDT contain the place of the driver's oldest slot.
 pub record TransmitIsOff (counts : Counts) (oldest sending : ℕ) (ring : Ring) (buffer : List Queued) : Type 0 where
-  -- the ring ends before the buffers
+  -- the ring ends at or before the end of both rings of the layout, and so before the buffers
   pub ends : ring.base + descriptor_bytes * count_of ring ≤ descriptor_bytes * counts.rx + descriptor_bytes * counts.tx
   -- TDH equals TDT
   pub idle : ring.head ≡ ring.tail

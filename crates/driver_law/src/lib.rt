@@ -1,4 +1,5 @@
-//! The layer below drivers: what a driver knows of its adapter and memory, and what happens in an interval of its run.
+//! The layer below drivers: what a driver knows of its adapter and memory, what happens in an interval of its run, and
+//! laws of its actions.
 #![tactic(auto)]
 
 mod beginning_law;

@@ -4,8 +4,9 @@ ghost use Rattle.driver_law.specs.TransmitSteps.{DataIsStored, DescriptorIsStore
 ghost use Rattle.driver_law.specs.TransmitSteps.{NextSlotBelongsToDriver, NoneIsWrittenBack, SendsEndWithTail};
 ghost use Rattle.driver_law.specs.TransmitSteps.{SlotIsFreed, SlotsHaveFrames, SlotsKeepBytes, TailIsMoved};
 
-/// A driver may store any bytes into the buffer and the descriptor of a transmit slot that isn't outstanding, such as
-/// the slot at the tail. Buffer and descriptor keep their bytes, whatever happens between two accesses.
+/// A driver whose transmit side is set up may store any bytes into the buffer and the descriptor of a transmit slot
+/// that isn't outstanding, such as the slot at the tail. Buffer and descriptor keep their bytes, whatever happens
+/// between two accesses.
 pub fn transmit_slots_are_stored()
     ensures next { NextSlotBelongsToDriver }
     ensures data_stored { DataIsStored }
@@ -13,18 +14,19 @@ pub fn transmit_slots_are_stored()
     ensures stay { SlotsKeepBytes }
 {}
 
-/// A driver sends the frame in the slot at the tail, of 14 to 1,518 bytes, by a write of TDT. The write advances the
-/// tail by one. Before the write, at least two slots must not be outstanding. After the write, the frame, padded, is
-/// the last frame to be sent. The write of TDT is the last access of the call, after loads and stores.
+/// A driver whose transmit side is set up sends the frame in the slot at the tail, of 14 to 1,518 bytes, by a write of
+/// TDT. The write advances the tail by one. Before the write, at least two slots must not be outstanding. After the
+/// write, the frame, padded, is the last frame to be sent. The write of TDT is the last access of the call, after loads
+/// and stores.
 pub fn frames_are_offered()
     ensures moved { TailIsMoved }
     ensures offered { FrameIsOffered }
     ensures accesses { SendsEndWithTail }
 {}
 
-/// A driver may free its oldest outstanding transmit slot if DD is set in the slot's descriptor. If DD is clear, or no
-/// slot is outstanding, no slot is written back. The number of outstanding slots is the number of written-back slots
-/// plus the number of frames to be sent. There are fewer frames to be sent than slots.
+/// A driver whose transmit side is set up may free its oldest outstanding transmit slot if DD is set in the slot's
+/// descriptor. If DD is clear, or no slot is outstanding, no slot is written back. The number of outstanding slots is
+/// the number of written-back slots plus the number of frames to be sent. There are fewer frames to be sent than slots.
 pub fn slots_are_freed()
     ensures done { SlotIsFreed }
     ensures waits { NoneIsWrittenBack }

@@ -1,8 +1,8 @@
--- The fields of a register that are set side by side by `|`.
+-- The fields of EERD, joined by `|`.
 use Rattle.std.proofs.Common.{◌≡◌, ℕ, ◌+◌, ◌*◌, ◌<◌, ◌%◌, ◌^◌, bit_or, ◌∙◌, ap, arith}
 use Rattle.std.proofs.lemmas.Nat.{or_shifted}
 
--- DATA, ADDR and DONE are side by side, so to set them together adds them up.
+-- The bits of DATA, ADDR and DONE don't overlap, so `|` adds their values.
 pub or_fields : (address word : ℕ) → address < 256 → word < 65536
     → bit_or (bit_or (word * 65536 % 4294967296) (address * 256 % 4294967296)) 16 ≡ word * 65536 + address * 256 + 16
 or_fields address word a w =

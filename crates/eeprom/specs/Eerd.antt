@@ -12,11 +12,12 @@ has_start value = value % 2 == 1
 abbrev pub addr : ℕ → ℕ
 addr value = value / 256 % 256
 
--- A write with START begins a read, and drops a pending read. A write without START is ignored (our choice).
+-- A write with START begins a read, and drops a pending read. A write without START is ignored. (That a pending read is dropped, and that a
+-- write without START is ignored, is our choice.)
 abbrev pub after_write : ℕ → ReadState → ReadState
 after_write value state = if has_start value then Pending (addr value) else state
 
--- A tick ends a pending read with the word of the image (our choice: how long a read takes). Without a pending read, a tick changes
+-- A tick ends a pending read with the word of the image (how long a read takes is our choice). Without a pending read, a tick changes
 -- nothing.
 abbrev pub after_tick : List ℕ → ReadState → ReadState
 after_tick words Idle = Idle

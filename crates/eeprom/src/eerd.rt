@@ -69,8 +69,8 @@ impl Eerd {
         }
     }
 
-    /// A write with START begins a read of the word at ADDR, and drops a pending read. A write without START is ignored
-    /// (both are our choice).
+    /// A write with START begins a read of the word at ADDR, and drops a pending read. A write without START is
+    /// ignored. (That a pending read is dropped, and that a write without START is ignored, is our choice.)
     pub fn write(&mut self, value: u32)
         ensures { self.new ≡ after_write value self.old }
     {

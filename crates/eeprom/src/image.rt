@@ -15,7 +15,7 @@ const CHECKSUM: u16 = 0xBABA;
 /// The sum of the words is taken modulo this number.
 const MODULUS: u32 = 1 << 16;
 
-/// The word that a read after the last word returns.
+/// The word that a read of an address after the last word returns.
 const NO_WORD: u16 = 0xFFFF;
 
 /// The contents of an EEPROM: 64 words of 16 bits.
@@ -93,7 +93,7 @@ pub fn checksum_ok(image: &Image) -> bool
     sum_of(&image.words) % MODULUS == u32::from(CHECKSUM)
 }
 
-/// Returns the sum of the words, which fits into 32 bits.
+/// Returns the sum of at most 64 words, which fits into 32 bits.
 fn sum_of(words: &[u16]) -> u32
     requires { length words.now ≤ WORDS }
     ensures { result ≡ sum words.now }

@@ -4,7 +4,7 @@ ghost use Rattle.eeprom.specs.History.{AnswersByHistory};
 
 /// The value of EERD after any list of writes and ticks. Without a write with START, the value is 0. Otherwise it
 /// contains the ADDR of the last such write. If a tick followed this write, the value also contains the word at this
-/// ADDR, and DONE.
+/// ADDR, and DONE. If not, it contains only ADDR.
 pub fn answers_by_history()
     ensures { AnswersByHistory }
 {}

@@ -1,5 +1,4 @@
-//! The EEPROM of the 82540EM: its 64 words, and EERD, the register through which a driver reads
-//! one of them.
+//! The EEPROM of the 82540EM: its 64 words, and EERD, the register through which a driver reads them one by one.
 //!
 //! Manual: chapter "EEPROM Interface", and section 13.4.4, "EEPROM Read Register".
 #![tactic(auto)]

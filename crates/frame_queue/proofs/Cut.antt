@@ -128,7 +128,7 @@ is_none ns same =
     let t : IsTrue (length ns == 0) = sym same in
     grind (arith, nat_tests)
 
--- The lengths up to an index and the one there are part of the sum.
+-- The sum of the first i + 1 lengths is the sum of the first i lengths, plus the length at index i.
 pub total-more : (ns : List ℕ) (i n : ℕ) → slice_get ns i ≡ Some n → total (take (i + 1) ns) ≡ total (take i ns) + n
 total-more ns i n is =
     ap total (take_more ns i n (slice_get_within ns i n is) ∙ ap (λ (k : ℕ). take i ns ++ k ∷ []) (get_or_from_slice_get ns i n n is))

@@ -9,7 +9,7 @@ use Rattle.frame_queue.specs.Places.{frames_from}
 use Rattle.frame_queue.specs.Wrapping.{wrapped}
 use Rattle.frame_queue.proofs.Written.{bytes-written, bytes-before, bytes-after}
 
--- A number is below another or not.
+-- A number is below another, or is at least the other.
 below_or_past : (p c : ℕ) → (p < c) ⊎ (c ≤ p)
 below_or_past p c = elim (leb_tells (suc p) c) [ inl t ↦ inl t.1 | inr t ↦ inr (omega (arith, t.1)) ]
 
@@ -92,7 +92,7 @@ frames_from-kept bytes written (m ∷ ns) c p q n count lies short fits end near
     (omega arith) once in
     rw (here, rest) refl
 
--- The oldest frame is in the first place.
+-- The first of the frames from a place on is in this place.
 pub slice_get-frames_from : (bytes : List ℕ) (c p n : ℕ) (ns : List ℕ) → p < c → slice_get ns 0 ≡ Some n
     → slice_get (frames_from bytes c p ns) 0 ≡ Some (take n (drop (p * 1518) bytes))
 unfolding frames_from
@@ -173,7 +173,7 @@ pub some_below : (ns : List ℕ) → is_some (slice_get ns 0) ≡ true → 0 < l
 some_below [] some = absurd (cc)
 some_below (n ∷ ns) some = omega arith
 
--- If there is no first length, nothing is dropped.
+-- If there is no first length, there is no frame to drop.
 pub drop-none : (bytes : List ℕ) (c p : ℕ) (ns : List ℕ) → is_some (slice_get ns 0) ≡ false
     → frames_from bytes c p (drop 1 ns) ≡ drop 1 (frames_from bytes c p ns)
 unfolding frames_from

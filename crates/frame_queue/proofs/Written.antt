@@ -29,7 +29,7 @@ bytes-written bytes written start n count fits =
     ∙ ap (drop start) (take_at front (drop (start + n) bytes) (start + n) (length-front bytes written start n count fits))
     ∙ drop_at (take start bytes) written start (length-take-le start bytes (omega (arith, fits)))
 
--- The bytes before them are as they were,
+-- The bytes before the written ones don't change.
 pub bytes-before : (bytes written : List ℕ) (start n i m : ℕ) → length written ≡ n → start + n ≤ length bytes → i + m ≤ start
     → take m (drop i (take start bytes ++ written ++ drop (start + n) bytes)) ≡ take m (drop i bytes)
 bytes-before bytes written start n i m count fits before =
@@ -41,7 +41,7 @@ bytes-before bytes written start n i m count fits before =
     ∙ take-append-le (i + m) (take start bytes) written (omega (arith, first, before)) ∙ take-take (i + m) start bytes before)
     ∙ drop-take i m bytes
 
--- and those after them.
+-- The bytes after the written ones don't change.
 pub bytes-after : (bytes written : List ℕ) (start n i m : ℕ) → length written ≡ n → start + n ≤ length bytes → start + n ≤ i
     → take m (drop i (take start bytes ++ written ++ drop (start + n) bytes)) ≡ take m (drop i bytes)
 bytes-after bytes written start n i m count fits after =
@@ -53,7 +53,7 @@ bytes-after bytes written start n i m count fits after =
     ap (take m) (ap (λ (j : ℕ). drop j (front ++ drop (start + n) bytes)) (sym here)
     ∙ drop-append-add front (drop (start + n) bytes) k ∙ drop-drop k (start + n) bytes ∙ ap (λ (j : ℕ). drop j bytes) there)
 
--- Bytes that begin somewhere before the place, and the bytes that were written there.
+-- The bytes from an earlier place on are the old bytes up to the written ones, followed by the written ones.
 pub bytes-appended : (bytes written : List ℕ) (first count n : ℕ) → length written ≡ n → first + count + n ≤ length bytes
     → take (count + n) (drop first (take (first + count) bytes ++ written ++ drop (first + count + n) bytes))
     ≡ take count (drop first bytes) ++ written

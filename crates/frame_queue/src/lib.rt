@@ -1,6 +1,7 @@
-//! Queues of Ethernet frames, whose memory is allocated once.
+//! Queues of Ethernet frames, whose memory is allocated once, and copies of circular buffers.
 //!
-//! The packet buffers of a network adapter are such queues: first in, first out, for a limited number of frames.
+//! The packet buffers of a network adapter are such queues: first in, first out, for a limited number of frames or
+//! bytes.
 #![tactic(auto)]
 
 mod buffers;

@@ -14,8 +14,8 @@ use std::marker::Model;
 /// A queue of frames, first in, first out, for a limited number of frames and a limited number of bytes. The bytes of a
 /// frame follow those of the frame before it, so a short frame uses little memory.
 ///
-/// `new` allocates the memory. A push copies the frame, and `front` returns the oldest frame without a copy. If a frame
-/// doesn't fit after the newest one, a push first moves all frames to the start of the memory.
+/// Only `new` and `clone` allocate memory. A push copies the frame, and `front` returns the oldest frame without a
+/// copy. If a frame doesn't fit after the newest one, a push first moves all frames to the start of the memory.
 #[derive(Debug, Drop)]
 pub struct PackedQueue {
     bytes: Vec<u8>,
@@ -157,8 +157,9 @@ impl PackedQueue {
     }
 }
 
-/// Moves the bytes from `first` up to `end` to the start of the memory, if fewer than `more` bytes follow them. Returns
-/// the new index of the first of these bytes.
+/// Moves the bytes from `first` up to `end` to the start of the memory, if fewer than `more` bytes follow them. The
+/// memory must have room for these bytes and `more` others. Returns the new index of the first of the moved bytes, or
+/// `first` if nothing was moved.
 fn make_room(bytes: &mut [u8], first: usize, end: usize, more: usize) -> usize
     requires order { first ≤ end }
     requires lies { end ≤ length bytes.old }
@@ -175,7 +176,8 @@ fn make_room(bytes: &mut [u8], first: usize, end: usize, more: usize) -> usize
 }
 
 /// Writes a frame after the bytes from `first` up to `end`. If the frame doesn't fit there, first moves these bytes to
-/// the start of the memory. Returns the new index of the first of these bytes.
+/// the start of the memory, which must have room for these bytes and the frame. Returns the index of the first of these
+/// bytes after the call.
 fn append(bytes: &mut [u8], first: usize, end: usize, frame: &[u8]) -> usize
     requires order { first ≤ end }
     requires lies { end ≤ length bytes.old }

@@ -16,7 +16,7 @@ pub const PLACE_BYTES: usize = 1518;
 
 /// A queue for a limited number of frames, each of at most 1,518 bytes, first in, first out.
 ///
-/// `new` allocates its memory. A frame is copied once, when it is pushed, and can be read without a copy.
+/// Only `new` and `clone` allocate memory. A frame is copied once, when it is pushed, and can be read without a copy.
 #[derive(Debug, Drop)]
 pub struct FrameQueue {
     bytes: Vec<u8>,
@@ -120,8 +120,8 @@ impl FrameQueue {
         self.push_padded(frame, 0);
     }
 
-    /// Appends a frame, followed by zeros up to `least` bytes if it is shorter. The queue must not be full, and neither
-    /// the frame nor `least` may exceed 1,518 bytes.
+    /// Appends a frame, followed by zeros up to `least` bytes if the frame is shorter. The queue must not be full, and
+    /// neither the frame nor `least` may exceed 1,518 bytes.
     pub fn push_padded(&mut self, frame: &[u8], least: usize)
         requires room { length self.old.frames < self.old.capacity }
         requires fits { length frame.now ≤ PLACE_BYTES }

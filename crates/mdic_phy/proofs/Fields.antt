@@ -1,9 +1,9 @@
--- The fields of MDIC.
+-- DATA of MDIC, replaced by another word.
 use Rattle.std.proofs.Common.{◌≡◌, ℕ, ◌+◌, ◌*◌, ◌/◌, ◌<◌, ◌^◌, bit_or, bit_and, ◌∙◌, ap, arith}
 use Rattle.std.proofs.lemmas.Nat.{or_shifted}
 use Rattle.std.proofs.lemmas.Nat.Bits.{and_high_mask}
 
--- other DATA takes the place of the low half
+-- The low half of MDIC is replaced by the word.
 pub other_data : (value word : ℕ) → value < 4294967296 → word < 65536
     → bit_or (bit_and value 4294901760) word ≡ value / 65536 * 65536 + word
 other_data value word wide low =

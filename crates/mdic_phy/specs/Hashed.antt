@@ -16,7 +16,7 @@ pending_tag None = 0
 pending_tag (Some Write) = 1
 pending_tag (Some Read) = 2
 
--- What MDIC feeds: its value and its command.
+-- What MDIC feeds: its value, and the tag of its pending command.
 abbrev pub mdic_writes : MdicState → HashWrites
 mdic_writes mdic = u32 mdic.value ++ u8 (pending_tag mdic.pending)
 

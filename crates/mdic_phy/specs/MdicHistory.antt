@@ -94,8 +94,8 @@ pub record ToldByHistory : Type 0 where
       → told_behind state (before ++ Write value ∷ [])
       ≡ Some (record { link_changed = comes_up (phy_of state (before ++ Write value ∷ [])); access_complete = is_set value mdic_i })
 
--- The value of MDIC depends only on the last write, on whether a tick followed this write, and on the PHY's register at this tick (manual,
--- 13.4.7). Commands of earlier writes don't matter.
+-- The value of MDIC depends only on the last write, on whether a tick followed this write, and on the PHY's register at the first such tick
+-- (manual, 13.4.7). Commands of earlier writes don't matter.
 pub record MdicByHistory : Type 0 where
   -- Without a write, the register reads 0.
   pub never_written : (state : PhyState) (all : List MdicEvent) → NoWrite all → mdic_reads state all ≡ 0

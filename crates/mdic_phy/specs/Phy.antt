@@ -34,7 +34,8 @@ is_complete Complete = true
 abbrev pub link_is_up : PhyState → Bool
 link_is_up phy = is_complete phy.negotiation
 
--- Negotiation after it is started: it ends after the setting's number of ticks, or never starts (our choice).
+-- Negotiation after it is started: it ends after the setting's number of ticks (after one tick if the number is 0), or never starts (our
+-- choice).
 abbrev pub negotiation_of : Link → Negotiation
 negotiation_of (After ticks) = Running ticks
 negotiation_of Never = NotStarted

@@ -1,4 +1,4 @@
--- The values of a PHY's registers, from the list of all events at the PHY since it was new.
+-- Whether a PHY's link is up, and the values of its control and status registers, from the list of all events at the PHY since it was new.
 use Rattle.std.specs.Prelude.{◌≡◌, ℕ, ◌≤◌, ◌==◌, ◌&&◌, ◌||◌, Bool, true, false, not, List, [], ◌∷◌, ◌++◌, count_by, nat_le, IsTrue}
 use Rattle.std.specs.Prelude.{if◌then◌else◌}
 use Rattle.std.specs.List.{list_any}

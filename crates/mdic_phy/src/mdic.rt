@@ -104,8 +104,8 @@ impl Mdic {
         }
     }
 
-    /// Begins the command of the written OP, and drops a pending command (our choice). OP 00 and 11 begin no command.
-    /// R, E and bit 31 aren't stored.
+    /// Begins the command of the written OP. A command that is still pending is dropped (our choice). OP 00 and 11
+    /// begin no command. R, E and bit 31 aren't stored.
     pub fn write(&mut self, value: u32)
         ensures { self.new ≡ after_write value }
     {
@@ -183,8 +183,8 @@ impl Default for Mdic {
     }
 }
 
-/// Ends a command at the PHY. Returns the new value of MDIC, with R set. A read stores the PHY's register in DATA. A
-/// command for another PHY accesses no register, and also sets E.
+/// Ends a command at the PHY. Returns the new value of MDIC, with R set. A write stores DATA in the PHY's register, and
+/// a read stores the PHY's register in DATA. A command for another PHY accesses no register, and also sets E.
 fn end(operation: Operation, value: u32, phy: &mut Phy) -> u32
     ensures value { result ≡ ended_value operation phy.old value }
     ensures phy { phy.new ≡ ended_phy operation value phy.old }

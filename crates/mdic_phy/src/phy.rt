@@ -36,7 +36,7 @@ const RUNNING_TAG: u8 = 1;
 /// The tag of `Complete` in a hash.
 const COMPLETE_TAG: u8 = 2;
 
-/// The number of ticks that negotiation takes until the link is up, or that the link is never up.
+/// How many ticks negotiation takes until the link is up, or that the link is never up.
 #[derive(Clone, Copy, Debug, PartialEq, Eq)]
 pub enum Link {
     /// The link is up after this number of ticks of the PHY, 1 to 65,535. (0 acts as 1.)
@@ -50,7 +50,7 @@ pub enum Link {
 pub enum Negotiation {
     /// Negotiation was not started since the PHY was new or reset, or the setting of the link is `Never`.
     NotStarted,
-    /// Negotiation ends after this number of further ticks.
+    /// Negotiation ends after this number of further ticks. (0 acts as 1.)
     Running(u16),
     /// Negotiation has ended, and the link is up.
     Complete,
@@ -202,7 +202,7 @@ fn feed_negotiation<H: Hasher>(negotiation: Negotiation, hasher: &mut H)
     }
 }
 
-/// The part of the state that the PHY's registers show.
+/// The values of the control and status registers, and the effects of a write of the control register.
 impl Phy {
     ghost use Rattle.mdic_phy.specs.Phy.{after_control, control_value, restarted, status_value};
 

@@ -35,15 +35,15 @@ first_byte port width address =
     if nat_le 0xCFC port && nat_le (port + size_of width) 0xD00 && selects_function address then Some (port - 0xCFC)
     else None
 
--- What a read of bytes of the selected dword returns. If nothing answers, all bits of the result are 1 (6.1 "Configuration Space
+-- What a read of bytes of the selected dword returns. If nothing answers, all bits of this width are 1 (6.1 "Configuration Space
 -- Organization").
 abbrev pub data_answer : Option ℕ → PortWidth → Bool → PciState → ℕ
 data_answer (Some first) width asserted function =
     bytes_at first width (config_word function asserted (offset_in function.address))
 data_answer None width asserted function = ones_of width
 
--- What a read of a port returns. If the access is neither of CONFIG_ADDRESS nor of bytes of the adapter's selected dword, all bits of the
--- result are 1.
+-- What a read of a port returns. If the access is neither of CONFIG_ADDRESS nor of bytes of the adapter's selected dword, all bits of this
+-- width are 1.
 abbrev pub answer_at : ℕ → PortWidth → Bool → PciState → ℕ
 answer_at port width asserted function =
     if is_address_port port width then function.address

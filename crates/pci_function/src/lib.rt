@@ -1,4 +1,5 @@
-//! The PCI configuration space of the adapter, and the two I/O ports through which a driver accesses it.
+//! The PCI configuration space of the adapter, and the I/O ports CONFIG_ADDRESS and CONFIG_DATA, through which a driver
+//! or firmware accesses this space.
 //!
 //! Sources: "PCI Local Bus Specification", revision 2.2, and section 4.1, "PCI Configuration", of Intel's "PCI/PCI-X
 //! Family of Gigabit Ethernet Controllers Software Developer's Manual".

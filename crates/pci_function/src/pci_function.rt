@@ -1,4 +1,4 @@
-// The configuration space, and the two ports.
+// The configuration space, and the ports CONFIG_ADDRESS and CONFIG_DATA.
 
 ghost use Rattle.std.specs.Prelude.{◌≡◌};
 ghost use Rattle.pci_function.specs.ConfigSpace.{interrupt_status};
@@ -86,8 +86,8 @@ impl PciFunction {
         }
     }
 
-    /// Reads an I/O port. `asserted` is whether the interrupt line is asserted. If nothing answers, all bits of the
-    /// result are 1.
+    /// Reads an I/O port. `asserted` is whether the interrupt line is asserted. If nothing answers, all bits of this
+    /// width are 1.
     pub fn read_port(&self, port: u16, width: PortWidth, asserted: bool) -> u32
         ensures { result ≡ answer_at port width asserted self.now }
     {
@@ -177,7 +177,7 @@ fn interrupt_status(asserted: bool) -> u32
     if asserted { INTERRUPT_STATUS } else { 0 }
 }
 
-/// Whether an access is one of CONFIG_ADDRESS, which only accesses of four bytes at CF8h reach.
+/// Returns whether an access is one of CONFIG_ADDRESS, which only accesses of four bytes at CF8h reach.
 fn is_address_port(port: u16, width: PortWidth) -> bool
     ensures { result ≡ is_address_port port width }
 {

@@ -37,7 +37,8 @@ impl PortWidth {
         }
     }
 
-    /// Returns the bytes of this width in a dword from byte `first` on, as a number.
+    /// Returns the bytes of this width in a dword from byte `first` on, as a number. The bytes must be inside the
+    /// dword.
     #[tactic(auto, using(crate::proofs::Lanes::masked))]
     pub(crate) fn bytes_of(self, word: u32, first: usize) -> u32
         requires { first + size_of self ≤ 4 }
@@ -46,7 +47,8 @@ impl PortWidth {
         word >> (8 * first) & self.ones()
     }
 
-    /// Returns a dword whose bytes of this width from byte `first` on are replaced by the low bytes of a value.
+    /// Returns a dword whose bytes of this width from byte `first` on are replaced by the low bytes of a value. The
+    /// replaced bytes must be inside the dword.
     pub(crate) fn replaced_in(self, word: u32, first: usize, value: u32) -> u32
         requires { first + size_of self ≤ 4 }
         ensures { result ≡ with_bytes first self value word }

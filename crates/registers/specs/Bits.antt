@@ -1,5 +1,5 @@
--- The bits of a register: one bit, a field of several bits, and the bits that are 1 as a set of places.
--- Places are counted from 0, the lowest bit (our choice).
+-- The bits of a register: one bit, a field of several bits, and the bits that are 1 as a set of places, with laws of these sets. Places are
+-- counted from 0, the lowest bit (our choice).
 use Rattle.std.specs.Prelude.{◌≡◌, ◌==◌, ◌<◌, ◌-◌, ◌/◌, ◌%◌, ◌^◌, ◌↔◌, ◌⊎◌, ℕ, Bool, bit_and, bit_or}
 
 -- The bit at this place is 1.

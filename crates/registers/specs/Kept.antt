@@ -1,5 +1,6 @@
--- The bits of each register that a write stores. The places of these bits are those of chapter 13, "Register Descriptions", of Intel's
--- "PCI/PCI-X Family of Gigabit Ethernet Controllers Software Developer's Manual". The other bits read 0 (our choice).
+-- The bits of CTRL, RCTL and TCTL that a write stores, the interrupt causes, and the value of STATUS. The places of the bits are those of
+-- chapter 13, "Register Descriptions", of Intel's "PCI/PCI-X Family of Gigabit Ethernet Controllers Software Developer's Manual". The other
+-- bits read 0 (our choice).
 use Rattle.std.specs.Prelude.{ℕ, bit_and}
 
 -- CTRL (13.4.1 "Device Control Register"): FD 0, ASDE 5, SLU 6, VME 30. RST 26 resets the adapter and isn't stored.

@@ -18,6 +18,7 @@ is_allocation kilobytes = nat_le 2 kilobytes && (nat_le kilobytes 48 && kilobyte
 abbrev pub allocation_written : ℕ → ℕ → ℕ
 allocation_written value kilobytes = if is_allocation (value % 65536) then value % 65536 else kilobytes
 
--- The value of PBA: RXA in bits 15:0, and the kilobytes of the transmit part, 64 - RXA, in the upper half (our choice).
+-- The value of PBA: RXA in bits 15:0, and the kilobytes of the transmit part, 64 - RXA, in the upper half (13.4.16 "Packet Buffer
+-- Allocation").
 abbrev pub allocation_shown : ℕ → ℕ
 allocation_shown kilobytes = (64 - kilobytes) * 65536 + kilobytes

@@ -103,7 +103,7 @@ rxdmt0 = 4
 abbrev pub rxo : ℕ
 rxo = 6
 
--- Receiver timer: the last descriptor of a frame was written back.
+-- Receiver timer: the adapter is done with the last descriptor of a frame.
 abbrev pub rxt0 : ℕ
 rxt0 = 7
 

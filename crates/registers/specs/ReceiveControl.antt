@@ -10,7 +10,7 @@ abbrev pub group_offset_of : ℕ → GroupOffset
 group_offset_of code =
     if code == 0 then Bits47To36 else if code == 1 then Bits46To35 else if code == 2 then Bits45To34 else Bits43To32
 
--- The number of places by which the last two bytes of the address are shifted to get this number (13.5.1 "Multicast Table Array").
+-- The number of places by which bits 47:32 of the address are shifted down to get this number (13.5.1 "Multicast Table Array").
 abbrev pub shift_of : GroupOffset → ℕ
 shift_of Bits47To36 = 4
 shift_of Bits46To35 = 3

@@ -24,7 +24,7 @@ bitflag_items! {
         const RXDMT0 = 1 << 4;
         /// Receiver overrun.
         const RXO = 1 << 6;
-        /// Receiver timer: the last descriptor of a frame was written back.
+        /// Receiver timer: the adapter is done with the last descriptor of a frame.
         const RXT0 = 1 << 7;
         /// MDI/O access complete.
         const MDAC = 1 << 9;
@@ -96,7 +96,7 @@ impl Causes {
         }
     }
 
-    /// Records causes, whether they are in the mask or not.
+    /// Records causes, whether they are in the mask or not. Bits of `cause` that aren't causes are ignored.
     pub fn raise(&mut self, cause: Cause)
         ensures { self.new ≡ record self.old { recorded = union self.old.recorded (causes_of cause.0) } }
     {

@@ -1,4 +1,5 @@
-//! The bits of registers of the Intel 82540EM, its interrupt causes and its statistics counters.
+//! Registers of the Intel 82540EM: the bits of CTRL, STATUS, RCTL and TCTL, PBA, the interrupt causes with their mask,
+//! and the statistics counters.
 //!
 //! Section numbers are those of Intel's "PCI/PCI-X Family of Gigabit Ethernet Controllers Software Developer's Manual".
 #![tactic(auto)]

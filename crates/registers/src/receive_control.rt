@@ -105,7 +105,7 @@ impl Rctl {
         Rctl::from_bits_truncate(value)
     }
 
-    /// Returns whether EN is set, so that frames are received.
+    /// Returns whether EN is set: the receiver is enabled.
     pub fn is_enabled(self) -> bool
         ensures { IsTrue result ↔ HasBit self.0 rctl_en }
     {

@@ -54,14 +54,14 @@ impl Tctl {
         Tctl::from_bits_truncate(value)
     }
 
-    /// Returns whether EN is set, so that frames are taken from the transmit ring.
+    /// Returns whether EN is set. While EN is clear, no frame is taken from the transmit ring.
     pub fn is_enabled(self) -> bool
         ensures { IsTrue result ↔ HasBit self.0 tctl_en }
     {
         self.contains(Tctl::EN)
     }
 
-    /// Returns whether PSP is set, so that short frames are padded.
+    /// Returns whether PSP is set: frames of fewer than 60 bytes are padded.
     pub fn pads_short_packets(self) -> bool
         ensures { IsTrue result ↔ HasBit self.0 tctl_psp }
     {

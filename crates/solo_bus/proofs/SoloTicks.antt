@@ -51,12 +51,12 @@ plays_trans first later left left' a b c one two = record {
   accesses = two.accesses ∙ one.accesses;
 }
 
--- The first items of a list and the items after them.
+-- A list is its first item, followed by the other items.
 front_rest : {X : Type 0} (xs : List X) (x : X) → slice_get xs 0 ≡ Some x → xs ≡ x ∷ drop 1 xs
 front_rest [] x is = absurd (cc)
 front_rest (y ∷ ys) x is = cc
 
--- The frame that a step puts is a frame that was put in this interval.
+-- The frame that a step puts is the only frame that was put in this step.
 put_alone : (kind : StepKind) (wire_free : Bool) (answer : FrameOutcome) (solo : SoloState)
     → Answers kind wire_free solo.world.memory solo.world.adapter answer → put_by answer ≡ (past_of (Steps kind wire_free answer ∷ [])).put
 put_alone TxPut wire_free answer solo answers = sym (append-nil (put_by answer))
@@ -118,12 +118,13 @@ plays_arrival a frame fate left running is =
 
 -- A loop over the ticks that wait.
 
--- Of one word that says which ticks are played, and another that says which wait then: each tick but Go is played, and waits no longer.
+-- `plays` are the ticks to be played of a list, and `waits` are the ticks that wait afterwards. Each tick except Go is played, and no
+-- longer waits.
 pub record GoesOn (plays waits : List SoloTick → List SoloTick) : Type 0 where
   pub played : (tick : SoloTick) (later : List SoloTick) → is_go tick ≡ false → plays (tick ∷ later) ≡ tick ∷ plays later
   pub left : (tick : SoloTick) (later : List SoloTick) → is_go tick ≡ false → waits (tick ∷ later) ≡ waits later
 
--- Some ticks were played; what is to be played of all is these and what is to be played of those that wait still.
+-- Some ticks were played. The ticks to be played are these, followed by those to be played of the ticks that still wait.
 pub record PlaysOn (plays waits : List SoloTick → List SoloTick) (a s : SoloState) : Type 0 where
   pub ticks : List SoloTick
   pub far : PlaysSoloTicks ticks s.waiting a s
@@ -156,7 +157,7 @@ all_go_on = record { played = played; left = λ tick later is. refl }
     played (Step kind) later is = refl
     played (Arrive frame) later is = refl
 
--- One tick more, which was the next.
+-- One more tick is played, which was the next one.
 on_more :
     (plays waits : List SoloTick → List SoloTick) (a s b : SoloState) (tick : SoloTick) (left : List SoloTick) → GoesOn plays waits
     → PlaysOn plays waits a s → is_go tick ≡ false → s.waiting ≡ tick ∷ left → b.waiting ≡ left → PlaysSoloTicks (tick ∷ []) b.waiting s b

@@ -135,12 +135,12 @@ pub ready-has_rings : (size : ℕ) (words : List ℕ) → HasRings (ready size w
 unfolding offered_places
 ready-has_rings size words = record { receives = omega arith; transmits = omega arith; offers = λ none. absurd (cc) }
 
--- RDT moves on by the write of 1.
+-- A write of 1 to RDT advances RDT by one slot.
 pub ready-written : (size : ℕ) (words : List ℕ) → world_after_write 0x2818 1 (resting size words) ≡ ready size words
 unfolding register_at array_register_at
 ready-written size words = refl
 
--- A frame to all arrives, and is stored.
+-- A broadcast frame arrives, and is stored.
 
 call-passes : (size : ℕ) (words : List ℕ) → Passes (filter_of (ready size words).adapter.filter) call
 unfolding filter_of AcceptsAddress AcceptsVlan
@@ -156,7 +156,7 @@ fate-stored size words Filtered is = absurd (is.2 (call-passes size words))
 fate-stored size words Missed is = absurd (omega (arith, is.1))
 fate-stored size words Stored is = refl
 
--- It is moved.
+-- The frame is moved.
 
 pub called-has_frame : (size : ℕ) (words : List ℕ) → HasFrameAndDescriptor (called size words).adapter
 called-has_frame size words = record {
@@ -191,7 +191,7 @@ data-moved size words fits _ answers = absurd answers
 pub working-has_work : (size : ℕ) (words : List ℕ) → HasWork (working size words)
 working-has_work size words none = absurd (cc)
 
--- It is finished_slot.
+-- The slot of the frame is finished.
 
 pub done-reported : (size : ℕ) (words : List ℕ) (answer : FrameOutcome) → DoneAnswers (working size words).adapter answer → answer ≡ Done
 done-reported size words Done answers = refl
@@ -235,7 +235,7 @@ reported-found size words answer a b begins answers steps =
     let done : answer ≡ Done = done-reported size words answer (subst (λ (w : World). DoneAnswers w.adapter answer) begins answers) in
     steps ∙ ap (λ (told : FrameOutcome). world_after_step RxDone told a) done ∙ ap (world_after_step RxDone Done) begins
 
--- A frame to be taken: its descriptor is stored,
+-- The descriptor of a frame to be sent is stored.
 
 request-lies : (size : ℕ) → 4096 ≤ size → LiesIn (replicate size 0) 2176 16
 request-lies size fits = omega (arith, length-replicate {A = ℕ} size 0, fits)
@@ -262,7 +262,7 @@ unfolding tx_desc_of
 requested-reports size words fits = ap (λ (bytes : List ℕ). is_set (command_bits (tx_desc_of bytes).command) 3)
     (requested-bytes size words fits)
 
--- and its slot offered.
+-- The slot of this descriptor is offered.
 
 pub requested-can_send : (size : ℕ) (words : List ℕ) → 4096 ≤ size → CanSend 0 0 (requested size words)
 requested-can_send size words fits =
@@ -301,12 +301,12 @@ pub sending-has_frames : (size : ℕ) (words : List ℕ) → HasFramesInRing (se
 unfolding offered_places to_send
 sending-has_frames size words = record { slots = λ none. absurd (cc); frames = λ none. absurd (cc) }
 
--- TDT moves on by the write of 1.
+-- A write of 1 to TDT advances TDT by one slot.
 pub sending-written : (size : ℕ) (words : List ℕ) → world_after_write 0x3818 1 (requested size words) ≡ sending size words
 unfolding register_at array_register_at
 sending-written size words = refl
 
--- It is taken.
+-- The frame of this slot is taken.
 
 sending-busy : (size : ℕ) (words : List ℕ) → ¬ (HasNothingToTake (sending size words).adapter)
 sending-busy size words (inl off) = absurd (off refl)

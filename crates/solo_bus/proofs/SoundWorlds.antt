@@ -39,7 +39,7 @@ use Rattle.bus.proofs.TxTakeSteps.{between_padded, taken}
 
 -- Engines that can run.
 
--- over any memory, while nothing is offered
+-- Over any memory, while no slot is offered.
 resting-runs : (size : ℕ) (words memory : List ℕ) → CanRun (record (resting size words) { memory = memory })
 resting-runs size words memory = record {
   receiver_runs = refl;
@@ -123,7 +123,7 @@ called-receiver size words = record {
   most = λ work none. absurd (none-some work none);
 }
 
--- It is in work,
+-- The piece of the frame is in progress.
 working-between : (size : ℕ) (words : List ℕ) → 4096 ≤ size → Between 0 0 (called size words) (working size words) nothing
 working-between size words fits =
     let w = called size words in
@@ -140,7 +140,7 @@ working-runs size words fits = (working-between size words fits).runs (called-ru
 abbrev work : Work
 work = record { descriptor = 2048; length = 60; ends = true }
 
--- and finished.
+-- The slot of the piece is finished.
 abbrev done_with : ℕ → List ℕ → World
 done_with size words = record
     { memory = with_bytes (working size words).memory (2048 + 8) (finished_bytes 60 true); adapter = done_adapter (working size words) }
@@ -157,7 +157,7 @@ done-finished size words fits none =
     let empty : (let one : List ℕ = 2048 ∷ [] in one) ≡ [] = all ∙ ap (λ (slots : List ℕ). slots ++ []) none in
     cc
 
--- A frame to be taken is taken,
+-- The offered frame is taken.
 abbrev took : ℕ → List ℕ → World
 took size words = taken true (sending size words)
 
@@ -169,7 +169,7 @@ took-between size words fits =
 took-runs : (size : ℕ) (words : List ℕ) → 4096 ≤ size → CanRun (took size words)
 took-runs size words fits = (took-between size words fits).runs (sending-runs size words fits)
 
--- and put, and its slot is written back.
+-- The frame is put, and its slot is written back.
 abbrev fetched_one : ℕ → List ℕ → Queued
 fetched_one size words = fetched true (sending size words).memory 2176
 

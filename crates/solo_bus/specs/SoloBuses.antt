@@ -1,4 +1,4 @@
--- The state of a solo bus, and how its calls change it.
+-- The state of a solo bus, how its calls change it, and its record of what happened.
 use Rattle.std.specs.Prelude.{⊤, ◌≡◌, ◌+◌, ◌++◌, ℕ, Bool, true, false, List, [], ◌∷◌, All, length, map, min, nat_lt, sum_by}
 use Rattle.std.specs.Prelude.{if◌then◌else◌}
 use Rattle.rx_engine.specs.declared.arrival.Fate.{Fate}

@@ -1,4 +1,5 @@
--- Lemmas: the records of a solo bus over two intervals, joined, are its record over both.
+-- Lemmas: the records of a solo bus over two consecutive intervals, joined, are its record over both; and the accesses and ticks that a
+-- record counts.
 use Rattle.std.proofs.Common.{◌≡◌, ◌+◌, ◌++◌, ◌∷◌, [], Bool, true, false, List, ℕ, length, map, min, sum_by, if◌then◌else◌, refl, sym, ap}
 use Rattle.std.proofs.Common.{subst, ◌∙◌, append_assoc, arith, length-append}
 use Rattle.std.proofs.lemmas.List.{append-nil, map-append}

@@ -1,4 +1,4 @@
--- The conditions of the law hold in some worlds whose engines can run, so they can be met.
+-- Worlds in which the conditions of the law hold and the engines can run, so the conditions can be met.
 use Rattle.std.specs.Prelude.{◌≢◌, ◌<◌, []}
 use Rattle.descriptors.specs.Ring.{count_of}
 use Rattle.adapter.specs.Slots.{buffered, finished, in_work, offered, written_back}

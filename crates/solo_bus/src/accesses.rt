@@ -1,4 +1,4 @@
-// The solo bus obeys the law.
+// The solo bus obeys the law, and counts its accesses.
 
 ghost use Rattle.std.specs.Prelude.{◌≡◌, length, min};
 

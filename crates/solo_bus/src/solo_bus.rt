@@ -145,7 +145,7 @@ impl SoloBus {
     }
 
     /// Appends ticks to those that wait. Before each later access, the ticks up to the next [`Go`](SoloTick::Go) are
-    /// played. At most 32 ticks may wait.
+    /// played, or all ticks if no `Go` waits. At most 32 ticks may wait.
     pub fn play(&mut self, ticks: &[SoloTick])
         requires room { length self.old.waiting + length ticks.now ≤ MOST_TICKS }
         ensures { self.new ≡ record self.old { waiting = self.old.waiting ++ ticks.now } }
@@ -180,7 +180,8 @@ impl SoloBus {
         }
     }
 
-    /// Plays the ticks up to the next [`Go`](SoloTick::Go), and removes them, with this `Go`.
+    /// Plays the ticks up to the next [`Go`](SoloTick::Go), and removes them, with this `Go`. If no `Go` waits, plays
+    /// and removes all ticks.
     fn play_group(&mut self)
         ensures { PlaysSoloTicks (group_of is_go self.old.waiting) (behind_group is_go self.old.waiting) self.old
             self.new }

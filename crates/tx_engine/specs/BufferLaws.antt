@@ -1,4 +1,5 @@
--- Lemmas about frames, each paired with the report of its descriptor. The list of reports is as long as the list of frames.
+-- Lemmas about frames, each paired with the report of its descriptor. The list of reports is as long as the list of frames. Also lemmas
+-- about the engine after a frame and its report are added.
 use Rattle.std.proofs.Common.{◌≡◌, ◌<◌, not, length-append, ◌++◌, ◌∷◌, [], ℕ, List, length, map, flat_map, slice_get, Some, ◌↔◌}
 use Rattle.std.proofs.Common.{refl, ap, ◌∙◌, arith}
 use Rattle.circular_buffer.specs.Buffer.{Buffer, buffer, keep_last}

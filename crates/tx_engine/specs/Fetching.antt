@@ -19,7 +19,7 @@ pads control = is_set control tctl_psp
 abbrev pub descriptor_at : List ℕ → ℕ → TxDesc
 descriptor_at memory address = tx_desc_of (bytes_at memory address 16)
 
--- The bytes that a descriptor points to.
+-- The bytes that a descriptor points to, or fewer if memory ends earlier.
 abbrev pub named_by : List ℕ → TxDesc → List ℕ
 named_by memory desc = bytes_at memory desc.address desc.length
 

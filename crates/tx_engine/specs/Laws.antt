@@ -1,4 +1,4 @@
--- Lemmas: the effect of each step on the frames to be sent.
+-- Lemmas: the effect of each step, and of a tail that advances, on the frames to be sent.
 use Rattle.std.proofs.Common.{◌≡◌, ◌-◌, replicate, ◌++◌, ◌∷◌, [], Bool, true, false, ℕ, List, length, map, refl, sym, ap, ◌∙◌, append_assoc}
 use Rattle.std.proofs.Common.{arith, cond}
 use Rattle.std.proofs.lemmas.List.{append-nil, map-append}

@@ -1,4 +1,4 @@
--- Lemmas: a write doesn't change bytes and frames that are apart from it.
+-- Lemmas: a write, such as a write-back, doesn't change the frames to be sent that are apart from it.
 use Rattle.std.proofs.Common.{◌≡◌, ◌<◌, ◌+◌, ◌++◌, ◌∷◌, [], Bool, true, false, ◌&&◌, if◌then◌else◌, ℕ, zero, suc, List, length, map, drop}
 use Rattle.std.proofs.Common.{slice_index, refl, sym, ap, ◌∙◌, arith, lit≤}
 use Rattle.std.proofs.lemmas.Bool.{and_parts, ltb-true}
@@ -19,7 +19,7 @@ use Rattle.tx_engine.specs.Laws.{to_send-put}
 use Rattle.tx_engine.specs.Steps.{IfFront, status_place, written_back}
 use Rattle.tx_engine.specs.ToSend.{to_send, IsAwayFrom, OtherBytesLeaveFrames}
 
--- The number at place j of a list without its first i bytes is the number at place i + j of the whole list.
+-- The number of n bytes at place j of a list without its first i bytes is the number of n bytes at place i + j of the whole list.
 little_from-drop : (j n i : ℕ) (bytes : List ℕ) → little_from j n (drop i bytes) ≡ little_from (i + j) n bytes
 little_from-drop j zero i bytes = refl
 little_from-drop j (suc n) i bytes =
@@ -91,7 +91,7 @@ to_send-elsewhere memory ring pad buffer place bytes lies away =
     ap (λ (frames : List (List ℕ)). map (λ (queued : Queued). queued.frame) buffer ++ frames)
     (frames-away memory bytes ring pad place (offered_places ring) lies away)
 
--- A write of one byte apart from the descriptors that the adapter owns and their frames doesn't change the frames to be sent.
+-- The same for a write of one byte.
 pub to_send-away : (memory : List ℕ) (ring : Ring) (pad : Bool) (buffer : List Queued) (place byte : ℕ) → LiesIn memory place 1
     → All (λ slot. IsAwayFrom memory (area_at place 1) (address_of ring slot)) (offered_places ring)
     → to_send (with_bytes memory place (byte ∷ [])) ring pad buffer ≡ to_send memory ring pad buffer

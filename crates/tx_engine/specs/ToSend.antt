@@ -1,4 +1,4 @@
--- The frames that a host still has to send (our choice).
+-- The frames that a host still has to send (our choice), and laws about them.
 use Rattle.std.specs.Prelude.{◌≡◌, ◌++◌, ◌∷◌, [], Bool, ℕ, List, length, map, All}
 use Rattle.dma_memory.specs.Areas.{Area, area_at, AreApart}
 use Rattle.dma_memory.specs.HostMemory.{with_bytes, LiesIn}

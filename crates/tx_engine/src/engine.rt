@@ -20,8 +20,8 @@ pub const PACKET_BUFFER_FRAMES: u8 = 4;
 /// fault has stopped the engine.
 ///
 /// In contracts, the value is the list of frames in the buffer, the oldest first, and the flag. With each frame, the
-/// value contains the address of its descriptor, and whether this descriptor asks for a report (RS). `new` allocates
-/// the memory.
+/// value contains the address of its descriptor, and whether this descriptor asks for a report (RS). Only `new` and
+/// `clone` allocate memory.
 #[derive(Drop)]
 pub struct TxEngine {
     frames: FrameQueue,
@@ -150,8 +150,9 @@ impl TxEngine {
         self.running = false;
     }
 
-    /// Appends a frame, followed by zeros up to `least` bytes if the frame is shorter. The buffer must not be full,
-    /// and neither the frame nor `least` may exceed 1,518 bytes.
+    /// Appends a frame, followed by zeros up to `least` bytes if the frame is shorter. The buffer must not be full, and
+    /// neither the frame nor `least` may exceed 1,518 bytes. The address of the descriptor's status byte must fit into
+    /// 64 bits.
     pub(crate) fn push(&mut self, named: Named<'_>, least: usize)
         requires room { length self.old.buffer < 4 }
         requires fits { length named.bytes.now ≤ 1518 }

@@ -1,5 +1,6 @@
 //! The transmit engine of the Intel 82540EM, in two small steps: [`take`] moves a frame from the transmit ring into the
-//! transmit packet buffer, and [`put`] moves the oldest frame of that buffer onto the wire.
+//! transmit packet buffer, and [`put`] moves the oldest frame of that buffer onto the wire. [`append_queued`] copies
+//! the frames of the offered descriptors, which the engine hasn't taken yet.
 //!
 //! Section numbers are those of Intel's "PCI/PCI-X Family of Gigabit Ethernet Controllers Software Developer's Manual".
 #![tactic(auto)]

@@ -37,8 +37,8 @@ pub fn put(engine: &mut TxEngine, memory: &mut HostMemory, wire_free: bool) -> P
     ensures one_byte { IfFront engine.old.buffer
         (λ queued. DiffersAtMostAt (status_place queued) memory.old memory.new) }
 
-    // If the status byte is apart from the offered descriptors and their frames, the first of the frames to be sent is
-    // put on the wire, and the others don't change.
+    // If the status byte is apart from the addresses and lengths in the offered descriptors, and from their frames, the
+    // first of the frames to be sent is put on the wire, and the others don't change.
     ensures to_send { IfPut result (λ _. IfFront engine.old.buffer (λ queued.
         (ring : Ring) (pad : Bool)
         → All (λ slot. IsAwayFrom memory.old (area_at (status_place queued) 1) (address_of ring slot))

@@ -1,4 +1,4 @@
-// The frames of a transmit ring.
+// The frames of the offered descriptors of a transmit ring, as they are put onto the wire.
 
 ghost use Rattle.std.specs.Prelude.{◌≡◌, ◌≤◌, ◌<◌, ◌+◌, ◌-◌, ◌*◌, ◌⊎◌, ◌++◌, ◌∷◌, [], All, IfSome, IsSome, length, map};
 ghost use Rattle.std.specs.Prelude.{vec_capacity, if◌then◌else◌};
@@ -46,7 +46,7 @@ fn frame_as_sent(bytes: &[u8], pad: bool) -> Frame
     Frame::from_slice(whole.as_slice())
 }
 
-/// Appends a frame as it is put onto the wire.
+/// Appends a frame of at most 1,518 bytes, as it is put onto the wire, to a list that has room for it.
 fn append_padded(bytes: &[u8], pad: bool, frames: &mut Vec<Frame>)
     requires short { length bytes.now ≤ 1518 }
     requires room { length frames.old.items < vec_capacity frames.old }
@@ -56,7 +56,7 @@ fn append_padded(bytes: &[u8], pad: bool, frames: &mut Vec<Frame>)
     let _ = frames.push(frame_as_sent(bytes, pad));
 }
 
-/// Returns the descriptor in a slot of a ring.
+/// Returns the descriptor in a slot of a ring. The ring must be inside memory, so the result is never `None`.
 fn descriptor_in(memory: &HostMemory, ring: &Ring, place: u16) -> Option<TxDesc>
     requires ring { LiesIn memory.now ring.now.base (16 * count_of ring.now) }
     requires place { place < count_of ring.now }
@@ -73,7 +73,8 @@ fn descriptor_in(memory: &HostMemory, ring: &Ring, place: u16) -> Option<TxDesc>
     Some(TxDesc::from_bytes(&bytes))
 }
 
-/// Returns the bytes that the descriptor in a slot of a ring points to.
+/// Returns the bytes that the descriptor in a slot of a ring points to. The ring and these bytes, at most 1,518, must
+/// be inside memory, so the result is never `None`.
 fn queued_bytes<'a>(memory: &'a HostMemory, ring: &Ring, place: u16) -> Option<&'a [u8]>
     requires ring { LiesIn memory.now ring.now.base (16 * count_of ring.now) }
     requires place { place < count_of ring.now }
@@ -88,7 +89,8 @@ fn queued_bytes<'a>(memory: &'a HostMemory, ring: &Ring, place: u16) -> Option<&
 }
 
 /// Appends the frames of the offered descriptors, as they are put onto the wire. The list must have room for these
-/// frames. The ring and the frames must be inside memory, and no frame may exceed 1,518 bytes.
+/// frames. The ring and the frames must be inside memory, and no frame may exceed 1,518 bytes. If a descriptor is
+/// offered, head must be a slot of the ring.
 pub fn append_queued(memory: &HostMemory, ring: &Ring, pad: bool, frames: &mut Vec<Frame>)
     requires ring { LiesIn memory.now ring.now.base (16 * count_of ring.now) }
     requires slot { (ring.now.head < count_of ring.now) ⊎ (offered_places ring.now ≡ []) }

@@ -27,8 +27,8 @@ pub fn is_idle(engine: &TxEngine, ring: &Ring, control: Tctl) -> bool
 ///   without descriptors has no slots.) The descriptor, or the bytes that it points to, aren't inside memory.
 ///   (Addresses don't wrap.) EOP is clear, DEXT is set, or the length is 0 or above 1,518. Ring and buffer are then
 ///   unchanged, and the engine takes no frame until a reset.
-/// - Otherwise `Took`: the frame is in the buffer, and head has advanced. If TCTL.PSP is set, zeros pad the frame to 60
-///   bytes.
+/// - Otherwise `Took`: the frame is in the buffer, and head has advanced by one slot. If TCTL.PSP is set, zeros pad a
+///   shorter frame to 60 bytes.
 pub fn take(engine: &mut TxEngine, ring: &mut Ring, control: Tctl, memory: &HostMemory) -> Take
     ensures nothing { (result ≡ Take.Nothing) ↔ HasNoFrameToTake control.0 engine.old ring.old }
     ensures fault { (result ≡ Take.Fault)

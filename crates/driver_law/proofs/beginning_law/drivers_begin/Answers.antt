@@ -1,4 +1,4 @@
--- As the lemma says.
+-- The clause is a lemma.
 use Rattle.driver_law.proofs.Beginnings as beginnings
 use Rattle.driver_law.proofs.beginning_law.drivers_begin.Goals as goal
 

@@ -1,4 +1,4 @@
--- As the lemmas say.
+-- Each clause is a lemma.
 use Rattle.driver_law.proofs.TransmitControl.{causes_are_enabled, transmitter_is_enabled, enabled_forgets_no_work}
 use Rattle.driver_law.proofs.ReceiveControl.{receiver_is_enabled}
 use Rattle.driver_law.proofs.TransmitRing.{transmit_ring_is_written}

@@ -1,4 +1,4 @@
--- As the lemmas say.
+-- Each clause is a lemma.
 use Rattle.driver_law.proofs.WaitingStates.{no_frame_comes, nothing_is_held, rings_that_are_off_stay}
 use Rattle.driver_law.proofs.beginning_law.rings_stay.Goals as goal
 

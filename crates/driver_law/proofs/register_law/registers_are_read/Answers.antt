@@ -1,4 +1,4 @@
--- As the lemmas say.
+-- Each clause is a lemma.
 use Rattle.driver_law.proofs.RegisterReads.{causes_are_read, misses_are_read, others_are_read}
 use Rattle.driver_law.proofs.register_law.registers_are_read.Goals as goal
 

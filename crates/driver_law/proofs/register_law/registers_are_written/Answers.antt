@@ -1,4 +1,4 @@
--- As the lemmas say.
+-- Each clause is a lemma.
 use Rattle.driver_law.proofs.RegisterWrites.{receive_control_writes, transmit_control_writes, transmit_ring_writes}
 use Rattle.driver_law.proofs.register_law.registers_are_written.Goals as goal
 

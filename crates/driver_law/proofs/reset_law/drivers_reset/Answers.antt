@@ -1,4 +1,4 @@
--- As the lemmas say.
+-- Each clause is a lemma.
 use Rattle.driver_law.proofs.Resets.{drivers_rest, receiver_is_disabled, reset_forgets_slots, reset_keeps_sum, rest_keeps_memory}
 use Rattle.driver_law.proofs.reset_law.drivers_reset.Goals as goal
 

@@ -1,4 +1,4 @@
--- As the lemmas say.
+-- Each clause is a lemma.
 use Rattle.driver_law.proofs.FramesCounted.{slots_have_frames}
 use Rattle.driver_law.proofs.OfferedAndFreedSlots.{none_is_written_back, slot_is_freed}
 use Rattle.driver_law.proofs.transmit_law.slots_are_freed.Goals as goal

@@ -1,4 +1,4 @@
--- As the lemmas say.
+-- Each clause is a lemma.
 use Rattle.driver_law.proofs.TransmitSlots.{data_is_stored, descriptor_is_stored, next_slot_belongs_to_driver, slots_keep_bytes}
 use Rattle.driver_law.proofs.transmit_law.transmit_slots_are_stored.Goals as goal
 

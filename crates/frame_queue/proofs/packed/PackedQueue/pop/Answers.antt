@@ -7,7 +7,7 @@ use Rattle.frame_queue.specs.declared.packed.PackedQueue.TheInside.{Inside}
 use Rattle.frame_queue.proofs.Cut.{cut-drop, first-in-sum, is_none, none-cut, none-dropped}
 use Rattle.frame_queue.proofs.packed.PackedQueue.pop.Goals as goal
 
--- the queue with these frames
+-- The queue with these frames.
 abbrev with_frames : Inside → List (List ℕ) → PackedFrames
 with_frames queue frames = record { capacity = queue.lengths.capacity; room = length queue.bytes.items; frames = frames }
 

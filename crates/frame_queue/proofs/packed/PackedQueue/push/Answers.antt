@@ -8,7 +8,7 @@ use Rattle.frame_queue.specs.declared.packed.PackedQueue.TheInside.{Inside}
 use Rattle.frame_queue.proofs.Cut.{cut-pushed, length-cut, sum-cut, total-append}
 use Rattle.frame_queue.proofs.packed.PackedQueue.push.Goals as goal
 
--- the number of bytes of the frames is the sum of their lengths
+-- The number of bytes of the frames is the sum of their lengths.
 stand : (queue : Inside) (seen : PackedFrames) → IsPacked queue → packed_of queue ≡ seen
     → sum_by (λ (frame : List ℕ). length frame) seen.frames ≡ total queue.lengths.items
 stand queue seen whole view =

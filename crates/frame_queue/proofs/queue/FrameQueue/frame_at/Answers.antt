@@ -22,7 +22,7 @@ place : (queue : Inside) (i : ℕ) → IsConsistent queue → i < length queue.l
     → wrapped queue.lengths.capacity (queue.first + i) < queue.lengths.capacity
 place queue i whole within = wrapped-within queue.lengths.capacity (queue.first + i) (omega (arith, whole.first, whole.count, within))
 
--- A length is at most that of a place.
+-- Each frame has at most the 1,518 bytes of a place.
 short : (ns : List ℕ) (i n : ℕ) → All (λ (m : ℕ). m ≤ 1518) ns → i < length ns → slice_get ns i ≡ Some n → n ≤ 1518
 short ns i n fits within is = rw (get_or_from_slice_get ns i n 0 is) at (fits i 0 within)
 

@@ -10,13 +10,13 @@ use Rattle.tx_engine.specs.declared.engine.TxEngine.TheInside.{Inside}
 use Rattle.tx_engine.specs.declared.report.Report.{Report}
 use Rattle.tx_engine.proofs.engine.TxEngine.feed.Goals as goal
 
--- The frames that an engine feeds are those of its buffer,
+-- The frames that an engine feeds are those of its buffer.
 frames : (engine : Inside) (seen : Transmitter) → length engine.frames.frames ≡ length engine.reports.items → transmitter_of engine ≡ seen
     → frames_writes engine.frames.frames ≡ frames_writes (map (λ (q : Queued). q.frame) seen.buffer)
 frames engine seen same view = ap frames_writes (sym (side_by_side-frames engine.frames.frames engine.reports.items same)
     ∙ ap (λ (t : Transmitter). map (λ (q : Queued). q.frame) t.buffer) view)
 
--- and so are the reports, in two parts.
+-- The reports that an engine feeds, in two parts, are those of the frames in its buffer.
 reports : (engine : Inside) (seen : Transmitter) (front wrapped : List Report) → length engine.frames.frames ≡ length engine.reports.items
     → transmitter_of engine ≡ seen → front ++ wrapped ≡ engine.reports.items
     → flat_map report_writes front ++ flat_map report_writes wrapped ≡ flat_map queued_writes seen.buffer
