@@ -1,7 +1,7 @@
 -- Facts about a new server, whose memory has some address.
 use Rattle.std.proofs.Common.{◌≡◌, ◌∙◌, ℕ, List, Option, Some, None, subst, sym}
 use Rattle.std.specs.Prelude.{Err, IfErr, IfSome, IsErrAnd, Ok, Result}
-use Rattle.step_schedules.specs.Players.{PlayerState}
+use Rattle.step_schedules.specs.declared.player.Player.{Player}
 use Rattle.adapter_server.specs.Serving.{FromNew, new_server}
 use Rattle.adapter_server.specs.declared.options.ServeOptions.{ServeOptions}
 use Rattle.adapter_server.specs.declared.serve_error.ServeError.{ServeError}
@@ -9,14 +9,14 @@ use Rattle.adapter_server.specs.declared.serve_error.ServeError.TheVariants as e
 use Rattle.adapter_server.specs.declared.snapshot.Server.{Server}
 
 -- A fact about a new server with its address holds for some address.
-pub from_new : (options : ServeOptions) (player : Option PlayerState) (server : Server) (bytes : Option (List ℕ))
+pub from_new : (options : ServeOptions) (player : Option Player) (server : Server) (bytes : Option (List ℕ))
     (Holds : List ℕ → Server → Type 0) → server ≡ new_server options player server.session.device.address
     → IfSome bytes (λ all. Holds all server) → IfSome bytes (λ all. FromNew options player (Holds all))
 from_new options player server None Holds new holds = tt
 from_new options player server (Some all) Holds new holds = (server.session.device.address, subst (Holds all) new holds)
 
 -- A fact about a new server whose memory has no address holds for some address.
-pub from_any : (options : ServeOptions) (player : Option PlayerState) (bytes : Option (List ℕ)) (Holds : List ℕ → Server → Type 0)
+pub from_any : (options : ServeOptions) (player : Option Player) (bytes : Option (List ℕ)) (Holds : List ℕ → Server → Type 0)
     → IfSome bytes (λ all. Holds all (new_server options player None)) → IfSome bytes (λ all. FromNew options player (Holds all))
 from_any options player None Holds holds = tt
 from_any options player (Some all) Holds holds = (None, holds)

@@ -1,5 +1,4 @@
 pub mod FromNew
-pub mod Holds
 pub mod Places
 pub mod Printing
 pub mod ReadRequests

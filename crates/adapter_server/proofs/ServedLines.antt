@@ -9,7 +9,7 @@ use Rattle.adapter_server.specs.Answers.{AnswersLine, Refuses}
 use Rattle.server_output.specs.Order.{Tells}
 use Rattle.server_requests.specs.Lines.{behind_line, first_line, lines_of, most_line_bytes}
 use Rattle.server_requests.specs.LinesRead.{AtEnd, BothKnown, IsLong, IsNextLine, IsWhole}
-use Rattle.adapter_server.specs.Serving.{AnswersNext, Serves, ServesFront, ServesTo, ServesWhole, Turns}
+use Rattle.adapter_server.specs.Serving.{AnswersNext, Serves, ServesFront, ServesTo, ServesWhole, Turns, player_of}
 use Rattle.adapter_server.specs.Causes.{ended_by}
 use Rattle.server_output.specs.Texts.{Text}
 use Rattle.server_output.specs.declared.answer_error.AnswerError.{AnswerError}
@@ -143,10 +143,10 @@ serves_lines (Some old) (Some new) (Some later) begin now before after on ends =
 -- All lines are answered, so the player at the end is the player of the last server.
 pub serves_to : (bytes : Option (List ℕ)) (begin last : Server) (before after : Option (List ℕ))
     → IfSome bytes (λ all. Tells before after (ServesWhole all begin last))
-    → IfSome bytes (λ all. Tells before after (ServesTo all begin last.session.kept.player))
+    → IfSome bytes (λ all. Tells before after (ServesTo all begin (player_of last.session.agenda last.session.kept.recorder)))
 serves_to None begin last before after serves = tt
 serves_to (Some all) begin last before after serves =
-    tells_so (ServesWhole all begin last) (ServesTo all begin last.session.kept.player) before after
+    tells_so (ServesWhole all begin last) (ServesTo all begin (player_of last.session.agenda last.session.kept.recorder)) before after
     (λ text lines. record { last = last; serves = lines; player = refl }) serves
 
 pub serves_front : (old new : Option (List ℕ)) (begin now : Server) (before after : Option (List ℕ))

@@ -1,19 +1,23 @@
 -- If a task is performed, its request is answered.
-use Rattle.std.proofs.Common.{◌≡◌, ◌++◌, ◌∙◌, ℕ, List, Ok, Option, Result, ap, refl, subst, sym}
+use Rattle.std.proofs.Common.{◌≡◌, ◌++◌, ◌∙◌, [], ℕ, List, Ok, Option, Result, ap, length, refl, subst, sym}
 use Rattle.std.specs.Borrow.{Bor}
-use Rattle.bus.specs.declared.event.Access.TheVariants.{Reads}
+use Rattle.bus.specs.declared.event.Access.TheVariants.{Loads, Reads}
+use Rattle.played_adapter.proofs.Playing.{moves_keep}
+use Rattle.played_adapter.specs.Moves.{AfterMoves}
+use Rattle.played_adapter.specs.Order.{InOrder, Joins}
+use Rattle.played_adapter.specs.Playing.{Makes}
 use Rattle.played_adapter.specs.Requests.{ServesAccess, ServesChoice, ServesLoad}
 use Rattle.played_adapter.specs.Told.{Told}
 use Rattle.played_adapter.specs.declared.choices.Move.{Move}
 use Rattle.played_adapter.specs.declared.player.PlayedAdapter.{PlayedAdapter}
 use Rattle.server_output.specs.Answers.{answer_line}
-use Rattle.server_output.specs.Telling.{kept_after}
 use Rattle.server_output.specs.Texts.{Text, decimal_line, ok_line}
 use Rattle.server_requests.specs.Widths.{size_of}
 use Rattle.server_requests.specs.declared.request.Wanted.{Wanted}
-use Rattle.adapter_server.specs.Answers.{Accessed, Answered, AnswersChoice, Offers, Played, ReadsAt, SettlesUntil, TellsAnswer}
-use Rattle.adapter_server.specs.Sessions.{met_before, moves_before, write_to}
-use Rattle.adapter_server.specs.Tasks.{AnswersAfter, Fits, Performs, task_met, task_moves, task_wanted}
+use Rattle.adapter_server.specs.Answers.{Accessed, Answered, AnswersChoice, Played, ReadsAt, SettlesUntil, TellsAnswer}
+use Rattle.adapter_server.specs.Sessions.{met_before, moves_before, wanted_number, write_to}
+use Rattle.adapter_server.specs.Tasks.{AnswersAfter, Fits, Performs, Plays, task_agenda, task_begun, task_met, task_moves}
+use Rattle.adapter_server.specs.Tasks.{task_wanted}
 use Rattle.adapter_server.specs.declared.session.Place.{Place}
 use Rattle.adapter_server.specs.declared.session.Place.TheVariants.{Memory, Register}
 use Rattle.adapter_server.specs.declared.session.Session.{Session}
@@ -35,23 +39,45 @@ again H K said a b line known text answered same happens = record {
   text_is = answered.text_is ∙ ap (λ (l : Text). answered.told ++ l) same;
 }
 
+-- If something happens after moves, and K holds for what happens after them, K happens after the moves.
+after_so : {Later : PlayedAdapter → List Told → Type 0} (K : PlayedAdapter → PlayedAdapter → List Told → Type 0) (moves : List Move)
+    (a b : PlayedAdapter) (told : List Told) (after : Joins (InOrder Makes moves a) Later told) → K after.middle b after.rest
+    → AfterMoves moves K a b told
+after_so K moves a b told after happens = record {
+  middle = after.middle;
+  first = after.first;
+  rest = after.rest;
+  happens = after.happens;
+  goes_on = happens;
+  told_is = after.told_is;
+}
+
+-- What happens after no moves happens.
+no_moves : (H : PlayedAdapter → PlayedAdapter → List Told → Type 0) (a b : PlayedAdapter) (told : List Told)
+    → AfterMoves [] H a b told → H a b told
+no_moves H a b told after =
+    subst (λ (t : List Told). H a b t) (sym (after.told_is ∙ ap (λ (t : List Told). t ++ after.rest) after.happens.1))
+    (subst (λ (s : PlayedAdapter). H s b after.rest) after.happens.0 after.goes_on)
+
 -- If a read is performed at a place, its request is answered.
 pub reads : (place : Place) (address : ℕ) (wanted : Wanted) (said : Text) (a b : Session) (text : Text)
     → Performs (tasks.Read place address wanted) said a b text → ReadsAt (Ok place) wanted address said a b text
 reads (Register offset) address wanted said a b text does =
-    let plays = does.1.happens.happens in
+    let after = does.1.happens.happens in
+    let plays = after.goes_on in
     let value = plays.2.0 in
     let access = Reads offset value in (
       value,
-      again _ (ServesAccess (moves_before access a) access) said (met_before access a) b does.0 _ text does.1
-          (plays.1 ∙ ap (answer_line wanted) plays.2.1) plays.2.2,
+      again _ (AfterMoves (moves_before access a) (ServesAccess access)) said (met_before access a) b does.0 _ text does.1
+          (plays.1 ∙ ap (answer_line wanted) plays.2.1) (after_so (ServesAccess access) _ _ _ _ after plays.2.2),
     )
 reads Memory address wanted said a b text does =
-    let task = tasks.Read Memory address wanted in
-    let plays = does.1.happens.happens in (
+    let after = does.1.happens.happens in
+    let plays = after.goes_on in
+    let access = Loads address (size_of wanted) in (
       plays.0,
-      again _ (ServesLoad (task_moves task a) address (size_of wanted) plays.0) said (task_met task a) b does.0 _ text does.1 plays.1
-          plays.2,
+      again _ (AfterMoves (moves_before access a) (ServesLoad address (size_of wanted) plays.0)) said (met_before access a) b does.0 _ text
+          does.1 plays.1 (after_so (ServesLoad address (size_of wanted) plays.0) _ _ _ _ after plays.2),
     )
 
 pub writes : (place : Place) (address : ℕ) (bytes : Bor (List ℕ)) (said : Text) (a b : Session) (text : Text)
@@ -59,46 +85,31 @@ pub writes : (place : Place) (address : ℕ) (bytes : Bor (List ℕ)) (said : Te
     → Answered (Accessed (write_to place address bytes.now) said a b) ok_line text
 writes (Register offset) address bytes said a b text does =
     let access = write_to (Register offset) address bytes.now in
-    again _ (ServesAccess (moves_before access a) access) said (met_before access a) b does.0 _ text does.1 does.1.happens.happens.0
-    does.1.happens.happens.1
+    let after = does.1.happens.happens in
+    again _ (AfterMoves (moves_before access a) (ServesAccess access)) said (met_before access a) b does.0 _ text does.1 after.goes_on.0
+    (after_so (ServesAccess access) _ _ _ _ after after.goes_on.1)
 writes Memory address bytes said a b text does =
     let access = write_to Memory address bytes.now in
-    again _ (ServesAccess (moves_before access a) access) said (met_before access a) b does.0 _ text does.1 does.1.happens.happens.0
-    does.1.happens.happens.1
+    let after = does.1.happens.happens in
+    again _ (AfterMoves (moves_before access a) (ServesAccess access)) said (met_before access a) b does.0 _ text does.1 after.goes_on.0
+    (after_so (ServesAccess access) _ _ _ _ after after.goes_on.1)
 
 pub chooses : (limit : ℕ) (said : Text) (a b : Session) (text : Text) → Performs (tasks.Choose limit) said a b text
     → AnswersChoice limit said a b text
 chooses limit said a b text does =
     let task = tasks.Choose limit in
-    let plays = does.1.happens.happens in (
+    let wanted = wanted_number a in
+    let plays = no_moves (λ c d told. Plays task does.0 wanted c d told) a.device b.device _ does.1.happens.happens in (
       plays.0,
-      again _ (ServesChoice limit (task_wanted task a) plays.0) said (task_met task a) b does.0 _ text does.1 plays.1 plays.2,
+      again _ (ServesChoice limit wanted plays.0) said (task_met task a) b does.0 _ text does.1 plays.1 plays.2,
     )
-
-pub offers : (frame : Bor (List ℕ)) (said : Text) (a b : Session) (text : Text) → Performs (tasks.Offer frame) said a b text
-    → Answered (Offers frame.now said a b) ok_line text
-offers frame said a b text does =
-    let answered = does.1 in
-    let played = answered.happens in
-    let plays = played.happens in
-    let met = task_met (tasks.Offer frame) a in
-    let with : PlayedAdapter → Session = λ device. record met { device = device; kept = kept_after played.told met.kept } in
-    record {
-      told = answered.told;
-      happens = record {
-        moved = with plays.1;
-        plays = record { told = played.told; happens = plays.3; after = refl; text_is = played.text_is };
-        after = played.after ∙ ap with plays.2;
-      };
-      text_is = answered.text_is ∙ ap (λ (l : Text). answered.told ++ l) plays.0;
-    }
 
 pub settles : (time : ℕ) (said : Text) (a b : Session) (text : Text) → Performs (tasks.SetClock time) said a b text
     → Answered (SettlesUntil time said a (record b { clock = time })) (decimal_line time) text
 settles time said a b text does =
     let answered = does.1 in
     let played = answered.happens in
-    let plays = played.happens in
+    let plays = no_moves (λ c d told. Plays (tasks.SetClock time) does.0 0 c d told) a.device b.device _ played.happens in
     record {
       told = answered.told;
       happens = record {
@@ -110,27 +121,41 @@ settles time said a b text does =
       text_is = answered.text_is ∙ ap (λ (l : Text). answered.told ++ l) plays.1;
     }
 
-same_device : (task : Task) (a : Session) → (task_met task a).device ≡ a.device
-same_device (tasks.Read place address wanted) a = refl
-same_device (tasks.Write place address bytes) a = refl
-same_device (tasks.Step kind) a = refl
-same_device (tasks.Arrive frame) a = refl
-same_device tasks.Settle a = refl
-same_device (tasks.Offer frame) a = refl
-same_device (tasks.Choose limit) a = refl
-same_device (tasks.SetClock time) a = refl
+-- A task that fits before the recorder begins it fits afterwards, too.
+pub begun_fits : (task : Task) (into : List ℕ) (a begun : Session) → begun ≡ task_begun task a → Fits task into a.device
+    → Fits task into begun.device
+begun_fits task into a begun same fits =
+    subst (λ (device : PlayedAdapter). Fits task into device) (sym (ap (λ (s : Session). s.device) same)) fits
 
--- A task that fits before the player meets it fits afterwards, too.
-pub still_fits : (task : Task) (into : List ℕ) (a met : Session) → met ≡ task_met task a → Fits task into a.device
-    → Fits task into met.device
-still_fits task into a met same fits =
-    subst (λ (device : PlayedAdapter). Fits task into device) (sym (ap (λ (s : Session). s.device) same ∙ same_device task a)) fits
+-- A task that fits before moves fits afterwards, too.
+pub moved_fits : (task : Task) (into : List ℕ) (moves : List Move) (a b : PlayedAdapter) (told : List Told) → InOrder Makes moves a b told
+    → Fits task into a → Fits task into b
+moved_fits (tasks.Read (Register offset) address wanted) into moves a b told made fits = fits
+moved_fits (tasks.Read Memory address wanted) into moves a b told made fits =
+    (fits.0, moves_keep moves a b told address (length into) made ∙ fits.1)
+moved_fits (tasks.Write (Register offset) address bytes) into moves a b told made fits = fits
+moved_fits (tasks.Write Memory address bytes) into moves a b told made fits =
+    moves_keep moves a b told address (length bytes.now) made ∙ fits
+moved_fits (tasks.Step kind) into moves a b told made fits = tt
+moved_fits (tasks.Arrive frame) into moves a b told made fits = tt
+moved_fits tasks.Settle into moves a b told made fits = tt
+moved_fits (tasks.Offer frame) into moves a b told made fits = tt
+moved_fits (tasks.Choose limit) into moves a b told made fits = tt
+moved_fits (tasks.SetClock time) into moves a b told made fits = tt
 
--- If a task is answered from the session after the player met it, with the player's moves and number, the task is performed.
-pub performs : {T E : Type 0} (result : Result T E) (task : Task) (said : Text) (a met b : Session) (moves : List Move) (wanted : ℕ)
-    (before after : Option (List ℕ)) → met ≡ task_met task a → moves ≡ task_moves task a → wanted ≡ task_wanted task a
-    → TellsAnswer result before after (AnswersAfter moves wanted task said met) b → TellsAnswer result before after (Performs task said a) b
-performs result task said a met b moves wanted before after same_met same_moves same_wanted tells =
-    subst (λ (m : Session). TellsAnswer result before after (AnswersAfter (task_moves task a) (task_wanted task a) task said m) b) same_met
-    (subst (λ (ms : List Move). TellsAnswer result before after (AnswersAfter ms (task_wanted task a) task said met) b) same_moves
-    (subst (λ (n : ℕ). TellsAnswer result before after (AnswersAfter moves n task said met) b) same_wanted tells))
+-- the session after its agenda, if there is one, has met the task
+abbrev pub met_by : Task → Session → Session
+met_by task session = record session { agenda = task_agenda task session.device.machine.world.adapter session.agenda }
+
+-- what answers a task after its recorder began it
+abbrev pub AnswersBegun : Task → (said : Text) → Session → Session → Text → Type 0
+AnswersBegun task said a b text =
+    AnswersAfter (task_moves task a.device a.agenda) (task_wanted task a.device.machine.world.adapter a.agenda) task said (met_by task a) b
+    text
+
+-- If a task is answered after its recorder began it, the task is performed.
+pub performs : {T E : Type 0} (result : Result T E) (task : Task) (said : Text) (a begun b : Session)
+    (before after : Option (List ℕ)) → begun ≡ task_begun task a → TellsAnswer result before after (AnswersBegun task said begun) b
+    → TellsAnswer result before after (Performs task said a) b
+performs result task said a begun b before after same tells =
+    subst (λ (s : Session). TellsAnswer result before after (AnswersBegun task said s) b) same tells

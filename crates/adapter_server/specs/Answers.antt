@@ -18,11 +18,10 @@ use Rattle.access_names.specs.declared.engine_fault.Engine.TheVariants.{Receive,
 use Rattle.access_names.specs.declared.ring_words.RingWords.{RingWords}
 use Rattle.pci_function.specs.Ports.{after_write, answer_at}
 use Rattle.pci_function.specs.declared.port_width.PortWidth.{PortWidth}
-use Rattle.played_adapter.specs.Order.{InOrder}
-use Rattle.played_adapter.specs.Playing.{Makes}
-use Rattle.played_adapter.specs.Requests.{ServesAccess, ServesArrival, ServesChoice, ServesLoad, ServesSettle, ServesStep}
+use Rattle.played_adapter.specs.Moves.{AfterMoves}
+use Rattle.played_adapter.specs.Playing.{Steps}
+use Rattle.played_adapter.specs.Requests.{ServesAccess, ServesArrival, ServesChoice, ServesLoad, ServesSettle}
 use Rattle.played_adapter.specs.Told.{Told}
-use Rattle.played_adapter.specs.declared.choices.Move.{Move}
 use Rattle.played_adapter.specs.declared.player.PlayedAdapter.{PlayedAdapter}
 use Rattle.rx_engine.specs.declared.arrival.Fate.{Fate}
 use Rattle.server_output.specs.Order.{Tells, TellsPart}
@@ -118,13 +117,13 @@ pub record Played (Happens : PlayedAdapter → PlayedAdapter → List Told → T
 
 -- The player meets an access. The player's moves and random steps are played, the access happens, and cycles are played.
 abbrev pub Accessed : Access → (said : Text) → Session → Session → Text → Type 0
-Accessed access said a b text = Played (ServesAccess (moves_before access a) access) said (met_before access a) b text
+Accessed access said a b text = Played (AfterMoves (moves_before access a) (ServesAccess access)) said (met_before access a) b text
 
 -- As `Accessed`, for an access that loads these bytes from memory.
 abbrev pub Loaded : (address size : ℕ) → (bytes : List ℕ) → (said : Text) → Session → Session → Text → Type 0
 Loaded address size bytes said a b text =
     let access = Loads address size in
-    Played (ServesLoad (moves_before access a) address size bytes) said (met_before access a) b text
+    Played (AfterMoves (moves_before access a) (ServesLoad address size bytes)) said (met_before access a) b text
 
 -- A register is read, and the bytes of its value are the answer, the lowest byte first.
 abbrev pub ReadsRegister : (offset : ℕ) → Wanted → (said : Text) → Session → Session → Text → Type 0
@@ -147,48 +146,38 @@ abbrev pub WritesAt : Result Place Refusal → (address : ℕ) → List ℕ → 
 WritesAt (Ok place) address bytes said a b text = Answered (Accessed (write_to place address bytes) said a b) ok_line text
 WritesAt (Err refusal) address bytes said a b text = Refuses refusal a b text
 
--- The player meets a request that begins a round, and then something happens that depends on the player's moves.
-abbrev pub BeginsRound : (word : Text) → (Happens : List Move → PlayedAdapter → PlayedAdapter → List Told → Type 0) → (said : Text)
+-- The player meets a request that begins a round. The player's moves are played, and then something happens.
+abbrev pub BeginsRound : (word : Text) → (Happens : PlayedAdapter → PlayedAdapter → List Told → Type 0) → (said : Text)
     → Session → Session → Text → Type 0
-BeginsRound word Happens said a b text = Played (Happens (moves_at AnyRequest word a)) said (meeting AnyRequest word a) b text
+BeginsRound word Happens said a b text =
+    Played (AfterMoves (moves_at AnyRequest word a) Happens) said (meeting AnyRequest word a) b text
 
--- A round is played. `Plays` relates the line of the answer to what the round does.
-abbrev pub AnswersRound : (word : Text)
-    → (Plays : (line : Text) → List Move → PlayedAdapter → PlayedAdapter → List Told → Type 0) → (said : Text)
+-- A round is played. `Plays` relates the line of the answer to what the round does after the moves.
+abbrev pub AnswersRound : (word : Text) → (Plays : (line : Text) → PlayedAdapter → PlayedAdapter → List Told → Type 0) → (said : Text)
     → Session → Session → Text → Type 0
 AnswersRound word Plays said a b text = (line : Text) × Answered (BeginsRound word (Plays line) said a b) line text
 
 -- A step is played, and its outcome is the answer.
-abbrev pub PlaysStep : StepKind → (line : Text) → List Move → PlayedAdapter → PlayedAdapter → List Told → Type 0
-PlaysStep kind line moves a b told =
-    (outcome : Outcome (Unit {0})) × (line ≡ word_line (outcome_word outcome)) × ServesStep moves kind outcome a b told
+abbrev pub PlaysStep : StepKind → (line : Text) → PlayedAdapter → PlayedAdapter → List Told → Type 0
+PlaysStep kind line a b told =
+    (outcome : Outcome (Unit {0})) × (line ≡ word_line (outcome_word outcome)) × Steps kind outcome a b told
 
--- A frame arrives, and its fate is the answer.
-abbrev pub PlaysArrival : (frame : List ℕ) → (line : Text) → List Move → PlayedAdapter → PlayedAdapter → List Told → Type 0
-PlaysArrival frame line moves a b told =
-    (fate : Fate) × (line ≡ word_line (fate_word fate)) × ServesArrival moves frame fate a b told
+-- A frame arrives, and its fate is the answer. Cycles follow the arrival.
+abbrev pub PlaysArrival : (frame : List ℕ) → (line : Text) → PlayedAdapter → PlayedAdapter → List Told → Type 0
+PlaysArrival frame line a b told = (fate : Fate) × (line ≡ word_line (fate_word fate)) × ServesArrival frame fate a b told
 
 -- A settle is played, and the number of its cycles' steps that did something is the answer.
-abbrev pub PlaysSettle : (line : Text) → List Move → PlayedAdapter → PlayedAdapter → List Told → Type 0
-PlaysSettle line moves a b told = (moved : ℕ) × (line ≡ number_line moved) × ServesSettle moves moved a b told
+abbrev pub PlaysSettle : (line : Text) → PlayedAdapter → PlayedAdapter → List Told → Type 0
+PlaysSettle line a b told = (moved : ℕ) × (line ≡ number_line moved) × ServesSettle moved a b told
+
+-- One more frame waits for its arrival, and the answer is `OK`.
+abbrev pub PlaysOffer : (frame : List ℕ) → (line : Text) → PlayedAdapter → PlayedAdapter → List Told → Type 0
+PlaysOffer frame line a b told = (line ≡ ok_line) × (b ≡ record a { offered = a.offered ++ frame ∷ [] }) × (told ≡ [])
 
 -- The player meets a request for a number below a limit. The number is the answer.
 abbrev pub AnswersChoice : (limit : ℕ) → (said : Text) → Session → Session → Text → Type 0
 AnswersChoice limit said a b text = (number : ℕ)
     × Answered (Played (ServesChoice limit (wanted_number a) number) said (meeting Choice (codes "choose") a) b) (number_line number) text
-
--- the session with one more frame that waits for its arrival
-abbrev pub with_offered : List ℕ → Session → Session
-with_offered frame session = record session { device = record session.device { offered = session.device.offered ++ frame ∷ [] } }
-
--- The moves of the player are played, and then one more frame waits for its arrival.
-pub record Offers (frame : List ℕ) (said : Text) (a b : Session) (text : Text) : Type 0 where
-  -- the session after the moves
-  pub moved : Session
-  -- the moves are played
-  pub plays : BeginsRound (codes "offer") (λ moves. InOrder Makes moves) said a moved text
-  -- after them, one more frame waits
-  pub after : b ≡ with_offered frame moved
 
 -- 1 if the interrupt line is asserted, else 0
 abbrev pub line_number : PlayedAdapter → ℕ
@@ -266,7 +255,7 @@ pub record SettlesUntil (time : ℕ) (said : Text) (a b : Session) (text : Text)
   -- the session before the clock is set
   pub settled : Session
   -- the adapter settles, without moves of the player
-  pub settles : Played (ServesSettle [] moved) said a settled text
+  pub settles : Played (ServesSettle moved) said a settled text
   -- after that, only the clock changes
   pub after : b ≡ record settled { clock = time }
 
@@ -327,7 +316,7 @@ SessionDoes requests.Settle said a b text = AnswersRound (codes "settle") PlaysS
 SessionDoes (requests.Set setting) said a b text = Changes (with_setting setting) a b text
 SessionDoes (requests.ClockStep nanoseconds) said a b text = MovesClock (time_after a.clock nanoseconds) said a b text
 SessionDoes (requests.ClockSet time) said a b text = MovesClock (Some (max a.clock time)) said a b text
-SessionDoes (requests.Offer frame) said a b text = Answered (Offers frame said a b) ok_line text
+SessionDoes (requests.Offer frame) said a b text = AnswersRound (codes "offer") (PlaysOffer frame) said a b text
 SessionDoes (requests.Choose limit) said a b text = AnswersChoice limit said a b text
 SessionDoes requests.Save said a b text = (b ≡ a) × (text ≡ [])
 SessionDoes requests.Restore said a b text = (b ≡ a) × (text ≡ [])

@@ -1,6 +1,5 @@
 pub mod Causes
 pub mod Defaults
-pub mod Moves
 pub mod Sessions
 pub mod NewSessions
 pub mod Answers

@@ -4,7 +4,10 @@ use Rattle.std.specs.Prelude.{[]}
 use Rattle.pci_function.specs.ConfigSpace.{new_function}
 use Rattle.std.specs.Prelude.{ℕ, Option, false}
 use Rattle.std.specs.Prelude.{replicate}
-use Rattle.step_schedules.specs.Players.{PlayerState}
+use Rattle.std.specs.Option.{option_map}
+use Rattle.step_schedules.specs.Agendas.{AgendaState}
+use Rattle.step_schedules.specs.Players.{RecorderState}
+use Rattle.step_schedules.specs.declared.player.Player.{Player}
 use Rattle.adapter.specs.Registers.{after_write, new_adapter}
 use Rattle.adapter.specs.State.{AdapterState}
 use Rattle.played_adapter.specs.Playing.{new_watched}
@@ -28,12 +31,21 @@ first_adapter options = with_missed options.missed (after_write pba options.rece
 abbrev pub new_device : ServeOptions → (address : Option Ptr) → PlayedAdapter
 new_device options address = new_watched (replicate options.memory 0) (first_adapter options) options.seed address
 
+-- the agenda of a player, if there is a player
+abbrev pub agenda_of : Option Player → Option AgendaState
+agenda_of player = option_map (λ (player : Player). player.agenda) player
+
+-- the recorder of a player, if there is a player
+abbrev pub recorder_of : Option Player → Option RecorderState
+recorder_of player = option_map (λ (player : Player). player.recorder) player
+
 -- the state before the first request: the new adapter, this player, log and events off, and a clock at 0
-abbrev pub new_session : ServeOptions → Option PlayerState → (address : Option Ptr) → Session
+abbrev pub new_session : ServeOptions → Option Player → (address : Option Ptr) → Session
 new_session options player address = record {
   device = new_device options address;
   function = new_function options.registers;
   clock = 0;
-  kept = record { log = false; events = false; put = []; faults = []; player = player };
+  kept = record { log = false; events = false; put = []; faults = []; recorder = recorder_of player };
+  agenda = agenda_of player;
   targets = false;
 }

@@ -1,6 +1,6 @@
 -- The answers of a server to all of its input (our choice).
 use denote.RawPtr.{Ptr}
-use Rattle.std.specs.Prelude.{◌≡◌, ◌++◌, ℕ, List, [], ◌∷◌, MatchBool, None, Option, length, nat_lt}
+use Rattle.std.specs.Prelude.{◌≡◌, ◌++◌, ℕ, List, [], ◌∷◌, MatchBool, None, Option, Some, length, nat_lt}
 use Rattle.adapter_server.specs.Answers.{AnswersLine, Reaches, Refuses}
 use Rattle.server_requests.specs.Lines.{lines_of, most_line_bytes}
 use Rattle.server_output.specs.Order.{Begins, Tells}
@@ -9,17 +9,19 @@ use Rattle.adapter_server.specs.NewSessions.{new_session}
 use Rattle.server_output.specs.Texts.{Text}
 use Rattle.server_requests.specs.declared.line_reader.NextLine.{NextLine}
 use Rattle.server_requests.specs.declared.line_reader.NextLine.TheVariants.{End, Whole, Long}
-use Rattle.step_schedules.specs.Players.{PlayerState}
+use Rattle.step_schedules.specs.Agendas.{AgendaState}
+use Rattle.step_schedules.specs.Players.{RecorderState}
+use Rattle.step_schedules.specs.declared.player.Player.{Player}
 use Rattle.adapter_server.specs.declared.options.ServeOptions.{ServeOptions}
 use Rattle.server_requests.specs.declared.refusal.Refusal.TheVariants as refusals
 use Rattle.adapter_server.specs.declared.snapshot.Server.{Server}
 
 -- a server before the first request: nothing is saved
-abbrev pub new_server : ServeOptions → Option PlayerState → (address : Option Ptr) → Server
+abbrev pub new_server : ServeOptions → Option Player → (address : Option Ptr) → Server
 new_server options player address = record { session = new_session options player address; saved = None }
 
 -- `Holds` is true for a server before the first request, for some address of its memory.
-abbrev pub FromNew : ServeOptions → Option PlayerState → (Holds : Server → Type 0) → Type 0
+abbrev pub FromNew : ServeOptions → Option Player → (Holds : Server → Type 0) → Type 0
 FromNew options player Holds = (address : Option Ptr) × Holds (new_server options player address)
 
 -- A line is answered, or refused if it is too long. At the end of the input nothing happens.
@@ -80,25 +82,30 @@ pub record ServesBegun (bytes : List ℕ) (begin : Server) (text : Text) : Type 
   -- nothing else was written
   pub text_is : text ≡ front ++ part
 
+-- the player with this agenda and this recorder, if there are both
+abbrev pub player_of : Option AgendaState → Option RecorderState → Option Player
+player_of (Some agenda) (Some recorder) = Some (record { agenda = agenda; recorder = recorder })
+player_of _ _ = None
+
 -- All lines are answered, in order, and `left` is the player after them.
-pub record ServesTo (bytes : List ℕ) (begin : Server) (left : Option PlayerState) (text : Text) : Type 0 where
+pub record ServesTo (bytes : List ℕ) (begin : Server) (left : Option Player) (text : Text) : Type 0 where
   -- the server after all lines
   pub last : Server
   -- the text consists of the answers, one after the other
   pub serves : ServesWhole bytes begin last text
   -- the player of this server is the result
-  pub player : left ≡ last.session.kept.player
+  pub player : left ≡ player_of last.session.agenda last.session.kept.recorder
 
 -- A new server with this player answers all lines, and `left` is the player after them.
-abbrev pub ServesAll : ServeOptions → Option PlayerState → (bytes : List ℕ) → (left : Option PlayerState)
+abbrev pub ServesAll : ServeOptions → Option Player → (bytes : List ℕ) → (left : Option Player)
     → (before after : Option (List ℕ)) → Type 0
 ServesAll options player bytes left before after =
     FromNew options player (λ begin. Tells before after (ServesTo bytes begin left))
 
 -- A new server with this player answers the first n lines, for some n.
-abbrev pub ServesSome : ServeOptions → Option PlayerState → (bytes : List ℕ) → (before after : Option (List ℕ)) → Type 0
+abbrev pub ServesSome : ServeOptions → Option Player → (bytes : List ℕ) → (before after : Option (List ℕ)) → Type 0
 ServesSome options player bytes before after = FromNew options player (λ begin. Tells before after (ServesFront bytes begin))
 
 -- A new server with this player answers the first n lines, for some n. Then a beginning of the next answer is written, or nothing.
-abbrev pub ServesPart : ServeOptions → Option PlayerState → (bytes : List ℕ) → (before after : Option (List ℕ)) → Type 0
+abbrev pub ServesPart : ServeOptions → Option Player → (bytes : List ℕ) → (before after : Option (List ℕ)) → Type 0
 ServesPart options player bytes before after = FromNew options player (λ begin. Tells before after (ServesBegun bytes begin))

@@ -1,21 +1,18 @@
 -- The state of an adapter that is served, and the moves of a player before accesses and requests (our choice).
 use denote.RawPtr.{Ptr}
-use Rattle.std.specs.Prelude.{◌≡◌, ◌==◌, ◌+◌, ◌-◌, ◌%◌, ◌&&◌, ◌++◌, [], ℕ, Bool, List, Option, None, Some, Result, Err, Ok, false, true}
-use Rattle.std.specs.Prelude.{codes, flat_map, if◌then◌else◌, length, nat_le, nat_lt}
+use Rattle.std.specs.Prelude.{◌≡◌, ◌==◌, ◌+◌, ◌-◌, ◌%◌, ◌&&◌, [], ℕ, Bool, List, Option, None, Some, Result, Err, Ok, false, true}
+use Rattle.std.specs.Prelude.{codes, if◌then◌else◌, length, nat_le, nat_lt}
 use Rattle.std.specs.Int.{from_le_bytes, w32}
-use Rattle.std.specs.List.{list_any}
 use Rattle.std.specs.Option.{option_map, option_map_or}
 use Rattle.access_names.specs.Names.{target_text}
 use Rattle.access_names.specs.Targets.{memory_target_in}
 use Rattle.access_names.specs.declared.target.Target.{Target}
 use Rattle.access_names.specs.declared.target.Target.TheVariants as targets
 use Rattle.adapter.specs.State.{AdapterState}
-use Rattle.adapter.specs.declared.step.StepKind.TheVariants.{EepromTick, PhyTick}
 use Rattle.bus.specs.declared.event.Access.{Access}
 use Rattle.bus.specs.declared.event.Access.TheVariants.{Loads, Reads, Stores, Writes}
-use Rattle.eeprom.specs.Eerd.{is_pending}
-use Rattle.mdic_phy.specs.Mdic.{has_work}
 use Rattle.pci_function.specs.ConfigSpace.{registers_of}
+use Rattle.played_adapter.specs.Moves.{access_moves, due_in_agenda, met, request_moves}
 use Rattle.played_adapter.specs.Playing.{has_bytes, reported}
 use Rattle.played_adapter.specs.declared.choices.Move.{Move}
 use Rattle.played_adapter.specs.declared.player.PlayedAdapter.{PlayedAdapter}
@@ -24,12 +21,10 @@ use Rattle.server_requests.specs.declared.refusal.Refusal.{Refusal}
 use Rattle.server_requests.specs.declared.refusal.Refusal.TheVariants as refusals
 use Rattle.server_requests.specs.declared.request.Setting.{Setting}
 use Rattle.server_requests.specs.declared.request.Setting.TheVariants as settings
-use Rattle.step_schedules.specs.Players.{PlayerState, after_meeting, chosen, due_actions}
-use Rattle.step_schedules.specs.declared.deviation.Action.{Action}
-use Rattle.step_schedules.specs.declared.deviation.Action.TheVariants.{HoldEeprom, HoldPhy}
+use Rattle.step_schedules.specs.Agendas.{AgendaState, coming}
+use Rattle.step_schedules.specs.Players.{RecorderState, begun, chosen}
 use Rattle.step_schedules.specs.declared.deviation.Before.{Before}
 use Rattle.step_schedules.specs.declared.deviation.Before.TheVariants.{Choice, Read, Request, Write}
-use Rattle.adapter_server.specs.Moves.{default_moves, holds, moves_of}
 use Rattle.adapter_server.specs.declared.session.Place.{Place}
 use Rattle.adapter_server.specs.declared.session.Place.TheVariants.{Memory, Register}
 use Rattle.adapter_server.specs.declared.session.Session.{Session}
@@ -47,7 +42,7 @@ pub record IsCopied (a copy : Session) : Type 0 where
 
 -- whether a schedule is played
 abbrev pub plays_schedule : Session → Bool
-plays_schedule session = option_map_or (λ (player : PlayerState). player.is_playing) session.kept.player false
+plays_schedule session = option_map_or (λ (agenda : AgendaState). agenda.plays) session.agenda false
 
 -- the session after a setting; while a schedule is played, `interleave` turns random steps off
 abbrev pub with_setting : Setting → Session → Session
@@ -100,35 +95,42 @@ Takes Memory address bytes device = has_bytes device address (length bytes) ≡ 
 
 -- The moves of a player.
 
+-- the agenda, if there is one, after it has met an access of a target with this name, or a request with this first word
+abbrev pub met_agenda : Before → (name : Text) → Option AgendaState → Option AgendaState
+met_agenda before name agenda = option_map (met before name) agenda
+
+-- the recorder, if there is one, after an access or a request that an agenda meets began; the same recorder if there is no agenda
+abbrev pub begun_recorder : Before → (name : Text) → Option AgendaState → Option RecorderState → Option RecorderState
+begun_recorder before name agenda recorder =
+    option_map_or (λ (agenda : AgendaState). option_map (begun (coming before name agenda)) recorder) agenda recorder
+
 -- the session after its player, if there is one, has met an access of a target with this name, or a request with this first word
 abbrev pub meeting : Before → (name : Text) → Session → Session
-meeting before name session =
-    record session { kept = record session.kept { player = option_map (after_meeting before name) session.kept.player } }
+meeting before name session = record session {
+  agenda = met_agenda before name session.agenda;
+  kept = record session.kept { recorder = begun_recorder before name session.agenda session.kept.recorder };
+}
 
--- the moves of the default steps before an access at which these actions are due
-abbrev pub tick_moves : (due : List Action) → Session → List Move
-tick_moves due session =
-    let adapter = session.device.machine.world.adapter in
-    let plays = plays_schedule session in
-    default_moves (is_pending adapter.eerd) plays (list_any (holds EepromTick) due) EepromTick HoldEeprom
-    ++ default_moves (has_work adapter.mdic adapter.phy) plays (list_any (holds PhyTick) due) PhyTick HoldPhy
-
--- the moves before an access or a request at which these actions are due; before an access, the moves of default steps come first
-abbrev pub due_moves : Before → (due : List Action) → Session → List Move
-due_moves Read due session = tick_moves due session ++ flat_map moves_of due
-due_moves Write due session = tick_moves due session ++ flat_map moves_of due
-due_moves Request due session = flat_map moves_of due
-due_moves Choice due session = flat_map moves_of due
+-- the moves of the agenda, if there is one, before an access of a target with this name, or a request with this first word; a request for a
+-- number has no moves
+abbrev pub moves_with : Before → (name : Text) → PlayedAdapter → Option AgendaState → List Move
+moves_with Read name device agenda = option_map_or (λ (agenda : AgendaState). access_moves Read name agenda device) agenda []
+moves_with Write name device agenda = option_map_or (λ (agenda : AgendaState). access_moves Write name agenda device) agenda []
+moves_with Request name device agenda = option_map_or (λ (agenda : AgendaState). request_moves Request name agenda) agenda []
+moves_with Choice name device agenda = []
 
 -- the moves of the player, if there is one, before an access of a target with this name, or a request with this first word
 abbrev pub moves_at : Before → (name : Text) → Session → List Move
-moves_at before name session =
-    option_map_or (λ (player : PlayerState). due_moves before (due_actions before name player) session) session.kept.player []
+moves_at before name session = moves_with before name session.device session.agenda
+
+-- the number of the agenda, if there is one, that is due at an access of a target with this name, or a request with this first word; or 0
+abbrev pub wanted_with : Before → (name : Text) → Option AgendaState → ℕ
+wanted_with before name agenda =
+    option_map_or (λ (agenda : AgendaState). chosen (due_in_agenda before name agenda)) agenda 0
 
 -- the number in the schedule that is due at a request for a number, or 0
 abbrev pub wanted_number : Session → ℕ
-wanted_number session =
-    option_map_or (λ (player : PlayerState). chosen (due_actions Choice (codes "choose") player)) session.kept.player 0
+wanted_number session = wanted_with Choice (codes "choose") session.agenda
 
 -- before a read or before a write, by the kind of the access
 abbrev pub before_of : Access → Before

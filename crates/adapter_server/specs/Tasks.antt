@@ -1,13 +1,12 @@
 -- What the adapter does for a request (our choice).
-use Rattle.std.specs.Prelude.{⊤, ◌≡◌, ◌++◌, ℕ, List, [], ◌∷◌, Option, Some, None, Result, Ok, Err, codes, if◌then◌else◌, length}
+use Rattle.std.specs.Prelude.{⊤, ◌≡◌, ℕ, List, [], ◌∷◌, Option, Some, None, Result, Ok, Err, codes, if◌then◌else◌, length}
 use Rattle.std.specs.Int.{to_le_bytes, w32}
 use Rattle.std.specs.List.{concat}
 use Rattle.std.specs.Option.{option_map_or}
 use Rattle.access_names.specs.Names.{target_text}
 use Rattle.adapter.specs.State.{AdapterState}
 use Rattle.bus.specs.declared.event.Access.TheVariants.{Reads}
-use Rattle.played_adapter.specs.Order.{InOrder}
-use Rattle.played_adapter.specs.Playing.{Makes}
+use Rattle.played_adapter.specs.Moves.{AfterMoves}
 use Rattle.played_adapter.specs.Requests.{ServesAccess, ServesChoice, ServesLoad, ServesSettle}
 use Rattle.played_adapter.specs.Told.{Told}
 use Rattle.played_adapter.specs.declared.choices.Move.{Move}
@@ -17,11 +16,11 @@ use Rattle.server_output.specs.Texts.{Text, decimal_line, number_line, ok_line}
 use Rattle.server_output.specs.declared.answers.Answer.{Answer}
 use Rattle.server_requests.specs.Widths.{size_of}
 use Rattle.server_requests.specs.declared.request.Wanted.{Wanted}
-use Rattle.step_schedules.specs.Players.{PlayerState, chosen, due_actions}
+use Rattle.step_schedules.specs.Agendas.{AgendaState}
 use Rattle.step_schedules.specs.declared.deviation.Before.{Before}
 use Rattle.step_schedules.specs.declared.deviation.Before.TheVariants.{Choice, Read, Request, Write}
-use Rattle.adapter_server.specs.Answers.{Answered, Played, PlaysArrival, PlaysSettle, PlaysStep}
-use Rattle.adapter_server.specs.Sessions.{Takes, meeting, moves_at, target_in, write_to}
+use Rattle.adapter_server.specs.Answers.{Answered, Played, PlaysArrival, PlaysOffer, PlaysSettle, PlaysStep}
+use Rattle.adapter_server.specs.Sessions.{Takes, begun_recorder, met_agenda, moves_with, target_in, wanted_with, write_to}
 use Rattle.adapter_server.specs.declared.session.Place.{Place}
 use Rattle.adapter_server.specs.declared.session.Place.TheVariants.{Memory, Register}
 use Rattle.adapter_server.specs.declared.session.Session.{Session}
@@ -58,28 +57,32 @@ task_name (tasks.Read place address wanted) adapter = target_text (target_in pla
 task_name (tasks.Write place address bytes) adapter = target_text (target_in place address adapter)
 task_name task adapter = task_word task
 
+-- the agenda, if there is one, after it has met the task; the same agenda if players don't meet the task
+abbrev pub task_agenda : Task → AdapterState → Option AgendaState → Option AgendaState
+task_agenda task adapter agenda =
+    option_map_or (λ (before : Before). met_agenda before (task_name task adapter) agenda) (task_before task) agenda
+
+-- the session after its recorder, if there is a player, began the task; the same session if players don't meet the task
+abbrev pub task_begun : Task → Session → Session
+task_begun task session =
+    let recorder = session.kept.recorder in
+    let begun = λ (before : Before). begun_recorder before (task_name task session.device.machine.world.adapter) session.agenda recorder in
+    record session { kept = record session.kept { recorder = option_map_or begun (task_before task) recorder } }
+
 -- the session after its player, if there is one, has met the task; the same session if players don't meet the task
 abbrev pub task_met : Task → Session → Session
 task_met task session =
-    option_map_or (λ (before : Before). meeting before (task_name task session.device.machine.world.adapter) session)
-    (task_before task) session
+    record (task_begun task session) { agenda = task_agenda task session.device.machine.world.adapter session.agenda }
 
--- the moves of the player, if there is one, before the task; no moves if players don't meet the task
-abbrev pub task_moves : Task → Session → List Move
-task_moves task session =
-    option_map_or (λ (before : Before). moves_at before (task_name task session.device.machine.world.adapter) session)
-    (task_before task) []
-
--- the number in the schedule that is due at an access of a target with this name, or a request with this first word; or 0
-abbrev pub wanted_at : Before → (name : Text) → Session → ℕ
-wanted_at before name session =
-    option_map_or (λ (player : PlayerState). chosen (due_actions before name player)) session.kept.player 0
+-- the moves of the agenda, if there is one, before the task; no moves if players don't meet the task
+abbrev pub task_moves : Task → PlayedAdapter → Option AgendaState → List Move
+task_moves task device agenda =
+    option_map_or (λ (before : Before). moves_with before (task_name task device.machine.world.adapter) device agenda) (task_before task) []
 
 -- the number in the schedule that is due at the task, or 0
-abbrev pub task_wanted : Task → Session → ℕ
-task_wanted task session =
-    option_map_or (λ (before : Before). wanted_at before (task_name task session.device.machine.world.adapter) session)
-    (task_before task) 0
+abbrev pub task_wanted : Task → AdapterState → Option AgendaState → ℕ
+task_wanted task adapter agenda =
+    option_map_or (λ (before : Before). wanted_with before (task_name task adapter) agenda) (task_before task) 0
 
 -- the line of an access, and after it the name of the access's target
 abbrev pub named_line : (said : Text) → Task → Session → Text
@@ -97,46 +100,42 @@ Fits (tasks.Read place address wanted) into device = (length into ≡ size_of wa
 Fits (tasks.Write place address bytes) into device = Takes place address bytes.now device
 Fits task into device = ⊤
 
--- After moves, these bytes are read at a place. The lowest byte of a register is the first.
-abbrev pub ReadsFrom : Place → (address size : ℕ) → (bytes : List ℕ) → List Move → PlayedAdapter → PlayedAdapter → List Told → Type 0
-ReadsFrom (Register offset) address size bytes moves a b told =
-    (value : ℕ) × (bytes ≡ to_le_bytes w32 value) × ServesAccess moves (Reads offset value) a b told
-ReadsFrom Memory address size bytes moves a b told = ServesLoad moves address size bytes a b told
+-- These bytes are read at a place. The lowest byte of a register is the first.
+abbrev pub ReadsFrom : Place → (address size : ℕ) → (bytes : List ℕ) → PlayedAdapter → PlayedAdapter → List Told → Type 0
+ReadsFrom (Register offset) address size bytes a b told =
+    (value : ℕ) × (bytes ≡ to_le_bytes w32 value) × ServesAccess (Reads offset value) a b told
+ReadsFrom Memory address size bytes a b told = ServesLoad address size bytes a b told
 
--- After moves, bytes are read at a place, and these bytes are the answer.
-abbrev pub PlaysRead : Place → (address : ℕ) → Wanted → (line : Text) → List Move → PlayedAdapter → PlayedAdapter → List Told → Type 0
-PlaysRead place address wanted line moves a b told =
-    (bytes : List ℕ) × (line ≡ answer_line wanted bytes) × ReadsFrom place address (size_of wanted) bytes moves a b told
+-- Bytes are read at a place, and these bytes are the answer.
+abbrev pub PlaysRead : Place → (address : ℕ) → Wanted → (line : Text) → PlayedAdapter → PlayedAdapter → List Told → Type 0
+PlaysRead place address wanted line a b told =
+    (bytes : List ℕ) × (line ≡ answer_line wanted bytes) × ReadsFrom place address (size_of wanted) bytes a b told
 
--- Moves are played, and then one more frame waits for its arrival.
-abbrev pub PlaysOffer : (frame : List ℕ) → (line : Text) → List Move → PlayedAdapter → PlayedAdapter → List Told → Type 0
-PlaysOffer frame line moves a b told = (line ≡ ok_line)
-    × (moved : PlayedAdapter) × (b ≡ record moved { offered = moved.offered ++ frame ∷ [] }) × InOrder Makes moves a moved told
-
--- A task is played after moves, and this line is its answer. `wanted` is the number in a schedule that is due at `choose`, or 0.
-abbrev pub Plays : Task → (line : Text) → List Move → (wanted : ℕ) → PlayedAdapter → PlayedAdapter → List Told → Type 0
-Plays (tasks.Read place address form) line moves wanted a b told = PlaysRead place address form line moves a b told
-Plays (tasks.Write place address bytes) line moves wanted a b told =
-    (line ≡ ok_line) × ServesAccess moves (write_to place address bytes.now) a b told
-Plays (tasks.Step kind) line moves wanted a b told = PlaysStep kind line moves a b told
-Plays (tasks.Arrive frame) line moves wanted a b told = PlaysArrival frame.now line moves a b told
-Plays tasks.Settle line moves wanted a b told = PlaysSettle line moves a b told
-Plays (tasks.Offer frame) line moves wanted a b told = PlaysOffer frame.now line moves a b told
-Plays (tasks.Choose limit) line moves wanted a b told =
+-- A task is played, and this line is its answer. `wanted` is the number in a schedule that is due at `choose`, or 0.
+abbrev pub Plays : Task → (line : Text) → (wanted : ℕ) → PlayedAdapter → PlayedAdapter → List Told → Type 0
+Plays (tasks.Read place address form) line wanted a b told = PlaysRead place address form line a b told
+Plays (tasks.Write place address bytes) line wanted a b told =
+    (line ≡ ok_line) × ServesAccess (write_to place address bytes.now) a b told
+Plays (tasks.Step kind) line wanted a b told = PlaysStep kind line a b told
+Plays (tasks.Arrive frame) line wanted a b told = PlaysArrival frame.now line a b told
+Plays tasks.Settle line wanted a b told = PlaysSettle line a b told
+Plays (tasks.Offer frame) line wanted a b told = PlaysOffer frame.now line a b told
+Plays (tasks.Choose limit) line wanted a b told =
     (number : ℕ) × (line ≡ number_line number) × ServesChoice limit wanted number a b told
-Plays (tasks.SetClock time) line moves wanted a b told =
-    (moved : ℕ) × (line ≡ decimal_line time) × ServesSettle [] moved a b told
+Plays (tasks.SetClock time) line wanted a b told = (moved : ℕ) × (line ≡ decimal_line time) × ServesSettle moved a b told
 
 -- A task is played, and this is its answer. At an error, the observer is told what it is told if the task is played with some answer.
-abbrev pub PlaysTo : {E : Type 0} → Task → Result Answer E → List Move → (wanted : ℕ) → PlayedAdapter → PlayedAdapter → List Told → Type 0
-PlaysTo task (Ok answer) moves wanted a b told = Plays task (line_of answer) moves wanted a b told
-PlaysTo task (Err error) moves wanted a b told = (line : Text) × (c : PlayedAdapter) × Plays task line moves wanted a c told
+abbrev pub PlaysTo : {E : Type 0} → Task → Result Answer E → (wanted : ℕ) → PlayedAdapter → PlayedAdapter → List Told → Type 0
+PlaysTo task (Ok answer) wanted a b told = Plays task (line_of answer) wanted a b told
+PlaysTo task (Err error) wanted a b told = (line : Text) × (c : PlayedAdapter) × Plays task line wanted a c told
 
 -- A task is played after these moves and answered. `wanted` is the number in a schedule that is due at `choose`, or 0.
 abbrev pub AnswersAfter : List Move → (wanted : ℕ) → Task → (said : Text) → Session → Session → Text → Type 0
-AnswersAfter moves wanted task said a b text =
-    (line : Text) × Answered (Played (λ c d told. Plays task line moves wanted c d told) said a b) line text
+AnswersAfter moves wanted task said a b text = (line : Text)
+    × Answered (Played (AfterMoves moves (λ c d told. Plays task line wanted c d told)) said a b) line text
 
 -- The player, if there is one, meets a task, unless the task sets the clock. Then the task is played and answered.
 abbrev pub Performs : Task → (said : Text) → Session → Session → Text → Type 0
-Performs task said a b text = AnswersAfter (task_moves task a) (task_wanted task a) task said (task_met task a) b text
+Performs task said a b text =
+    AnswersAfter (task_moves task a.device a.agenda) (task_wanted task a.device.machine.world.adapter a.agenda) task said (task_met task a) b
+    text

@@ -29,7 +29,7 @@ pub(crate) fn perform<W: Write>(
     ensures { TellsAnswer result (W.contents out.old) (W.contents out.new)
         (Performs task.entry said.now session.old) session.new }
 {
-    let met = session.meet(alloc, task)?;
+    session.begin(alloc, task)?;
     let mut lines = Lines {
         out,
         kept: &mut session.kept,
@@ -38,14 +38,8 @@ pub(crate) fn perform<W: Write>(
         stopped: None,
     };
     let device = &mut session.device;
-    match task.play(
-        alloc,
-        device,
-        met.moves.as_slice(),
-        met.wanted,
-        into,
-        &mut lines,
-    ) {
+    let agenda = &mut session.agenda;
+    match task.perform(alloc, device, agenda, into, &mut lines) {
         Ok(answer) => lines.end(answer),
         Err(_) => Err(AnswerError::Memory),
     }

@@ -44,6 +44,10 @@ pub(crate) fn new_server(
 ) -> Result<Server, AnswerError>
     ensures { IfOk result (λ server. server ≡ new_server options.now player server.session.device.address) }
 {
+    let (agenda, recorder) = match player {
+        Some(player) => (Some(player.agenda), Some(player.recorder)),
+        None => (None, None),
+    };
     let session = Session {
         device: new_device(alloc, options)?,
         function: PciFunction::new(options.registers),
@@ -53,8 +57,9 @@ pub(crate) fn new_server(
             events: false,
             put: Frames::new(alloc),
             faults: Faults::new(alloc),
-            player,
+            recorder,
         },
+        agenda,
         targets: false,
     };
     Ok(Server {

@@ -9,6 +9,7 @@ use played_adapter::PlayedAdapter;
 use server_output::{Kept, joined};
 use server_requests::{Refusal, Setting};
 use std::alloc::{AllocError, Global};
+use step_schedules::Agenda;
 
 /// The size of all registers together, in bytes (13.4 "Main Register Descriptions").
 const REGISTER_BYTES: u64 = 0x2_0000;
@@ -25,8 +26,10 @@ pub struct Session {
     pub function: PciFunction,
     /// The value of the clock, in nanoseconds.
     pub clock: u64,
-    /// The past events that the server keeps, the player, and which events the server writes.
+    /// The past events that the server keeps, the recorder, and which events the server writes.
     pub kept: Kept,
+    /// The agenda of the player, if there is a player.
+    pub agenda: Option<Agenda>,
     /// Whether the log, when it is on, contains the names of the targets of accesses.
     pub targets: bool,
 }
@@ -107,6 +110,7 @@ impl Session {
             function: self.function,
             clock: self.clock,
             kept: self.kept.clone()?,
+            agenda: self.agenda.clone()?,
             targets: self.targets,
         })
     }
@@ -115,8 +119,8 @@ impl Session {
     pub(crate) fn plays_schedule(&self) -> bool
         ensures { result ≡ plays_schedule self.now }
     {
-        match &self.kept.player {
-            Some(player) => player.is_playing(),
+        match &self.agenda {
+            Some(agenda) => agenda.plays(),
             None => false,
         }
     }

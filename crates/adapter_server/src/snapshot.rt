@@ -27,14 +27,19 @@ fn put_in_place<T: Drop>(place: &mut T, value: T)
 
 impl Server {
     ghost use Rattle.adapter_server.specs.Answers.{Restores, Saves, TellsAnswer};
+    ghost use Rattle.adapter_server.specs.Serving.{player_of};
 
     /// Returns the player, and drops everything else.
     pub(crate) fn into_player(mut self) -> Option<Player>
-        ensures { result ≡ self.session.kept.player }
+        ensures { result ≡ player_of self.session.agenda self.session.kept.recorder }
     {
-        let player = self.session.kept.player.take();
+        let agenda = self.session.agenda.take();
+        let recorder = self.session.kept.recorder.take();
         drop(self);
-        player
+        match (agenda, recorder) {
+            (Some(agenda), Some(recorder)) => Some(Player { agenda, recorder }),
+            _ => None,
+        }
     }
 
     /// Answers `save`: replaces the saved copy by a copy of the session.

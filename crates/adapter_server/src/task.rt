@@ -11,7 +11,7 @@ use crate::session::Place;
 use access_names::{Target, memory_target};
 use adapter::StepKind;
 use bus::Machine;
-use played_adapter::{Move, Observer, PlayedAdapter};
+use played_adapter::{Observer, PlayedAdapter};
 use server_output::{Answer, fate_word, outcome_word};
 use server_requests::Wanted;
 use std::alloc::{AllocError, Global};
@@ -61,10 +61,9 @@ fn register_value(bytes: &[u8]) -> u32
     u32::from_le_bytes(all)
 }
 
-/// Serves a read of bytes at a place, after moves. Stores the bytes in `into`.
+/// Serves a read of bytes at a place. Stores the bytes in `into`.
 fn read_from<O: Observer>(
     device: &mut PlayedAdapter,
-    moves: &[Move],
     place: Place,
     address: u64,
     into: &mut [u8],
@@ -72,21 +71,20 @@ fn read_from<O: Observer>(
 )
     requires { Takes place address into.old device.old }
     ensures { Tells O.heard observer.old observer.new
-        (ReadsFrom place address (length into.old) into.new moves.now device.old device.new) }
+        (ReadsFrom place address (length into.old) into.new device.old device.new) }
 {
     match place {
         Place::Register(offset) => {
-            let value = device.serve_read(moves, offset, observer);
+            let value = device.serve_read(offset, observer);
             into.copy_from_slice(&value.to_le_bytes());
         }
-        Place::Memory => device.serve_load(moves, address, into, observer),
+        Place::Memory => device.serve_load(address, into, observer),
     }
 }
 
-/// Serves a write of bytes at a place, after moves.
+/// Serves a write of bytes at a place.
 fn write_to<O: Observer>(
     device: &mut PlayedAdapter,
-    moves: &[Move],
     place: Place,
     address: u64,
     bytes: &[u8],
@@ -94,13 +92,13 @@ fn write_to<O: Observer>(
 )
     requires { Takes place address bytes.now device.old }
     ensures { Tells O.heard observer.old observer.new
-        (ServesAccess moves.now (write_to place address bytes.now) device.old device.new) }
+        (ServesAccess (write_to place address bytes.now) device.old device.new) }
 {
     match place {
         Place::Register(offset) => {
-            device.serve_write(moves, offset, register_value(bytes), observer);
+            device.serve_write(offset, register_value(bytes), observer);
         }
-        Place::Memory => device.serve_store(moves, address, bytes, observer),
+        Place::Memory => device.serve_store(address, bytes, observer),
     }
 }
 
@@ -122,7 +120,7 @@ impl<'a> Task<'a> {
     }
 
     /// Returns the first word of the task's request, or an empty text if the task is an access or sets the clock.
-    fn word(self) -> &'static str
+    pub(crate) fn word(self) -> &'static str
         ensures { result.now ≡ task_word self.entry }
     {
         match self {
@@ -146,54 +144,50 @@ impl<'a> Task<'a> {
         }
     }
 
-    /// Plays a task after moves, and returns the answer.
+    /// Plays a task, and returns the answer.
     ///
     /// The bytes of a read are stored in `into`. `wanted` is the number that is due at `choose` in a schedule, or 0.
     pub(crate) fn play<'b, O: Observer>(
         self,
         alloc: Global,
         device: &mut PlayedAdapter,
-        moves: &[Move],
         wanted: u32,
         into: &'b mut [u8],
         observer: &mut O,
     ) -> Result<Answer<'b>, AllocError>
         requires { Fits self into.old device.old }
         ensures plays { Tells O.heard observer.old observer.new
-            (PlaysTo self.entry result moves.now wanted device.old device.new) }
+            (PlaysTo self.entry result wanted device.old device.new) }
         ensures sized { IfOk result (λ answer. IsSized answer) }
     {
         match self {
             Task::Read(place, address, form) => {
-                read_from(device, moves, place, address, into, observer);
+                read_from(device, place, address, into, observer);
                 Ok(Answer::Bytes(form, into))
             }
             Task::Write(place, address, bytes) => {
-                write_to(device, moves, place, address, bytes, observer);
+                write_to(device, place, address, bytes, observer);
                 Ok(Answer::Done)
             }
             Task::Step(kind) => {
-                let outcome = device.serve_step(moves, kind, observer);
+                let outcome = device.step(kind, observer);
                 Ok(Answer::Word(outcome_word(outcome)))
             }
             Task::Arrive(frame) => {
-                let fate = device.serve_arrival(moves, frame, observer);
+                let fate = device.serve_arrival(frame, observer);
                 Ok(Answer::Word(fate_word(fate)))
             }
-            Task::Settle => Ok(Answer::Number(device.serve_settle(moves, observer))),
-            Task::Offer(frame) => {
-                device.make_all(moves, observer);
-                match device.offered.push(alloc, frame) {
-                    Ok(()) => Ok(Answer::Done),
-                    Err(error) => Err(error),
-                }
-            }
+            Task::Settle => Ok(Answer::Number(device.serve_settle(observer))),
+            Task::Offer(frame) => match device.offered.push(alloc, frame) {
+                Ok(()) => Ok(Answer::Done),
+                Err(error) => Err(error),
+            },
             Task::Choose(limit) => {
                 let number = device.serve_choose(limit, wanted, observer);
                 Ok(Answer::Number(u64::from(number)))
             }
             Task::SetClock(time) => {
-                let _moved = device.serve_settle(&[], observer);
+                let _moved = device.serve_settle(observer);
                 Ok(Answer::Decimal(time))
             }
         }

@@ -6,10 +6,9 @@ use Rattle.bus.specs.declared.event.Access.{Access}
 use Rattle.bus.specs.declared.event.Event.TheVariants.{Arrives}
 use Rattle.rx_engine.specs.declared.arrival.Fate.{Fate}
 use Rattle.played_adapter.specs.Order.{Composes, Tells}
-use Rattle.played_adapter.specs.Playing.{ComesBefore, FrameArrives, HappensAlone, NextArrives, OldestArrives, Paced, Reports, after}
+use Rattle.played_adapter.specs.Playing.{FrameArrives, HappensAlone, Interleaves, NextArrives, OldestArrives, Paced, Reports, after}
 use Rattle.played_adapter.specs.Requests.{AccessedAfter, ServesAccess}
 use Rattle.played_adapter.specs.Told.{Offered, Told}
-use Rattle.played_adapter.specs.declared.choices.Move.{Move}
 use Rattle.played_adapter.specs.declared.player.PlayedAdapter.{PlayedAdapter}
 use Rattle.played_adapter.proofs.Happening.{happened}
 use Rattle.played_adapter.proofs.Telling.{tells_both, tells_so}
@@ -37,17 +36,17 @@ module _ {O : Type 0} (heard : O → O → List Told → Type 0) (laws : Compose
       (after (Arrives frame fate) (record a { offered = later })) _ b before now end
       occurs (ap (λ (m : MachineState). record a { machine = m; offered = later }) state) tells refl reports)
 
-  -- What precedes an access was played, and the access happened.
-  pub accessed_after : (moves : List Move) (access : Access) (a middle b : PlayedAdapter) (before now end : O)
-      → Tells heard before now (ComesBefore moves a middle) → Tells heard now end (HappensAlone access middle b)
-      → Tells heard before end (AccessedAfter moves access a b)
-  accessed_after moves access a middle b before now end comes happens =
-      tells_both heard laws (ComesBefore moves a) (λ m rest. HappensAlone access m b rest) middle before now end comes happens
+  -- What the generator draws was played, and the access happened.
+  pub accessed_after : (access : Access) (a middle b : PlayedAdapter) (before now end : O)
+      → Tells heard before now (Interleaves a middle) → Tells heard now end (HappensAlone access middle b)
+      → Tells heard before end (AccessedAfter access a b)
+  accessed_after access a middle b before now end draws happens =
+      tells_both heard laws (Interleaves a) (λ m rest. HappensAlone access m b rest) middle before now end draws happens
 
-  -- An access happened after what precedes it, and then cycles were played.
-  pub served : (moves : List Move) (access : Access) (a middle later b : PlayedAdapter) (before now then end : O)
-      → Tells heard before now (ComesBefore moves a middle) → Tells heard now then (HappensAlone access middle later)
-      → Tells heard then end (Paced later b) → Tells heard before end (ServesAccess moves access a b)
-  served moves access a middle later b before now then end comes happens paced =
-      tells_both heard laws (AccessedAfter moves access a) (λ m rest. Paced m b rest) later before then end
-      (accessed_after moves access a middle later before now then comes happens) paced
+  -- An access happened after what the generator draws, and then cycles were played.
+  pub served : (access : Access) (a middle later b : PlayedAdapter) (before now then end : O)
+      → Tells heard before now (Interleaves a middle) → Tells heard now then (HappensAlone access middle later)
+      → Tells heard then end (Paced later b) → Tells heard before end (ServesAccess access a b)
+  served access a middle later b before now then end draws happens paced =
+      tells_both heard laws (AccessedAfter access a) (λ m rest. Paced m b rest) later before then end
+      (accessed_after access a middle later before now then draws happens) paced

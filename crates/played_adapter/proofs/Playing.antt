@@ -1,5 +1,5 @@
 -- The steps before an access don't change the size of memory. If no steps are played before an access, only the access happens.
-use Rattle.std.proofs.Common.{◌≡◌, ◌∙◌, ◌+◌, ◌++◌, ◌∷◌, ◌≤◌, [], ℕ, Bool, List, true, ap, arith, cond, length, subst, sym}
+use Rattle.std.proofs.Common.{◌≡◌, ◌∙◌, ◌+◌, ◌++◌, ◌∷◌, ◌≤◌, [], ℕ, Bool, List, true, ap, arith, cond, length, nat_le, subst, sym}
 use Rattle.std.proofs.lemmas.Bool.Decides.{nat_tests}
 use Rattle.rand_pcg.specs.Lcg.{Lcg}
 use Rattle.adapter.specs.declared.outcome.Outcome.{Outcome}
@@ -9,7 +9,7 @@ use Rattle.bus.specs.declared.event.Event.TheVariants.{Arrives}
 use Rattle.played_adapter.specs.Draws.{drawn_count}
 use Rattle.played_adapter.specs.Order.{InOrder, Times}
 use Rattle.played_adapter.specs.Choices.{drawn}
-use Rattle.played_adapter.specs.Playing.{Chosen, ComesBefore, DrawsChoice, HappensAlone, Interleaves, Makes, OldestArrives, Plays}
+use Rattle.played_adapter.specs.Playing.{Chosen, DrawsChoice, HappensAlone, Interleaves, Makes, OldestArrives, Plays}
 use Rattle.played_adapter.specs.Playing.{PlaysScheduled, Prepares, QuietAccessesAreExact, Steps, both_ticks, counted, drawn_from}
 use Rattle.played_adapter.specs.Playing.{due_in, has_bytes, step_of, without_next}
 use Rattle.played_adapter.specs.Told.{Told}
@@ -51,6 +51,12 @@ made_keeps (Tick kind) a b told played = step_keeps kind played.0 a b told playe
 made_keeps (Hold action) a b told noted = ap size_of noted.0
 made_keeps (Play choice) a b told chosen = chosen_keeps choice a b told chosen
 
+-- Memory contains the same places after moves.
+pub moves_keep : (moves : List Move) (a b : PlayedAdapter) (told : List Told) (address count : ℕ) → InOrder Makes moves a b told
+    → has_bytes b address count ≡ has_bytes a address count
+moves_keep moves a b told address count made =
+    ap (λ (size : ℕ). nat_le (address + count) size) (in_order_keeps Makes size_of made_keeps moves a b told made)
+
 scheduled_keeps : (step : ScheduledStep) (a b : PlayedAdapter) (told : List Told) → PlaysScheduled step a b told → size_of b ≡ size_of a
 scheduled_keeps step a b told played = step_keeps step.kind played.0 (without_next a) b told played.1
 
@@ -73,12 +79,11 @@ still_fits a b told address count fits steps =
     let before : address + count ≤ size_of a = grind (arith, nat_tests) in
     omega arith
 
--- Bytes in memory are still in memory after moves and what the generator draws.
-pub moves_fit : (moves : List Move) (a b : PlayedAdapter) (told : List Told) (address count : ℕ) → has_bytes a address count ≡ true
-    → ComesBefore moves a b told → address + count ≤ size_of b
-moves_fit moves a b told address count fits steps =
-    let made = in_order_keeps Makes size_of made_keeps moves a steps.middle steps.first steps.happens in
-    let later = interleaving_keeps steps.middle b steps.rest steps.goes_on in
+-- Bytes in memory are still in memory after what the generator draws.
+pub draws_fit : (a b : PlayedAdapter) (told : List Told) (address count : ℕ) → has_bytes a address count ≡ true
+    → Interleaves a b told → address + count ≤ size_of b
+draws_fit a b told address count fits steps =
+    let later = interleaving_keeps a b told steps in
     let before : address + count ≤ size_of a = grind (arith, nat_tests) in
     omega arith
 

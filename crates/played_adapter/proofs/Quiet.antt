@@ -14,7 +14,7 @@ none_drawn a most =
     subst (λ (n : ℕ). Times DrawsChoice (drawn_count n a.generator).0 (record a { generator = (drawn_count n a.generator).1 }) a [])
     (sym most) (refl, refl)
 
--- If ticks are off, the schedule is empty and no steps are drawn, the steps before an access only count the access.
+-- If ticks are off, no step is scheduled and no steps are drawn, the steps before an access only count the access.
 pub quiet_prepares : (a b : PlayedAdapter) → a.ticks ≡ false → a.most_steps ≡ 0 → a.scheduled.items ≡ [] → b ≡ counted a
     → Prepares a b []
 quiet_prepares a b ticks most items is = record {

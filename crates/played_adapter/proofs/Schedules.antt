@@ -1,4 +1,4 @@
--- Steps of the schedule that are played before an access.
+-- Scheduled steps that are played before an access.
 use Rattle.std.proofs.Common.{◌≡◌, ◌∙◌, ◌<◌, ◌++◌, [], ◌∷◌, ℕ, Bool, true, false, List, Some, None, ap, append_assoc, arith, cond}
 use Rattle.std.proofs.Common.{drop, nat_le}
 use Rattle.std.proofs.Common.{refl, slice_get, subst, sym}
@@ -22,7 +22,7 @@ next_due : (access : ℕ) (items : List ScheduledStep) (step : ScheduledStep) �
 next_due access [] step is = absurd (cc)
 next_due access (x ∷ later) step is = front (nat_le x.access access) x step (due access later) is
 
--- If the schedule is empty, no step is due.
+-- If no step is scheduled, no step is due.
 pub none_waits : (access : ℕ) (items : List ScheduledStep) → slice_get items 0 ≡ None → None ≡ slice_get (due access items) 0
 none_waits access [] is = refl
 none_waits access (x ∷ later) is = absurd (cc)
@@ -45,7 +45,7 @@ nothing_left [] is = refl
 nothing_left (x ∷ later) is = absurd (cc)
 
 module _ {O : Type 0} (heard : O → O → List Told → Type 0) (laws : Composes heard) where
-  -- These steps of the schedule were played, and the others that were due are still due.
+  -- These scheduled steps were played, and the others that were due are still due.
   pub record Scheduled (a now : PlayedAdapter) (before after : O) : Type 0 where
     pub done : List ScheduledStep
     pub plays : Tells heard before after (InOrder PlaysScheduled done a now)
@@ -54,7 +54,7 @@ module _ {O : Type 0} (heard : O → O → List Told → Type 0) (laws : Compose
   pub none_scheduled : (a : PlayedAdapter) (before : O) → Scheduled a a before before
   none_scheduled a before = record { done = []; plays = tells_none PlaysScheduled heard laws a before; rest = refl }
 
-  -- One more step of the schedule is played.
+  -- One more scheduled step is played.
   pub one_scheduled : (a b taken c : PlayedAdapter) (step : ScheduledStep) (outcome : Outcome (Unit {0})) (before now after : O)
       → Scheduled a b before now → Some step ≡ slice_get (due_in b) 0 → taken ≡ without_next b
       → Tells heard now after (Steps step.kind outcome taken c) → Scheduled a c before after

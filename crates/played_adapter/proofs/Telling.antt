@@ -69,12 +69,17 @@ module _ {X S T : Type 0} (Happens : X → S → S → List T → Type 0) where
       hears = laws.joins before now after so_far.told next.told so_far.hears next.hears;
     }
 
+    -- One thing is told.
+    pub tells_one : (x : X) (a b : S) (before after : O) → Tells heard before after (Happens x a b)
+        → Tells heard before after (InOrder Happens (x ∷ []) a b)
+    tells_one x a b before after one =
+        record { told = one.told; holds = in_order_one x a b one.told one.holds; hears = one.hears }
+
     -- One more thing is told.
     pub tells_more : (xs : List X) (x : X) (a b c : S) (before now after : O) → Tells heard before now (InOrder Happens xs a b)
         → Tells heard now after (Happens x b c) → Tells heard before after (InOrder Happens (xs ++ x ∷ []) a c)
     tells_more xs x a b c before now after so_far next =
-        tells_joined xs (x ∷ []) a b c before now after so_far
-        (record { told = next.told; holds = in_order_one x b c next.told next.holds; hears = next.hears })
+        tells_joined xs (x ∷ []) a b c before now after so_far (tells_one x b c now after next)
 
 -- Something happened once more.
 pub times_more : {S T O : Type 0} (Happens : S → S → List T → Type 0) (heard : O → O → List T → Type 0) → Composes heard → (count : ℕ)

@@ -1,4 +1,4 @@
--- The kinds of steps by number, as the words of the generator choose them (our choice).
+-- The kinds of steps by number. The words of the generator and the callers of the C library choose kinds by these numbers (our choice).
 use Rattle.std.specs.Prelude.{◌==◌, ℕ, if◌then◌else◌}
 use Rattle.adapter.specs.declared.step.StepKind.{StepKind}
 use Rattle.adapter.specs.declared.step.StepKind.TheVariants.{TxTake, TxPut, RxData, RxDone, EepromTick, PhyTick}

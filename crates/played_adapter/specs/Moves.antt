@@ -1,10 +1,10 @@
 -- The moves of a schedule before accesses and requests (our choice; `finder/README.md`, "A schedule").
-use Rattle.std.specs.Prelude.{◌&&◌, ◌++◌, ◌∷◌, [], Bool, List, None, Option, Some, flat_map, if◌then◌else◌, not, true}
+use Rattle.std.specs.Prelude.{◌++◌, ◌∷◌, [], Bool, List, None, Option, Some, flat_map, if◌then◌else◌}
 use Rattle.adapter.specs.declared.step.StepKind.{StepKind}
 use Rattle.adapter.specs.declared.step.StepKind.TheVariants as kinds
 use Rattle.eeprom.specs.Eerd.{is_pending}
 use Rattle.mdic_phy.specs.Mdic.{has_work}
-use Rattle.step_schedules.specs.Agendas.{AgendaState, after_event, coming, held_by}
+use Rattle.step_schedules.specs.Agendas.{AgendaState, after_event, coming, held_at}
 use Rattle.step_schedules.specs.Waiting.{due_before}
 use Rattle.step_schedules.specs.Words.{Text}
 use Rattle.step_schedules.specs.declared.agenda.Held.{Held}
@@ -16,6 +16,9 @@ use Rattle.played_adapter.specs.declared.choices.Choice.TheVariants.{Step, Arriv
 use Rattle.played_adapter.specs.declared.choices.Move.{Move}
 use Rattle.played_adapter.specs.declared.choices.Move.TheVariants.{Hold, Play, Tick}
 use Rattle.played_adapter.specs.declared.player.PlayedAdapter.{PlayedAdapter}
+use Rattle.played_adapter.specs.Order.{InOrder, Joins}
+use Rattle.played_adapter.specs.Playing.{Makes}
+use Rattle.played_adapter.specs.Told.{Told}
 
 -- the move that plays a step of this kind
 abbrev pub play_step : StepKind → Move
@@ -46,16 +49,16 @@ abbrev pub listed : Option Move → List Move
 listed None = []
 listed (Some next) = next ∷ []
 
--- the moves of a default step: no move if the step has no work; else the step, if `plays` is true and the step isn't held; else the hold
-abbrev pub default_moves : (has_work plays is_held : Bool) → StepKind → Action → List Move
-default_moves has_work plays is_held kind hold = if has_work then (if plays && not is_held then Tick kind else Hold hold) ∷ [] else []
+-- the moves of a default step: no move if the step has no work; else the hold if the step is held, or else the step
+abbrev pub default_moves : (has_work is_held : Bool) → StepKind → Action → List Move
+default_moves has_work is_held kind hold = if has_work then (if is_held then Hold hold else Tick kind) ∷ [] else []
 
 -- the moves of the default steps before an access, of which these are held
 abbrev pub tick_moves : Held → PlayedAdapter → List Move
 tick_moves held a =
     let adapter = a.machine.world.adapter in
-    default_moves (is_pending adapter.eerd) true held.eeprom kinds.EepromTick HoldEeprom
-    ++ default_moves (has_work adapter.mdic adapter.phy) true held.phy kinds.PhyTick HoldPhy
+    default_moves (is_pending adapter.eerd) held.eeprom kinds.EepromTick HoldEeprom
+    ++ default_moves (has_work adapter.mdic adapter.phy) held.phy kinds.PhyTick HoldPhy
 
 -- the actions that are due before an access or a request that comes now
 abbrev pub due_in_agenda : Before → (name : Text) → AgendaState → List Action
@@ -64,7 +67,7 @@ due_in_agenda before name agenda = due_before (coming before name agenda) agenda
 -- the moves of an agenda before an access: of the default steps, and then of the actions that are due
 abbrev pub access_moves : Before → (name : Text) → AgendaState → PlayedAdapter → List Move
 access_moves before name agenda a =
-    let due = due_in_agenda before name agenda in tick_moves (held_by due) a ++ flat_map moves_of due
+    let due = due_in_agenda before name agenda in tick_moves (held_at due agenda) a ++ flat_map moves_of due
 
 -- the moves of an agenda before a request
 abbrev pub request_moves : Before → (name : Text) → AgendaState → List Move
@@ -73,3 +76,8 @@ request_moves before name agenda = flat_map moves_of (due_in_agenda before name 
 -- the agenda after an access or a request came
 abbrev pub met : Before → (name : Text) → AgendaState → AgendaState
 met before name agenda = after_event (coming before name agenda) agenda
+
+-- Moves are played, and then something happens.
+abbrev pub AfterMoves : List Move → (Happens : PlayedAdapter → PlayedAdapter → List Told → Type 0)
+    → PlayedAdapter → PlayedAdapter → List Told → Type 0
+AfterMoves moves Happens a b told = Joins (InOrder Makes moves a) (λ middle rest. Happens middle b rest) told

@@ -40,8 +40,8 @@ use Rattle.played_adapter.specs.declared.scheduling.ScheduledStep.{ScheduledStep
 
 -- A new adapter.
 
--- a new adapter, whose memory has this address, and no access so far; the wire and the schedule are empty, with room for this many frames
--- and steps
+-- a new adapter, whose memory has this address, before its first access; the wire is empty, with room for this many frames, and no step is
+-- scheduled, with room for this many steps
 unfoldable pub new_with_room : (frames steps : ℕ) → (memory : List ℕ) → AdapterState → Option Ptr → PlayedAdapter
 new_with_room frames steps memory adapter address = record {
   machine = record { world = record { memory = memory; adapter = adapter }; reported = is_asserted adapter };
@@ -58,11 +58,11 @@ new_with_room frames steps memory adapter address = record {
   ticks = false;
 }
 
--- a new adapter with room for 64 frames on its wire, and for 4,096 steps in its schedule
+-- a new adapter with room for 64 frames on its wire, and for 4,096 scheduled steps
 abbrev pub new_player : (memory : List ℕ) → AdapterState → Option Ptr → PlayedAdapter
 new_player memory adapter address = new_with_room 64 4096 memory adapter address
 
--- a new adapter whose frames don't wait on the wire, with no room in its schedule; the generator has this seed
+-- a new adapter whose frames don't wait on the wire, with no room for a scheduled step; the generator has this seed
 abbrev pub new_watched : (memory : List ℕ) → AdapterState → (seed : ℕ) → Option Ptr → PlayedAdapter
 new_watched memory adapter seed address =
     record (new_with_room 0 0 memory adapter address) { keeps_put = false; generator = pcg32_of_seed (pcg32_seed 16 seed) }
@@ -253,7 +253,7 @@ both_ticks = EepromTick ∷ PhyTick ∷ []
 abbrev pub Ticks : PlayedAdapter → PlayedAdapter → List Told → Type 0
 Ticks a b told = (moved : ℕ) × PlaysAll (if a.ticks then both_ticks else []) moved a b told
 
--- the steps that are due before an access: those at the front of a schedule whose number `access` is at most the access's number
+-- the steps that are due before an access: from the front of the scheduled steps, those before the first step for a later access
 abbrev pub due : (access : ℕ) → List ScheduledStep → List ScheduledStep
 due access [] = []
 due access (step ∷ later) = if nat_le step.access access then step ∷ due access later else []
@@ -262,23 +262,23 @@ due access (step ∷ later) = if nat_le step.access access then step ∷ due acc
 abbrev pub due_in : PlayedAdapter → List ScheduledStep
 due_in a = due a.accesses a.scheduled.items
 
--- the adapter without the first step of its schedule
+-- the adapter without its first scheduled step
 abbrev pub without_next : PlayedAdapter → PlayedAdapter
 without_next a = record a { scheduled = record a.scheduled { items = drop 1 a.scheduled.items } }
 
--- The first step of the schedule is removed and played.
+-- The first scheduled step is removed, and a step of this kind is played.
 abbrev pub PlaysScheduled : ScheduledStep → PlayedAdapter → PlayedAdapter → List Told → Type 0
 PlaysScheduled step a b told = (outcome : Outcome (Unit {0})) × Steps step.kind outcome (without_next a) b told
 
--- A step is added at the end of the schedule, if the schedule has room.
+-- A step is scheduled after the others, if there is room for another step.
 pub record AnswersSchedule (access : ℕ) (kind : StepKind) (answer : Bool) (a b : PlayedAdapter) : Type 0 where
-  -- whether the schedule has room
+  -- whether there is room for another step
   pub range : answer ≡ nat_lt (length a.scheduled.items) a.scheduled.capacity
-  -- if the schedule has room, the step is added at its end
+  -- if there is room, the step is scheduled after the others
   pub taken : answer ≡ true → b ≡ record a {
     scheduled = record a.scheduled { items = a.scheduled.items ++ record { access = access; kind = kind } ∷ [] };
   }
-  -- if the schedule has no room, nothing changes
+  -- if there is no room, nothing changes
   pub refused : answer ≡ false → b ≡ a
 
 -- the list that consists of this noted action if `did` is true, else an empty list
@@ -332,7 +332,7 @@ counted a = record a { accesses = min (a.accesses + 1) most_accesses }
 abbrev pub Draws : PlayedAdapter → PlayedAdapter → List Told → Type 0
 Draws a b told = (drawn : PlayedAdapter) × Interleaves a drawn told × (b ≡ counted drawn)
 
--- The ticks are played if they are on, then the steps of the schedule that are due, and then what the generator draws. The access is
+-- The ticks are played if they are on, then the scheduled steps that are due, and then what the generator draws. The access is
 -- counted.
 abbrev pub Prepares : PlayedAdapter → PlayedAdapter → List Told → Type 0
 Prepares a b told =
@@ -343,10 +343,6 @@ abbrev pub Makes : Move → PlayedAdapter → PlayedAdapter → List Told → Ty
 Makes (Tick kind) a b told = (outcome : Outcome (Unit {0})) × Steps kind outcome a b told
 Makes (Hold action) a b told = (b ≡ a) × (told ≡ Noted action ∷ [])
 Makes (Play choice) a b told = Chosen choice a b told
-
--- Moves are played, and then what the generator draws.
-abbrev pub ComesBefore : List Move → PlayedAdapter → PlayedAdapter → List Told → Type 0
-ComesBefore moves a b told = Joins (InOrder Makes moves a) (λ middle rest. Interleaves middle b rest) told
 
 -- Cycles are played until one does nothing, up to the maximum `pace`.
 abbrev pub Paced : PlayedAdapter → PlayedAdapter → List Told → Type 0

@@ -32,7 +32,7 @@ impl PlayedAdapter {
         self.accesses = self.accesses.saturating_add(1);
     }
 
-    /// Whether ticks are off, no steps are drawn, and the schedule is empty. Then no step is played before the next
+    /// Whether ticks are off, no steps are drawn, and no step is scheduled. Then no step is played before the next
     /// access.
     #[inline(always)]
     fn is_quiet(&self) -> bool

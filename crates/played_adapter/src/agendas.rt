@@ -1,6 +1,6 @@
 // What a schedule plays before accesses and requests.
 
-ghost use Rattle.std.specs.Prelude.{◌≡◌, ◌++◌, flat_map, map, true};
+ghost use Rattle.std.specs.Prelude.{◌≡◌, ◌++◌, flat_map, map};
 ghost use Rattle.played_adapter.specs.Moves as spec;
 ghost use Rattle.played_adapter.specs.Order.{InOrder, Tells};
 ghost use Rattle.played_adapter.specs.Playing.{Makes};
@@ -40,7 +40,7 @@ fn moves_of(action: Action) -> (Option<Move>, Option<Move>)
 /// Returns the move of the default step of the EEPROM or of the PHY: the hold if the step is held, else the step.
 /// Returns `None` if the step has no work.
 fn default_move(has_work: bool, is_held: bool, kind: StepKind, hold: Action) -> Option<Move>
-    ensures { spec.listed result ≡ spec.default_moves has_work true is_held kind hold }
+    ensures { spec.listed result ≡ spec.default_moves has_work is_held kind hold }
 {
     if !has_work {
         None
@@ -57,7 +57,7 @@ impl PlayedAdapter {
         ensures { Tells O.heard observer.old observer.new (InOrder Makes (spec.listed next) self.old self.new) }
     {
         if let Some(next) = next {
-            self.make_all(&[next], observer);
+            self.make(next, observer);
         }
     }
 

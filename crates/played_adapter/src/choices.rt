@@ -1,10 +1,10 @@
-// What is played before accesses and requests: moves, and the choices of a generator.
+// Moves, the choices of a generator, and the arrivals of offered frames.
 
 ghost use Rattle.std.specs.Prelude.{◌≡◌};
 ghost use Rattle.played_adapter.specs.Choices as spec;
 ghost use Rattle.played_adapter.specs.Choices.{drawn};
-ghost use Rattle.played_adapter.specs.Order.{InOrder, Tells};
-ghost use Rattle.played_adapter.specs.Playing.{AllArrive, ArrivalChosen, Chosen, ComesBefore, Makes, NextArrives};
+ghost use Rattle.played_adapter.specs.Order.{Tells};
+ghost use Rattle.played_adapter.specs.Playing.{AllArrive, ArrivalChosen, Chosen, Makes, NextArrives};
 ghost use Rattle.played_adapter.specs.Playing.{StepChosen, drawn_from, noted};
 
 use crate::draws::{KINDS, kind_numbered};
@@ -137,7 +137,7 @@ impl PlayedAdapter {
     }
 
     /// Plays a move.
-    fn make<O: Observer>(&mut self, next: Move, observer: &mut O)
+    pub(crate) fn make<O: Observer>(&mut self, next: Move, observer: &mut O)
         ensures { Tells O.heard observer.old observer.new (Makes next self.old self.new) }
     {
         match next {
@@ -147,22 +147,5 @@ impl PlayedAdapter {
             Move::Hold(action) => observer.noted(action),
             Move::Play(choice) => self.choose(choice, observer),
         }
-    }
-
-    /// Plays moves, in order.
-    pub fn make_all<O: Observer>(&mut self, moves: &[Move], observer: &mut O)
-        ensures { Tells O.heard observer.old observer.new (InOrder Makes moves.now self.old self.new) }
-    {
-        for next in moves {
-            self.make(*next, observer);
-        }
-    }
-
-    /// Plays what precedes an access: moves, and then what the generator draws.
-    pub(crate) fn play_before<O: Observer>(&mut self, moves: &[Move], observer: &mut O)
-        ensures { Tells O.heard observer.old observer.new (ComesBefore moves.now self.old self.new) }
-    {
-        self.make_all(moves, observer);
-        self.interleave_steps(observer);
     }
 }

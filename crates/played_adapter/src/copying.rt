@@ -77,7 +77,7 @@ impl PlayedAdapter {
 
     /// Returns a copy of the adapter with everything that its calls depend on.
     ///
-    /// The copy's memory is at another address, and the level of its interrupt line counts as reported.
+    /// The copy has memory of its own, and the level of its interrupt line counts as reported.
     ///
     /// # Errors
     ///

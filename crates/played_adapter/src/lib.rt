@@ -22,7 +22,7 @@ mod wire;
 pub use choices::{Choice, Move};
 pub use frames::{Frames, WaitingFrame};
 pub use law::quiet_accesses_are_exact;
-pub use observer::{Nobody, Observer};
+pub use observer::Observer;
 pub use player::PlayedAdapter;
 pub use scheduling::ScheduledStep;
 pub use steps::MOST_CYCLES;

@@ -35,9 +35,9 @@ pub struct PlayedAdapter {
     pub generator: Lcg64Xsh32,
     /// The maximum number of steps and arrivals that are drawn before an access.
     pub most_steps: u16,
-    /// The maximum number of cycles that the calls `serve_..` play after an access or an arrival.
+    /// The maximum number of cycles that the calls `serve_..` and the C library play after an access or an arrival.
     pub pace: u16,
-    /// The schedule: the steps that wait for their accesses.
+    /// The scheduled steps, which wait for their accesses, in the order in which they were added.
     pub scheduled: HeapCircularBuffer<ScheduledStep>,
     /// The number of accesses so far, up to the greatest `u64`. The accesses of calls `serve_..` aren't counted.
     pub accesses: u64,
@@ -55,8 +55,8 @@ pub(crate) fn address_of(memory: &HostMemory) -> Option<*const u8> {
 }
 
 impl PlayedAdapter {
-    /// Returns this adapter with this memory, and with an empty wire and an empty schedule with room for this many
-    /// frames and steps. No frame is offered, and no step is played before or after an access.
+    /// Returns this adapter with this memory. Its wire is empty, with room for this many frames. No step is scheduled,
+    /// with room for this many. No frame is offered, and no step is played before or after an access.
     #[tactic(auto, unfolding(crate::specs::Playing::new_with_room))]
     fn with_room(
         alloc: Global,

@@ -1,18 +1,16 @@
-// Requests of the server. Moves precede each request except the choice of a number. Cycles follow an access or an
-// arrival.
+// Calls for requests of the server. The C library also calls `serve_settle` and `serve_choose`.
 
 ghost use Rattle.std.specs.Prelude.{◌<◌, IsTrue, length};
 ghost use Rattle.bus.specs.declared.event.Access.TheVariants.{Reads, Stores, Writes};
 ghost use Rattle.played_adapter.specs.Order.{Tells};
 ghost use Rattle.played_adapter.specs.Playing.{Paced, has_bytes};
 ghost use Rattle.played_adapter.specs.Requests.{ServesAccess, ServesArrival, ServesChoice, ServesLoad};
-ghost use Rattle.played_adapter.specs.Requests.{ServesSettle, ServesStep};
+ghost use Rattle.played_adapter.specs.Requests.{ServesSettle};
 
-use crate::choices::Move;
 use crate::observer::Observer;
 use crate::player::PlayedAdapter;
 use crate::steps::MOST_CYCLES;
-use adapter::{Fate, Outcome, StepKind};
+use adapter::Fate;
 use step_schedules::Action;
 
 impl PlayedAdapter {
@@ -23,102 +21,61 @@ impl PlayedAdapter {
         let _moved = self.settle(u32::from(self.pace), observer);
     }
 
-    /// Plays moves and what the generator draws, reads the register at an offset in bytes, and plays cycles.
-    pub fn serve_read<O: Observer>(&mut self, moves: &[Move], offset: u32, observer: &mut O) -> u32
-        ensures { Tells O.heard observer.old observer.new
-            (ServesAccess moves.now (Reads offset result) self.old self.new) }
+    /// Plays what the generator draws, reads the register at an offset in bytes, and plays cycles.
+    pub fn serve_read<O: Observer>(&mut self, offset: u32, observer: &mut O) -> u32
+        ensures { Tells O.heard observer.old observer.new (ServesAccess (Reads offset result) self.old self.new) }
     {
-        self.play_before(moves, observer);
+        self.interleave_steps(observer);
         let value = self.read_now(offset, observer);
         self.pace_cycles(observer);
         value
     }
 
-    /// Plays moves and what the generator draws, writes the register at an offset in bytes, and plays cycles.
-    pub fn serve_write<O: Observer>(
-        &mut self,
-        moves: &[Move],
-        offset: u32,
-        value: u32,
-        observer: &mut O,
-    )
-        ensures { Tells O.heard observer.old observer.new
-            (ServesAccess moves.now (Writes offset value) self.old self.new) }
+    /// Plays what the generator draws, writes the register at an offset in bytes, and plays cycles.
+    pub fn serve_write<O: Observer>(&mut self, offset: u32, value: u32, observer: &mut O)
+        ensures { Tells O.heard observer.old observer.new (ServesAccess (Writes offset value) self.old self.new) }
     {
-        self.play_before(moves, observer);
+        self.interleave_steps(observer);
         self.write_now(offset, value, observer);
         self.pace_cycles(observer);
     }
 
-    /// Plays moves and what the generator draws, loads bytes of memory from an address on, and plays cycles.
-    pub fn serve_load<O: Observer>(
-        &mut self,
-        moves: &[Move],
-        address: u64,
-        into: &mut [u8],
-        observer: &mut O,
-    )
+    /// Plays what the generator draws, loads bytes of memory from an address on, and plays cycles.
+    pub fn serve_load<O: Observer>(&mut self, address: u64, into: &mut [u8], observer: &mut O)
         requires { IsTrue (has_bytes self.old address (length into.old)) }
         ensures { Tells O.heard observer.old observer.new
-            (ServesLoad moves.now address (length into.old) into.new self.old self.new) }
+            (ServesLoad address (length into.old) into.new self.old self.new) }
     {
-        self.play_before(moves, observer);
+        self.interleave_steps(observer);
         self.load_now(address, into, observer);
         self.pace_cycles(observer);
     }
 
-    /// Plays moves and what the generator draws, stores bytes in memory from an address on, and plays cycles.
-    pub fn serve_store<O: Observer>(
-        &mut self,
-        moves: &[Move],
-        address: u64,
-        bytes: &[u8],
-        observer: &mut O,
-    )
+    /// Plays what the generator draws, stores bytes in memory from an address on, and plays cycles.
+    pub fn serve_store<O: Observer>(&mut self, address: u64, bytes: &[u8], observer: &mut O)
         requires { IsTrue (has_bytes self.old address (length bytes.now)) }
         ensures { Tells O.heard observer.old observer.new
-            (ServesAccess moves.now (Stores address bytes.now) self.old self.new) }
+            (ServesAccess (Stores address bytes.now) self.old self.new) }
     {
-        self.play_before(moves, observer);
+        self.interleave_steps(observer);
         self.store_now(address, bytes, observer);
         self.pace_cycles(observer);
     }
 
-    /// Plays moves, delivers a frame, and plays cycles. Returns the frame's fate.
-    pub fn serve_arrival<O: Observer>(
-        &mut self,
-        moves: &[Move],
-        frame: &[u8],
-        observer: &mut O,
-    ) -> Fate
-        ensures { Tells O.heard observer.old observer.new
-            (ServesArrival moves.now frame.now result self.old self.new) }
+    /// Delivers a frame, and plays cycles. Returns the frame's fate.
+    pub fn serve_arrival<O: Observer>(&mut self, frame: &[u8], observer: &mut O) -> Fate
+        ensures { Tells O.heard observer.old observer.new (ServesArrival frame.now result self.old self.new) }
     {
-        self.make_all(moves, observer);
         let fate = self.arrive(frame, observer);
         self.pace_cycles(observer);
         fate
     }
 
-    /// Plays moves, and then makes the adapter take a step. Returns the step's outcome.
-    pub fn serve_step<O: Observer>(
-        &mut self,
-        moves: &[Move],
-        kind: StepKind,
-        observer: &mut O,
-    ) -> Outcome<()>
-        ensures { Tells O.heard observer.old observer.new (ServesStep moves.now kind result self.old self.new) }
+    /// Delivers all offered frames, and plays cycles until one does nothing, up to [`MOST_CYCLES`]. Returns the number
+    /// of steps of these cycles that did something.
+    pub fn serve_settle<O: Observer>(&mut self, observer: &mut O) -> u64
+        ensures { Tells O.heard observer.old observer.new (ServesSettle result self.old self.new) }
     {
-        self.make_all(moves, observer);
-        self.step(kind, observer)
-    }
-
-    /// Plays moves, delivers all offered frames, and plays cycles until one does nothing, up to [`MOST_CYCLES`].
-    /// Returns the number of steps of these cycles that did something.
-    pub fn serve_settle<O: Observer>(&mut self, moves: &[Move], observer: &mut O) -> u64
-        ensures { Tells O.heard observer.old observer.new (ServesSettle moves.now result self.old self.new) }
-    {
-        self.make_all(moves, observer);
         self.deliver_all(observer);
         self.settle(MOST_CYCLES, observer)
     }

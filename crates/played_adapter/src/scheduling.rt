@@ -1,4 +1,4 @@
-// The schedule: steps that are played before accesses, by the numbers of the accesses.
+// Scheduled steps, which are played before accesses, by the numbers of the accesses.
 
 ghost use Rattle.std.specs.Prelude.{◌≡◌, IfSome, None, slice_get};
 ghost use Rattle.played_adapter.specs.Order.{InOrder, Tells};
@@ -21,11 +21,11 @@ pub struct ScheduledStep {
 }
 
 impl PlayedAdapter {
-    /// Adds a step of this kind to the end of the schedule.
+    /// Schedules a step of this kind, after all steps that are scheduled already.
     ///
-    /// The step is played before the next access with a number of at least `access`, but not before the steps added
-    /// earlier. If the schedule is full, returns `false` and changes nothing. The schedule of an adapter made by
-    /// `watched` is always full.
+    /// The step is played before the next access with a number of at least `access`, but not before the steps scheduled
+    /// earlier. If there is no room for another step, returns `false` and changes nothing. An adapter made by `watched`
+    /// has no room for any step.
     pub fn schedule(&mut self, access: u64, kind: StepKind) -> bool
         ensures { AnswersSchedule access kind result self.old self.new }
     {
@@ -34,8 +34,7 @@ impl PlayedAdapter {
             .is_ok()
     }
 
-    /// Removes and returns the first step of the schedule if the step is due before the next access, or else returns
-    /// `None`.
+    /// Removes and returns the first scheduled step if it is due before the next access. Otherwise returns `None`.
     fn take_due(&mut self) -> Option<ScheduledStep>
         ensures step { result ≡ slice_get (due_in self.old) 0 }
         ensures state { IfSome result (λ step. self.new ≡ without_next self.old) }
@@ -52,7 +51,7 @@ impl PlayedAdapter {
         Some(step)
     }
 
-    /// Plays the steps of the schedule that are due before the next access.
+    /// Plays and removes the scheduled steps that are due before the next access.
     pub(crate) fn play_scheduled<O: Observer>(&mut self, observer: &mut O)
         ensures { Tells O.heard observer.old observer.new (InOrder PlaysScheduled (due_in self.old) self.old self.new) }
     {

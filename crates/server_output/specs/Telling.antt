@@ -26,14 +26,14 @@ kept_with outcome fault kept = record kept {
   faults = if kept.events then kept.faults else kept.faults ++ listed fault;
 }
 
--- what is kept after one thing was told; the player, if there is one, notes an action
+-- what is kept after one thing was told; the recorder, if there is one, notes an action
 abbrev pub kept_one : Told → Kept → Kept
 kept_one (Stepped kind outcome fault) kept = kept_with outcome fault kept
 kept_one (Arrived frame fate) kept = kept
 kept_one (Offered frame fate) kept = kept
 kept_one (Accessed access) kept = kept
 kept_one (Line level) kept = kept
-kept_one (Noted action) kept = record kept { player = option_map (after_playing action) kept.player }
+kept_one (Noted action) kept = record kept { recorder = option_map (after_playing action) kept.recorder }
 
 -- what is kept after this list was told, in order
 abbrev pub kept_after : List Told → Kept → Kept

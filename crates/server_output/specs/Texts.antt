@@ -1,4 +1,4 @@
--- The lines that a server writes (QEMU, docs/devel/testing/qtest: OK, ERR, FAIL and IRQ; frame, arrived and # are our choice).
+-- The lines that a server writes, except refusals (QEMU, docs/devel/testing/qtest: OK and IRQ; frame, fault, arrived and # are our choice).
 use Rattle.std.specs.Prelude.{◌++◌, ℕ, List, [], ◌∷◌, Bool, true, false, Option, Some, None, codes, decimal, flat_map, if◌then◌else◌, map}
 use Rattle.std.specs.Borrow.{Bor}
 use Rattle.std.specs.Int.{to_be_bytes, w64}

@@ -11,9 +11,9 @@ use access_names::EngineFault;
 use adapter::Outcome;
 use played_adapter::Frames;
 use std::alloc::{AllocError, Global};
-use step_schedules::{Action, Player};
+use step_schedules::{Action, Recorder};
 
-/// The past events that a server keeps, which events it writes, and the player.
+/// The past events that a server keeps, which events it writes, and the recorder.
 #[derive(Drop)]
 pub struct Kept {
     /// Whether steps, accesses and arrivals are written.
@@ -24,8 +24,8 @@ pub struct Kept {
     pub put: Frames,
     /// The faults that stopped an engine while events weren't written, and that weren't fetched yet.
     pub faults: Faults,
-    /// The player of a schedule, or of a run that is recorded, if there is one.
-    pub player: Option<Player>,
+    /// The recorder of the actions that are played, if there is a player.
+    pub recorder: Option<Recorder>,
 }
 
 impl Clone for Kept {
@@ -36,7 +36,7 @@ impl Clone for Kept {
         Ok(Kept {
             put: self.put.clone()?,
             faults: self.faults.clone()?,
-            player: self.player.clone()?,
+            recorder: self.recorder.clone()?,
             log: self.log,
             events: self.events,
         })
@@ -79,13 +79,13 @@ impl Kept {
         }
     }
 
-    /// The player, if there is one, notes an action.
+    /// The recorder, if there is one, notes an action.
     pub(crate) fn note(&mut self, action: Action) -> Result<(), AllocError>
         ensures { OnOk result (self.new ≡
-            record self.old { player = option_map (after_playing action) self.old.player }) }
+            record self.old { recorder = option_map (after_playing action) self.old.recorder }) }
     {
-        match &mut self.player {
-            Some(player) => player.note(action),
+        match &mut self.recorder {
+            Some(recorder) => recorder.note(action),
             None => Ok(()),
         }
     }

@@ -1,7 +1,7 @@
 //! Reads the requests of the server's line protocol: lines from an input, and the request of a line from its words.
 //!
-//! The protocol is QEMU's `qtest` with additional requests, such as for the adapter's steps. [`next_line`] reads a
-//! line, and [`read_line`] returns the request of a line.
+//! The protocol has those requests of QEMU's `qtest` that a client needs for a PCI device, and further requests, such
+//! as for the adapter's steps. [`next_line`] reads a line, and [`read_line`] returns the request of a line.
 #![tactic(auto)]
 
 mod line_reader;

@@ -1,5 +1,5 @@
 -- The deviations of a schedule in a run.
-use Rattle.std.specs.Prelude.{◌||◌, Bool, List, None, Option, Some, false, map, true}
+use Rattle.std.specs.Prelude.{◌||◌, [], Bool, List, None, Option, Some, false, if◌then◌else◌, map, true}
 use Rattle.std.specs.List.{list_any}
 use Rattle.step_schedules.specs.Events.{EventRead, next_place}
 use Rattle.step_schedules.specs.Schedules.{ScheduleRead}
@@ -13,6 +13,8 @@ use Rattle.step_schedules.specs.declared.deviation.Place.{Place}
 
 -- the state of an agenda
 pub record AgendaState : Type 0 where
+  -- whether the default steps that no due action leaves out are taken; if not, all default steps are left out
+  pub plays : Bool
   -- the place of the access or the request that came last, or 0.0 before the run
   pub last : Place
   -- all deviations of the schedule, also those that have been due
@@ -20,15 +22,20 @@ pub record AgendaState : Type 0 where
 
 -- the agenda of a schedule, before the run
 abbrev pub agenda_of : ScheduleRead → AgendaState
-agenda_of schedule = record { last = record { round = 0; access = 0 }; waiting = map waits schedule.deviations }
+agenda_of schedule =
+    record { plays = true; last = record { round = 0; access = 0 }; waiting = map waits schedule.deviations }
 
--- an access or a request of this kind, and with this name, that comes now, with its place
+-- the agenda of a run without a schedule, before the run: all default steps are left out
+abbrev pub idle_agenda : AgendaState
+idle_agenda = record { plays = false; last = record { round = 0; access = 0 }; waiting = [] }
+
+-- the access or request of this kind, and with this name, that comes next; its place is the next place of this kind after the last place
 abbrev pub coming : Before → Text → AgendaState → EventRead
 coming before name agenda = record { place = next_place before agenda.last; before = before; name = name }
 
--- the agenda after an access or a request came
+-- the agenda after an access or a request came: its place is the last place, and it is counted for each deviation that it matches
 abbrev pub after_event : EventRead → AgendaState → AgendaState
-after_event event agenda = record { last = event.place; waiting = map (counted event) agenda.waiting }
+after_event event agenda = record agenda { last = event.place; waiting = map (counted event) agenda.waiting }
 
 -- whether an action leaves out the default step of the EEPROM
 abbrev pub holds_eeprom : Action → Bool
@@ -43,6 +50,10 @@ holds_phy _ = false
 -- which default steps these actions leave out
 abbrev pub held_by : List Action → Held
 held_by actions = record { eeprom = list_any holds_eeprom actions; phy = list_any holds_phy actions }
+
+-- which default steps are left out before an event at which these actions are due
+abbrev pub held_at : (due : List Action) → AgendaState → Held
+held_at due agenda = if agenda.plays then held_by due else record { eeprom = true; phy = true }
 
 -- the default steps of `held`, and the default step that the action leaves out, if there is such an action
 abbrev pub held_after : Held → Option Action → Held

@@ -1,18 +1,25 @@
-// The deviations of a schedule in a run, without allocation for an access or a request.
+// The deviations of a schedule in a run.
 
-ghost use Rattle.std.specs.Prelude.{◌≡◌, ◌∷◌, IfOk, List, map};
+ghost use Rattle.std.specs.Prelude.{◌≡◌, ◌∷◌, IfOk, List, map, string_bytes};
 ghost use Rattle.step_schedules.specs.Agendas as spec;
 ghost use Rattle.step_schedules.specs.Events.{event_read};
 ghost use Rattle.step_schedules.specs.Players.{chosen};
 ghost use Rattle.step_schedules.specs.Schedules.{schedule_read};
-ghost use Rattle.step_schedules.specs.Waiting.{due_before, waiting_read};
+ghost use Rattle.step_schedules.specs.Texts.{deviation_lines};
+ghost use Rattle.step_schedules.specs.Waiting.{due_before, unmet_in, waiting_read};
 
 use crate::deviation::{Action, Before, Place};
 use crate::event::{Event, next_place};
 use crate::schedule::Schedule;
-use crate::waiting::{Waiting, count_all, waiting_of};
+use crate::waiting::{Waiting, count_all, unmet_in, waiting_of};
 use std::alloc::{AllocError, Global};
 use std::marker::Model;
+
+/// The place before the run.
+const START: Place = Place {
+    round: 0,
+    access: 0,
+};
 
 /// Which default steps are omitted before an access.
 #[derive(Clone, Copy)]
@@ -23,12 +30,13 @@ pub struct Held {
     pub phy: bool,
 }
 
-/// Counts the accesses and requests of a run, and finds the deviations that are due, as a [`Player`](crate::Player)
-/// does. An agenda records nothing. Only `new` and `clone` allocate.
+/// Counts the accesses and requests of a run, and finds the deviations that are due. An agenda records nothing. Only
+/// `new`, `clone` and `unmet` allocate.
 ///
 /// In contracts, the value is an `AgendaState`, plain data that `specs/Agendas.antt` defines.
 #[derive(Drop)]
 pub struct Agenda {
+    plays: bool,
     last: Place,
     waiting: Vec<Waiting>,
 }
@@ -40,7 +48,11 @@ impl Model for Agenda {
 
     ghost Value = { AgendaState };
 
-    ghost view = { λ agenda. record { last = agenda.last; waiting = map waiting_read agenda.waiting.items } };
+    ghost view = { λ agenda. record {
+      plays = agenda.plays;
+      last = agenda.last;
+      waiting = map waiting_read agenda.waiting.items;
+    } };
 }
 
 impl Clone for Agenda {
@@ -50,6 +62,7 @@ impl Clone for Agenda {
     #[tactic(auto, using(crate::proofs::Copies::copied_waiting))]
     fn clone(&self) -> Result<Agenda, AllocError> {
         Ok(Agenda {
+            plays: self.plays,
             last: self.last,
             waiting: self.waiting.clone()?,
         })
@@ -110,15 +123,32 @@ impl Agenda {
         ensures { IfOk result (λ agenda. agenda ≡ spec.agenda_of (schedule_read schedule)) }
     {
         Ok(Agenda {
-            last: Place {
-                round: 0,
-                access: 0,
-            },
+            plays: true,
+            last: START,
             waiting: waiting_of(alloc, schedule.deviations)?,
         })
     }
 
-    /// Returns an access or a request of this kind, and with this name, that comes now, with its place.
+    /// Returns the agenda of a run without a schedule, before the run. All default steps are left out.
+    pub fn idle(alloc: Global) -> Agenda
+        ensures { result ≡ spec.idle_agenda }
+    {
+        Agenda {
+            plays: false,
+            last: START,
+            waiting: Vec::new(alloc),
+        }
+    }
+
+    /// Whether the default steps that no due action leaves out are taken. If not, all default steps are left out.
+    pub fn plays(&self) -> bool
+        ensures { result ≡ self.now.plays }
+    {
+        self.plays
+    }
+
+    /// Returns the access or request of this kind, and with this name, that comes next. Its place is the next place of
+    /// this kind after the place of the last access or request.
     pub fn coming<'a>(&self, before: Before, name: &'a [u8]) -> Event<'a>
         ensures { event_read result ≡ spec.coming before name.entry.now self.now }
     {
@@ -136,10 +166,17 @@ impl Agenda {
         self.waiting.as_slice()
     }
 
-    /// Returns which default steps the actions that are due before an event leave out.
+    /// Returns which default steps are left out before an event: those that due actions leave out, or all if the agenda
+    /// has no schedule.
     pub fn held(&self, event: &Event<'_>) -> Held
-        ensures { result ≡ spec.held_by (due_before (event_read event.now) self.now.waiting) }
+        ensures { result ≡ spec.held_at (due_before (event_read event.now) self.now.waiting) self.now }
     {
+        if !self.plays {
+            return Held {
+                eeprom: true,
+                phy: true,
+            };
+        }
         held_in(self.waiting.as_slice(), event)
     }
 
@@ -150,7 +187,20 @@ impl Agenda {
         chosen_in(self.waiting.as_slice(), event)
     }
 
-    /// Counts an access or a request that comes now.
+    /// Returns the lines of the deviations that haven't been due yet, in the order of the schedule. Fails only if
+    /// memory was refused.
+    pub fn unmet(&self, alloc: Global) -> Result<String, AllocError>
+        ensures { IfOk result (λ text. string_bytes text ≡ deviation_lines (unmet_in self.now.waiting)) }
+    {
+        let schedule = Schedule {
+            options: None,
+            deviations: unmet_in(alloc, self.waiting.as_slice())?,
+        };
+        schedule.to_string(alloc)
+    }
+
+    /// Counts an access or a request that comes now, for each deviation that matches it. Its place is the last place
+    /// from now on.
     pub fn count(&mut self, event: &Event<'_>)
         ensures { self.new ≡ spec.after_event (event_read event.now) self.old }
     {

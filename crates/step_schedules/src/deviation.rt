@@ -33,7 +33,7 @@ pub enum Site {
 }
 
 /// The action of a deviation.
-#[derive(Clone, Copy, Debug, PartialEq)]
+#[derive(Clone, Copy)]
 pub enum Action {
     /// The transmit engine takes a frame.
     TxTake,

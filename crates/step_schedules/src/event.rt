@@ -18,7 +18,7 @@ pub struct Event<'a> {
     pub name: &'a [u8],
 }
 
-/// The access or the request that came last, if there is one.
+/// The access or the request that began last, if there is one.
 #[derive(Drop)]
 pub(crate) struct Past {
     pub(crate) place: Place,
@@ -38,7 +38,7 @@ impl Clone for Past {
     }
 }
 
-/// Returns the place of the next access or request after this place, which is of this kind.
+/// Returns the place of the access or request of this kind that comes next after this place.
 pub(crate) fn next_place(place: Place, before: Before) -> Place
     ensures { result ≡ spec.next_place before place }
 {
@@ -55,7 +55,7 @@ pub(crate) fn next_place(place: Place, before: Before) -> Place
 }
 
 impl Past {
-    /// Returns the state before the run: no access and no request has come.
+    /// Returns the state before the run: no access and no request has begun.
     pub(crate) fn none(alloc: Global) -> Past
         ensures { spec.past_read result ≡ spec.no_event }
     {
@@ -66,17 +66,6 @@ impl Past {
             },
             before: Before::Read,
             name: String::new(alloc),
-        }
-    }
-
-    /// Returns this access or request.
-    pub(crate) fn event(&self) -> Event<'_>
-        ensures { spec.event_read result ≡ spec.past_read self.now }
-    {
-        Event {
-            place: self.place,
-            before: self.before,
-            name: self.name.as_bytes(),
         }
     }
 }

@@ -1,58 +1,59 @@
-// Players.
+// Players, and the records of what was played.
 
 ghost use Rattle.std.specs.Prelude.{◌≡◌, IfOk, OnOk, string_bytes};
 ghost use Rattle.std.specs.Option.{option_map};
+ghost use Rattle.step_schedules.specs.Agendas.{agenda_of, idle_agenda};
 ghost use Rattle.step_schedules.specs.Players as spec;
-ghost use Rattle.step_schedules.specs.Deviations.{deviation_read};
 ghost use Rattle.step_schedules.specs.Schedules.{option_texts, schedule_read};
-ghost use Rattle.step_schedules.specs.Texts.{deviation_lines, schedule_text};
+ghost use Rattle.step_schedules.specs.Texts.{schedule_text};
 
+use crate::agenda::Agenda;
 use crate::deviation::{Action, Before, Deviation, Place, Site};
-use crate::event::{Past, next_place};
+use crate::event::Past;
 use crate::schedule::Schedule;
-use crate::waiting::{Waiting, count_all, due_before, unmet_in, waiting_of};
 use std::alloc::{AllocError, Global};
 use std::marker::Model;
 
-/// A player counts the accesses and requests of a run, finds the deviations that are due, and records the actions that
-/// were played.
-///
-/// In contracts, the value is a `PlayerState`, plain data that `specs/Players.antt` defines.
+/// A player: the agenda of a run, and the record of what was played in the run.
 #[derive(Drop)]
 pub struct Player {
-    is_playing: bool,
+    /// Finds the deviations that are due.
+    pub agenda: Agenda,
+    /// Records the actions that were played.
+    pub recorder: Recorder,
+}
+
+/// Records the actions that were played in a run, each before the access or the request that began last.
+///
+/// In contracts, the value is a `RecorderState`, plain data that `specs/Players.antt` defines.
+#[derive(Drop)]
+pub struct Recorder {
     event: Past,
-    waiting: Vec<Waiting>,
     played: Vec<Deviation>,
 }
 
-impl Model for Player {
+impl Model for Recorder {
     ghost use Rattle.std.specs.Prelude.{map};
-    ghost use Rattle.step_schedules.specs.Events.{past_read};
-    ghost use Rattle.step_schedules.specs.Players.{PlayerState};
-    ghost use Rattle.step_schedules.specs.Waiting.{waiting_read};
     ghost use Rattle.step_schedules.specs.Deviations.{deviation_read};
+    ghost use Rattle.step_schedules.specs.Events.{past_read};
+    ghost use Rattle.step_schedules.specs.Players.{RecorderState};
 
-    ghost Value = { PlayerState };
+    ghost Value = { RecorderState };
 
-    ghost view = { λ player. record {
-      is_playing = player.is_playing;
-      event = past_read player.event;
-      waiting = map waiting_read player.waiting.items;
-      played = map deviation_read player.played.items;
+    ghost view = { λ recorder. record {
+      event = past_read recorder.event;
+      played = map deviation_read recorder.played.items;
     } };
 }
 
-impl Clone for Player {
-    ghost is_clone = { λ player copy. copy ≡ player };
+impl Clone for Recorder {
+    ghost is_clone = { λ recorder copy. copy ≡ recorder };
 
-    /// Returns the same player. Fails only if memory was refused.
-    #[tactic(auto, using(crate::proofs::Copies::copied_deviations, crate::proofs::Copies::copied_waiting))]
-    fn clone(&self) -> Result<Player, AllocError> {
-        Ok(Player {
-            is_playing: self.is_playing,
+    /// Returns the same recorder. Fails only if memory was refused.
+    #[tactic(auto, using(crate::proofs::Copies::copied_deviations))]
+    fn clone(&self) -> Result<Recorder, AllocError> {
+        Ok(Recorder {
             event: self.event.clone()?,
-            waiting: self.waiting.clone()?,
             played: self.played.clone()?,
         })
     }
@@ -61,59 +62,52 @@ impl Clone for Player {
 impl Player {
     /// Returns a player without a schedule, before the run.
     pub fn recording(alloc: Global) -> Player
-        ensures { result ≡ spec.recording }
+        ensures agenda { result.agenda ≡ idle_agenda }
+        ensures recorder { result.recorder ≡ spec.new_recorder }
     {
         Player {
-            is_playing: false,
-            event: Past::none(alloc),
-            waiting: Vec::new(alloc),
-            played: Vec::new(alloc),
+            agenda: Agenda::idle(alloc),
+            recorder: Recorder::new(alloc),
         }
     }
 
     /// Returns a player of a schedule, before the run. Fails only if memory was refused.
     pub fn playing(alloc: Global, schedule: Schedule) -> Result<Player, AllocError>
-        ensures { IfOk result (λ player. player ≡ spec.playing (schedule_read schedule)) }
+        ensures agenda { IfOk result (λ player. player.agenda ≡ agenda_of (schedule_read schedule)) }
+        ensures recorder { IfOk result (λ player. player.recorder ≡ spec.new_recorder) }
     {
         Ok(Player {
-            is_playing: true,
-            event: Past::none(alloc),
-            waiting: waiting_of(alloc, schedule.deviations)?,
-            played: Vec::new(alloc),
+            agenda: Agenda::new(alloc, schedule)?,
+            recorder: Recorder::new(alloc),
         })
     }
+}
 
-    /// Whether the player has a schedule.
-    pub fn is_playing(&self) -> bool
-        ensures { result ≡ self.now.is_playing }
+impl Recorder {
+    /// Returns a recorder before the run.
+    fn new(alloc: Global) -> Recorder
+        ensures { result ≡ spec.new_recorder }
     {
-        self.is_playing
+        Recorder {
+            event: Past::none(alloc),
+            played: Vec::new(alloc),
+        }
     }
 
-    /// Counts an access or a request that comes now. Returns the actions that are due before it, in the order of the
-    /// schedule. Fails only if memory was refused. Then don't use the player any more.
-    pub fn meet(
-        &mut self,
-        alloc: Global,
-        before: Before,
-        name: String,
-    ) -> Result<Vec<Action>, AllocError>
-        ensures due { IfOk result (λ actions. actions.items ≡ spec.due_actions before (string_bytes name) self.old) }
-        ensures state { OnOk result (self.new ≡ spec.after_meeting before (string_bytes name) self.old) }
+    /// Begins an access or a request of this kind, with this place and name. Actions that are noted from now on were
+    /// played before this access or request.
+    pub fn begin(&mut self, place: Place, before: Before, name: String)
+        ensures { self.new ≡ spec.begun
+            (record { place = place; before = before; name = string_bytes name }) self.old }
     {
-        let place = next_place(self.event.place, before);
         self.event = Past {
             place,
             before,
             name,
         };
-        let event = self.event.event();
-        let due = due_before(alloc, self.waiting.as_slice(), &event)?;
-        count_all(self.waiting.as_mut_slice(), &event);
-        Ok(due)
     }
 
-    /// Records an action that was played before the access or the request that came last. Fails only if memory was
+    /// Records an action that was played before the access or the request that began last. Fails only if memory was
     /// refused.
     pub fn note(&mut self, action: Action) -> Result<(), AllocError>
         ensures { OnOk result (self.new ≡ spec.after_playing action self.old) }
@@ -126,18 +120,6 @@ impl Player {
         };
         self.played.push(deviation)?;
         Ok(())
-    }
-
-    /// Returns the lines of the deviations that haven't been due yet, in the order of the schedule. Fails only if
-    /// memory was refused.
-    pub fn unmet(&self, alloc: Global) -> Result<String, AllocError>
-        ensures { IfOk result (λ text. string_bytes text ≡ deviation_lines (spec.unmet self.now)) }
-    {
-        let schedule = Schedule {
-            options: None,
-            deviations: unmet_in(alloc, self.waiting.as_slice())?,
-        };
-        schedule.to_string(alloc)
     }
 
     /// Returns the text of a schedule with these options, and with the actions that were recorded. Fails only if memory
@@ -156,15 +138,5 @@ impl Player {
             deviations: self.played.clone()?,
         };
         schedule.to_string(alloc)
-    }
-}
-
-/// Returns the number that the first of these actions chooses, or 0 if the first action chooses no number.
-pub fn chosen(actions: &[Action]) -> u32
-    ensures { result ≡ spec.chosen actions.now }
-{
-    match actions.first() {
-        Some(Action::Choose(number)) => *number,
-        _ => 0,
     }
 }

@@ -69,24 +69,6 @@ impl Waiting {
     }
 }
 
-/// Returns the actions that are due before an event that comes now, in the order of the deviations.
-pub(crate) fn due_before(
-    alloc: Global,
-    waiting: &[Waiting],
-    event: &Event<'_>,
-) -> Result<Vec<Action>, AllocError>
-    ensures { IfOk result (λ actions. actions.items
-        ≡ spec.due_before (event_read event.now) (map spec.waiting_read waiting.now)) }
-{
-    let mut actions = Vec::new(alloc);
-    for one in waiting {
-        if one.is_due(event) {
-            actions.push(one.deviation.action)?;
-        }
-    }
-    Ok(actions)
-}
-
 /// Counts an event that comes now, for each deviation that matches it.
 pub(crate) fn count_all(waiting: &mut [Waiting], event: &Event<'_>)
     ensures { map spec.waiting_read waiting.new

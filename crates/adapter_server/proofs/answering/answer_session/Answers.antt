@@ -1,14 +1,13 @@
 use Rattle.std.proofs.Common.{◌≡◌, [], ap, rules}
 use Rattle.server_output.proofs.Writing.{appends_none}
-use Rattle.server_output.specs.Texts.{ok_line}
-use Rattle.adapter_server.specs.Answers.{Answered, AnswersChoice, Offers, time_after, with_port_written}
+use Rattle.adapter_server.specs.Answers.{AnswersChoice, time_after, with_port_written}
 use Rattle.adapter_server.specs.Sessions.{with_setting}
 use Rattle.adapter_server.specs.Tasks.{Performs}
 use Rattle.adapter_server.specs.declared.session.Session.{Session}
 use Rattle.adapter_server.specs.declared.task.Task.TheVariants as tasks
 use Rattle.adapter_server.proofs.Printing.{answer_so, changed}
 use Rattle.adapter_server.proofs.Requests.{does_nothing}
-use Rattle.adapter_server.proofs.Tasks.{chooses, offers}
+use Rattle.adapter_server.proofs.Tasks.{chooses}
 use Rattle.adapter_server.proofs.answering.answer_session.Goals as goal
 
 pub returns-in-Read : goal.returns-in-Read
@@ -43,14 +42,7 @@ pub returns-in-Settle : goal.returns-in-Settle
 returns-in-Settle g c = rw c.in-Settle.is c.perform-in-Settle.ensures
 
 pub returns-in-Offer : goal.returns-in-Offer
-returns-in-Offer g c =
-    let a = c.args.session.now in
-    let said = c.args.said.now in
-    let frame = c.as_slice-in-Offer.result in
-    rw c.in-Offer.is
-    (rw c.as_slice-in-Offer.ensures at
-    (answer_so c.perform-in-Offer.result (Performs (tasks.Offer frame) said a) (λ b. Answered (Offers frame.now said a b) ok_line)
-    (λ (b : Session). b) c.perform-in-Offer.new.session _ _ (offers frame said a) c.perform-in-Offer.ensures))
+returns-in-Offer g c = rw c.in-Offer.is (rw c.as_slice-in-Offer.ensures at c.perform-in-Offer.ensures)
 
 pub returns-in-Choose : goal.returns-in-Choose
 returns-in-Choose g c =

@@ -1,8 +1,8 @@
 use Rattle.std.proofs.Common.{None, Option, subst, sym}
 use Rattle.std.specs.Prelude.{IfSome}
-use Rattle.step_schedules.specs.Players.{PlayerState}
+use Rattle.step_schedules.specs.declared.player.Player.{Player}
 use Rattle.server_output.specs.Order.{Tells}
-use Rattle.adapter_server.specs.Serving.{FromNew, ServesBegun, ServesFront, ServesTo, new_server}
+use Rattle.adapter_server.specs.Serving.{FromNew, ServesBegun, ServesFront, ServesTo, new_server, player_of}
 use Rattle.server_output.proofs.PartsWritten.{whatever_err}
 use Rattle.adapter_server.proofs.FromNew.{from_any, from_new, read_from}
 use Rattle.adapter_server.proofs.ServedLines.{serves_none, serves_to}
@@ -17,11 +17,11 @@ returns-clause-ok g c =
     let last = c.serve_lines-served.new.server in
     let options = c.args.options.now in
     subst
-    (λ (player : Option PlayerState).
+    (λ (player : Option Player).
     IfSome left (λ bytes. FromNew options c.args.player (λ begin. Tells before after (ServesTo bytes begin player))))
     (sym c.into_player-left.ensures)
     (from_new options c.args.player c.in_ok-server.server left (λ bytes begin. Tells before after (ServesTo bytes begin
-    last.session.kept.player))
+    (player_of last.session.agenda last.session.kept.recorder)))
     c.in_ok-server.ensures (serves_to left c.in_ok-server.server last before after c.in_ok-served.ensures.ok))
 
 pub returns-in_err-server-clause-begun : goal.returns-in_err-server-clause-begun

@@ -19,7 +19,7 @@ returns-in-Read-clause-plays g c =
       holds = (
         c.read_from.new.into,
         refl,
-        subst (λ (size : ℕ). ReadsFrom c.in-Read.place c.in-Read.address size c.read_from.new.into c.args.moves.now c.args.device.now
+        subst (λ (size : ℕ). ReadsFrom c.in-Read.place c.in-Read.address size c.read_from.new.into c.args.device.now
             c.read_from.new.device tells.told) fits.0 tells.holds,
       );
       hears = tells.hears;
@@ -32,11 +32,11 @@ returns-in-Write-clause-plays g c =
 
 pub returns-in-Step-clause-plays : goal.returns-in-Step-clause-plays
 returns-in-Step-clause-plays g c =
-    let tells = c.serve_step-outcome.ensures in
+    let tells = c.step-outcome.ensures in
     rw c.in-Step.is
     (record {
       told = tells.told;
-      holds = (c.serve_step-outcome.result, ap word_line c.outcome_word.ensures, tells.holds);
+      holds = (c.step-outcome.result, ap word_line c.outcome_word.ensures, tells.holds);
       hears = tells.hears;
     })
 
@@ -57,22 +57,20 @@ returns-in-Settle-clause-plays g c =
 
 pub returns-in-Ok-clause-plays : goal.returns-in-Ok-clause-plays
 returns-in-Ok-clause-plays g c =
-    let tells = c.make_all.ensures in
-    let moved = c.make_all.new.self in
+    let a = c.args.device.now in
     rw c.in-Offer.is (record {
-      told = tells.told;
-      holds = (refl, moved, ap (λ (offered : List (List ℕ)). record moved { offered = offered }) c.in-Ok.ensures, tells.holds);
-      hears = tells.hears;
+      told = [];
+      holds = (refl, ap (λ (offered : List (List ℕ)). record a { offered = offered }) c.in-Ok.ensures, refl);
+      hears = g.met.O.Observer.composes.stays c.args.observer.now;
     })
 
 pub returns-in-Err-clause-plays : goal.returns-in-Err-clause-plays
 returns-in-Err-clause-plays g c =
-    let tells = c.make_all.ensures in
-    let moved = c.make_all.new.self in
+    let a = c.args.device.now in
     rw c.in-Offer.is (record {
-      told = tells.told;
-      holds = (ok_line, record moved { offered = moved.offered ++ c.in-Offer.frame.now ∷ [] }, (refl, moved, refl, tells.holds));
-      hears = tells.hears;
+      told = [];
+      holds = (ok_line, record a { offered = a.offered ++ c.in-Offer.frame.now ∷ [] }, (refl, refl, refl));
+      hears = g.met.O.Observer.composes.stays c.args.observer.now;
     })
 
 pub returns-in-Choose-clause-plays : goal.returns-in-Choose-clause-plays

@@ -1,5 +1,5 @@
 use Rattle.std.proofs.Common.{◌≡◌, ◌∙◌, ◌++◌, List, ap, flat_map, map, subst}
-use Rattle.step_schedules.specs.Agendas.{held_by}
+use Rattle.step_schedules.specs.Agendas.{held_at}
 use Rattle.step_schedules.specs.Events.{EventRead, event_read}
 use Rattle.step_schedules.specs.Waiting.{WaitingRead, due_before, waiting_read}
 use Rattle.step_schedules.specs.declared.agenda.Held.{Held}
@@ -20,7 +20,7 @@ returns-clause-plays g c =
     let moves : tick_moves c.held.result a ++ due ≡ access_moves c.args.before c.args.name.now c.args.agenda.now a
     = ap (λ (ws : List WaitingRead). tick_moves c.held.result a ++ flat_map moves_of (due_before event ws)) c.waiting.ensures
     ∙ ap (λ (held : Held). tick_moves held a ++ flat_map moves_of (due_before event waiting)) c.held.ensures
-    ∙ ap (λ (e : EventRead). tick_moves (held_by (due_before e waiting)) a ++ flat_map moves_of (due_before e waiting))
+    ∙ ap (λ (e : EventRead). tick_moves (held_at (due_before e waiting) c.args.agenda.now) a ++ flat_map moves_of (due_before e waiting))
     c.coming-event.ensures in
     subst (λ (ms : List Move). Tells heard c.args.observer.now c.make_due.new.observer (InOrder Makes ms a c.make_due.new.self)) moves
     (tells_joined Makes heard g.met.O.Observer.composes (tick_moves c.held.result a) due a c.make_ticks.new.self c.make_due.new.self
