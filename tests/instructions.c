@@ -1,5 +1,5 @@
-/* Makes a number of calls of one kind to libnic82540em.a, for tests/instructions: `read`, `write`, `load` or `store`, and
- * the number in eights. */
+/* Makes calls of one kind to libnic82540em.a, for tests/instructions. Its words are this kind (`read`, `write`, `load`
+ * or `store`), and the number of calls divided by 8. */
 #include <nic82540em.h>
 #include <stdlib.h>
 

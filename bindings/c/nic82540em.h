@@ -1,8 +1,9 @@
 /* An Intel 82540EM and its host's memory in the process of a driver.
  *
- * The adapter never acts by itself. The program requests each step (nic82540em_step, nic82540em_settle), or lets random
- * steps be played before accesses (nic82540em_interleave), as `nicbench serve` plays them. docs/LIBRARY.md describes the
- * calls, and docs/ADAPTER.md the registers and the steps.
+ * The adapter takes steps only during calls: in nic82540em_step, _settle and _begin_round, and in accesses and
+ * nic82540em_arrive. nic82540em_interleave, _schedule, _ticks and _play choose the steps before accesses, _pace those
+ * after them, and _play those of _begin_round. docs/LIBRARY.md describes the calls, and docs/ADAPTER.md the registers
+ * and the steps.
  *
  * Rules for all calls:
  *   - Begin with a `struct nic82540em` of zeros, such as NIC82540EM_NONE. Don't read, change or copy its members.
@@ -12,10 +13,11 @@
  *
  * Only nic82540em_new, nic82540em_copy, nic82540em_offer and nic82540em_play request memory.
  *
- * If the handle has no adapter (before nic82540em_new, and after nic82540em_free), each call but nic82540em_new returns
- * 0, false or NIC_REFUSED, and changes nothing.
+ * The handle `nic` has no adapter before nic82540em_new and after nic82540em_free. Then each call but nic82540em_new
+ * changes nothing. If the call has a result, the result is 0, false or NIC_REFUSED. nic82540em_print is no such call.
  *
- * The code of these calls is proved. This header, heap.c and your program are trusted.
+ * The code of these calls is proved, except in a library of `tools/library --quick`. This header, heap.c and your
+ * program are trusted.
  */
 #ifndef NIC82540EM_H
 #define NIC82540EM_H
@@ -47,13 +49,15 @@ struct nic82540em_options {
     uint8_t address[6]; /* the Ethernet address in the EEPROM, unless `image` is the EEPROM's contents */
     bool has_image;     /* whether `image` is the EEPROM's contents */
     uint32_t missed;    /* MPC, the number of missed packets, at the start */
-    uint16_t image[64]; /* all words of the EEPROM, also with a wrong checksum; words 0 to 2 are the address */
+    uint16_t image[64]; /* all words of the EEPROM, if `has_image` is true, also with a wrong checksum; words 0 to 2 are
+                         * the address */
 };
 
 /* The options that `nicbench serve` has by default. */
 #define NIC82540EM_DEFAULTS { 1 << 20, 1, 48, { 0x02, 0, 0, 0, 0, 0x01 }, false, 0, { 0 } }
 
-/* The result of a call that refuses a number, or finds no adapter. */
+/* The result of nic82540em_step, _arrive or _play if the handle has no adapter. nic82540em_step and _play return it in
+ * other cases, too. */
 #define NIC_REFUSED 0xFFFFFFFFu
 
 /* The kinds of steps (docs/ADAPTER.md, "Steps"). */
@@ -66,26 +70,28 @@ enum {
     NIC_PHY     /* advance negotiation, and complete an MDIC command */
 };
 
-/* The outcomes of steps. */
+/* The outcomes of steps (docs/ADAPTER.md, "Steps"). */
 enum {
-    NIC_NOTHING,  /* there was nothing to do */
+    NIC_NOTHING,  /* there was nothing to do, or the step's engine is stopped */
     NIC_TOOK,     /* a frame was taken from the transmit ring */
     NIC_PUT,      /* a frame was put on the wire */
-    NIC_WIREFULL, /* 64 frames wait on the wire, or it is full, so nothing changed */
+    NIC_WIREFULL, /* a frame is to be put, but 64 frames wait on the wire, or nic82540em_fill_wire filled it; nothing
+                   * changed */
     NIC_PART,     /* a piece of a received frame was written, and more of the frame is left */
-    NIC_MOVED,    /* the last piece, or the whole frame, was written */
+    NIC_MOVED,    /* the last piece of a received frame was written; it may be the only one */
     NIC_DONE,     /* a receive descriptor was written back */
     NIC_TICKED,   /* the EEPROM or the PHY did something */
-    NIC_FAULT     /* a ring or a descriptor can't be used; the step's engine is stopped until a reset */
+    NIC_FAULT     /* the step can't be done, for one of the reasons below; steps of this kind then do nothing until a
+                   * write of CTRL with RST */
 };
 
-/* The fates of frames that arrive. */
+/* The fates of frames that arrive: the first that applies. */
 enum {
-    NIC_OFF,      /* the receiver is off */
-    NIC_ILLEGAL,  /* the frame's length isn't legal */
+    NIC_OFF,      /* the receiver is off: RCTL.EN is clear */
+    NIC_ILLEGAL,  /* the frame has fewer than 60 or more than 1,518 bytes */
     NIC_FILTERED, /* the receive filter rejects the frame */
-    NIC_MISSED,   /* the receive packet buffer has no room for it */
-    NIC_STORED    /* the frame is in the receive packet buffer */
+    NIC_MISSED,   /* the receive packet buffer has no room for the frame */
+    NIC_STORED    /* the frame was stored in the receive packet buffer */
 };
 
 /* The reasons of faults (docs/REQUESTS.md, "Faults"): the first that applies. */
@@ -96,8 +102,9 @@ enum {
     NIC_FAULT_DEXT,       /* DEXT is set in a transmit descriptor */
     NIC_FAULT_EOP,        /* EOP is clear in a transmit descriptor */
     NIC_FAULT_LENGTH,     /* the length in a transmit descriptor is 0 or above 1,518 */
-    NIC_FAULT_BUFFER,     /* the bytes that the descriptor points to aren't inside memory */
-    NIC_FAULT_BSEX        /* RCTL.BSEX is set */
+    NIC_FAULT_BUFFER,     /* some bytes that the step reads or writes at the address in the descriptor aren't inside
+                           * memory */
+    NIC_FAULT_BSEX        /* RCTL.BSEX is set, at NIC_RXDATA; this reason comes after NIC_FAULT_RING */
 };
 
 /* What an event is. */
@@ -110,21 +117,22 @@ enum {
 /* An event. */
 struct nic82540em_event {
     uint32_t what;   /* NIC_STEPPED, NIC_ARRIVED or NIC_LINE */
-    uint32_t kind;   /* the kind of the step, else 0 */
+    uint32_t kind;   /* the kind of the step, or 0 if `what` isn't NIC_STEPPED */
     uint32_t value;  /* the outcome of the step, the fate of the frame, or whether the line is asserted: 1 or 0 */
-    uint32_t reason; /* if the outcome is NIC_FAULT, its reason, else NIC_NO_FAULT */
-    uint32_t index;  /* if the outcome is NIC_FAULT, TDH or RDH, the index of the descriptor, else 0 */
+    uint32_t reason; /* the reason if the event is a step with the outcome NIC_FAULT, else NIC_NO_FAULT */
+    uint32_t index;  /* TDH or RDH, the index of the descriptor, if the event is such a step, else 0 */
 };
 
 /* Makes an adapter, with memory of zeros and an empty wire. Returns false, and changes nothing, if the handle has an
- * adapter already, if a number of the options is out of range, or if memory is refused. */
+ * adapter, a number of the options is out of range, or memory is refused. */
 bool nic82540em_new(struct nic82540em *nic, const struct nic82540em_options *options);
 
-/* Frees the adapter. Its handle may be used for nic82540em_new again. */
+/* Frees the adapter. The handle may be used for another one. */
 void nic82540em_free(struct nic82540em *nic);
 
-/* Accesses of a driver: nic82540em_read, _write, _load and _store. Each is counted. Steps may be played before it
- * (nic82540em_schedule, nic82540em_interleave), and cycles of steps after it (nic82540em_pace). */
+/* Accesses of a driver: nic82540em_read, _write, and each nic82540em_load and _store that returns true. An access is
+ * counted. Steps may be played before it (nic82540em_ticks, _schedule, _interleave, _play), and cycles of steps after
+ * it (nic82540em_pace). */
 
 /* Reads the register at an offset in bytes. Returns 0 at an offset without a register. */
 uint32_t nic82540em_read(struct nic82540em *nic, uint32_t offset);
@@ -132,31 +140,31 @@ uint32_t nic82540em_read(struct nic82540em *nic, uint32_t offset);
 /* Writes the register at an offset in bytes. Does nothing at an offset without a register. */
 void nic82540em_write(struct nic82540em *nic, uint32_t offset, uint32_t value);
 
-/* Loads `count` bytes of the host's memory from an address on. Returns false if some of them are outside memory; then
- * nothing changed, and no access is counted. */
+/* Loads `count` bytes of the host's memory from an address on into `into`. Returns false if `address` + `count` is
+ * above the size of memory; then nothing changed, and no access is counted. */
 bool nic82540em_load(struct nic82540em *nic, uint64_t address, void *into, size_t count);
 
-/* Stores `count` bytes in the host's memory from an address on. Returns false if some of them are outside memory; then
- * nothing changed, and no access is counted. */
+/* Stores `count` bytes in the host's memory from an address on. Returns false if `address` + `count` is above the size
+ * of memory; then nothing changed, and no access is counted. */
 bool nic82540em_store(struct nic82540em *nic, uint64_t address, const void *bytes, size_t count);
 
-/* The number of accesses so far. So it is the number of the next access; the first has number 0. nic82540em_recount sets
- * it. */
+/* The number of accesses so far, up to UINT64_MAX. This is the number of the next access; the first access has number
+ * 0. nic82540em_recount sets the number. */
 uint64_t nic82540em_accesses(struct nic82540em *nic);
 void nic82540em_recount(struct nic82540em *nic, uint64_t accesses);
 
-/* The numbers of frames in the packet buffer: frames that arrived, each until its last piece is written to memory, and
- * frames that were fetched and aren't on the wire yet. */
+/* The numbers of frames in the packet buffer. A received frame is there until its last piece is written to memory, and
+ * a frame to be sent until it is put on the wire. */
 uint32_t nic82540em_waiting_received(struct nic82540em *nic);
 uint32_t nic82540em_waiting_transmit(struct nic82540em *nic);
 
-/* Stores the address of the first byte of the host's memory in `into`, if memory has a byte, and returns its size in
- * bytes. Use it for rings and buffers that your driver accesses by pointers. The address stays the same until
- * nic82540em_free. An access by this pointer isn't counted, and no step is played before it. */
+/* Stores the address of the first byte of the host's memory in `into`, if memory isn't empty, and returns the size of
+ * memory in bytes. Use the address for rings and buffers that your driver accesses by pointers. The address stays the
+ * same until nic82540em_free. What the driver reads and writes there isn't counted, and no step is played before it. */
 uint64_t nic82540em_memory(struct nic82540em *nic, void **into);
 
-/* Stores the value that a read of the register at an offset would return now in `into`, and returns true. Nothing else
- * changes: the call isn't an access, and clears no register. */
+/* Stores the value of the register at an offset in `into`, and returns true. This is the value that a read would return
+ * now, without steps before the read. Nothing else changes: the call isn't an access, and clears no register. */
 bool nic82540em_peek(struct nic82540em *nic, uint32_t offset, uint32_t *into);
 
 /* What the adapter and the wire do. */
@@ -164,67 +172,72 @@ bool nic82540em_peek(struct nic82540em *nic, uint32_t offset, uint32_t *into);
 /* Makes the adapter take a step of this kind. Returns the outcome, or NIC_REFUSED if there is no such kind. */
 uint32_t nic82540em_step(struct nic82540em *nic, uint32_t kind);
 
-/* The kinds of steps that have something to do: bit `kind` is set if and only if a step of this kind would not have the
+/* The kinds of steps that have something to do. Bit `kind` is set if and only if a step of this kind would not have the
  * outcome NIC_NOTHING now. Nothing changes. */
 uint32_t nic82540em_possible(struct nic82540em *nic);
 
-/* Delivers a frame of `count` bytes to the adapter, without its checksum. Returns the frame's fate. */
+/* Delivers a frame of `count` bytes, without its checksum, to the adapter. Cycles may follow (nic82540em_pace). Returns
+ * the frame's fate. */
 uint32_t nic82540em_arrive(struct nic82540em *nic, const void *frame, size_t count);
 
-/* Offers a frame of `count` bytes to the adapter, without its checksum: it waits after the frames that were offered
- * before. While a frame waits, a random step before an access may also be the arrival of the oldest one
- * (nic82540em_interleave). The frames that still wait at the next nic82540em_settle arrive then. Events report their
+/* Offers a frame of `count` bytes, without its checksum, to the adapter: the frame waits after those that were offered
+ * before. The oldest waiting frame may arrive before an access (nic82540em_interleave, _play) or before a request
+ * (nic82540em_begin_round). The frames that still wait at the next nic82540em_settle arrive then. Events report the
  * fates. Returns false, and changes nothing, if memory is refused. */
 bool nic82540em_offer(struct nic82540em *nic, const void *frame, size_t count);
 
-/* From now on, the wire is full if `full` is true: no frame is put on the wire, even if fewer than 64 wait. */
+/* From now on, the wire is full if `full` is true: no frame is put on the wire, even if fewer than 64 wait. If `full`
+ * is false, the wire is full only while 64 frames wait. */
 void nic82540em_fill_wire(struct nic82540em *nic, bool full);
 
-/* Takes the oldest frame off the wire, if it has at most `room` bytes. Returns the frame's length in bytes, or 0 if no
- * frame waits. If the result is greater than `room`, the frame is still on the wire. A frame has at most 1,518 bytes. */
+/* Takes the oldest frame off the wire, and stores it in `into`, if the frame has at most `room` bytes. Returns the
+ * frame's length in bytes, or 0 if no frame waits. If the result is greater than `room`, the frame is still on the
+ * wire, and `into` is unchanged. A frame has at most 1,518 bytes. */
 size_t nic82540em_take_put(struct nic82540em *nic, void *into, size_t room);
 
 /* Whether the interrupt line is asserted. */
 bool nic82540em_line(struct nic82540em *nic);
 
-/* Lets all offered frames arrive, and plays cycles, each with one step of each kind. Stops after a cycle in which no step
- * did anything, or after 131,072 cycles. Returns the number of steps of the cycles that did something: all but those
- * with the outcome NIC_NOTHING or NIC_WIREFULL. */
+/* Lets all offered frames arrive, and plays cycles, each with one step of each kind. Stops after a cycle in which no
+ * step did anything, or after 131,072 cycles. Returns the number of steps of the cycles that did something: all but
+ * those with the outcome NIC_NOTHING or NIC_WIREFULL. */
 uint64_t nic82540em_settle(struct nic82540em *nic);
 
-/* From now on, up to `count` random steps are played before each access; with 0, none. The seed determines the steps:
- * they are those of `nicbench serve --seed SEED` after its first `interleave COUNT`. Returns false, and changes nothing,
- * if `count` is above 65,535. */
+/* From now on, up to `count` random steps and arrivals of offered frames are played before each access. While a
+ * schedule of nic82540em_play is played, none are. The seed determines them: they are those of `nicbench serve --seed
+ * SEED` after its first `interleave COUNT`. Returns false, and changes nothing, if `count` is above 65,535. */
 bool nic82540em_interleave(struct nic82540em *nic, uint32_t count, uint64_t seed);
 
-/* From now on, up to `count` cycles are played after each access and each nic82540em_arrive, as in nic82540em_settle, but
- * offered frames don't arrive; with 0, none. With 65,535, an adapter does all its work at once. Returns false, and
- * changes nothing, if `count` is above 65,535. */
+/* From now on, cycles are played after each access and each nic82540em_arrive until one does nothing, up to `count`
+ * cycles. They are those of nic82540em_settle, but offered frames don't arrive. Returns false, and changes nothing, if
+ * `count` is above 65,535. */
 bool nic82540em_pace(struct nic82540em *nic, uint32_t count);
 
-/* Returns a number below `limit`, or 0 if `limit` is 0. After nic82540em_interleave with a `count` above 0, the number
- * is random. Otherwise, it is the number that the schedule of nic82540em_play has for this call, if this number is
- * below `limit`, or else 0. So the seed also determines choices of a test, such as the next packet, as `choose` of
- * `nicbench serve` does. */
+/* Returns a number below `limit`, or 0 if `limit` is 0. While random steps are played before accesses
+ * (nic82540em_interleave), the number is random, and the seed determines it. Otherwise, it is the number that the
+ * schedule of nic82540em_play has for this call, if this number is below `limit`, or else 0. A test may choose its next
+ * packet by this call, as by `choose` of `nicbench serve`. */
 uint32_t nic82540em_choose(struct nic82540em *nic, uint32_t limit);
 
 /* Adds a step of this kind to the end of the list of scheduled steps. Before each access, the first steps of the list
- * whose `access` is at most the number of the access are played, before random steps. So add steps in the order of
- * their accesses. Returns false, and changes nothing, if there is no such kind, or 4,096 steps wait. */
+ * are removed and played, up to a step whose `access` is above the access's number. Random steps come after them. So
+ * add steps in the order of their accesses. Returns false, and changes nothing, if there is no such kind, or 4,096
+ * steps wait. */
 bool nic82540em_schedule(struct nic82540em *nic, uint64_t access, uint32_t kind);
 
-/* From now on, a step NIC_EEPROM and then a step NIC_PHY are played before each access, before the scheduled steps,
- * if `on` is true. So an EEPROM read or an MDIC command ends before the next access, and the link is up after some
- * accesses. A new adapter has no such steps. */
+/* From now on, if `on` is true, a step NIC_EEPROM and then a step NIC_PHY are played before each access, before the
+ * scheduled steps. If `on` is false, they aren't. With them, an EEPROM read or an MDIC command ends before the next
+ * access, and negotiation goes on at each access. A new adapter has no such steps. */
 void nic82540em_ticks(struct nic82540em *nic, bool on);
 
 /* Schedules: what happens before accesses and requests of a test, as text (finder/README.md, "A schedule"). */
 
 /* From now on, plays the schedule in these `count` bytes, in place of another one, as `nicbench serve --schedule` does.
- * Before each access, the EEPROM and the PHY each take a step if they have work, unless the schedule holds it. Then come
- * the deviations of this access, before other steps. nic82540em_choose answers the schedule's number, and there are no
- * random steps. A line `options` has no effect. Returns 0. If the schedule isn't played, nothing changes: returns the
- * number of the first faulty line, from 1 on, or NIC_REFUSED if the text isn't UTF-8 or memory is refused. */
+ * Before each access, the EEPROM and the PHY each take a step if they have work, unless the schedule holds this step.
+ * The deviations of the access follow, and then the steps of nic82540em_ticks and _schedule. There are no random steps,
+ * and nic82540em_choose returns the schedule's numbers. A line `options` has no effect. Returns 0. If a line is faulty,
+ * returns the number of the first faulty line, from 1 on. Returns NIC_REFUSED if the text isn't UTF-8, memory is
+ * refused, or this number is above 0xFFFFFFFE. Unless the result is 0, nothing changes. */
 uint32_t nic82540em_play(struct nic82540em *nic, const void *text, size_t count);
 
 /* The requests that begin a round. */
@@ -235,34 +248,37 @@ enum {
     NIC_BY_SETTLE  /* nic82540em_settle */
 };
 
-/* Begins a round of the schedule: plays the deviations before this request. Call it before each such call of the test.
- * Without a schedule, nothing happens. Returns false, and changes nothing, if there is no such request. */
+/* Begins a round of the schedule with this request: plays the deviations before the request. Call
+ * nic82540em_begin_round before each such call of the test. Without a schedule, nothing happens. Returns false, and
+ * changes nothing, if there is no such request, and true otherwise. */
 bool nic82540em_begin_round(struct nic82540em *nic, uint32_t request);
 
-/* Events: what happened, also in steps before accesses and in nic82540em_settle. */
+/* Events: what happened in calls, also in steps before and after accesses. */
 
-/* From now on, events are kept, if `on` is true. While 4,096 events wait, a further event isn't kept. A new adapter keeps
- * none. */
+/* From now on, new events are kept if `on` is true, and aren't kept if `on` is false. While 4,096 events wait, a
+ * further event isn't kept. A new adapter keeps none. */
 void nic82540em_events(struct nic82540em *nic, bool on);
 
-/* Takes the oldest event into `into`, and returns true. Returns false, and changes nothing, if none waits. */
+/* Removes the oldest event, stores it in `into`, and returns true. Returns false, and changes nothing, if none waits.
+ * */
 bool nic82540em_take_event(struct nic82540em *nic, struct nic82540em_event *into);
 
 /* States of an adapter. */
 
-/* Makes a copy of the adapter in the handle `into`, which has no adapter: with its memory, its wire, its schedule, its
- * random steps, its offered frames, its events and the number of accesses. The same calls on both have the same results.
- * Returns false, and changes nothing, if there is no adapter to copy, if `into` has an adapter, or if memory is
- * refused. */
+/* Makes a copy of the adapter in the handle `into`, which has no adapter. The copy has the same memory, wire, offered
+ * frames, schedules, settings, generator, events and number of accesses. The same calls on both have the same results,
+ * except that nic82540em_memory returns other addresses. Returns false, and changes nothing, if `nic` has no adapter,
+ * if `into` has one, or if memory is refused. */
 bool nic82540em_copy(struct nic82540em *nic, struct nic82540em *into);
 
-/* A digest of the adapter and its host's memory, as `digest` of `nicbench serve`. It doesn't cover the wire, the steps before
- * accesses, and the number of accesses. Equal states have equal digests, and other states nearly always have others. It
- * takes time in proportion to the size of memory. */
+/* A digest of the adapter's state and of its host's memory, as `digest` of `nicbench serve`. The digest doesn't cover
+ * the EEPROM's words, the wire, offered frames, events, schedules, the generator, settings, or the number of accesses.
+ * Equal states have equal digests, and different states nearly always have different ones. The call takes time in
+ * proportion to the size of memory. */
 uint64_t nic82540em_digest(struct nic82540em *nic);
 
-/* A digest of the adapter's state by its contents: its registers, the frames in its packet buffer and the work in progress.
- * Adapters with the same state have equal digests for each seed. It covers neither the host's memory nor what
+/* A digest of the adapter's state: its registers, the frames in its packet buffer, and its work in progress. Adapters
+ * with the same state have equal digests for each seed. The digest covers neither the host's memory nor what
  * nic82540em_digest doesn't cover. */
 uint64_t nic82540em_state_digest(struct nic82540em *nic, uint64_t seed);
 
@@ -333,7 +349,7 @@ enum {
 #define NIC_MDIC_I (1u << 29)
 #define NIC_MDIC_E (1u << 30)
 
-/* Interrupt causes: ICR, ICS, IMS, IMC (13.4.17) */
+/* Interrupt causes: ICR, ICS, IMS, IMC (13.4.17, 13.4.19 to 13.4.21) */
 /* generated by tools/pages --tables: causes */
 #define NIC_TXDW (1u << 0)
 #define NIC_TXQE (1u << 1)
@@ -366,12 +382,12 @@ enum {
 /* RAH */
 #define NIC_RAH_AV (1u << 31)
 
-/* Receive descriptors (3.2.3): the address in bytes 0 to 7, the length in 8 and 9, the status in 12. */
+/* Receive descriptors (3.2.3): the address in bytes 0 to 7, the length in bytes 8 and 9, the status in byte 12. */
 #define NIC_RXD_DD (1u << 0)
 #define NIC_RXD_EOP (1u << 1)
 
-/* Transmit descriptors (3.3.3): the address in bytes 0 to 7, the length in 8 and 9, the command in 11, the status in
- * 12. */
+/* Legacy transmit descriptors (3.3.3): address in bytes 0 to 7, length in 8 and 9, command in 11, status in 12. EOP,
+ * IFCS and RS are bits of the command, DD of the status. */
 #define NIC_TXD_EOP (1u << 0)
 #define NIC_TXD_IFCS (1u << 1)
 #define NIC_TXD_RS (1u << 3)
@@ -385,9 +401,10 @@ struct nic82540em_register {
     uint32_t offset;
 };
 
-/* Prints the registers by name, heads and tails among them, the numbers of frames in the packet buffer, and the
- * interrupt line into `into`, as snprintf does: at most `room` bytes with a null byte at the end. Returns the number of
- * bytes that the whole text has. It clears no register. */
+/* Prints the registers of the table below, the numbers of frames in the packet buffer, and the interrupt line (1 if
+ * asserted) into `into`. As with snprintf, these are at most `room` bytes, the last of which is a null byte. Returns
+ * the number of bytes that the whole text has without the null byte. Nothing changes in the adapter. Without one, all
+ * values are 0. */
 static inline size_t nic82540em_print(struct nic82540em *nic, char *into, size_t room)
 {
     static const struct nic82540em_register table[] = {

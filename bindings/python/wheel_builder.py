@@ -1,9 +1,9 @@
 """Builds a wheel of the package `nic82540em` with the library libnic82540em.so, for pip (PEP 517).
 
-The setting `library` (pip install --config-settings library=FOLDER) or the environment variable NIC82540EM_LIB names
-the folder of the library. Otherwise it is in the folder lib of the release, or in .build/library/lib of the repository,
-or where `pkg-config` finds it. The wheel has the version of nic82540em.pc there. With the same files, the wheel has the
-same bytes.
+The setting `library` (pip install --config-settings library=FOLDER) or, without it, the environment variable
+NIC82540EM_LIB names the folder of the library. If neither is set, the first of these folders with the library is taken:
+lib of the release, .build/library/lib of the repository, that of `pkg-config`. The wheel has the version in
+pkgconfig/nic82540em.pc of the library's folder. With the same files, the wheel has the same bytes.
 """
 
 from __future__ import annotations
@@ -27,7 +27,7 @@ MOMENT = (1980, 1, 1, 0, 0, 0)
 
 
 def of_pkg_config() -> str:
-    """The folder of the library that `pkg-config` knows, or nothing."""
+    """The folder of the library that `pkg-config` knows, or an empty text."""
     try:
         ran = subprocess.run(["pkg-config", "--variable=libdir", NAME], capture_output=True)
     except OSError:
@@ -36,7 +36,7 @@ def of_pkg_config() -> str:
 
 
 def folder_of_library(settings: Optional[Mapping[str, str]]) -> str:
-    """The folder with the library. A folder that was named must have it."""
+    """The folder with the library. If a folder is named, the library must be in this folder."""
     named = (settings or {}).get("library") or os.environ.get("NIC82540EM_LIB")
     own = [os.path.join(TOP, "lib"), os.path.join(TOP, ".build", "library", "lib")]
     places = [place for place in ([named] if named else [*own, of_pkg_config()]) if place]
@@ -60,7 +60,7 @@ def version_of(folder: str) -> str:
 
 
 def record_of(files: Mapping[str, bytes], name: str) -> bytes:
-    """The list of all files with their checksums, which a wheel has as its last file."""
+    """The contents of RECORD, the last file of a wheel: all files with their checksums and sizes."""
     def line(path: str, data: bytes) -> str:
         checksum = base64.urlsafe_b64encode(hashlib.sha256(data).digest()).decode().rstrip("=")
         return f"{path},sha256={checksum},{len(data)}\n"

@@ -42,7 +42,7 @@ static _Noreturn void be_client(int pipes[PIPES][2])
     exit(xi_pipe());
 }
 
-/* A process that runs one of these */
+/* Forks this process. Returns 0 in the child, and the child's number in the parent. */
 static pid_t forked(void)
 {
     pid_t child = fork();
@@ -52,7 +52,7 @@ static pid_t forked(void)
     return child;
 }
 
-/* The first line that is written to a pipe */
+/* Reads a pipe to its end, or until the buffer is full. The buffer then has the first line. */
 static void read_line(int from, char *into, size_t room)
 {
     size_t size = 0;
@@ -75,8 +75,9 @@ static void write_schedule(char *path, const struct deviation *deviations, unsig
     fclose(file);
 }
 
-/* Waits for the client and then for the server. `fault` and `lack` get what they write on standard error. Returns
- * whether the server ends without an error. */
+/* Waits for the client and then for the server. `fault` gets the first line that the client writes on standard error,
+ * or the signal that ends the client; `lack` gets the server's first line. Returns whether the server ends without an
+ * error. */
 static bool wait_for(pid_t client, pid_t server, int pipes[PIPES][2], char *fault, char *lack, size_t room)
 {
     int status;
@@ -93,8 +94,8 @@ static bool wait_for(pid_t client, pid_t server, int pipes[PIPES][2], char *faul
     return WIFEXITED(status) && WEXITSTATUS(status) == 0;
 }
 
-/* Plays a schedule by `PROGRAM serve`. `fault` gets what is wrong by it: an empty text if the test passes. Returns
- * NULL, or why it can't be played. */
+/* Plays a schedule by `PROGRAM serve`. `fault` gets what is wrong in the test then, or an empty text if the test
+ * passes. Returns NULL, or why the schedule can't be played. */
 const char *xi_confirm(const char *program, const struct deviation *deviations, unsigned count, char *fault,
                        size_t room)
 {

@@ -1,9 +1,10 @@
-/* What a run leaves behind, and nobody should use again: it would part states that are equal.
+/* What a run leaves behind, and nobody should use again. Otherwise, states that differ only in it would be different.
  *
- * A search sets it to 0, and notes where it was: the counters of frames, the transmit descriptors that are done with
- * their frames, and the buffers of offered receive descriptors. If a run reads a counter, or the driver or the adapter
- * reads a byte that is noted and wasn't written since, xi_reads_dead says so, and the search begins again, without this
- * file. So if no run has read any of it, each run has gone as it goes without this file.
+ * A search sets to 0 the counters of frames, and the buffers of offered receive descriptors. It also sets to 0 the
+ * transmit descriptors that are done, but for their addresses and statuses, and the buffers of their frames. The search
+ * notes where the bytes are. xi_reads_dead becomes true if x_host is called, if a run reads a counter, or if a noted
+ * byte is read that wasn't written since. Then the search begins again, and clears nothing. So while xi_reads_dead is
+ * false, each run has gone as it would without this file.
  *
  * The adapter reads the host's memory in two steps only: txtake reads the descriptor at TDH and its frame, and rxdata
  * the descriptor at RDH.
@@ -70,7 +71,7 @@ void xi_dead_read(uint64_t address, uint64_t count)
         xi_reads_dead |= meets(&S->dead[n], address, count);
 }
 
-/* Bytes are written, and aren't noted any more. If the table has no room, some stay noted. */
+/* Bytes are written, and aren't noted any more. If the table has no room to split an area, the area stays noted. */
 void xi_dead_written(uint64_t address, uint64_t count)
 {
     uint64_t end = address + count;
@@ -96,7 +97,8 @@ static bool is_noted(uint64_t address)
     return false;
 }
 
-/* Nobody should read these bytes before they are written. Areas that touch become one. */
+/* Nobody should read these bytes before they are written: sets them to 0, and notes them. Areas that touch become one.
+ * Does nothing if some of the bytes are outside memory, or the table has no room. */
 static void note(uint64_t address, uint64_t count)
 {
     uint64_t from = address, to = address + count;
@@ -158,8 +160,8 @@ static unsigned length_in(const uint8_t *descriptor)
     return descriptor[8] | (unsigned)descriptor[9] << 8;
 }
 
-/* Where the bytes end that a buffer may have: before the next address that a descriptor of this ring names, if one is
- * near. */
+/* The end of a buffer at an address: the least address above it that a descriptor of this ring names, but at most `end`
+ */
 static uint64_t end_of_buffer(const struct ring *ring, uint64_t address, uint64_t end)
 {
     for (unsigned slot = 0; slot < ring->slots; slot++) {
@@ -171,7 +173,7 @@ static uint64_t end_of_buffer(const struct ring *ring, uint64_t address, uint64_
     return end;
 }
 
-/* Whether the bytes of a frame that will be sent are at an address */
+/* Whether an offered descriptor of this transmit ring names this address */
 static bool is_to_be_sent(const struct ring *ring, uint64_t address)
 {
     for (unsigned slot = 0; slot < ring->slots; slot++) {
@@ -182,8 +184,8 @@ static bool is_to_be_sent(const struct ring *ring, uint64_t address)
     return false;
 }
 
-/* The descriptors whose frames were sent, but for their addresses and DD; and the buffers of these frames, as far as the
- * longest frame */
+/* Notes the descriptors that are done, but for their addresses and statuses, and up to 1,518 bytes of the buffers of
+ * their frames */
 static void note_transmit(void)
 {
     struct ring ring = ring_of(true);
@@ -200,6 +202,7 @@ static void note_transmit(void)
     }
 }
 
+/* Notes the buffers of the offered receive descriptors. */
 static void note_receive(void)
 {
     struct ring ring = ring_of(false);
@@ -212,7 +215,7 @@ static void note_receive(void)
     }
 }
 
-/* Sets what nobody should use again to 0. */
+/* Sets what nobody should use again to 0, in a search, unless a run has read some of it. */
 void xi_clear_dead(void)
 {
     uint64_t accesses = nic82540em_accesses(&S->nic);
@@ -233,7 +236,7 @@ void xi_dead_register(uint32_t offset)
         xi_reads_dead |= offset == counters[n];
 }
 
-/* Before a step: what it reads. */
+/* Before a step: notes what the step reads. */
 void xi_dead_before(uint32_t kind)
 {
     struct ring ring;
@@ -253,7 +256,8 @@ void xi_dead_before(uint32_t kind)
     at_head = (uint32_t)at;
 }
 
-/* After it: a piece of a frame was written, whose length is known when its descriptor is written back. */
+/* After a step. The bytes of a piece count as written when the piece's descriptor, which then has its length, is
+ * written back. */
 void xi_dead_after(uint32_t kind, uint32_t outcome)
 {
     const uint8_t *descriptor = S->filling ? bytes_at(S->filling - 1, DESCRIPTOR) : NULL;

@@ -20,7 +20,7 @@ static uint64_t draw(void)
     return x ^ x >> 31;
 }
 
-/* A number below this one */
+/* A random number below `end` */
 unsigned xi_below(unsigned end)
 {
     return (unsigned)((draw() >> 32) * end >> 32);
@@ -34,7 +34,8 @@ static unsigned possible_here(void)
     return engines | (unsigned)(S->offered < S->offers.count) << ARRIVAL;
 }
 
-/* Each step with probability 1/2, in a random order */
+/* Plays each step of an engine, and an arrival of an offered frame, with probability 1/2, in a random order, if
+ * possible then */
 static void uniform(void)
 {
     int order[5];
@@ -54,7 +55,8 @@ static void uniform(void)
         }
 }
 
-/* Some of the actors do all their work: the fetching and the putting of frames, the receive engine, and the wire. */
+/* Some of the actors do all their work, at most 64 steps in all. The actors are the fetching of frames, the putting of
+ * frames, the receive engine, and the wire. */
 static void burst(void)
 {
     static const int actor[] = { 0, 1, 2, 2, 3 };
@@ -98,7 +100,7 @@ static void draw_holds(void)
         }
 }
 
-/* To the request that begins round 1, or the end of the run */
+/* Plays the run up to the request that begins round 1, or to the run's end */
 static void to_first_round(bool with_holds)
 {
     while (xi_next_place(), B->event != ENDED && B->round == 0)
@@ -120,7 +122,9 @@ void xi_set_pct(unsigned depth)
     xi_pct = (struct pct){ depth, PCT_ACTORS - !S->offers.count, B->places + B->moves - before };
 }
 
-/* Plays the run of a seed: by even ones, steps are drawn before each access, and by odd ones, bursts before few. */
+/* Plays the run of a seed. With --pct, deviations are drawn by priorities. Otherwise, an even seed draws steps before
+ * each access, and an odd seed draws a burst before one access of 16. Before a request, both draw only one time in 8.
+ * */
 void xi_draw(uint64_t seed, bool with_holds, bool is_new)
 {
     random_state = seed * 0x2545F4914F6CDD1D;
@@ -150,7 +154,8 @@ static bool is_hold(const struct deviation *one, int stage)
     return one->action == HOLD_EEPROM + stage;
 }
 
-/* Plays the deviations of a place. Returns the number of the first one that is later. */
+/* Plays the default steps and the deviations of a place. Returns the index of the first later deviation. If `lack`
+ * isn't NULL and is empty, it gets the first deviation that names another access or request than the one here. */
 static unsigned play_here(const struct deviation *path, unsigned at, unsigned count, char *lack, size_t room)
 {
     char name[32], wanted[32];
@@ -182,7 +187,8 @@ static unsigned play_here(const struct deviation *path, unsigned at, unsigned co
     return end;
 }
 
-/* Plays a schedule. `lack` gets what doesn't agree with the run, if it isn't NULL. */
+/* Plays a schedule. If `lack` isn't NULL, it gets the first deviation that doesn't agree with the run, or an empty
+ * text. */
 void xi_replay(const struct deviation *path, unsigned count, bool is_new, char *lack, size_t room)
 {
     unsigned at = 0;
@@ -198,7 +204,8 @@ void xi_replay(const struct deviation *path, unsigned count, bool is_new, char *
     }
 }
 
-/* Keeps a schedule if it fails, and is shorter. */
+/* Plays a schedule, and keeps its run's deviations if the run fails with fewer than were kept. Returns whether it did.
+ * */
 static bool keep_shorter(struct found *found, const struct deviation *path, unsigned count)
 {
     xi_replay(path, count, false, NULL, 0);
@@ -208,7 +215,8 @@ static bool keep_shorter(struct found *found, const struct deviation *path, unsi
     return true;
 }
 
-/* Leaves out deviations, as long as the schedule fails without them. */
+/* Leaves out each run of deviations without which the schedule still fails: first halves, and in the end single ones.
+ * */
 static void leave_out(struct found *found)
 {
     static struct deviation less[MOST_PATH];

@@ -110,7 +110,8 @@ static _Noreturn void serve(int from, int to)
     _exit(PASSES);
 }
 
-/* Starts the process that waits for requests. It ends with this one, and not by a signal of the terminal. */
+/* Starts the process that waits for requests. This process ends when the explorer ends, and not by a signal of the
+ * terminal. */
 void xi_fresh_begin(void)
 {
     int requests[2], answers[2];

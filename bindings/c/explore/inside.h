@@ -7,7 +7,7 @@
 
 enum { PAGE = 4096, MOST_AREAS = 128, MOST_FRAMES = 256, MOST_BYTES = 1 << 17, MOST_PATH = 1024, LONGEST = 1518, MOST_OPTIONS = 8,
        MOST_PLACES = 100000 };
-/* What may be done before an access or a request: steps (NIC_TXTAKE to NIC_PHY), and these */
+/* What may be done before an access or a request: steps (NIC_TXTAKE to NIC_PHY), and these. DEFAULT is no deviation. */
 enum { TX = NIC_PHY + 1, RX, HOLD_EEPROM, HOLD_PHY, ARRIVAL, ACTIONS, DEFAULT = -1 };
 enum event { READ, WRITE, LOAD, STORE, ARRIVE, STEP, SETTLE, OFFER, ENDED };
 enum { STAGES = 2 }; /* default steps of a place: of the EEPROM and of the PHY */
@@ -17,8 +17,9 @@ struct digest {
     uint64_t one, two;
 };
 
-/* An access or a request: of memory in a ring, `ring` is 1 + its number, and `address` begins at the ring. A schedule
- * that was read has its text instead. */
+/* An access or a request. For an access of memory in a ring, `address` counts from the ring's first byte, and `ring` is
+ * 1 (receive) or 2 (transmit). Otherwise, `ring` is 0. A place of a schedule that was read from a file has only `text`.
+ * */
 struct place {
     enum event event;
     int ring;
@@ -26,14 +27,15 @@ struct place {
     const char *text;
 };
 
-/* A deviation, and the place before which it is: a round, and an access in it, or 0 for the request that begins it. */
+/* A deviation, and the place before which it is played: a round, and the number of an access in it. 0 is the request
+ * that begins the round. */
 struct deviation {
     unsigned round, access;
     int action;
     struct place before;
 };
 
-/* Frames, one after the other. */
+/* Frames, the oldest first. The bytes of frame `n` are those from begin[n] up to begin[n + 1]. */
 struct frames {
     unsigned count;
     uint32_t begin[MOST_FRAMES + 1];
@@ -131,8 +133,8 @@ void xi_cut_in(void);
 struct outcome xi_outcome(void);
 
 /* dead.c: what nobody uses again */
-extern bool xi_reads_dead; /* whether a run has read some of it, or may have: then nothing is cleared */
-extern bool xi_searches; /* whether schedules are searched over saved states: only then, it is cleared */
+extern bool xi_reads_dead; /* whether a run has read some of this, or may have: then nothing is cleared */
+extern bool xi_searches; /* whether schedules are searched over saved states: only then, this is cleared */
 void xi_clear_dead(void);
 void xi_dead_register(uint32_t offset);
 void xi_dead_read(uint64_t address, uint64_t count);

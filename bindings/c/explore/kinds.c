@@ -1,5 +1,5 @@
 /* The schedules and seeds that fail, and their kinds: the same actions before the same accesses, in any rounds and
- * slots. A kind that contains all actions of a smaller one belongs to it: what both have in common fails alone.
+ * slots. A kind that contains all actions of a smaller kind belongs to the smaller kind, whose actions fail alone.
  */
 #include "inside.h"
 #include <stdio.h>
@@ -29,7 +29,7 @@ static void append(char **text, const char *more)
     strcpy(*text + size, more);
 }
 
-/* Leaves the slot out of the name of a place, and the address. */
+/* Leaves the slot out of the name of a place, or writes `memory` in place of an address. */
 static void without_slot(char *name)
 {
     char *slot = strchr(name, '['), *end = slot ? strchr(slot, ']') : NULL, *address = strstr(name, " 0x");
@@ -59,7 +59,7 @@ static char *line_of(const struct deviation *path, unsigned count, bool is_kind)
     return line;
 }
 
-/* Counts one that failed, and begins it in the list for --json. Returns whether there is this list. */
+/* Counts a schedule or a seed that fails. With --json, begins its entry in the list, and returns true. */
 static bool begin_failed(const char *fault)
 {
     failed++;
@@ -92,7 +92,7 @@ void xi_add_failed(const struct deviation *path, unsigned count, const char *fau
     free(name), free(line);
 }
 
-/* The run of a seed fails. */
+/* The run of a seed fails: prints the seed, and counts it. */
 void xi_add_seed(uint64_t seed, const char *fault)
 {
     if (begin_failed(fault))
@@ -100,7 +100,7 @@ void xi_add_seed(uint64_t seed, const char *fault)
     xi_say("seed %llu: %s\n", (unsigned long long)seed, fault);
 }
 
-/* Prints all that failed as a list of JSON. */
+/* Prints the schedules and seeds that fail as a list of JSON. */
 void xi_print_failed(void)
 {
     if (list)
@@ -135,7 +135,7 @@ static int by_size(const void *one, const void *two)
     return a->count != b->count ? (a->count < b->count ? 1 : -1) : strcmp(a->name, b->name);
 }
 
-/* Prints which deviations of the first kind all kinds have. */
+/* Prints the deviations of the first kind that all kinds have, if there are at least two kinds. */
 static void print_common(unsigned count)
 {
     char *one = kinds[0].name;
@@ -152,7 +152,7 @@ static void print_common(unsigned count)
     }
 }
 
-/* Prints a line for each kind that contains no smaller one. */
+/* Prints a line for each of the first 20 kinds that contain no smaller one, and the number of the others. */
 void xi_print_kinds(void)
 {
     unsigned count = 0;

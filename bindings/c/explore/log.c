@@ -1,6 +1,6 @@
-/* The log of a run that is replayed: a line for each access, request and step that does something, for each change of
- * the interrupt line, and where the handler cuts in. A star marks deviations.
- */
+/* The log of a run that is replayed. It has a line for each access, x_touch, request, arrival of an offered frame, and
+ * step that does something. It also has lines for changes of the interrupt line, and where the handler cuts in and
+ * returns. A star marks deviations. */
 #include "inside.h"
 #include <stdio.h>
 
@@ -24,7 +24,7 @@ static void print_bytes(const uint8_t *bytes, size_t count)
     printf("%s\n", count > MOST_SHOWN ? ".." : "");
 }
 
-/* The line was raised or lowered. */
+/* Prints a line if the interrupt line was raised or lowered since the last call. */
 static void log_line(void)
 {
     bool is_raised = nic82540em_line(&xi_state->nic);
@@ -53,7 +53,7 @@ void xi_log_bytes(const void *bytes, size_t count)
     log_line();
 }
 
-/* Memory at a pointer: a load finds these bytes there, from the address on. */
+/* A line for x_touch. If the driver loads, the line has up to 8 bytes of memory from the address on. */
 void xi_log_touch(uint64_t address)
 {
     uint64_t size;
@@ -88,7 +88,7 @@ void xi_log_handler(bool begins)
         printf("         the handler %s\n", begins ? "cuts in" : "returns");
 }
 
-/* The adapter has taken a step, or a frame has arrived. */
+/* The adapter has taken a step, or an offered frame has arrived. */
 void xi_log_step(const char *action, const char *result, bool is_deviation)
 {
     if (!xi_given.log)

@@ -115,24 +115,29 @@ static const char *read_deviation(char *line, struct deviation *into)
     return NULL;
 }
 
-/* Skips the rest of a line: a long one is a comment. */
+/* Skips the rest of a line. Only the first 255 bytes of a line are read. */
 static void skip_line(FILE *file)
 {
     for (int c = fgetc(file); c != EOF && c != '\n';)
         c = fgetc(file);
 }
 
-/* Reads the deviations of a schedule. Returns their number. A wrong text ends the program. */
+static _Noreturn void refuse_file(const char *path)
+{
+    fprintf(stderr, "explore: %s: it can't be read\n", path);
+    exit(USAGE);
+}
+
+/* Reads the deviations of a schedule. Returns their number. The program ends if the file can't be read, a line is
+ * wrong, or there are more than 1,024 deviations. */
 int xi_read_schedule(const char *path, struct deviation *into)
 {
     FILE *file = fopen(path, "r");
     char line[256];
     int count = 0;
 
-    if (!file) {
-        fprintf(stderr, "explore: %s: it can't be read\n", path);
-        exit(USAGE);
-    }
+    if (!file)
+        refuse_file(path);
     for (unsigned number = 1; fgets(line, sizeof line, file); number++) {
         char *comment = line[0] == '#' ? line : strstr(line, " #");
         const char *wrong;
@@ -149,6 +154,8 @@ int xi_read_schedule(const char *path, struct deviation *into)
         if ((wrong = read_deviation(line, &into[count++])) != NULL)
             refuse(path, number, wrong);
     }
+    if (ferror(file))
+        refuse_file(path);
     fclose(file);
     return count;
 }

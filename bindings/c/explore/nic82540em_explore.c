@@ -9,7 +9,7 @@
 enum { STATES_SMALLER = 500000, DEEPEST_FIRST = 3, STATES_FIRST = 10000, COMPARED = 32 };
 
 static struct found *const found = &xi_result.found;
-static uint64_t deviations, compared; /* whether a deviation did something; runs */
+static uint64_t deviations, compared; /* above 0 if a deviation did something; the number of compared runs */
 static int tried; /* all schedules of up to this number of deviations were tried, and pass */
 
 static const char *plural(uint64_t count)
@@ -31,13 +31,13 @@ static const char *searched(int depth)
 
 /* Ends of a search */
 
-/* What a run that was played from nothing shows */
+/* Plays the schedule that was found from nothing */
 static struct outcome play_found(void)
 {
     return xi_fresh_play(found->path, found->count);
 }
 
-/* The exit status after a signal has ended a search that has found a schedule */
+/* The exit status of a search that has found a schedule: 1, or, after a signal, 128 plus its number */
 static int found_status(void)
 {
     if (xi_stopped())
@@ -59,7 +59,8 @@ static int nothing(void)
     return xi_finish("nothing", NOTHING);
 }
 
-/* Makes the schedule that was found shorter, and shows it, if it fails from nothing. */
+/* Makes the schedule that was found shorter, if the shorter one fails from nothing. Returns the outcome of the one that
+ * is kept, from nothing. */
 static struct outcome shorten(const struct found *first)
 {
     struct outcome outcome;
@@ -72,7 +73,7 @@ static struct outcome shorten(const struct found *first)
     return outcome;
 }
 
-/* A search with `--explore` has ended before its end. */
+/* A search of all schedules has ended before its end. Returns the exit status. */
 static int ended(void)
 {
     static struct found first;
@@ -117,7 +118,8 @@ static void note_search(int depth)
     deviations += found->count || found->schedules > 1;
 }
 
-/* Tries all schedules of up to this number of deviations. Returns whether the search has come to its end. */
+/* Tries all schedules of up to this number of deviations, or EVERY one. Returns whether the search has come to its end,
+ * or to a schedule that fails. */
 static bool explore(int depth, uint64_t most, bool finds_all)
 {
     xi_explore(depth, xi_given.holds, finds_all, most, found);
@@ -125,7 +127,7 @@ static bool explore(int depth, uint64_t most, bool finds_all)
     return found->is_complete || (found->fails && !finds_all);
 }
 
-/* Makes the schedule that was found shorter, and then looks for one with fewer deviations, or with as many at earlier
+/* Makes the schedule that was found shorter. Then looks for one with fewer deviations, or with as many at earlier
  * places; all with fewer than `least` pass. Returns whether the one that is left is the smallest. */
 static bool make_smaller(int least)
 {
@@ -251,7 +253,7 @@ static int differs(uint64_t seed)
     return unsaved(text);
 }
 
-/* Draws a few runs from a saved state. Returns the exit status if one is another than from nothing, or -1. */
+/* Draws 32 runs from a saved state. Returns the exit status if one isn't as the run of its seed from nothing, or -1. */
 static int compare_some(void)
 {
     for (; compared < COMPARED; compared++) {
@@ -263,7 +265,8 @@ static int compare_some(void)
     return -1;
 }
 
-/* Draws runs, each from a saved state; with --check, from nothing, too. Returns the exit status; -1 if none fails. */
+/* Draws runs, each from a saved state if states are saved, and with --check also from nothing. Returns the exit status,
+ * or -1 if no run fails. */
 static int draw(void)
 {
     clock_t begun = clock();
@@ -295,8 +298,8 @@ static int draw(void)
     return -1;
 }
 
-/* Tries all schedules of one deviation, and while there are few states, those of one more. Returns the exit status; -1 if
- * none fails. */
+/* Tries all schedules of one deviation, and, while there are few states, of two and of three. Returns the exit status,
+ * or -1 if none fails. */
 static int explore_first(void)
 {
     xi_result.first = 0;
@@ -363,8 +366,8 @@ static int replay(void)
     return xi_finish(found->fails ? "fails" : lack[0] ? "mismatch" : "passes", found->fails || lack[0] ? FOUND : PASSES);
 }
 
-/* Plays the run without deviations: from nothing, and then twice here. Returns the exit status if it fails, or if one is
- * another than the first, or -1. */
+/* Plays the run without deviations from nothing, and then twice here. Returns the exit status if the run fails, or if a
+ * later run isn't as the first one, or else -1. */
 static int play_first(void)
 {
     struct outcome outcome = xi_fresh_play(NULL, 0);

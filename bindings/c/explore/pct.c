@@ -1,8 +1,8 @@
 /* Draws schedules by probabilistic concurrency testing: the actor with the highest priority goes first.
  *
- * The priorities are random. After some random events of a run, one fewer than the depth, the actor of the event gets
- * a priority below all others. A driver that polls isn't starved: before every fourth read of one place in a row,
- * another actor takes a step.
+ * The priorities are random. At some random events of a run, one fewer than the depth, the actor of the event gets a
+ * priority below all first priorities. A driver that polls doesn't starve the others: before every fourth read or load
+ * of one place in a row, another actor takes a step, if one can.
  */
 #include "inside.h"
 
@@ -13,7 +13,7 @@ enum { DRIVER, RECEIVE, FETCH, PUT, WIRE, PATIENCE = 4 };
 static unsigned priorities[PCT_ACTORS], change_at[DEEPEST], changes, events, reads;
 static struct place last_read;
 
-/* The step that an actor could take, or DEFAULT */
+/* The step that an actor can take, or DEFAULT if there is none. The driver's is DEFAULT. */
 static int step_of(int actor)
 {
     unsigned possible = xi_possible();
@@ -28,7 +28,7 @@ static int step_of(int actor)
     return possible >> step & 1 ? step : DEFAULT;
 }
 
-/* An event of an actor. At a change, its priority becomes lower. */
+/* Counts an event of an actor. At a change, the actor's priority becomes lower. */
 static void count(int actor)
 {
     events++;
@@ -37,7 +37,8 @@ static void count(int actor)
             priorities[actor] = n + 1;
 }
 
-/* Whether a driver that polls must wait before this access */
+/* Whether a driver that polls must wait before this access: whether it is the fourth, eighth and so on of equal reads
+ * */
 static bool polls(void)
 {
     bool is_read = B->event == READ || B->event == LOAD;
@@ -58,7 +59,7 @@ double xi_bound(void)
     return bound;
 }
 
-/* Begins a run of this depth, which has about so many events. */
+/* Begins a run of this depth: draws the priorities, and the changes among the first `most_events` events. */
 void xi_pct_begin(unsigned depth, unsigned most_events)
 {
     for (unsigned actor = 0; actor < PCT_ACTORS; actor++) {
@@ -82,7 +83,7 @@ static int first_waiting(void)
     return first;
 }
 
-/* The steps before the access or the request at which the run is */
+/* Plays the steps before the access or the request at which the run is. */
 void xi_pct_here(void)
 {
     bool must_wait = polls();

@@ -59,7 +59,8 @@ static void hear(void)
         keep(&S->arrived, strchr(line + 8, ' ') + 1, fate_of(line + 8));
 }
 
-/* The answer to the request that was printed, without its OK */
+/* The answer to the request that was printed, without its OK. Hears the lines before the answer. If the request is
+ * refused, or the input ends, the program ends. */
 static const char *answer(void)
 {
     fflush(stdout);
@@ -85,7 +86,7 @@ static const char *ask(const char *format, ...)
     return answer();
 }
 
-/* A row of the chart, if tools/races is the server */
+/* Requests a row of the chart, if the environment has NIC_MARKS, as under tools/races. */
 void xi_pipe_mark(const char *text)
 {
     if (getenv("NIC_MARKS"))
@@ -132,7 +133,8 @@ static uint32_t outcome_of(const char *text)
     return word_of(text, xi_outcomes, 9);
 }
 
-/* A request that begins a round: the fate of a frame that arrives, the outcome of a step, or the number of steps */
+/* Sends a request that begins a round. Returns the fate of a frame that arrives, the outcome of a step, or the number
+ * of steps of `settle`. */
 uint32_t xi_pipe_request(enum event event, uint32_t kind, const void *frame, size_t count)
 {
     uint32_t result = 0;

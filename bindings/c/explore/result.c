@@ -6,7 +6,7 @@
 #include <sys/stat.h>
 
 struct result xi_result = { .is_complete = NONE, .is_smallest = NONE, .first = NONE };
-static const char *served = "null"; /* whether `nicbench serve` has played the schedule with the same result */
+static const char *served = "null"; /* whether `nicbench serve` has played the schedule with the same result, as JSON */
 
 #define R xi_result
 
@@ -28,7 +28,7 @@ static void print_schedule(FILE *file)
     xi_print(file, R.found.path, R.found.count);
 }
 
-/* Stores the schedule, if this is wanted. Returns the path of the file, or NULL. */
+/* With --out, stores the schedule, and returns the path of the file. Otherwise, returns NULL. */
 static const char *stored(void)
 {
     static char path[4096];
@@ -75,7 +75,7 @@ void xi_show(void)
            path ? path : "FILE", xi_command, path ? "" : "; --out FILE stores the schedule");
 }
 
-/* Plays the schedule that was found by `nicbench serve`. */
+/* With --serve, plays the schedule that was found by `nicbench serve`, and prints whether the result is the same. */
 void xi_confirm_found(void)
 {
     char fault[sizeof R.found.fault];
@@ -123,7 +123,7 @@ static void print_search(void)
     printf("}");
 }
 
-/* Prints the JSON object, if it is wanted, and returns the exit status. */
+/* With --json, prints the JSON object. Returns the exit status. */
 int xi_finish(const char *result, int status)
 {
     if (!xi_given.json)

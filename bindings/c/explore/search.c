@@ -1,10 +1,11 @@
-/* Goes through all schedules of up to some deviations, or through every schedule, up to one that fails.
+/* Goes through all schedules of up to some deviations, or through every schedule, up to one that fails; with --all,
+ * through all.
  *
- * A choice is a place at which something may be done, or left: a deviation, or a default step. schedule_search, which
- * is proved, says which option is taken at each choice, one after the other, the default last, and which states are
- * known: those from which all that follows has passed, with at least as many deviations left. Here, the runs are
- * played, from the saved state of a choice, and schedules are counted. Without saved states, each run begins from
- * nothing, and is played to its end.
+ * At a choice of a run, a deviation may be played or not, or a default step may be played or held. schedule_search,
+ * which is proved, decides which option is taken at each choice, one after the other, the default last. It also decides
+ * which states are known: those from which all that follows has passed, with at least as many deviations left. Here,
+ * the runs are played, from the saved state of a choice, and schedules are counted. Without saved states, each run
+ * begins from nothing, and is played to its end.
  */
 #include "inside.h"
 #include "schedule_search.h"
@@ -16,12 +17,12 @@
 #define S xi_state
 
 enum { MOST_CHOICES = 1 << 19, FIRST_ROOM = 1 << 14 };
-/* Before one access, deviations of different actors can be exchanged, so they are tried in the order of these actors.
- */
+/* The actor of each action. Before one access, deviations of different actors can be exchanged, so they are tried only
+ * in the order of their actors. */
 static const int actors[ACTIONS] = { 2, 2, 3, 3, -1, -1, 2, 3, 0, 1, 3 };
 
-/* What belongs to a choice of the path: its state, its options beside the default, and the number of schedules below
- * it that pass, by their numbers of deviations. */
+/* What belongs to a choice of the path: its state, its options but the default, and how many schedules below it pass,
+ * by numbers of deviations. */
 struct extra {
     struct saved saved;
     int actions[MOST_OPTIONS];
@@ -39,13 +40,14 @@ static size_t room, known_count;
 
 /* Known states */
 
-/* The numbers of schedules have so many parts: one for each number of deviations. */
+/* The length of a list of numbers of schedules: one number for each number of deviations, or only one if every schedule
+ * is searched */
 static size_t width(void)
 {
     return is_every ? 1 : (size_t)search.depth + 1;
 }
 
-/* The index of the entry of a key, or else of an empty one */
+/* The index of the entry of a key, or, if there is none, of an empty entry */
 static size_t index_of(const struct schedule_key *key)
 {
     size_t at = schedule_search_find(table, room, key);
@@ -88,7 +90,8 @@ static void begin(int depth)
     schedule_search_begin(&search, path, MOST_CHOICES, table, room, search.depth, !is_every);
 }
 
-/* The key of the state at a choice: with what was done at this place, if this restricts the options. */
+/* The key of the state at a choice: its digest, with the default steps that are done. Unless every schedule is
+ * searched, it also has the last action at this place, which restricts the options. */
 static struct schedule_key key_here(void)
 {
     struct digest digest = xi_digest();
@@ -109,7 +112,8 @@ static bool is_after(int last, int action)
            !(last == NIC_RXDATA && action == NIC_RXDONE);
 }
 
-/* The deviations that would do something here, and are tried after the last one at this place. */
+/* The deviations that would do something here, and that are tried after the last one at this place. Returns their
+ * number. */
 static int options_here(int *actions)
 {
     static const int tried[] = { NIC_TXTAKE, NIC_TXPUT, NIC_RXDATA, NIC_RXDONE, ARRIVAL, TX, RX };
@@ -167,7 +171,7 @@ static void take(int action)
 
 /* The search */
 
-/* Takes what the newest choice of the path says. */
+/* Takes the option of the newest choice of the path. */
 static void take_newest(void)
 {
     const struct schedule_choice *newest = &path[search.count - 1];
@@ -200,8 +204,8 @@ static bool fail(struct found *found, double *counts)
     return goes_on;
 }
 
-/* Plays the run on to its end, or to a known state. `counts` gets the numbers of schedules that begin with it and pass.
- * Returns false if it fails and the search ends. */
+/* Plays the run on to its end, or to a known state. `counts` gets the numbers of schedules that begin as this run and
+ * pass. Returns false if the run fails and the search ends. */
 static bool forward(struct found *found, double *counts)
 {
     for (;;) {
@@ -228,7 +232,7 @@ static bool forward(struct found *found, double *counts)
     }
 }
 
-/* The run is at the newest choice of the path again. */
+/* Brings the run back to the newest choice of the path. */
 static void return_to_newest(void)
 {
     size_t count = search.count;
@@ -248,7 +252,8 @@ static void return_to_newest(void)
     }
 }
 
-/* Adds the schedules below what was taken to those of the newest choice. */
+/* Adds the numbers of schedules below the option that was taken to those of the newest choice. A deviation counts as
+ * one more. */
 static void add(const double *counts)
 {
     const struct schedule_choice *newest = &path[search.count - 1];
@@ -282,8 +287,8 @@ static uint32_t step_back(void)
     return step;
 }
 
-/* Goes back to the newest choice that has another option, and takes it. Returns false if there is none: then `counts`
- * has the numbers of all schedules. */
+/* Goes back to the newest choice that has another option, and takes this option. Returns false if there is no such
+ * choice: then `counts` has the numbers of all schedules that pass. */
 static bool backward(double *counts)
 {
     while (search.count) {
@@ -310,7 +315,7 @@ void xi_keep(struct found *found)
     snprintf(found->fault, sizeof found->fault, "%s", S->fault);
 }
 
-/* How many schedules were tried so far: those that fail, and those that pass below each choice of the path */
+/* Counts the schedules that were tried so far: those that fail, and those that pass below each choice of the path. */
 static void count_tried(struct found *found)
 {
     memcpy(found->tried, failing, sizeof found->tried);
@@ -360,7 +365,7 @@ static void search_all(int depth, size_t most_states, struct found *found)
     found->states = known_count + search.count;
 }
 
-/* Tries all schedules of up to this number of deviations, or EVERY schedule, up to one that fails, or until there are
+/* Tries all schedules of up to this number of deviations, or EVERY schedule, up to one that fails. Ends if there are
  * more states than `most_states`. With `finds_all`, goes on after one that fails. If a run has read what dead.c has
  * cleared, begins again, and clears nothing. */
 void xi_explore(int depth, bool with_holds, bool finds_all, size_t most_states, struct found *found)

@@ -1,9 +1,10 @@
 /* The memory of a run, its copies and its digests.
  *
- * All that a run changes is in an arena at a fixed address: what the explorer knows of the run, what the test keeps,
- * and the heap of libnic82540em, whose three functions are here. After xi_track, its pages can't be written: the first
- * write to one is a fault, whose handler notes the page. So a state is the pages that any run has changed, and the
- * used part of the stack of the test.
+ * All that a run changes is on the stack of the test, or in an arena at a fixed address. The arena has what the
+ * explorer knows of the run, what the test keeps, and the heap of libnic82540em, whose three functions are here. After
+ * xi_track, the arena's pages are protected. The first write to a page is a fault, whose handler notes the page and
+ * allows writes to it. So a saved state is the pages that any run has changed, and the used part of the stack of the
+ * test.
  */
 #define _GNU_SOURCE
 #include "inside.h"
@@ -32,12 +33,12 @@ struct book *const xi_book = (struct book *)ARENA;
 struct state *const xi_state = (struct state *)(ARENA + BOOK_PAGES * (size_t)PAGE);
 bool xi_saves;
 static char *base;                  /* the arena when its pages were protected */
-static int own[MOST_OWN], own_count; /* the pages that differ from it in some run */
+static int own[MOST_OWN], own_count; /* the pages that some run has written since */
 static char is_own[PAGES];
 static struct digest base_digest[PAGES];
 static bool is_tracked;
 static char *host, *host_end;    /* the host's memory */
-static char wire[64 * LONGEST];  /* the frames on the wire: at a place there are none, so it isn't saved */
+static char wire[64 * LONGEST];  /* the frames on the wire: none at an access or a request, so it isn't saved */
 
 _Noreturn void xi_die(const char *why)
 {
@@ -88,7 +89,7 @@ void xi_prepare(bool may_save)
     sigaction(SIGSEGV, &action, NULL), sigaction(SIGABRT, &action, NULL), sigaction(SIGFPE, &action, NULL);
 }
 
-/* The arena before a run: zeros */
+/* Sets the arena to zeros, as it is before a run, but for the heap and the path. */
 void xi_clear(void)
 {
     memset(xi_book, 0, offsetof(struct book, path));
@@ -96,7 +97,7 @@ void xi_clear(void)
     memset(MEMORY, 0, MEMORY_PAGES * (size_t)PAGE);
 }
 
-/* From now on, notes which pages are changed. */
+/* From now on, notes which pages are changed, if states are saved. */
 void xi_track(void)
 {
     size_t size = PAGES * (size_t)PAGE;
@@ -128,14 +129,14 @@ int xi_pages(void)
     return own_count;
 }
 
-/* The heap of the library. It only grows, except that the last block can be freed. */
+/* The heap of the library. The heap only grows, except that the newest block can be freed. */
 
 struct tried {
     bool ok;
     void *block;
 };
 
-/* A large block begins a page, and no other block is in its pages. */
+/* A block of at least a page begins a page, and no other block is in its pages. */
 struct tried rattle_alloc(size_t size, size_t align)
 {
     size_t whole = size < PAGE ? align > 16 ? align : 16 : PAGE;
@@ -275,8 +276,8 @@ static struct digest digest_of_base(int page)
     return base_digest[page];
 }
 
-/* Whether the bytes of a page are a part of the state: not those of the book, and on the heap of the library only
- * those of the host's memory. The adapter's own digest stands for the others. */
+/* Whether the bytes of a page are a part of the digest. Those of the book aren't, and of the library's heap, only those
+ * of the host's memory are. The adapter's own digest stands for the others of the heap. */
 static bool is_compared(int page)
 {
     char *at = ARENA + page * (size_t)PAGE;
@@ -284,9 +285,9 @@ static bool is_compared(int page)
     return page >= BOOK_PAGES && (at < HEAP || (at >= host && at < host_end));
 }
 
-/* The digest of the state: of the stack of the test, of the adapter by its contents, and of each page, as its
- * difference from that at xi_track. What is below the top of the stack in its block is cleared: it isn't used any
- * more. */
+/* The digest of the state: of the stack of the test, of the adapter by its contents, and of each compared page. A page
+ * counts as the difference from its digest at xi_track. Bytes below the top of the stack in the same block are cleared,
+ * since they aren't used any more. */
 struct digest xi_digest(void)
 {
     void *top;

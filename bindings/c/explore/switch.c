@@ -1,8 +1,8 @@
 /* The test runs on a stack of its own, and changes places with the explorer.
  *
- * On x86-64 and on aarch64, the registers that a function keeps are pushed to the stack that is left, so the used part
- * of the stack is all that must be saved. xi_switch ends with a jump: a return would be predicted to go to the caller.
- * On other processors, ucontext keeps the registers elsewhere, and no state is saved.
+ * On x86-64 and on aarch64, the registers that a function keeps are pushed to the stack that is left. So only the used
+ * part of the stack must be saved. xi_switch ends with a jump: a return would be predicted to go to the caller. On
+ * other processors, ucontext keeps the registers elsewhere, and no state is saved.
  */
 #define _GNU_SOURCE
 #include "inside.h"
@@ -48,7 +48,7 @@ void xi_set_stack(void *top)
     test_top = top;
 }
 
-/* How deep calls have gone below the top of the stack, of what can be seen now */
+/* How many bytes calls have used below the top of the stack, up to `most`: from the first word there that isn't 0 */
 static size_t depth_of_calls(size_t most)
 {
     const uint64_t *word = (const uint64_t *)((char *)test_top - most);
@@ -58,8 +58,9 @@ static size_t depth_of_calls(size_t most)
     return (size_t)((char *)test_top - (const char *)word);
 }
 
-/* What earlier calls have left below the top of the stack is cleared, since it would be in the frames of later calls:
- * as far down as calls were seen to go, which is looked at now and then. What is left parts states that are equal. */
+/* Clears what earlier calls have left below the top of the stack. Otherwise, it would be in the frames of later calls,
+ * and make states different. Clears as far down as calls were seen to go, and a quarter more, at most 32 KiB. One call
+ * of 64 looks how far they go. */
 void xi_clear_stack(void)
 {
     static size_t depth;

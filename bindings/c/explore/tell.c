@@ -23,7 +23,7 @@ static double seconds_since(const struct timespec *then)
 
 /* Signals */
 
-/* The first signal ends the search; one that comes later than a second after it ends the program. */
+/* The first signal ends the search. A signal that comes more than a second after the first one ends the program. */
 static void on_signal(int number)
 {
     if (!stopped)
@@ -77,7 +77,8 @@ void xi_say(const char *format, ...)
     fflush(stdout);
 }
 
-/* Whether it is time for a line of progress: each five seconds, on a terminal */
+/* Whether it is time for a line of progress: standard error is a terminal, and five seconds have passed since the last
+ * line. Looks at the time in one call of 64. */
 bool xi_is_time(void)
 {
     static struct timespec last;
@@ -92,7 +93,7 @@ bool xi_is_time(void)
     return true;
 }
 
-/* Shows a line on the terminal until the next one is printed. */
+/* Shows a line of progress on the terminal until the next line is printed. */
 void xi_progress(const char *format, ...)
 {
     va_list words;
@@ -124,7 +125,8 @@ static int character_size(const unsigned char *at)
     return is_long && is_short ? size : 0;
 }
 
-/* Prints a text as a string of JSON. A byte that is no character is shown by its code. */
+/* Prints a text as a string of JSON. A control character, or a byte that isn't part of a character of UTF-8, is printed
+ * as \u and its code. */
 void xi_print_string(FILE *file, const char *text)
 {
     const unsigned char *at = (const unsigned char *)text;

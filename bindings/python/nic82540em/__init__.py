@@ -1,8 +1,8 @@
 """An 82540EM and its host's memory in the process of a driver, by the library libnic82540em.so.
 
-`Adapter` has the calls of the class in examples/drivers/adapter.py, which runs `nicbench serve`. So a driver in Python
-runs in process if it imports this class instead. `Nic` has the calls of the library. Both take the path of the library,
-or None for `default_library()`.
+`Adapter` has the accesses, the requests and the interrupts of the class in examples/drivers/adapter.py, which runs
+`nicbench serve`. So a driver in Python runs in process if it imports this class instead. `Nic` has the calls of the
+library. Both take the path of the library, the loaded library, or None for the library at `default_library()`.
 """
 
 from __future__ import annotations
@@ -23,25 +23,25 @@ REASONS = "no_fault", "ring", "descriptor", "dext", "eop", "length", "buffer", "
 REQUESTS = "arrive", "offer", "step", "settle"
 # What an event is
 STEPPED, ARRIVED, LINE = range(3)
-# The words of the EEPROM
+# The number of words of the EEPROM
 IMAGE_WORDS = 64
-# The result of a call that refuses a number, or finds no adapter
+# The result of `play` if the schedule isn't played and no number of a line is returned
 REFUSED = 0xFFFFFFFF
-# The most bytes of a frame
+# The greatest length of a frame that the adapter puts on the wire, in bytes
 MOST_FRAME_BYTES = 1518
 FILE = "libnic82540em.so"
-# The bytes of a register
+# The size of a register in bytes
 REGISTER_BYTES = 4
-# Something that happened, in words: `Nic.take_events` states which there are
+# An event in words: `Nic.take_events` states which there are
 Words = Tuple[Union[str, int, bool], ...]
 
 
 class Refused(Exception):
-    """A call was refused."""
+    """A call was refused. In the adapter, nothing changed."""
 
 
 class Handle(ctypes.Structure):
-    """The place of an adapter, `struct nic82540em`."""
+    """A handle of an adapter, `struct nic82540em`."""
     _fields_ = [("held", ctypes.c_bool), ("state", ctypes.c_void_p)]
 
 
@@ -57,7 +57,7 @@ class Event(ctypes.Structure):
     _fields_ = [(name, ctypes.c_uint32) for name in ("what", "kind", "value", "reason", "index")]
 
 
-# The calls: their results, and what they take after the handle
+# The calls by their names without `nic82540em_`: the types of their results, and of what they take after the handle
 CALLS: Dict[str, Tuple[Any, List[Any]]] = {
     "new": (ctypes.c_bool, [ctypes.POINTER(Options)]),
     "free": (None, []),
@@ -95,7 +95,9 @@ CALLS: Dict[str, Tuple[Any, List[Any]]] = {
 
 
 def default_library() -> str:
-    """The library that `pip` has installed with this package, that in $NIC82540EM_LIB, or else the system's."""
+    """The path of the library next to this file, where `pip` installs it. If there is none: its path in the folder
+    $NIC82540EM_LIB. If this variable isn't set: only the file's name, and the system looks for the file.
+    """
     own = os.path.join(os.path.dirname(os.path.abspath(__file__)), FILE)
     return own if os.path.exists(own) else os.path.join(os.environ.get("NIC82540EM_LIB", ""), FILE)
 
@@ -110,15 +112,15 @@ def load_library(path: str) -> ctypes.CDLL:
 
 
 class Nic:
-    """An adapter in process. It is freed at the end of a `with` block, by `free`, or with the object.
-
-    Raises Refused if an option is out of range, or memory is refused.
-    """
+    """An adapter in process. The adapter is freed at the end of a `with` block, by `free`, or with the object."""
 
     def __init__(self, library: Union[str, ctypes.CDLL, None] = None, memory: int = 1 << 20, link: int = 1,
                  rxa: int = 48, address: bytes = b"\x02\0\0\0\0\x01", missed: int = 0,
                  image: Optional[Sequence[int]] = None) -> None:
-        """Makes an adapter. `image` has the 64 words of the EEPROM; without it, they are those for `address`."""
+        """Makes an adapter. `image` has the 64 words of the EEPROM. Without an image, the EEPROM has this address.
+
+        Raises Refused if an option is out of range, or memory is refused.
+        """
         self.handle = Handle()
         library = default_library() if library is None else library
         self.library = load_library(library) if isinstance(library, str) else library
@@ -157,33 +159,35 @@ class Nic:
         self.call("write", register, value)
 
     def load(self, address: int, size: int) -> bytes:
-        """Returns bytes of memory. Raises Refused if some of them are outside memory."""
+        """Returns `size` bytes of memory from an address on. Raises Refused if some of them are outside memory."""
         into = ctypes.create_string_buffer(size + 1)
         if not self.call("load", address, into, size):
             raise Refused(f"load {address:#x} {size}")
         return into.raw[:size]
 
     def store(self, address: int, data: bytes) -> None:
-        """Stores bytes in memory. Raises Refused if some of their places are outside memory."""
+        """Stores bytes in memory from an address on. Raises Refused if some of them would be outside memory."""
         if not self.call("store", address, bytes(data), len(data)):
             raise Refused(f"store {address:#x} {len(data)}")
 
     def accesses(self) -> int:
-        """Returns the number of accesses so far."""
+        """Returns the number of accesses so far. `recount` sets this number."""
         return self.call("accesses")
 
     def waiting(self) -> tuple[int, int]:
-        """Returns the numbers of frames in the packet buffer: those that arrived, and those to be put on the wire."""
+        """Returns the numbers of frames in the packet buffer. A received frame is there until its last piece is
+        written to memory. A frame to be sent is there until it is put on the wire.
+        """
         return self.call("waiting_received"), self.call("waiting_transmit")
 
     def memory(self) -> ctypes.Array[ctypes.c_uint8]:
-        """Returns the host's memory as an array of bytes. Don't use the array after `free`."""
+        """Returns the host's memory as an array, whose accesses aren't counted. Don't use the array after `free`."""
         address = ctypes.c_void_p()
         size = self.call("memory", ctypes.byref(address))
         return (ctypes.c_uint8 * size).from_address(address.value) if size else (ctypes.c_uint8 * 0)()
 
     def peek(self, register: int) -> int:
-        """Returns the value that a read of a register would return now. Nothing changes."""
+        """Returns the value that a read of a register would return now, without steps before it. Nothing changes."""
         value = ctypes.c_uint32()
         self.call("peek", register, ctypes.byref(value))
         return value.value
@@ -195,18 +199,22 @@ class Nic:
         self.call("recount", accesses)
 
     def digest(self) -> int:
-        """Returns a digest of the adapter and its memory, without the wire and the number of accesses."""
+        """Returns a digest of the adapter's state and of its host's memory. The digest doesn't cover the EEPROM's
+        words, the wire, offered frames, events, schedules, the generator, settings, or the number of accesses.
+        """
         return self.call("digest")
 
     def state_digest(self, seed: int = 0) -> int:
-        """Returns a digest of the adapter's state by its contents, without memory, for a seed."""
+        """Returns a digest of the adapter's state, without memory: its registers, the frames in its packet buffer, and
+        its work in progress. Adapters with the same state have equal digests for each seed.
+        """
         if not 0 <= seed < 1 << 64:
             raise Refused(f"state_digest {seed}")
         return self.call("state_digest", seed)
 
     def copy(self) -> Nic:
-        """Returns a copy of the adapter, with its memory, its wire and its schedule. Raises Refused if memory is
-        refused.
+        """Returns a copy of the adapter, with the same memory, wire, offered frames, schedules, settings, generator,
+        events and number of accesses. Raises Refused if memory is refused.
         """
         copy = Nic.__new__(Nic)
         copy.handle, copy.library = Handle(), self.library
@@ -228,22 +236,23 @@ class Nic:
         return [kind for number, kind in enumerate(KINDS) if mask >> number & 1]
 
     def arrive(self, frame: bytes) -> str:
-        """Delivers a frame to the adapter. Returns its fate, one of FATES."""
+        """Delivers a frame without its checksum. Cycles may follow (`pace`). Returns the frame's fate, one of FATES."""
         return FATES[self.call("arrive", bytes(frame), len(frame))]
 
     def offer(self, frame: bytes) -> None:
-        """Offers a frame: it arrives before a later access, if a random step is its arrival, or in the next
-        `settle`.
+        """Offers a frame, without its checksum, to the adapter. The oldest waiting frame may arrive before an access
+        (`interleave`, `play`) or before a request (`begin_round`). The frames that still wait at the next `settle`
+        arrive then. Raises Refused if memory is refused.
         """
         if not self.call("offer", bytes(frame), len(frame)):
             raise Refused("memory is refused")
 
     def fill_wire(self, full: bool) -> None:
-        """From now on, the wire is full, so that no frame is put on it, or not."""
+        """From now on, the wire is full; if `full` is false, only while 64 frames wait. A full wire takes no frame."""
         self.call("fill_wire", full)
 
     def take_put(self) -> Optional[bytes]:
-        """Takes the oldest frame off the wire, and returns it, or None if no frame waits."""
+        """Takes the oldest frame off the wire, and returns the frame, or None if no frame waits."""
         into = ctypes.create_string_buffer(MOST_FRAME_BYTES)
         length = self.call("take_put", into, MOST_FRAME_BYTES)
         return into.raw[:length] if length else None
@@ -253,46 +262,56 @@ class Nic:
         return self.call("line")
 
     def settle(self) -> int:
-        """Lets offered frames arrive, plays steps until nothing is left to do, and returns how many did something."""
+        """Lets all offered frames arrive, and plays cycles, each with one step of each kind. Ends after a cycle in
+        which no step did anything, or after 131,072 cycles. Returns the number of steps of the cycles with another
+        outcome than "nothing" and "wirefull".
+        """
         return self.call("settle")
 
     def interleave(self, count: int, seed: int = 0) -> None:
-        """From now on, plays up to `count` random steps before each access, as the seed determines."""
+        """From now on, plays up to `count` random steps and arrivals of offered frames before each access; while a
+        schedule is played, none. The seed determines them. Raises Refused if `count` is above 65,535.
+        """
         if not (0 <= count < 1 << 32 and 0 <= seed < 1 << 64 and self.call("interleave", count, seed)):
             raise Refused(f"interleave {count} {seed}")
 
     def pace(self, count: int) -> None:
-        """From now on, plays up to `count` cycles of steps after each access and each arrival."""
+        """From now on, plays cycles of steps after each access and each `arrive` until one does nothing, up to `count`
+        cycles. Raises Refused if `count` is above 65,535.
+        """
         if not (0 <= count < 1 << 32 and self.call("pace", count)):
             raise Refused(f"pace {count}")
 
     def choose(self, limit: int) -> int:
-        """Returns a number below `limit`. If random steps are played before accesses, the number is random. Otherwise,
-        it is that of the schedule if this number is below `limit`, or else 0.
+        """Returns a number below `limit`, which is above 0. If random steps are played before accesses, the number is
+        random. Otherwise, it is that of the schedule if this number is below `limit`, or else 0.
         """
         if not 0 < limit < 1 << 32:
             raise Refused(f"choose {limit}")
         return self.call("choose", limit)
 
     def schedule(self, access: int, kind: str) -> None:
-        """Adds a step to the end of the list of scheduled steps. It is played before the access with this number; the
-        first has number 0.
+        """Adds a step to the end of the list of scheduled steps. The step is played before the first access with a
+        number of at least `access`, after all steps that were added before. The first access has number 0. Raises
+        Refused if 4,096 steps wait.
         """
         if kind not in KINDS or not 0 <= access < 1 << 64 or not self.call("schedule", access, KINDS.index(kind)):
             raise Refused(f"schedule {access} {kind}")
 
     def ticks(self, on: bool) -> None:
-        """From now on, plays a step of the EEPROM and one of the PHY before each access, or not."""
+        """If `on` is true, plays a step of the EEPROM and one of the PHY before each access from now on, else none."""
         self.call("ticks", on)
 
     def play(self, schedule: bytes) -> None:
-        """From now on, plays a schedule, in place of another one. Random steps end."""
+        """From now on, plays a schedule, in place of another one, and no random steps. Raises Refused if a line is
+        faulty, the text isn't UTF-8, or memory is refused.
+        """
         answer = self.call("play", schedule, len(schedule))
         if answer:
             raise Refused("memory is refused, or no UTF-8" if answer == REFUSED else f"line {answer} of the schedule")
 
     def begin_round(self, request: str) -> None:
-        """Begins a round of the schedule, and plays what comes before this request, one of REQUESTS."""
+        """Begins a round of the schedule, if any: plays the deviations before this request, one of REQUESTS."""
         if request not in REQUESTS:
             raise Refused(f"begin_round {request}")
         self.call("begin_round", REQUESTS.index(request))
@@ -300,13 +319,14 @@ class Nic:
     # Events
 
     def events(self, on: bool) -> None:
-        """From now on, keeps events, or not: steps that aren't "nothing", arrivals and changes of the line; at most
-        4,096.
+        """From now on, new events are kept if `on` is true, and aren't kept if `on` is false. Events are steps with
+        another outcome than "nothing", arrivals, and changes of the interrupt line. While 4,096 events wait, a further
+        event isn't kept.
         """
         self.call("events", on)
 
     def take_events(self) -> list[Words]:
-        """Takes the events that wait, the oldest first.
+        """Removes and returns the events that wait, the oldest first.
 
         Each is ("step", kind, outcome), ("fault", kind, index, reason), ("arrived", fate) or ("line", is_asserted).
         """
@@ -328,7 +348,7 @@ def event_of(event: Event) -> Words:
 
 
 def image_in(path: str) -> list[int]:
-    """The words of the EEPROM in a file, the low byte of each first."""
+    """The words of the EEPROM in a file of 128 bytes, the low byte of each word first."""
     with open(path, "rb") as file:
         data = file.read()
     if len(data) != 2 * IMAGE_WORDS:
@@ -337,9 +357,9 @@ def image_in(path: str) -> list[int]:
 
 
 def options_of(words: Sequence[str]) -> tuple[int, Optional[str], dict[str, Any]]:
-    """The seed, the file of the schedule, and the settings of `Nic`, from options of `serve`.
+    """The seed, the file of the schedule, if there is one, and the settings of `Nic`, from options of `serve`.
 
-    They are --memory, --link, --rxa, --address, --missed, --image, --seed and --schedule.
+    The options are --memory, --link, --rxa, --address, --missed, --image, --seed and --schedule, each with a value.
     """
     names = {"--memory": "memory", "--link": "link", "--rxa": "rxa", "--missed": "missed", "--seed": "seed"}
     settings: dict[str, Any] = {"seed": 0, "schedule": None}
@@ -360,10 +380,10 @@ def options_of(words: Sequence[str]) -> tuple[int, Optional[str], dict[str, Any]
 
 
 class Adapter:
-    """Registers and memory, an interrupt line, and a wire, as in examples/drivers/adapter.py."""
+    """An adapter with the calls of the class in examples/drivers/adapter.py. Some of them do nothing here."""
 
     def __init__(self, library: Union[str, ctypes.CDLL, None] = None, *options: str) -> None:
-        """Makes an adapter by the library with this path, with options of `serve`."""
+        """Makes an adapter with options of `serve`, by this library."""
         self.seed, schedule, settings = options_of(options)
         self.nic = Nic(library, **settings)
         if schedule is not None:
@@ -372,7 +392,7 @@ class Adapter:
         self.line = False  # whether the interrupt line is asserted
         self.wire: list[bytes] = []  # the frames that were put on the wire
         self.told: list[str] = []  # the changes of the interrupt line and the frames, as lines of `serve`
-        # If set, it is called as soon as the line is asserted, after any access.
+        # If set, the handler is called after each call at whose end the line is asserted.
         self.handler: Optional[Callable[[], object]] = None
         self.takes_interrupts = True  # whether the processor takes interrupts, so that the handler may be called
 
@@ -395,7 +415,7 @@ class Adapter:
         self.cut_in()
 
     def cut_in(self) -> None:
-        """Calls the handler while the line is asserted, if the processor takes interrupts. It takes none meanwhile."""
+        """Calls the handler while the line is asserted and interrupts are taken. It isn't interrupted itself."""
         while self.line and self.handler and self.takes_interrupts:
             self.takes_interrupts = False
             self.handler()
@@ -403,7 +423,7 @@ class Adapter:
 
     @contextmanager
     def interrupts_off(self) -> Iterator[None]:
-        """In this block, the processor takes no interrupt. At its end, a handler that waits is called."""
+        """In this block, no interrupt is taken. At its end, a handler that is due and was let in before is called."""
         before, self.takes_interrupts = self.takes_interrupts, False
         yield
         self.takes_interrupts = before
@@ -436,7 +456,7 @@ class Adapter:
     # What the adapter and the wire do
 
     def step(self, kind: str) -> str:
-        """Plays a step of the adapter, and returns its outcome."""
+        """Makes the adapter take a step of this kind, and returns the outcome."""
         self.nic.begin_round("step")
         outcome = self.nic.step(kind)
         self.look()
@@ -450,25 +470,27 @@ class Adapter:
         return fate
 
     def offer(self, frame: bytes) -> None:
-        """Offers a frame: it arrives before a later access, or in the next `settle`."""
+        """Offers a frame, which arrives before a later access or request, or in the next `settle`."""
         self.nic.begin_round("offer")
         self.nic.offer(frame)
 
     def settle(self) -> int:
-        """Plays steps until nothing is left to do, and returns the number of steps that did something."""
+        """As `Nic.settle`, in a round of the schedule."""
         self.nic.begin_round("settle")
         moved = self.nic.settle()
         self.look()
         return moved
 
+    def choose(self, limit: int) -> int:
+        """As `Nic.choose`."""
+        return self.nic.choose(limit)
+
     def interleave(self, count: int) -> None:
-        """From now on plays up to `count` steps before each access. The seed determines them from their first word
-        on.
-        """
+        """As `Nic.interleave`, with the seed of the options. Each call starts the generator again."""
         self.nic.interleave(count, self.seed)
 
     def pace(self, count: int) -> None:
-        """From now on plays up to `count` cycles of steps after each access and each arrival."""
+        """As `Nic.pace`."""
         self.nic.pace(count)
 
     def events(self, on: bool) -> None:

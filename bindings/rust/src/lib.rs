@@ -50,7 +50,7 @@ pub mod registers {
     // end of offsets
 }
 
-/// The most bytes of a frame.
+/// The greatest length of a frame that the adapter puts on the wire, in bytes.
 pub const MOST_FRAME_BYTES: usize = 1518;
 
 /// A kind of steps (docs/ADAPTER.md, "Steps").
@@ -76,26 +76,26 @@ impl Step {
     pub const ALL: [Step; 6] = [Step::TxTake, Step::TxPut, Step::RxData, Step::RxDone, Step::Eeprom, Step::Phy];
 }
 
-/// The outcome of a step.
+/// The outcome of a step (docs/ADAPTER.md, "Steps").
 #[derive(Clone, Copy, Debug, PartialEq, Eq)]
 pub enum Outcome {
-    /// There was nothing to do.
+    /// There was nothing to do, or the step's engine is stopped.
     Nothing,
     /// A frame was taken from the transmit ring.
     Took,
     /// A frame was put on the wire.
     Put,
-    /// 64 frames wait on the wire, or it is full, so nothing changed.
+    /// A frame is to be put, but 64 frames wait on the wire, or [`Nic::fill_wire`] filled it. Nothing changed.
     WireFull,
     /// A piece of a received frame was written, and more of the frame is left.
     Part,
-    /// The last piece, or the whole frame, was written.
+    /// The last piece of a received frame was written. It may be the only one.
     Moved,
     /// A receive descriptor was written back.
     Done,
     /// The EEPROM or the PHY did something.
     Ticked,
-    /// A ring or a descriptor can't be used. The step's engine is stopped until a reset.
+    /// The step can't be done, for a [`Reason`]. Steps of this kind then do nothing until a write of CTRL with RST.
     Fault,
 }
 
@@ -111,18 +111,18 @@ const OUTCOMES: [Outcome; 9] = [
     Outcome::Fault,
 ];
 
-/// The fate of a frame that arrives.
+/// The fate of a frame that arrives: the first that applies.
 #[derive(Clone, Copy, Debug, PartialEq, Eq)]
 pub enum Fate {
-    /// The receiver is off.
+    /// The receiver is off: RCTL.EN is clear.
     Off,
-    /// The frame's length isn't legal.
+    /// The frame has fewer than 60 or more than 1,518 bytes.
     Illegal,
     /// The receive filter rejects the frame.
     Filtered,
-    /// The receive packet buffer has no room for it.
+    /// The receive packet buffer has no room for the frame.
     Missed,
-    /// The frame is in the receive packet buffer.
+    /// The frame was stored in the receive packet buffer.
     Stored,
 }
 
@@ -141,13 +141,13 @@ pub enum Reason {
     Eop,
     /// The length in a transmit descriptor is 0 or above 1,518.
     Length,
-    /// The bytes that the descriptor points to aren't inside memory.
+    /// Some bytes that the step reads or writes at the address in the descriptor aren't inside memory.
     Buffer,
-    /// RCTL.BSEX is set.
+    /// RCTL.BSEX is set, at [`Step::RxData`]. This reason comes after [`Reason::Ring`].
     Bsex,
 }
 
-/// In the order of their numbers, from 1 on.
+/// All reasons, in the order of their numbers from 1 on.
 const REASONS: [Reason; 7] =
     [Reason::Ring, Reason::Descriptor, Reason::Dext, Reason::Eop, Reason::Length, Reason::Buffer, Reason::Bsex];
 
@@ -156,11 +156,11 @@ const REASONS: [Reason; 7] =
 pub enum Event {
     /// A step had this outcome, which isn't [`Outcome::Nothing`] or [`Outcome::Fault`].
     Stepped(Step, Outcome),
-    /// A step was a fault: the index of the descriptor (TDH or RDH), and the reason.
+    /// A step had the outcome [`Outcome::Fault`]: its kind, the index of the descriptor (TDH or RDH), and the reason.
     Faulted(Step, u32, Reason),
     /// A frame arrived, and had this fate.
     Arrived(Fate),
-    /// The interrupt line changed. It is asserted if this is true.
+    /// The interrupt line changed. The line is asserted if the value is true.
     Line(bool),
 }
 
@@ -177,14 +177,14 @@ pub enum Request {
     Settle,
 }
 
-/// A call was refused. Nothing changed.
+/// Why a call was refused. Nothing changed.
 #[derive(Clone, Copy, Debug, PartialEq, Eq)]
 pub enum Error {
-    /// An option is out of range, or memory is refused.
+    /// An option of [`Nic::new`] is out of range, or memory for a new adapter or a copy is refused.
     New,
-    /// Some of the bytes are outside memory.
+    /// The address plus the number of bytes is above the size of the host's memory.
     OutOfRange,
-    /// Memory is refused.
+    /// Memory for an offered frame or a schedule is refused.
     NoMemory,
     /// The number of steps before an access, or of cycles after one, is above 65,535; or 4,096 steps wait.
     TooManySteps,
@@ -207,10 +207,10 @@ impl fmt::Display for Error {
 
 impl std::error::Error for Error {}
 
-/// The result of a call that refuses something.
+/// The result of `nic82540em_play` if the schedule isn't played and no number of a line is returned.
 const REFUSED: u32 = 0xFFFF_FFFF;
 
-/// The words of the EEPROM.
+/// The number of words of the EEPROM.
 pub const IMAGE_WORDS: usize = 64;
 
 /// What a new adapter is made of.
@@ -357,29 +357,32 @@ impl Nic {
         unsafe { nic82540em_write(&mut self.handle, offset, value) }
     }
 
-    /// Loads the bytes from an address on into the whole of `into`.
+    /// Loads the bytes of the host's memory from an address on into the whole of `into`. Returns an error if some of
+    /// them are outside memory.
     pub fn load(&mut self, address: u64, into: &mut [u8]) -> Result<(), Error> {
         let is_done = unsafe { nic82540em_load(&mut self.handle, address, into.as_mut_ptr(), into.len()) };
         is_done.then_some(()).ok_or(Error::OutOfRange)
     }
 
-    /// Stores bytes from an address on.
+    /// Stores bytes in the host's memory from an address on. Returns an error if some of them would be outside memory.
     pub fn store(&mut self, address: u64, bytes: &[u8]) -> Result<(), Error> {
         let is_done = unsafe { nic82540em_store(&mut self.handle, address, bytes.as_ptr(), bytes.len()) };
         is_done.then_some(()).ok_or(Error::OutOfRange)
     }
 
-    /// The number of accesses (reads, writes, loads and stores) so far.
+    /// The number of accesses (reads, writes, loads and stores) so far. [`recount`](Nic::recount) sets this number.
     pub fn accesses(&mut self) -> u64 {
         unsafe { nic82540em_accesses(&mut self.handle) }
     }
 
-    /// The numbers of frames in the packet buffer: those that arrived, and those to be put on the wire.
+    /// The numbers of frames in the packet buffer. A received frame is there until its last piece is written to memory,
+    /// and a frame to be sent until it is put on the wire.
     pub fn waiting(&mut self) -> (u32, u32) {
         unsafe { (nic82540em_waiting_received(&mut self.handle), nic82540em_waiting_transmit(&mut self.handle)) }
     }
 
-    /// The host's memory. Bytes that are read and written here are no accesses.
+    /// The host's memory. Reads and writes of these bytes aren't counted as accesses, and no step is played before
+    /// them.
     pub fn memory(&mut self) -> &mut [u8] {
         let mut address = null_mut();
         let size = unsafe { nic82540em_memory(&mut self.handle, &mut address) };
@@ -389,7 +392,8 @@ impl Nic {
         unsafe { std::slice::from_raw_parts_mut(address, size as usize) }
     }
 
-    /// The value that a read of the register at an offset would return now. Nothing changes.
+    /// The value that a read of the register at an offset would return now, without steps before the read. Nothing
+    /// changes.
     pub fn peek(&mut self, offset: u32) -> u32 {
         let mut value = 0;
         unsafe { nic82540em_peek(&mut self.handle, offset, &mut value) };
@@ -401,18 +405,20 @@ impl Nic {
         unsafe { nic82540em_possible(&mut self.handle) >> kind as u32 & 1 == 1 }
     }
 
-    /// Makes the adapter take a step of this kind.
+    /// Makes the adapter take a step of this kind. Returns the outcome.
     pub fn step(&mut self, kind: Step) -> Outcome {
         OUTCOMES[unsafe { nic82540em_step(&mut self.handle, kind as u32) } as usize]
     }
 
-    /// Delivers a frame to the adapter, without its checksum.
+    /// Delivers a frame, without its checksum, to the adapter. Cycles may follow ([`pace`](Nic::pace)). Returns the
+    /// frame's fate.
     pub fn arrive(&mut self, frame: &[u8]) -> Fate {
         FATES[unsafe { nic82540em_arrive(&mut self.handle, frame.as_ptr(), frame.len()) } as usize]
     }
 
-    /// Offers a frame to the adapter, without its checksum. While it waits, a random step before an access may also be the
-    /// arrival of the oldest offered frame. Those that still wait at the next [`settle`](Nic::settle) arrive then.
+    /// Offers a frame, without its checksum, to the adapter. The oldest waiting frame may arrive before an access
+    /// ([`interleave`](Nic::interleave), [`play`](Nic::play)) or before a request ([`begin_round`](Nic::begin_round)).
+    /// The frames that still wait at the next [`settle`](Nic::settle) arrive then.
     ///
     /// ```
     /// use nic82540em::{Event, Fate, Nic, Options};
@@ -429,7 +435,8 @@ impl Nic {
         is_done.then_some(()).ok_or(Error::NoMemory)
     }
 
-    /// From now on, the wire is full, so that no frame is put on it, or not.
+    /// From now on, the wire is full if `full` is true, so that no frame is put on it. Otherwise, the wire is full only
+    /// while 64 frames wait.
     pub fn fill_wire(&mut self, full: bool) {
         unsafe { nic82540em_fill_wire(&mut self.handle, full) }
     }
@@ -447,19 +454,22 @@ impl Nic {
         unsafe { nic82540em_line(&mut self.handle) }
     }
 
-    /// Lets all offered frames arrive, and plays steps until nothing is left to do. Returns the number of steps that did
-    /// something.
+    /// Lets all offered frames arrive, and plays cycles, each with one step of each kind. Ends after a cycle in which
+    /// no step did anything, or after 131,072 cycles. Returns the number of steps of the cycles that did something:
+    /// those with another outcome than [`Outcome::Nothing`] and [`Outcome::WireFull`].
     pub fn settle(&mut self) -> u64 {
         unsafe { nic82540em_settle(&mut self.handle) }
     }
 
-    /// From now on, plays up to `count` random steps before each access. The seed determines them.
+    /// From now on, plays up to `count` random steps and arrivals of offered frames before each access; while a
+    /// schedule is played, none. The seed determines them. Returns an error if `count` is above 65,535.
     pub fn interleave(&mut self, count: u32, seed: u64) -> Result<(), Error> {
         let is_done = unsafe { nic82540em_interleave(&mut self.handle, count, seed) };
         is_done.then_some(()).ok_or(Error::TooManySteps)
     }
 
-    /// From now on, plays up to `count` cycles of steps after each access and each arrival, until one does nothing.
+    /// From now on, plays cycles of steps after each access and each [`arrive`](Nic::arrive) until one does nothing, up
+    /// to `count` cycles. Returns an error if `count` is above 65,535.
     ///
     /// ```
     /// use nic82540em::{Nic, Options, registers};
@@ -490,20 +500,22 @@ impl Nic {
         unsafe { nic82540em_choose(&mut self.handle, limit) }
     }
 
-    /// Adds a step to the end of the list of scheduled steps. It is played before the access with number `access`; the
-    /// first access has number 0. Add steps in the order of their accesses. At most 4,096 steps wait.
+    /// Adds a step to the end of the list of scheduled steps. The step is played before the first access with a number
+    /// of at least `access`, after all steps that were added before. The first access has number 0. Returns an error if
+    /// 4,096 steps wait.
     pub fn schedule(&mut self, access: u64, kind: Step) -> Result<(), Error> {
         let is_done = unsafe { nic82540em_schedule(&mut self.handle, access, kind as u32) };
         is_done.then_some(()).ok_or(Error::TooManySteps)
     }
 
-    /// From now on, plays a step of the EEPROM and one of the PHY before each access, or not.
+    /// From now on, if `on` is true, a step of the EEPROM and then one of the PHY are played before each access. If
+    /// `on` is false, they aren't.
     pub fn ticks(&mut self, on: bool) {
         unsafe { nic82540em_ticks(&mut self.handle, on) }
     }
 
-    /// From now on, plays a schedule, in place of another one. While it is played, no random steps are played. A line
-    /// `options` has no effect.
+    /// From now on, plays a schedule, in place of another one, and no random steps. A line `options` has no effect.
+    /// Returns an error if a line is faulty, or memory is refused.
     ///
     /// ```
     /// use nic82540em::{Error, Nic, Options, Request};
@@ -523,12 +535,14 @@ impl Nic {
         }
     }
 
-    /// Begins a round of the schedule, and plays what comes before this request. Call it before each such call.
+    /// Begins a round of the schedule with this request: plays the deviations before the request. Call `begin_round`
+    /// before each such call of the test. Without a schedule, nothing happens.
     pub fn begin_round(&mut self, request: Request) {
         unsafe { nic82540em_begin_round(&mut self.handle, request as u32) };
     }
 
-    /// From now on, keeps events, or not. At most 4,096 wait; while so many wait, a further event isn't kept.
+    /// From now on, new events are kept if `on` is true, and aren't kept if `on` is false. While 4,096 events wait, a
+    /// further event isn't kept.
     ///
     /// ```
     /// use nic82540em::{Event, Nic, Options, Reason, Step, registers};
@@ -545,7 +559,7 @@ impl Nic {
         unsafe { nic82540em_events(&mut self.handle, on) }
     }
 
-    /// Takes the oldest event, if one waits.
+    /// Removes and returns the oldest event, or returns `None` if no event waits.
     pub fn take_event(&mut self) -> Option<Event> {
         let mut event = RawEvent::default();
         unsafe { nic82540em_take_event(&mut self.handle, &mut event) }.then(|| event.event())
@@ -556,19 +570,20 @@ impl Nic {
         unsafe { nic82540em_recount(&mut self.handle, accesses) }
     }
 
-    /// A digest of the adapter and its host's memory. It doesn't cover the wire, the steps before accesses, and the number
-    /// of accesses.
+    /// A digest of the adapter's state and of its host's memory. The digest doesn't cover the EEPROM's words, the
+    /// wire, offered frames, events, schedules, the generator, settings, or the number of accesses.
     pub fn digest(&mut self) -> u64 {
         unsafe { nic82540em_digest(&mut self.handle) }
     }
 
-    /// A digest of the adapter's state by its contents, without memory: its registers, the frames in its packet buffer and
-    /// the work in progress. Adapters with the same state have equal digests for each seed.
+    /// A digest of the adapter's state, without memory: its registers, the frames in its packet buffer, and its work in
+    /// progress. Adapters with the same state have equal digests for each seed.
     pub fn state_digest(&mut self, seed: u64) -> u64 {
         unsafe { nic82540em_state_digest(&mut self.handle, seed) }
     }
 
-    /// A copy of the adapter, with its memory, its wire, its schedule and its events.
+    /// A copy of the adapter, with the same memory, wire, offered frames, schedules, settings, generator, events and
+    /// number of accesses. Returns an error if memory is refused.
     pub fn copy(&mut self) -> Result<Nic, Error> {
         let mut handle = Handle { held: false, state: null_mut() };
         if unsafe { nic82540em_copy(&mut self.handle, &mut handle) } {

@@ -1,4 +1,4 @@
-//! Searches the schedules of a driver's test, in the process of the test. A panic is a failure.
+//! Searches the schedules of a driver's test, in the process of the test. If the test panics, it fails.
 //!
 //! ```no_run
 //! use nic82540em_explore::{explore, Arena, Bus, Explored};
@@ -15,9 +15,10 @@
 //! }
 //! ```
 //!
-//! The heap of the test is a part of its state, if `Arena` is the global allocator. The test keeps nothing in statics, and
-//! uses no threads, clock or random numbers. Options are the words of the program, or the variables NIC_EXPLORE, NIC_REPLAY
-//! and NIC_OUT: `nic82540em_explore.h` and `--help` describe them.
+//! The heap of the test is a part of the test's state if `Arena` is the global allocator. The test must keep nothing in
+//! statics, and use no threads, clock or random numbers. Options are words of the program. Without options, the
+//! variables NIC_EXPLORE, NIC_REPLAY, NIC_OUT and NIC_SERVE are used. `nic82540em_explore.h` and `--help` describe
+//! both.
 
 use std::alloc::{GlobalAlloc, Layout, System};
 use std::ffi::{c_char, c_int, c_void, CString};
@@ -46,15 +47,15 @@ extern "C" {
     fn x_inside() -> bool;
 }
 
-/// What a driver needs of its adapter. Another implementation is the real one.
+/// The accesses of a driver to its adapter and its host's memory. Another implementation may use a real adapter.
 pub trait Bus {
-    /// Reads the register at an offset.
+    /// Reads the register at an offset in bytes.
     fn read(&mut self, offset: u32) -> u32;
-    /// Writes the register at an offset.
+    /// Writes the register at an offset in bytes.
     fn write(&mut self, offset: u32, value: u32);
-    /// Loads bytes of the host's memory.
+    /// Loads bytes of the host's memory from an address on into the whole of `into`.
     fn load(&mut self, address: u64, into: &mut [u8]);
-    /// Stores bytes in the host's memory.
+    /// Stores bytes in the host's memory from an address on.
     fn store(&mut self, address: u64, bytes: &[u8]);
 }
 
@@ -62,9 +63,9 @@ pub trait Bus {
 #[derive(Clone, Copy)]
 pub struct Explored(());
 
-/// A frame was stored in the packet buffer (`NIC_STORED`).
+/// The fate of a frame that was stored in the receive packet buffer (`NIC_STORED`).
 pub const STORED: u32 = 4;
-/// Kinds of steps.
+/// The kinds of steps of the engines (`NIC_TXTAKE` to `NIC_RXDONE`).
 pub const TXTAKE: u32 = 0;
 pub const TXPUT: u32 = 1;
 pub const RXDATA: u32 = 2;
@@ -89,22 +90,23 @@ impl Bus for Explored {
 }
 
 impl Explored {
-    /// A frame arrives; returns its fate.
+    /// Lets a frame, without its checksum, arrive. Returns the number of its fate.
     pub fn arrive(&mut self, frame: &[u8]) -> u32 {
         unsafe { x_arrive(frame.as_ptr().cast(), frame.len()) }
     }
 
-    /// A frame arrives at the next `settle`, or earlier by the schedule.
+    /// Offers a frame, without its checksum, which arrives in the next `settle`, or earlier by the schedule.
     pub fn offer(&mut self, frame: &[u8]) {
         unsafe { x_offer(frame.as_ptr().cast(), frame.len()) }
     }
 
-    /// The adapter takes a step of this kind; returns its outcome.
+    /// Makes the adapter take a step of this kind. Returns the number of the outcome.
     pub fn step(&mut self, kind: u32) -> u32 {
         unsafe { x_step(kind) }
     }
 
-    /// The adapter takes steps until none does anything; returns how many did something.
+    /// Lets all offered frames arrive, and plays cycles of steps until one does nothing. Returns the number of steps
+    /// that did something.
     pub fn settle(&mut self) -> u64 {
         unsafe { x_settle() }
     }
@@ -114,7 +116,7 @@ impl Explored {
         unsafe { x_line() }
     }
 
-    /// The frames that were put on the wire.
+    /// The frames that were put on the wire since the last `forget`, the oldest first.
     pub fn put(&self) -> Vec<Vec<u8>> {
         let one = |number| {
             let mut frame = vec![0; 1518];
@@ -125,16 +127,17 @@ impl Explored {
         (0..unsafe { x_put_count() }).map(one).collect()
     }
 
-    /// Forgets the frames that were put on the wire: call it when they were compared.
+    /// Forgets the frames that were put on the wire, and those that arrived. Call `forget` after they were compared.
     pub fn forget(&mut self) {
         unsafe { x_forget() }
     }
 }
 
-/// The allocator: memory of the test's state while the test runs, and the system's memory otherwise.
+/// An allocator: while the test runs, it returns memory that is a part of the test's state, and otherwise the system's
+/// memory. Memory of the test's state isn't used again after it is freed.
 pub struct Arena;
 
-/// The addresses of the memory of tests
+/// The first address of the explorer's arena, where all memory of the test's state is, and of the test's stack after it
 const BEGIN: usize = 0x2000_0000_0000;
 const END: usize = 0x2010_0000_0000;
 
@@ -168,14 +171,15 @@ extern "C" fn run<T: Fn(Explored)>(test: *mut c_void) -> *const c_char {
     }
 }
 
-/// Searches the schedules of a test, as the words of the program say. Returns the exit status.
+/// Searches the schedules of a test, as the words of the program ask for. Returns the exit status.
 pub fn explore<T: Fn(Explored)>(test: T) -> i32 {
     let words: Vec<CString> = std::env::args().map(|word| CString::new(word).expect("a word has a null byte")).collect();
     explore_by(&words, test)
 }
 
-/// The same in a test of `cargo test`: only the variables NIC_EXPLORE, NIC_REPLAY and NIC_OUT say what is searched. Make one
-/// such call in a process: run `cargo test -- --test-threads 1 NAME` for each.
+/// Searches the schedules of a test in a test of `cargo test`, as the variables NIC_EXPLORE, NIC_REPLAY, NIC_OUT and
+/// NIC_SERVE ask for. Returns whether the exit status is 0. Make one such call in a process: run `cargo test --
+/// --test-threads 1 NAME` for each.
 pub fn explored<T: Fn(Explored)>(test: T) -> bool {
     explore_by(&[c"cargo test".to_owned()], test) == 0
 }

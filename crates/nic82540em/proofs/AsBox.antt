@@ -8,7 +8,7 @@ use Rattle.std_heap.specs.contracts.GlobalAllocator.TheImpl.{ghosts, dict}
 use Rattle.std_heap.proofs.Global.TheLaws as heap
 use Rattle.nic82540em.specs.contracts.watched.WatchedAdapter as Held
 use Rattle.nic82540em.proofs.watched.WatchedAdapter.TheLaws as held
-use Rattle.boxed_parts.specs.contracts.Parts as Parts
+use Rattle.nic82540em.specs.contracts.parts.Parts as Parts
 use Rattle.nic82540em.specs.contracts.owner.Owner as Owner
 
 abbrev pub E : Bx

@@ -1,15 +1,22 @@
--- Cycles after an access or an arrival.
-use Rattle.std.proofs.Common.{◌≡◌, ◌++◌, ◌∙◌, Bool, List, ap, false, refl, subst, sym, true}
+-- Cycles after an access or an arrival, and accesses that nothing comes with.
+use Rattle.std.proofs.Common.{◌≡◌, ◌++◌, ◌∷◌, [], ◌∙◌, ◌&&◌, ℕ, Bool, List, Option, None, Some, ap, false, if◌then◌else◌, length}
+use Rattle.std.proofs.Common.{nat_lt, refl, subst, sym, true}
 use Rattle.std.proofs.lemmas.List.{append-nil}
 use Rattle.played_adapter.specs.Order.{Composes, Tells}
 use Rattle.played_adapter.specs.Playing.{Paced}
 use Rattle.played_adapter.specs.Told.{Told}
 use Rattle.played_adapter.specs.declared.player.PlayedAdapter.{PlayedAdapter}
 use Rattle.played_adapter.proofs.Telling.{tells_both}
-use Rattle.nic82540em.specs.Calls.{Follows, Heard, PacedOr}
-use Rattle.nic82540em.specs.Events.{HearsBetween}
+use Rattle.step_schedules.specs.Agendas.{AgendaState}
+use Rattle.step_schedules.specs.declared.deviation.Before.{Before}
+use Rattle.access_names.specs.declared.target.Target.{Target}
+use Rattle.access_names.specs.Names.{target_text}
+use Rattle.nic82540em.specs.Calls.{Follows, Heard, IsPlain, PacedIf, PacedOr}
+use Rattle.nic82540em.specs.Events.{HearsBetween, event_of, hears, keeps}
 use Rattle.nic82540em.specs.EventsLaws.{heard_joins}
+use Rattle.nic82540em.specs.Schedules.{AfterMeeting, MeetsIf, MeetsName}
 use Rattle.nic82540em.specs.declared.events.Events.{Events}
+use Rattle.nic82540em.specs.declared.events.KeptEvent.{KeptEvent}
 use Rattle.nic82540em.specs.declared.watched.WatchedAdapter.{WatchedAdapter}
 
 laws : Composes HearsBetween
@@ -36,3 +43,45 @@ followed paced Happens a middle b one same two = (
   followed_player paced Happens a.player middle.player b.player a.events middle.events b.events one two.0,
   two.1 ∙ same,
 )
+
+-- Events that are off don't change.
+kept : (events : Events) (event : Option KeptEvent) → events.on ≡ false → keeps events event ≡ events
+kept events None off = refl
+kept events (Some event) off =
+    ap (λ (on : Bool). if on && nat_lt (length events.waiting.items) events.waiting.capacity
+    then record events { waiting = record events.waiting { items = events.waiting.items ++ event ∷ [] } } else events) off
+
+unheard : (told : List Told) (events : Events) → events.on ≡ false → hears told events ≡ events
+unheard [] events off = refl
+unheard (one ∷ rest) events off = ap (hears rest) (kept events (event_of one) off) ∙ unheard rest events off
+
+-- An adapter without a schedule meets no access.
+unmet : (comes : Bool) (before : Before) (target : Target) (a : WatchedAdapter) → a.agenda ≡ None → MeetsIf comes before target a a
+unmet true before target a none =
+    subst (λ (agenda : Option AgendaState). MeetsName before (target_text target) agenda a a) (sym none) refl
+unmet false before target a none = refl
+
+-- If the maximum of `pace` is 0, no cycle follows.
+unpaced : (made : Bool) (Happens : PlayedAdapter → PlayedAdapter → List Told → Type 0) (a b : PlayedAdapter) (told : List Told) → a.pace ≡ 0
+    → Happens a b told → PacedIf made Happens a b told
+unpaced true Happens a b told none happens =
+    subst (λ (pace : ℕ). PacedOr (true && nat_lt 0 pace) Happens a b told) (sym none) happens
+unpaced false Happens a b told none happens = happens
+
+-- What happens to a plain adapter is all that happens at an access, whatever an observer hears.
+pub plain : {O : Type 0} (heard : O → O → List Told → Type 0) (now later : O) (comes made : Bool) (before : Before) (target : Target)
+    (Happens : PlayedAdapter → PlayedAdapter → List Told → Type 0) (a b : WatchedAdapter) → IsPlain a
+    → Tells heard now later (Happens a.player b.player) → b.events ≡ a.events → b.agenda ≡ a.agenda
+    → AfterMeeting comes before target (Heard (PacedIf made Happens)) a b
+plain heard now later comes made before target Happens a b is_plain tells same kept_agenda = record {
+  met = a;
+  meets = unmet comes before target a is_plain.0;
+  happens = (
+    record {
+      told = tells.told;
+      holds = unpaced made Happens a.player b.player tells.told is_plain.1 tells.holds;
+      hears = same ∙ sym (unheard tells.told a.events is_plain.2);
+    },
+    kept_agenda,
+  );
+}

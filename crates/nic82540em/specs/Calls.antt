@@ -99,10 +99,14 @@ abbrev pub AnswersStore : (address : ℕ) → (bytes : List ℕ) → (answer : B
 AnswersStore address bytes answer a b =
     AfterMeeting (player.has_bytes a.player address (length bytes)) Write (target_at address a) (StoresMet address bytes answer) a b
 
+-- No schedule is played, no cycle follows an access, and events are off.
+abbrev pub IsPlain : WatchedAdapter → Type 0
+IsPlain a = (a.agenda ≡ None) × (a.player.pace ≡ 0) × (a.events.on ≡ false)
+
 -- All offered frames arrive, and then cycles are played until one does nothing, up to their maximum number. `moved` of their steps do
 -- something.
 abbrev pub Settles : (moved : ℕ) → WatchedAdapter → WatchedAdapter → Type 0
-Settles moved a b = Heard (ServesSettle [] moved) a b
+Settles moved a b = Heard (ServesSettle moved) a b
 
 -- The oldest frame is taken off the wire, if there is one and it fits.
 abbrev pub AnswersTaking : (old new : List ℕ) → (answer : ℕ) → WatchedAdapter → WatchedAdapter → Type 0
@@ -120,7 +124,7 @@ image_of options = if options.has_image then options.image else image_with optio
 abbrev pub with_missed : (count : ℕ) → AdapterState → AdapterState
 with_missed count adapter = record adapter { missed_packets = count }
 
--- a new adapter, whose PBA was written once, and whose MPC has the count of the options
+-- a new adapter with the EEPROM of the options and this link; PBA was written with the kilobytes of the options, and MPC has their count
 abbrev pub adapter_of : AdapterOptions → Link → AdapterState
 adapter_of options link = with_missed options.missed (after_write pba options.receive_kilobytes (new_adapter (image_of options) link))
 
@@ -240,7 +244,7 @@ pub record AnswersEvent (old new : KeptEvent) (answer : Bool) (a b : WatchedAdap
   -- if no event waited, nothing changes
   pub refused : answer ≡ false → (slice_get a.events.waiting.items 0 ≡ None) × (new ≡ old) × (b ≡ a)
 
--- the adapter that plays ticks before later accesses if `on` is true, and plays no ticks otherwise
+-- the adapter that plays ticks before later accesses if `on` is true, and no ticks if `on` is false
 abbrev pub with_ticks : Bool → WatchedAdapter → WatchedAdapter
 with_ticks on a = record a { player = record a.player { ticks = on } }
 

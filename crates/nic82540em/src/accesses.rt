@@ -1,4 +1,4 @@
-// Calls of C for a driver's accesses.
+// Calls of C for a driver's accesses, for the number of accesses, and for the address of the host's memory.
 
 ghost use Rattle.std.specs.Prelude.{◌≡◌, IfSome, false, length, true};
 ghost use Rattle.bus.specs.declared.event.Access.TheVariants.{Reads, Writes};
@@ -37,8 +37,8 @@ pub extern "C" fn nic82540em_write(alloc: Global, nic: &mut Nic, offset: u32, va
     )
 }
 
-/// Loads the bytes from an address on into `into`. Returns `false`, and changes nothing, if some of the bytes are
-/// outside memory.
+/// Loads the bytes from an address on into the whole of `into`. Returns `false`, and changes nothing, if some of the
+/// bytes are outside memory.
 #[unsafe(no_mangle)]
 pub extern "C" fn nic82540em_load(
     alloc: Global,

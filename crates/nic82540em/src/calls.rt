@@ -1,20 +1,22 @@
-// What the exports do with the adapter of a handle. Cycles follow an access or an arrival, up to the maximum of `pace`.
+// What most exports do with the adapter of a handle. A schedule, if there is one, meets each access before the access.
+// Cycles follow an access or an arrival, up to the maximum of `pace`.
 
-ghost use Rattle.std.specs.Prelude.{◌≡◌, ◌<◌, ◌&&◌, IfOk, IfSome, nat_lt};
+ghost use Rattle.std.specs.Prelude.{◌≡◌, ◌<◌, ◌&&◌, IfOk, IfSome, nat_lt, true};
 ghost use Rattle.bus.specs.declared.event.Access.TheVariants.{Reads, Writes};
 ghost use Rattle.nic82540em.specs.Calls.{Accessed, AnswersArrival, AnswersEvent, AnswersInterleave, AnswersLoad};
 ghost use Rattle.nic82540em.specs.Calls.{AnswersOffer, AnswersPace, AnswersSchedule, AnswersStep, AnswersStore, IsCopy};
 ghost use Rattle.nic82540em.specs.Calls.{Chooses, Follows, Heard, IsMade, IsMadeOf, IsNew, Settles, adapter_of};
-ghost use Rattle.nic82540em.specs.Calls.{AccessedMet, LoadsMet, StoresMet, image_of};
+ghost use Rattle.nic82540em.specs.Calls.{IsPlain, image_of};
 ghost use Rattle.nic82540em.specs.Digests.{state_digest_of};
-ghost use Rattle.played_adapter.specs.Playing.{Paced};
 
 use crate::events::{Events, KeptEvent};
+use crate::nobody::Nobody;
 use crate::numbers::{
     AdapterOptions, REFUSED, fate_number, is_receive_share, kind_with, link_with, outcome_number,
 };
-use crate::schedules::{meet_choice, meet_memory, meet_register};
+use crate::schedules::{meet, meet_choice, meet_memory};
 use crate::watched::WatchedAdapter;
+use access_names::Target;
 use adapter::Adapter;
 use adapter::offsets::PBA;
 use dma_memory::HostMemory;
@@ -40,7 +42,8 @@ fn image_of(options: &AdapterOptions) -> Image
     }
 }
 
-/// Returns a new adapter, whose PBA was written once, and whose MPC has the count of the options.
+/// Returns a new adapter with the EEPROM of the options and this link. PBA was written with the kilobytes of the
+/// options, and MPC has their count.
 fn adapter_of(alloc: Global, options: &AdapterOptions, link: Link) -> Result<Adapter, AllocError>
     ensures { IfOk result (λ adapter. adapter ≡ adapter_of options.now link) }
 {
@@ -50,7 +53,7 @@ fn adapter_of(alloc: Global, options: &AdapterOptions, link: Link) -> Result<Ada
     Ok(adapter)
 }
 
-/// Returns a new adapter with this link and with memory of zeros.
+/// Returns a new adapter of the options with this link and with memory of zeros.
 fn player_of(
     alloc: Global,
     options: &AdapterOptions,
@@ -63,170 +66,162 @@ fn player_of(
     PlayedAdapter::new(alloc, adapter, memory)
 }
 
-/// Returns a new adapter with this link and with memory of zeros. The adapter's events are off, and it plays no
-/// schedule.
+/// Returns a new adapter with this link and with memory of zeros, in a box. The adapter's events are off, and it plays
+/// no schedule.
 fn with_link(
     alloc: Global,
     options: &AdapterOptions,
     link: Link,
-) -> Result<WatchedAdapter, AllocError>
-    ensures { IfOk result (λ made. IsMade options.now link made) }
+) -> Result<Box<WatchedAdapter>, AllocError>
+    ensures { IfOk result (λ made. IsMade options.now link made.value) }
 {
     let events = Events::new(alloc)?;
     let player = player_of(alloc, options, link)?;
-    Ok(WatchedAdapter {
+    let adapter = WatchedAdapter {
         player,
         events,
         agenda: None,
-    })
+    };
+    Ok(Box::new(alloc, adapter)?)
 }
 
-/// Returns the adapter in a box, or `None` if memory is refused.
-fn boxed(alloc: Global, adapter: WatchedAdapter) -> Option<Box<WatchedAdapter>>
-    ensures { IfSome result (λ boxed. boxed.value ≡ adapter) }
-{
-    match Box::new(alloc, adapter) {
-        Ok(adapter) => Some(adapter),
-        Err(_refused) => None,
-    }
-}
-
-/// Returns a new adapter with memory of zeros and an empty wire, in a box.
+/// Returns a new adapter with memory of zeros and an empty wire, in a box. No step is played before an access, and
+/// events are off.
 ///
 /// Returns `None` if a number of the options is out of range, or if memory is refused.
-pub(crate) fn new_boxed(alloc: Global, options: &AdapterOptions) -> Option<Box<WatchedAdapter>>
+pub(crate) fn new(alloc: Global, options: &AdapterOptions) -> Option<Box<WatchedAdapter>>
     ensures { IfSome result (λ made. IsNew options.now made.value) }
-{
-    let adapter = new(alloc, options)?;
-    boxed(alloc, adapter)
-}
-
-/// Returns a copy of the adapter, its events and its schedule, in a box, or `None` if memory is refused.
-pub(crate) fn copy_boxed(alloc: Global, watched: &WatchedAdapter) -> Option<Box<WatchedAdapter>>
-    ensures { IfSome result (λ made. IsCopy watched.now made.value) }
-{
-    match copy(watched) {
-        Ok(adapter) => boxed(alloc, adapter),
-        Err(_refused) => None,
-    }
-}
-
-/// Returns a new adapter with memory of zeros and an empty wire. No step is played before an access, and events are
-/// off.
-///
-/// Returns `None` if a number of the options is out of range, or if memory is refused.
-fn new(alloc: Global, options: &AdapterOptions) -> Option<WatchedAdapter>
-    ensures { IfSome result (λ made. IsNew options.now made) }
 {
     let link = link_with(options.link)?;
     if !is_receive_share(options.receive_kilobytes) {
         return None;
     }
-    match with_link(alloc, options, link) {
-        Ok(made) => Some(made),
-        Err(_refused) => None,
-    }
+    with_link(alloc, options, link).ok()
 }
 
-/// Plays cycles until one does nothing, up to the maximum of `pace`.
-fn play_cycles(watched: &mut WatchedAdapter)
-    ensures { Heard Paced watched.old watched.new }
-{
-    let most = u32::from(watched.player.pace);
-    watched.player.settle(most, &mut watched.events);
-}
-
-/// Plays cycles after an access or an arrival, if `is_made` is true and `most`, the maximum number of cycles, isn't 0.
-#[inline(always)]
+/// Plays cycles after an access or an arrival until one does nothing, up to the maximum of `pace`. `most` is this
+/// maximum before the access or the arrival. If this maximum is 0, or `is_made` is false, nothing happens.
 fn follow(watched: &mut WatchedAdapter, is_made: bool, most: u16)
     ensures { Heard (Follows (is_made && nat_lt 0 most)) watched.old watched.new }
 {
     if is_made && most > 0 {
-        play_cycles(watched);
+        let most = u32::from(watched.player.pace);
+        watched.player.settle(most, &mut watched.events);
     }
 }
 
+/// Whether nothing comes with an access. Then ticks and events are off, no step is scheduled or drawn, no schedule is
+/// played, and the maximum of `pace` is 0.
+///
+/// The contract states what the callers' proofs use. The tests for steps before an access keep the calls that play
+/// these steps out of the callers.
+#[inline(always)]
+fn is_plain(watched: &WatchedAdapter) -> bool
+    ensures { result ≡ true → IsPlain watched.now }
+{
+    let player = &watched.player;
+    let is_quiet = !player.ticks && player.most_steps == 0 && player.scheduled.is_empty();
+    is_quiet && watched.agenda.is_none() && player.pace == 0 && !watched.events.on
+}
+
 /// Reads the register at an offset in bytes.
+#[inline(always)]
 pub(crate) fn read(watched: &mut WatchedAdapter, offset: u32) -> u32
     ensures { Accessed (Reads offset result) watched.old watched.new }
 {
-    meet_register(watched, Before::Read, offset);
-    read_met(watched, offset)
+    if is_plain(watched) {
+        return watched.player.read(offset, &mut Nobody);
+    }
+    meet_and_read(watched, offset)
 }
 
 /// Writes the register at an offset in bytes.
+#[inline(always)]
 pub(crate) fn write(watched: &mut WatchedAdapter, offset: u32, value: u32)
     ensures { Accessed (Writes offset value) watched.old watched.new }
 {
-    meet_register(watched, Before::Write, offset);
-    write_met(watched, offset, value);
+    if is_plain(watched) {
+        watched.player.write(offset, value, &mut Nobody);
+        return;
+    }
+    meet_and_write(watched, offset, value);
 }
 
 /// Loads the bytes from an address on into `into`. If some are outside memory, returns `false` and changes nothing.
+#[inline(always)]
 pub(crate) fn load(watched: &mut WatchedAdapter, address: u64, into: &mut [u8]) -> bool
     ensures { AnswersLoad address into.old into.new result watched.old watched.new }
 {
-    meet_memory(watched, Before::Read, address, into.len() as u64);
-    load_met(watched, address, into)
+    if is_plain(watched) {
+        return watched.player.load(address, into, &mut Nobody);
+    }
+    meet_and_load(watched, address, into)
 }
 
 /// Stores bytes from an address on. If some would be outside memory, returns `false` and changes nothing.
+#[inline(always)]
 pub(crate) fn store(watched: &mut WatchedAdapter, address: u64, bytes: &[u8]) -> bool
     ensures { AnswersStore address bytes.now result watched.old watched.new }
 {
-    meet_memory(watched, Before::Write, address, bytes.len() as u64);
-    store_met(watched, address, bytes)
+    if is_plain(watched) {
+        return watched.player.store(address, bytes, &mut Nobody);
+    }
+    meet_and_store(watched, address, bytes)
 }
 
-/// As [`read`], after the schedule has met the access.
-#[inline(always)]
-fn read_met(watched: &mut WatchedAdapter, offset: u32) -> u32
-    ensures { AccessedMet (Reads offset result) watched.old watched.new }
+/// As [`read`], without the test whether the access is plain.
+#[inline(never)]
+fn meet_and_read(watched: &mut WatchedAdapter, offset: u32) -> u32
+    ensures { Accessed (Reads offset result) watched.old watched.new }
 {
+    meet(watched, Before::Read, Target::Register(offset));
     let most = watched.player.pace;
     let value = watched.player.read(offset, &mut watched.events);
     follow(watched, true, most);
     value
 }
 
-/// As [`write`], after the schedule has met the access.
-#[inline(always)]
-fn write_met(watched: &mut WatchedAdapter, offset: u32, value: u32)
-    ensures { AccessedMet (Writes offset value) watched.old watched.new }
+/// As [`write`], without the test whether the access is plain.
+#[inline(never)]
+fn meet_and_write(watched: &mut WatchedAdapter, offset: u32, value: u32)
+    ensures { Accessed (Writes offset value) watched.old watched.new }
 {
+    meet(watched, Before::Write, Target::Register(offset));
     let most = watched.player.pace;
     watched.player.write(offset, value, &mut watched.events);
     follow(watched, true, most);
 }
 
-/// As [`load`], after the schedule has met the access.
-#[inline(always)]
-fn load_met(watched: &mut WatchedAdapter, address: u64, into: &mut [u8]) -> bool
-    ensures { LoadsMet address into.old into.new result watched.old watched.new }
+/// As [`load`], without the test whether the access is plain.
+#[inline(never)]
+fn meet_and_load(watched: &mut WatchedAdapter, address: u64, into: &mut [u8]) -> bool
+    ensures { AnswersLoad address into.old into.new result watched.old watched.new }
 {
+    meet_memory(watched, Before::Read, address, into.len() as u64);
     let most = watched.player.pace;
     let is_made = watched.player.load(address, into, &mut watched.events);
     follow(watched, is_made, most);
     is_made
 }
 
-/// As [`store`], after the schedule has met the access.
-#[inline(always)]
-fn store_met(watched: &mut WatchedAdapter, address: u64, bytes: &[u8]) -> bool
-    ensures { StoresMet address bytes.now result watched.old watched.new }
+/// As [`store`], without the test whether the access is plain.
+#[inline(never)]
+fn meet_and_store(watched: &mut WatchedAdapter, address: u64, bytes: &[u8]) -> bool
+    ensures { AnswersStore address bytes.now result watched.old watched.new }
 {
+    meet_memory(watched, Before::Write, address, bytes.len() as u64);
     let most = watched.player.pace;
     let is_made = watched.player.store(address, bytes, &mut watched.events);
     follow(watched, is_made, most);
     is_made
 }
 
-/// Delivers all offered frames, and then plays cycles until one does nothing, up to `MOST_CYCLES`. Returns the number
-/// of steps of the cycles that did something.
+/// Delivers all offered frames, and then plays cycles until one does nothing, up to `MOST_CYCLES` of `played_adapter`.
+/// Returns the number of steps of the cycles that did something.
 pub(crate) fn settle(watched: &mut WatchedAdapter) -> u64
     ensures { Settles result watched.old watched.new }
 {
-    watched.player.serve_settle(&[], &mut watched.events)
+    watched.player.serve_settle(&mut watched.events)
 }
 
 /// Makes the adapter take a step of the kind with this number. Returns the number of the outcome.
@@ -241,7 +236,8 @@ pub(crate) fn step(watched: &mut WatchedAdapter, number: u32) -> u32
     }
 }
 
-/// Delivers a frame to the adapter. Returns the number of its fate.
+/// Delivers a frame to the adapter, and then plays cycles, up to the maximum of `pace`. Returns the number of the
+/// frame's fate.
 pub(crate) fn arrive(watched: &mut WatchedAdapter, frame: &[u8]) -> u32
     ensures { AnswersArrival frame.now result watched.old watched.new }
 {
@@ -272,8 +268,8 @@ pub(crate) fn schedule(watched: &mut WatchedAdapter, access: u64, number: u32) -
     }
 }
 
-/// From now on, up to `count` steps are played before each access, unless a schedule is played. A generator with this
-/// seed draws them.
+/// From now on, up to `count` steps and arrivals of offered frames are played before each access; while a schedule is
+/// played, none. A generator with this seed draws them.
 ///
 /// If `count` is above 65,535, returns `false` and changes nothing.
 pub(crate) fn interleave(watched: &mut WatchedAdapter, count: u32, seed: u64) -> bool
@@ -306,8 +302,8 @@ pub(crate) fn pace(watched: &mut WatchedAdapter, count: u32) -> bool
 
 /// Chooses a number below `limit`, or 0 if `limit` is 0.
 ///
-/// If steps are drawn before accesses, the generator draws the number. Otherwise the number is the one in the schedule
-/// that is due, or 0 if no number below `limit` is due.
+/// If steps are drawn before accesses, the generator draws the number. Otherwise the number is the first one in the
+/// schedule that is due. If this number isn't below `limit`, or none is due, the number is 0.
 pub(crate) fn choose(watched: &mut WatchedAdapter, limit: u32) -> u32
     ensures done { Chooses limit result watched.old watched.new }
     ensures below { 0 < limit → result < limit }
@@ -343,16 +339,24 @@ pub(crate) fn take_event(watched: &mut WatchedAdapter, into: &mut KeptEvent) -> 
     true
 }
 
-/// Returns a copy of the adapter, its events and its schedule.
-fn copy(watched: &WatchedAdapter) -> Result<WatchedAdapter, AllocError>
-    ensures { IfOk result (λ copy. IsCopy watched.now copy) }
+/// Returns a copy of the adapter, its events and its schedule, in a box.
+fn copied(alloc: Global, watched: &WatchedAdapter) -> Result<Box<WatchedAdapter>, AllocError>
+    ensures { IfOk result (λ copy. IsCopy watched.now copy.value) }
 {
     let events = watched.events.copy()?;
     let agenda = watched.agenda.clone()?;
     let player = watched.player.copy()?;
-    Ok(WatchedAdapter {
+    let adapter = WatchedAdapter {
         player,
         events,
         agenda,
-    })
+    };
+    Ok(Box::new(alloc, adapter)?)
+}
+
+/// Returns a copy of the adapter, its events and its schedule, in a box, or `None` if memory is refused.
+pub(crate) fn copy(alloc: Global, watched: &WatchedAdapter) -> Option<Box<WatchedAdapter>>
+    ensures { IfSome result (λ made. IsCopy watched.now made.value) }
+{
+    copied(alloc, watched).ok()
 }

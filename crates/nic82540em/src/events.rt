@@ -46,7 +46,7 @@ impl Events {
         })
     }
 
-    /// Returns a copy with the same events.
+    /// Returns a copy: the same events wait, and new events are kept or not, as here.
     pub(crate) fn copy(&self) -> Result<Events, AllocError>
         ensures { IfOk result (λ copy. copy ≡ self.now) }
     {

@@ -11,17 +11,18 @@ pub struct Nic {
     pub owner: Owner,
 }
 
-/// The result of a call on the adapter of a handle. If the handle holds none, the function returns `$none`.
+/// The result of a call on the adapter of a handle, or `$none` if the handle holds no adapter.
 macro_rules! on_adapter {
-    ($alloc:ident, $nic:ident, $none:expr, |$adapter:ident| $call:expr) => {{
-        if !$nic.held {
-            return $none;
+    ($alloc:ident, $nic:ident, $none:expr, |$adapter:ident| $call:expr) => {
+        if $nic.held {
+            let mut $adapter = $nic.owner.take($alloc);
+            let answer = $call;
+            $nic.owner.put($adapter);
+            answer
+        } else {
+            $none
         }
-        let mut $adapter = $nic.owner.take($alloc);
-        let answer = $call;
-        $nic.owner.put($adapter);
-        answer
-    }};
+    };
 }
 
 pub(crate) use on_adapter;

@@ -11,8 +11,10 @@ mod events;
 mod handle;
 mod hearing;
 mod looking;
+mod nobody;
 mod numbers;
 mod owner;
+mod parts;
 mod playing;
 mod possible;
 mod rounds;
@@ -59,7 +61,7 @@ pub extern "C" fn nic82540em_new(alloc: Global, nic: &mut Nic, options: &Adapter
     if nic.held {
         return false;
     }
-    let Some(adapter) = calls::new_boxed(alloc, options) else {
+    let Some(adapter) = calls::new(alloc, options) else {
         return false;
     };
     nic.owner.put(adapter);
@@ -100,7 +102,7 @@ pub extern "C" fn nic82540em_copy(alloc: Global, nic: &mut Nic, into: &mut Nic) 
         return false;
     }
     let adapter = nic.owner.take(alloc);
-    let copied = calls::copy_boxed(alloc, &adapter);
+    let copied = calls::copy(alloc, &adapter);
     nic.owner.put(adapter);
     let Some(copied) = copied else {
         return false;

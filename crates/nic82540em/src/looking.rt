@@ -42,7 +42,7 @@ pub extern "C" fn nic82540em_peek(alloc: Global, nic: &mut Nic, offset: u32, int
     })
 }
 
-/// Returns the kinds of steps that have something to do: bit `n` is set if and only if a step of the kind with number
+/// Returns the kinds of steps that have something to do. Bit `n` is set if and only if a step of the kind with number
 /// `n` would have another outcome than `Nothing`.
 #[unsafe(no_mangle)]
 pub extern "C" fn nic82540em_possible(alloc: Global, nic: &mut Nic) -> u32
@@ -94,8 +94,8 @@ pub extern "C" fn nic82540em_waiting_transmit(alloc: Global, nic: &mut Nic) -> u
     )
 }
 
-/// Returns a digest of the adapter and its host's memory. The digest doesn't cover the wire, offered frames, events,
-/// the schedule, the steps before accesses, or the number of accesses.
+/// Returns a digest of the adapter and its host's memory. The digest doesn't cover the EEPROM's words, the wire, offered
+/// frames, events, the schedule, the steps before accesses, or the number of accesses.
 #[unsafe(no_mangle)]
 pub extern "C" fn nic82540em_digest(alloc: Global, nic: &mut Nic) -> u64
     requires sound { nic.old.owner.full ≡ nic.old.held }

@@ -13,7 +13,7 @@ use mdic_phy::Link;
 /// this number if it is refused and can't return the number of a faulty line.
 pub const REFUSED: u32 = 0xFFFF_FFFF;
 
-/// The greatest number of ticks of the PHY until the link is up.
+/// The greatest number of ticks of the PHY until the link is up (our choice).
 const MOST_TICKS: u32 = 65_535;
 
 /// The options of a new adapter.
@@ -49,7 +49,7 @@ pub(crate) fn link_with(number: u32) -> Option<Link>
     Some(Link::After(number as u16))
 }
 
-/// Whether PBA.RXA may have this value.
+/// Whether PBA.RXA may have this value: an even number from 2 to 48.
 pub(crate) fn is_receive_share(kilobytes: u32) -> bool
     ensures { result ≡ numbers.is_receive_share kilobytes }
 {

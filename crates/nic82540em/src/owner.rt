@@ -4,15 +4,16 @@ ghost use Rattle.std.specs.Prelude.{◌≡◌, Bool, true, false};
 ghost use Rattle.nic82540em.specs.declared.watched.WatchedAdapter.{WatchedAdapter};
 ghost use Rattle.nic82540em.specs.Owners.{held_owns, value_coded};
 
+use crate::parts::Parts;
 use crate::watched::WatchedAdapter;
-use boxed_parts::Parts;
 use std::alloc::Global;
 use std::marker::Model;
 use std::mem::replace;
 
-/// A boxed adapter, or none. The owner is in a handle of C. C code neither reads nor writes the owner.
+/// A boxed adapter, or none. The owner is in a handle of C. After all bytes of the handle were set to 0, C code neither
+/// reads nor writes the owner.
 ///
-/// `Owner` isn't `Drop`, so code that loses an owner doesn't compile. `into_box` consumes a full owner, and
+/// `Owner` isn't `Drop`, so code that loses an owner doesn't compile. `into_parts` consumes a full owner, and
 /// `into_alloc` an empty one.
 #[repr(C)]
 pub struct Owner {
@@ -33,7 +34,7 @@ impl Owner {
         ensures value { result.value ≡ self.old.value }
         ensures empty { self.new.full ≡ false }
     {
-        replace(self, Owner::empty(alloc)).into_box()
+        replace(self, Owner::empty(alloc)).into_parts().into_box()
     }
 
     /// Puts an adapter into an empty owner.
@@ -42,7 +43,8 @@ impl Owner {
         ensures full { self.new.full ≡ true }
         ensures value { self.new.value ≡ adapter.value }
     {
-        let _alloc = replace(self, Owner::holding(adapter)).into_alloc();
+        let owner = Owner::of_parts(Parts::of(adapter));
+        let _alloc = replace(self, owner).into_alloc();
     }
 
     /// Returns an empty owner.
@@ -53,22 +55,6 @@ impl Owner {
             at: std::ptr::null_mut(),
             alloc,
         }
-    }
-
-    /// Returns a full owner with this adapter.
-    fn holding(adapter: Box<WatchedAdapter>) -> Owner
-        ensures full { result.full ≡ true }
-        ensures value { result.value ≡ adapter.value }
-    {
-        Owner::of_parts(Parts::of(adapter))
-    }
-
-    /// Returns the adapter of a full owner.
-    fn into_box(self) -> Box<WatchedAdapter>
-        requires { self.full ≡ true }
-        ensures { result.value ≡ self.value }
-    {
-        self.into_parts().into_box()
     }
 
     /// Returns the allocator of an empty owner.

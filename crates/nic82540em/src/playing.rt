@@ -1,4 +1,5 @@
-// Calls of C for what the adapter and the wire do.
+// Calls of C for what the adapter and the wire do, for steps before accesses, cycles after them, chosen numbers, and
+// events.
 
 ghost use Rattle.std.specs.Prelude.{◌≡◌, ◌<◌, false, length, true};
 ghost use Rattle.nic82540em.specs.Calls.{AnswersArrival, AnswersEvent, AnswersInterleave, AnswersOffer, AnswersPace};
@@ -29,8 +30,8 @@ pub extern "C" fn nic82540em_step(alloc: Global, nic: &mut Nic, number: u32) -> 
     )
 }
 
-/// Delivers all offered frames, and then plays cycles until one does nothing, up to `MOST_CYCLES`. Returns the number
-/// of steps of the cycles that did something.
+/// Delivers all offered frames, and then plays cycles until one does nothing, up to `MOST_CYCLES` of `played_adapter`.
+/// Returns the number of steps of the cycles that did something.
 #[unsafe(no_mangle)]
 pub extern "C" fn nic82540em_settle(alloc: Global, nic: &mut Nic) -> u64
     requires sound { nic.old.owner.full ≡ nic.old.held }
@@ -42,7 +43,8 @@ pub extern "C" fn nic82540em_settle(alloc: Global, nic: &mut Nic) -> u64
     on_adapter!(alloc, nic, 0, |adapter| calls::settle(&mut adapter))
 }
 
-/// Delivers a frame to the adapter. Returns the number of its fate.
+/// Delivers a frame to the adapter, and then plays cycles, up to the maximum of [`nic82540em_pace`]. Returns the number
+/// of the frame's fate.
 #[unsafe(no_mangle)]
 pub extern "C" fn nic82540em_arrive(alloc: Global, nic: &mut Nic, frame: &[u8]) -> u32
     requires sound { nic.old.owner.full ≡ nic.old.held }
@@ -113,8 +115,9 @@ pub extern "C" fn nic82540em_pace(alloc: Global, nic: &mut Nic, count: u32) -> b
 
 /// Returns a number below `limit`, or 0 if `limit` is 0.
 ///
-/// If steps are drawn before accesses, the generator draws the number. Otherwise the number is the one that is due in
-/// the schedule of [`nic82540em_play`](crate::nic82540em_play), or 0 if no number below `limit` is due.
+/// If steps are drawn before accesses, the generator draws the number. Otherwise the number is the first one that is
+/// due in the schedule of [`nic82540em_play`](crate::nic82540em_play). If this number isn't below `limit`, or none is
+/// due, the number is 0.
 #[unsafe(no_mangle)]
 pub extern "C" fn nic82540em_choose(alloc: Global, nic: &mut Nic, limit: u32) -> u32
     requires sound { nic.old.owner.full ≡ nic.old.held }

@@ -22,7 +22,7 @@ fn bit_of(watched: &WatchedAdapter, kind: StepKind, value: u32) -> u32
     bit_if(watched.player.machine.has_work(kind), value)
 }
 
-/// Returns the kinds of steps that have something to do: bit `n` is set if and only if a step of the kind with number
+/// Returns the kinds of steps that have something to do. Bit `n` is set if and only if a step of the kind with number
 /// `n` would have another outcome than `Nothing`.
 pub(crate) fn possible(watched: &WatchedAdapter) -> u32
     ensures { TellsPossible result watched.now }

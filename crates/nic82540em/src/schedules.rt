@@ -2,7 +2,6 @@
 
 ghost use Rattle.std.specs.Prelude.{◌≡◌, IfSome, None, Some};
 ghost use Rattle.access_names.specs.Targets.{memory_target_in};
-ghost use Rattle.access_names.specs.declared.target.Target.TheVariants.{Register};
 ghost use Rattle.nic82540em.specs.Schedules.{AnswersPlay, AnswersRound, IsAgenda, Meets, MeetsIf, after_choice};
 ghost use Rattle.nic82540em.specs.Schedules.{error_number, request_word, wanted_number};
 ghost use Rattle.played_adapter.specs.Playing.{has_bytes};
@@ -15,7 +14,7 @@ use step_schedules::{Agenda, Before, Schedule, ScheduleError};
 
 /// The schedule, if there is one, meets an access of this target. Plays the default steps before the access, and then
 /// the actions that are due.
-fn meet(watched: &mut WatchedAdapter, before: Before, target: Target)
+pub(crate) fn meet(watched: &mut WatchedAdapter, before: Before, target: Target)
     ensures { Meets before target watched.old watched.new }
 {
     let Some(agenda) = &mut watched.agenda else {
@@ -27,40 +26,8 @@ fn meet(watched: &mut WatchedAdapter, before: Before, target: Target)
         .meet_access(agenda, before, name.as_slice(), &mut watched.events);
 }
 
-/// As [`meet`], for an access of the register at this offset. Not inlined, because a target's name takes bytes on the
-/// stack.
-#[inline(never)]
-fn meet_offset(watched: &mut WatchedAdapter, before: Before, offset: u32)
-    ensures { Meets before (Register offset) watched.old watched.new }
-{
-    meet(watched, before, Target::Register(offset));
-}
-
-/// As [`meet`], for an access of the register at this offset. The test for a schedule is inlined.
-#[inline(always)]
-pub(crate) fn meet_register(watched: &mut WatchedAdapter, before: Before, offset: u32)
-    ensures { Meets before (Register offset) watched.old watched.new }
-{
-    if watched.agenda.is_some() {
-        meet_offset(watched, before, offset);
-    }
-}
-
 /// As [`meet`], for an access of these bytes in memory. Changes nothing if memory doesn't contain all of the bytes.
-/// The test for a schedule is inlined.
-#[inline(always)]
 pub(crate) fn meet_memory(watched: &mut WatchedAdapter, before: Before, address: u64, count: u64)
-    ensures { MeetsIf (has_bytes watched.old.player address count) before
-        (memory_target_in watched.old.player.machine.world.adapter address) watched.old watched.new }
-{
-    if watched.agenda.is_some() {
-        meet_bytes(watched, before, address, count);
-    }
-}
-
-/// As [`meet_memory`]. Not inlined.
-#[inline(never)]
-fn meet_bytes(watched: &mut WatchedAdapter, before: Before, address: u64, count: u64)
     ensures { MeetsIf (has_bytes watched.old.player address count) before
         (memory_target_in watched.old.player.machine.world.adapter address) watched.old watched.new }
 {
@@ -140,7 +107,10 @@ fn agenda_in(alloc: Global, text: &[u8]) -> Result<Agenda, ScheduleError>
     ensures { IsAgenda text.now result }
 {
     let schedule = Schedule::parse(alloc, text)?;
-    Ok(Agenda::new(alloc, schedule)?)
+    match Agenda::new(alloc, schedule) {
+        Ok(agenda) => Ok(agenda),
+        Err(_refused) => Err(ScheduleError::Memory),
+    }
 }
 
 /// From now on, plays the schedule in a text instead of an earlier schedule, and draws no steps before accesses.

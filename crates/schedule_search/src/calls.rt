@@ -73,7 +73,7 @@ pub extern "C" fn schedule_search_meet(
     }
 }
 
-/// All schedules that begin with the path were tried. Returns [`ANOTHER`], [`REMOVED`] or [`ENDED`].
+/// Makes a step back: all schedules that begin with the path were tried. Returns [`ANOTHER`], [`REMOVED`] or [`ENDED`].
 #[unsafe(no_mangle)]
 pub extern "C" fn schedule_search_back(
     search: &mut Search,
@@ -114,8 +114,8 @@ pub extern "C" fn schedule_search_fail(search: &mut Search)
     crate::fail(search);
 }
 
-/// Returns the index of the entry of a key, or else of an empty entry. If there is neither, returns the number of
-/// entries.
+/// Returns the index of the first entry that has this key or is empty. The entries are looked at in a circle, from entry
+/// `key.one` modulo their number on. If there is no such entry, returns the number of entries.
 #[unsafe(no_mangle)]
 pub extern "C" fn schedule_search_find(known: &[Known], key: &Key) -> usize
     ensures within { result ≤ length known.now }

@@ -7,8 +7,8 @@ ghost use Rattle.schedule_search.specs.declared.path.Known.{Known};
 
 use crate::path::{Key, Known};
 
-/// Returns the index of the entry of a key, or else of an empty entry, in which the key can be stored. If there is
-/// neither, returns the number of entries.
+/// Returns the index of the first entry that has this key or is empty. The entries are looked at in a circle, from entry
+/// `key.one` modulo their number on. If there is no such entry, returns the number of entries.
 pub fn find(known: &[Known], key: Key) -> usize
     ensures within { result ≤ length known.now }
     ensures found { (none : Known) → result < length known.now
@@ -38,7 +38,7 @@ pub(crate) fn is_known(entry: Known, key: Key, left: u32) -> bool
 }
 
 /// Notes that from the state with this key, each schedule whose deviations cost at most `left` passes. Stores the note
-/// in the entry of the key, or else in an empty entry. Does nothing if there is neither.
+/// in the entry that [`find`] returns. Does nothing if there is none.
 pub(crate) fn note(known: &mut [Known], key: Key, left: u32)
     ensures { HasOneMore known.old (known_of key left) known.new }
 {

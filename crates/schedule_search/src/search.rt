@@ -93,7 +93,10 @@ pub fn meet(search: &mut Search, path: &mut [Choice], known: &[Known], place: Pl
     Met::Goes
 }
 
-/// All schedules that begin with the path were tried. Returns what the caller does next.
+/// Makes a step back: all schedules that begin with the path were tried. Returns what the caller does next.
+///
+/// The newest choice takes its next number, if there is one. Otherwise, this choice is removed; its state is noted as
+/// known, unless a schedule from its place has failed.
 pub fn back(search: &mut Search, path: &mut [Choice], known: &mut [Known]) -> Step
     ensures search { (test : Test) → IsSearch test search.old path.old known.old → EqualKeys test
         → BelowPass test search.old path.old → IsSearch test search.new path.new known.new }

@@ -1,5 +1,4 @@
-//! A `Box` as its pointer and its allocator, for crates that keep a box in a struct of C.
-#![tactic(auto)]
+// A box as its pointer and its allocator, which can be in a struct of C.
 
 ghost use Rattle.std.specs.Prelude.{◌≡◌};
 ghost use Rattle.std.specs.Box.Ownership.{box_owns};
