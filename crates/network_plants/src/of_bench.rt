@@ -5,7 +5,7 @@ ghost use Rattle.scenario.specs.SoFar.{hosts_of};
 ghost use Rattle.scenario_bench.specs.Benches.{Benches, Stops, sinks_of};
 ghost use Rattle.scenario_bench.specs.Given.{sockets_from};
 ghost use Rattle.scenario_bench.specs.PlayedEvents.{frames_of};
-ghost use Rattle.scenario_bench.specs.Puts.{wire_names};
+ghost use Rattle.scenario_bench.specs.WireLists.{wire_names};
 
 use pcap_trace::{Sink, Trace, Unit};
 use scenario::Scenario;

@@ -14,31 +14,39 @@ use Rattle.stations.specs.Stations.{world_at}
 use Rattle.network_plan.specs.declared.plan.HostPlan.{HostPlan}
 use Rattle.host_calls.specs.Networks.{IsHost}
 use Rattle.scenario.specs.SoFar.{Host, Said, host_of_plan, hosts_of, said_of}
-use Rattle.scenario_bench.specs.Acts.{Act, act_of, history, said_in}
+use Rattle.run_record.specs.Acts.{Act, history, said_in}
+use Rattle.scenario_bench.specs.PlayedActs.{act_of}
 use Rattle.scenario.specs.declared.command.Scenario.{Scenario}
-use Rattle.scenario_bench.specs.Benches.{AreAllWritten, AreUntouched, AreWritten, AreWrittenUpTo, BenchSinks, Benches, PlaysEvents}
-use Rattle.scenario_bench.specs.Benches.{PlaysScenario, SinkState, Stops, StopsBefore, StopsWriting, TellsRun, scenario_events, texts_of}
-use Rattle.scenario_bench.specs.EventLines.{LogState, lines_from}
+use Rattle.scenario_bench.specs.Benches.{AreAllWritten, AreUntouched, BenchSinks, Benches, PlaysEvents}
+use Rattle.run_record.specs.WrittenTraces.{AreWritten, AreWrittenUpTo}
+use Rattle.scenario_bench.specs.Benches.{PlaysScenario, Stops, StopsBefore, StopsWriting, TellsRun, scenario_events, texts_of}
+use Rattle.run_record.specs.WrittenTraces.{SinkState}
+use Rattle.run_record.specs.EventLines.{LogState, lines_from}
 use Rattle.scenario_bench.specs.EventLists.{all_events}
-use Rattle.scenario_bench.specs.EventLogView.{plan_name}
-use Rattle.scenario_bench.specs.Given.{given_from, next_number, numbered_frame, sockets_from}
-use Rattle.scenario_bench.specs.PlayedEvents.{AreRecorded, Begins, HasPlayed, HasPlayedFront, HasPlayedScenario, IsNewRecord}
+use Rattle.run_record.specs.EventLogView.{plan_name}
+use Rattle.scenario_bench.specs.Given.{given_from, sockets_from}
+use Rattle.run_record.specs.Numbers.{next_number}
+use Rattle.run_record.specs.Kept.{numbered_frame}
+use Rattle.scenario_bench.specs.PlayedEvents.{AreRecorded, Begins, HasPlayed, HasPlayedFront, HasPlayedScenario}
+use Rattle.run_record.specs.Recording.{IsNewRecord}
 use Rattle.scenario_bench.specs.PlayedEvents.{StopsAtPlan, StopsWithin, TellTallies, TellsTally, socket_texts_in, wire_texts_in}
-use Rattle.scenario_bench.specs.Kept.{KeptFrame, frames_where, is_of_socket, put_from, returned_from, returned_in}
-use Rattle.scenario_bench.specs.Kept.{socket_texts}
-use Rattle.scenario_bench.specs.Puts.{wire_names, wire_texts}
-use Rattle.scenario_bench.specs.RunLogs.{logged, new_log}
-use Rattle.scenario_bench.specs.Summaries.{TellsHosts, as_told}
-use Rattle.scenario_bench.specs.Tallies.{no_tally, number_behind, tally_behind}
+use Rattle.run_record.specs.Kept.{KeptFrame, frames_where, is_of_socket, put_from, returned_from, returned_in}
+use Rattle.run_record.specs.Kept.{socket_texts}
+use Rattle.scenario_bench.specs.WireLists.{wire_names}
+use Rattle.run_record.specs.Puts.{wire_texts}
+use Rattle.run_record.specs.RunLogs.{logged, new_log}
+use Rattle.scenario_bench.specs.Summaries.{TellsHosts}
+use Rattle.run_record.specs.Numbers.{as_told}
+use Rattle.run_record.specs.Tallies.{no_tally, number_behind, tally_behind}
 use Rattle.scenario_bench.specs.declared.play.Play.{Play}
-use Rattle.scenario_bench.specs.declared.run_log.RunLog.{RunLog}
+use Rattle.run_record.specs.declared.run_log.RunLog.{RunLog}
 use Rattle.scenario_bench.specs.declared.summary.HostSummary.{HostSummary}
 use Rattle.scenario_bench.specs.declared.summary.Summary.{Summary}
 use Rattle.scenario_bench.specs.declared.bench_error.BenchError.{BenchError}
 use Rattle.scenario_bench.specs.declared.bench_error.BenchError.TheVariants as errors
 use Rattle.scenario.specs.declared.command.Command.{Command}
-use Rattle.scenario_bench.specs.declared.tally.Tally.{Tally}
-use Rattle.scenario_bench.proofs.Told.{noted-lists, number_told, tally_of}
+use Rattle.run_record.specs.declared.tally.Tally.{Tally}
+use Rattle.run_record.proofs.Told.{noted-lists, number_told, tally_of}
 use Rattle.scenario_bench.proofs.ToldAnswers.{lines_told, refusals_told, same_names}
 
 -- Summaries, in order.

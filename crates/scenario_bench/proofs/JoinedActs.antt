@@ -17,7 +17,8 @@ use Rattle.host_calls.specs.Networks.{NetworkState}
 use Rattle.wire.specs.Runs.{RunsTo, StatesRun, caller_of, happenings, said}
 use Rattle.wire.proofs.Delivering.{delivers-join}
 use Rattle.wire.proofs.Running.{runs-none}
-use Rattle.scenario_bench.specs.Acts.{Act, ActsLead, ActsRun, DrainRuns, Drained, Ran, act_of, history, ran, said_in}
+use Rattle.run_record.specs.Acts.{Act, Drained, Ran, history, ran, said_in}
+use Rattle.scenario_bench.specs.PlayedActs.{ActsLead, ActsRun, DrainRuns, act_of}
 
 -- Events that were run.
 

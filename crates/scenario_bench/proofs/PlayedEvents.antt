@@ -19,21 +19,22 @@ use Rattle.network_plan.specs.declared.reply.Reply.{Reply}
 use Rattle.stations.specs.Stations.{world_at}
 use Rattle.wire.specs.DrainedNetworks.{NetworkDrains}
 use Rattle.wire.specs.Runs.{RunTold}
-use Rattle.scenario_bench.specs.Recording.{AreInOrder, RecordsReplies}
+use Rattle.run_record.specs.Recording.{AreInOrder, RecordsReplies}
 use Rattle.scenario.specs.SoFar.{Drains, Host, Said, Sends, event_of, said_of}
-use Rattle.scenario_bench.specs.Acts.{Act, Drained, act_of, ran}
-use Rattle.scenario_bench.specs.DrainedView.{drained_frame}
-use Rattle.scenario_bench.specs.declared.drained.DrainedFrame.{DrainedFrame}
+use Rattle.run_record.specs.Acts.{Act, Drained, ran}
+use Rattle.scenario_bench.specs.PlayedActs.{act_of}
+use Rattle.run_record.specs.DrainedView.{drained_frame}
+use Rattle.run_record.specs.declared.drained.DrainedFrame.{DrainedFrame}
 use Rattle.scenario_bench.specs.PlayedEvents.{HasPlayed, HasPlayedFront, StopsWithin, frames_of}
-use Rattle.scenario_bench.specs.Tallies.{AreNoted}
+use Rattle.run_record.specs.Tallies.{AreNoted}
 use Rattle.scenario_bench.specs.declared.bench_error.BenchError.{BenchError}
 use Rattle.scenario_bench.specs.declared.bench_error.BenchError.TheVariants as errors
 use Rattle.scenario_bench.specs.declared.play.Play.{Play}
-use Rattle.scenario_bench.specs.declared.summary.Refusals.{Refusals}
+use Rattle.run_record.specs.declared.run_log.Refusals.{Refusals}
 use Rattle.scenario_bench.proofs.JoinedActs.{acts-ran, leads-drained, leads-join, leads-none, leads-ran}
-use Rattle.scenario_bench.proofs.NotedDrains.{noted_moves}
+use Rattle.run_record.proofs.NotedDrains.{noted_moves}
 use Rattle.scenario_bench.proofs.ResetsInOrder.{in_order}
-use Rattle.scenario_bench.specs.RecordingLaws.{notes_join, noted_none}
+use Rattle.run_record.specs.RecordingLaws.{notes_join, noted_none}
 
 pub played_none : (a : Play) → HasPlayed [] a a
 played_none a = record {

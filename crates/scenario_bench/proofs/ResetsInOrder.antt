@@ -25,8 +25,8 @@ use Rattle.wire.proofs.ResetLists.{parts-happened}
 use Rattle.wire.proofs.ResetPlays.{few-slots, parts-counted}
 use Rattle.wire.proofs.ResetTold.{reset-says}
 use Rattle.wire.specs.Runs.{AnswersReset, EventRuns, ResetAnswer, StatesRun, reset_answer, said_in_reset}
-use Rattle.scenario_bench.specs.Recording.{AreInOrder, IsInOrder, TellsReset}
-use Rattle.scenario_bench.specs.Tallies.{given_up_of}
+use Rattle.run_record.specs.Recording.{AreInOrder, IsInOrder, TellsReset}
+use Rattle.run_record.specs.Tallies.{given_up_of}
 
 some-same : (a b : ResetAnswer) → Some a ≡ Some b → a ≡ b
 some-same a b is = cc

@@ -5,15 +5,15 @@ use Rattle.std.specs.List.{flat_map, fold}
 use Rattle.stations.specs.ToldTicks.{TickTold}
 use Rattle.network_plan.specs.declared.plan.HostPlan.{HostPlan}
 use Rattle.scenario.specs.SoFar.{Host, hosts_of}
-use Rattle.scenario_bench.specs.Acts.{Act, Drained, Ran}
-use Rattle.scenario_bench.specs.EventLines.{LogState, Place, act_line, drain_logged, end_logged, lines_from}
-use Rattle.scenario_bench.specs.EventLines.{place_at, text_of, tick_logged}
-use Rattle.scenario_bench.specs.EventLines.{told_in}
-use Rattle.scenario_bench.specs.EventLogView.{plan_name}
-use Rattle.scenario_bench.specs.Given.{next_number}
-use Rattle.scenario_bench.specs.RunLogs.{act_logged, acts_in, log_heard, logged, new_log, refusals_behind, refusals_by}
-use Rattle.scenario_bench.specs.declared.run_log.RunLog.{RunLog}
-use Rattle.scenario_bench.specs.declared.summary.Refusals.{Refusals}
+use Rattle.run_record.specs.Acts.{Act, Drained, Ran}
+use Rattle.run_record.specs.EventLines.{LogState, Place, act_line, drain_logged, end_logged, lines_from}
+use Rattle.run_record.specs.EventLines.{place_at, text_of, tick_logged}
+use Rattle.run_record.specs.EventLines.{told_in}
+use Rattle.run_record.specs.EventLogView.{plan_name}
+use Rattle.run_record.specs.Numbers.{next_number}
+use Rattle.run_record.specs.RunLogs.{act_logged, acts_in, log_heard, logged, new_log, refusals_behind, refusals_by}
+use Rattle.run_record.specs.declared.run_log.RunLog.{RunLog}
+use Rattle.run_record.specs.declared.run_log.Refusals.{Refusals}
 
 -- Refusals.
 

@@ -1,8 +1,6 @@
 -- The run of a scenario by `bench` (our choice).
-use Rattle.std.specs.Prelude.{◌≡◌, ◌<◌, ◌≤◌, ◌+◌, ◌⊎◌, ℕ, Bool, List, Option, Some, Ok, Err, length, map, slice_get, take}
-use Rattle.std.specs.Io.KnownBytes.{Appends}
-use Rattle.pcap_trace.specs.Devices.{AppendsFront}
-use Rattle.pcap_trace.specs.Format.{Timed, written}
+use Rattle.std.specs.Prelude.{◌≡◌, ◌<◌, ◌⊎◌, ℕ, Bool, List, Option, Ok, Err, length, map, take}
+use Rattle.pcap_trace.specs.Format.{Timed}
 use Rattle.pcap_trace.specs.declared.unit.Unit.{Unit}
 use Rattle.host_calls.specs.Networks.{NetworkState}
 use Rattle.wire.specs.NewNetworks.{IsLanAnswer}
@@ -11,13 +9,17 @@ use Rattle.scenario.specs.declared.command.Scenario.{Scenario}
 use Rattle.scenario_bench.specs.declared.bench_error.BenchError.{BenchError}
 use Rattle.scenario_bench.specs.declared.bench_error.BenchError.TheVariants as errors
 use Rattle.scenario_bench.specs.declared.summary.Summary.{Summary}
-use Rattle.scenario_bench.specs.Acts.{Act, ActsLead, act_of, history}
+use Rattle.run_record.specs.Acts.{Act, history}
+use Rattle.scenario_bench.specs.PlayedActs.{ActsLead, act_of}
 use Rattle.scenario_bench.specs.EventLists.{all_events}
 use Rattle.scenario_bench.specs.Given.{given_from, sockets_from}
-use Rattle.scenario_bench.specs.Kept.{put_from}
-use Rattle.scenario_bench.specs.Puts.{wire_names, wire_texts}
-use Rattle.scenario_bench.specs.RunLogs.{acts_in}
-use Rattle.scenario_bench.specs.Summaries.{TellsAnswers, TellsHosts, as_told}
+use Rattle.run_record.specs.Kept.{put_from}
+use Rattle.run_record.specs.Numbers.{as_told}
+use Rattle.scenario_bench.specs.WireLists.{wire_names}
+use Rattle.run_record.specs.Puts.{wire_texts}
+use Rattle.run_record.specs.RunLogs.{acts_in}
+use Rattle.run_record.specs.WrittenTraces.{AreWritten, AreWrittenUpTo, SinkState, states_of}
+use Rattle.scenario_bench.specs.Summaries.{TellsAnswers, TellsHosts}
 
 -- The network of the plan was made, and these events and drains were done on the network, in order. The delivery theorem holds for them.
 pub record PlaysEvents (scenario : Scenario) (said : List Said) : Type 0 where
@@ -66,63 +68,6 @@ wire_texts_of {scenario} played =
     let hosts = hosts_of scenario.plan.hosts.items in
     wire_texts hosts (put_from 0 played.acts) (wire_names hosts)
 
--- What was written to sinks.
-
--- the bytes that a sink has taken, if contracts know them, and the number of its failures
-pub record SinkState : Type 0 where
-  -- the bytes that the sink has taken, if contracts know them
-  pub taken : Option (List ℕ)
-  -- the number of its failures
-  pub failures : ℕ
-
--- the states of sinks
-abbrev pub states_of : {S : Type 0} → (taken : S → Option (List ℕ)) → (failures : S → ℕ) → List S → List SinkState
-states_of {S} taken failures sinks = map (λ (sink : S). record { taken = taken sink; failures = failures sink }) sinks
-
--- The sink has also taken this text, with times in this unit.
-pub record TakesText (unit : Unit) (text : List Timed) (old new : SinkState) : Type 0 where
-  -- the text was appended
-  pub taken : Appends old.taken new.taken (written unit text)
-  -- the sink didn't fail
-  pub failures : new.failures ≡ old.failures
-
--- The sink has also taken a beginning of this text, and failed.
-pub record FailsAmong (unit : Unit) (text : List Timed) (old new : SinkState) : Type 0 where
-  -- a beginning of the text was appended
-  pub taken : AppendsFront old.taken new.taken (written unit text)
-  -- the sink failed once
-  pub failures : new.failures ≡ old.failures + 1
-
--- The first `count` sinks have also taken their whole text; the others have taken nothing.
-pub record AreWritten (unit : Unit) (count : ℕ) (texts : List (List Timed)) (old new : List SinkState) : Type 0 where
-  -- the number of sinks didn't change
-  pub sinks : length new ≡ length old
-  -- the first ones have taken their whole text
-  pub whole : (k : ℕ) (text : List Timed) (before after : SinkState) → k < count → slice_get texts k ≡ Some text
-      → slice_get old k ≡ Some before
-      → slice_get new k ≡ Some after → TakesText unit text before after
-  -- the others are unchanged
-  pub others : (k : ℕ) → count ≤ k → slice_get new k ≡ slice_get old k
-
--- The sinks before sink `failed` have also taken their whole text. This sink has taken a beginning of its own text, and the sinks after it
--- have taken nothing.
-pub record AreWrittenUpTo (unit : Unit) (failed : ℕ) (texts : List (List Timed)) (old new : List SinkState) : Type 0 where
-  -- the number of sinks didn't change
-  pub sinks : length new ≡ length old
-  -- the sink that failed exists
-  pub sink : failed < length old
-  -- this sink has a text
-  pub there : failed < length texts
-  -- the sinks before it have taken their whole text
-  pub whole : (k : ℕ) (text : List Timed) (before after : SinkState) → k < failed → slice_get texts k ≡ Some text
-      → slice_get old k ≡ Some before
-      → slice_get new k ≡ Some after → TakesText unit text before after
-  -- this sink failed
-  pub fails : (text : List Timed) (before after : SinkState) → slice_get texts failed ≡ Some text → slice_get old failed ≡ Some before
-      → slice_get new failed ≡ Some after → FailsAmong unit text before after
-  -- the sinks after it are unchanged
-  pub others : (k : ℕ) → failed < k → slice_get new k ≡ slice_get old k
-
 -- The summary has the numbers of refused calls and, on request, the lines of the run's events and drains, each with some line number. Only
 -- tests show that these are the line numbers in the scenario's text.
 pub record TellsRun {scenario : Scenario} {said : List Said} (events : Bool) (played : PlaysEvents scenario said) (summary : Summary)
@@ -145,7 +90,7 @@ pub record BenchSinks : Type 0 where
   -- the sinks of wires, after
   pub wires_new : List SinkState
 
--- the states of these sinks
+-- the states of the sinks of sockets and of those of wires, before the bench and after it
 abbrev pub sinks_of : {S : Type 0} → (taken : S → Option (List ℕ)) → (failures : S → ℕ) → (old new wires_old wires_new : List S)
     → BenchSinks
 sinks_of taken failures old new wires_old wires_new = record {
@@ -181,22 +126,22 @@ StopsWriting unit texts wires (errors.Run stopped) sinks = ⊥
 StopsWriting unit texts wires errors.Memory sinks = AreUntouched sinks
 StopsWriting unit texts wires (errors.Write error) sinks = IsFailedSink unit texts wires sinks
 
--- If the result is Ok, each sink has taken the frames of its socket or of its wire. The summary contains the counts of the hosts and of the
--- answers.
+-- What holds after Ok: the scenario was played, and each sink has also taken the trace of its socket or of its wire. The summary contains
+-- the counts of the hosts and of refused calls, and on request the lines of events and drains.
 pub record Benches (unit : Unit) (scenario : Scenario) (traces : List (List (List ℕ))) (events : Bool) (summary : Summary)
     (sinks : BenchSinks)
     : Type 0 where
   -- the scenario was played
   pub plays : PlaysScenario scenario traces
-  -- each sink has taken the frames of its socket or of its wire
+  -- each sink has also taken the trace of its socket or of its wire
   pub texts : AreAllWritten unit (texts_of plays) (wire_texts_of plays) sinks
   -- the summaries of the hosts
   pub tells : TellsHosts (hosts_of scenario.plan.hosts.items) (history plays.acts) plays.behind summary.hosts.items
-  -- the counts of refused calls, and the lines of events
+  -- the counts of refused calls, and on request the lines of events and drains
   pub answers : TellsRun events plays summary
 
--- If the result is an error other than that of a failed sink, nothing was written. If memory was refused before an event, the events and
--- drains before it were done.
+-- What holds after an error. `Plan`: the plan was refused for this reason. `Run`: the events and drains before some event were done.
+-- `Write`: the scenario was played, and a sink failed. After each error but `Write`, nothing was written.
 abbrev pub Stops : Unit → (scenario : Scenario) → (traces : List (List (List ℕ))) → BenchError → BenchSinks → Type 0
 Stops unit scenario traces (errors.Plan error) sinks = IsLanAnswer scenario.plan.hosts.items (Err error) × AreUntouched sinks
 Stops unit scenario traces (errors.Run stopped) sinks =

@@ -14,13 +14,14 @@ use Rattle.eeprom.specs.Image.{address_bytes}
 use Rattle.adapter.specs.declared.step.StepKind.TheVariants.{RxData, RxDone, TxPut, TxTake}
 use Rattle.stations.specs.declared.tick.Tick.{Tick}
 use Rattle.stations.specs.declared.tick.Tick.TheVariants.{Deliver, Go, Step}
+use Rattle.run_record.specs.Puts.{wire_name_of}
 use Rattle.scenario.specs.SoFar.{Host, Said, Draws, Feeds, Interrupts, Receives, Sends, Ticks}
 
 -- the number of receive buffers that a frame of this size needs after it is padded; 1 if the frame is too long for `send`
 abbrev pub pieces_for : (size : ℕ) → ℕ
 pieces_for size = if nat_le size longest_frame then div_ceil (max size shortest_frame) receive_buffer_bytes else 1
 
--- A host's adapter moves this number of pieces of a frame to the host's memory.
+-- the steps by which a host's adapter moves this number of pieces of a frame to the host's memory: RxData and RxDone for each piece
 abbrev pub moves_at : (host pieces : ℕ) → List Said
 moves_at host zero = []
 moves_at host (suc pieces) = Ticks (Step host RxData) ∷ Ticks (Step host RxDone) ∷ moves_at host pieces
@@ -38,10 +39,6 @@ arrivals_from pieces number sender wire [] = []
 arrivals_from pieces number sender wire (host ∷ hosts) =
     (if not (number == sender) && bytes_eq host.wire wire then arrival_at pieces number (length host.sockets) else [])
     ++ arrivals_from pieces (number + 1) sender wire hosts
-
--- the name of a host's wire
-abbrev pub wire_name_of : List Host → ℕ → List ℕ
-wire_name_of hosts host = unwrap_or (option_map (λ (one : Host). one.wire) (slice_get hosts host)) []
 
 -- After a send, the frame is put onto the wire, and arrives at each other host on the wire, in order.
 abbrev pub behind_send : List Host → (sender pieces : ℕ) → List Said
@@ -69,7 +66,7 @@ broadcast_of address = 0xFF ∷ 0xFF ∷ 0xFF ∷ 0xFF ∷ 0xFF ∷ 0xFF ∷ add
 abbrev pub address_of : List Host → ℕ → List ℕ
 address_of hosts host = unwrap_or (option_map (λ (one : Host). address_bytes one.image) (slice_get hosts host)) []
 
--- the ticks of an interrupt in which the adapter finishes a frame after the handler's first access
+-- the ticks of an interrupt in which RxData and RxDone are played after the handler's first access and before its second
 abbrev pub late_frame : (host : ℕ) → List Tick
 late_frame host = Go ∷ Step host RxData ∷ Step host RxDone ∷ []
 

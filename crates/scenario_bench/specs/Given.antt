@@ -1,22 +1,12 @@
--- The frames that a socket returns in a run, each with the number of its event or drain (our choice).
-use Rattle.std.specs.Prelude.{◌+◌, ◌^◌, ◌-◌, ◌++◌, ℕ, List, [], ◌∷◌, length, map, min}
+-- The sockets of hosts, and the frames that a socket returns in a run, each with the number of its event or drain (our choice).
+use Rattle.std.specs.Prelude.{◌+◌, ◌++◌, ℕ, List, [], ◌∷◌, length, map}
 use Rattle.std.specs.List.{range_with_len}
 use Rattle.pcap_trace.specs.Format.{Timed}
 use Rattle.host_calls.specs.Happenings.{given}
+use Rattle.run_record.specs.Acts.{Act, said_in}
+use Rattle.run_record.specs.Kept.{numbered_frame}
+use Rattle.run_record.specs.Numbers.{next_number}
 use Rattle.scenario.specs.SoFar.{Host}
-use Rattle.scenario_bench.specs.Acts.{Act, said_in}
-
--- the greatest event number and the greatest count: 2^64 - 1
-abbrev pub greatest_number : ℕ
-greatest_number = 2 ^ 64 - 1
-
--- this number plus 1, but at most the greatest number
-abbrev pub next_number : ℕ → ℕ
-next_number number = min (number + 1) greatest_number
-
--- a frame whose time is this number
-abbrev pub numbered_frame : (number : ℕ) → List ℕ → Timed
-numbered_frame number frame = record { time = number; frame = frame }
 
 -- The frames that a socket returns in these acts. The first act has this number.
 abbrev pub given_from : (host socket number : ℕ) → List Act → List Timed

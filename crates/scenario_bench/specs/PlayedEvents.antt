@@ -7,20 +7,22 @@ use Rattle.stations.specs.Stations.{world_at}
 use Rattle.wire.specs.Equations.{IsExact, missed_count}
 use Rattle.host_calls.specs.Networks.{IsHost}
 use Rattle.scenario_bench.specs.declared.summary.HostSummary.{HostSummary}
-use Rattle.scenario_bench.specs.declared.tally.Tally.{Tally}
+use Rattle.run_record.specs.declared.tally.Tally.{Tally}
 use Rattle.network_plan.specs.declared.plan.HostPlan.{HostPlan}
 use Rattle.pcap_trace.specs.Format.{Timed}
 use Rattle.pcap_trace.specs.declared.trace.Trace.{Trace}
 use Rattle.wire.specs.NewNetworks.{IsLanAnswer}
 use Rattle.scenario.specs.SoFar.{Host, Said, event_of, hosts_of}
 use Rattle.scenario.specs.declared.command.Scenario.{Scenario}
-use Rattle.scenario_bench.specs.Acts.{Act, ActsLead, act_of}
+use Rattle.run_record.specs.Acts.{Act}
+use Rattle.scenario_bench.specs.PlayedActs.{ActsLead, act_of}
 use Rattle.scenario_bench.specs.Benches.{scenario_events}
 use Rattle.scenario_bench.specs.EventLists.{behind_send}
 use Rattle.scenario_bench.specs.Given.{sockets_from}
-use Rattle.scenario_bench.specs.Kept.{KeptFrame, socket_texts}
-use Rattle.scenario_bench.specs.Puts.{wire_names, wire_texts}
-use Rattle.scenario_bench.specs.Tallies.{AreNoted, no_tally, resets_in}
+use Rattle.run_record.specs.Kept.{KeptFrame, socket_texts}
+use Rattle.scenario_bench.specs.WireLists.{wire_names}
+use Rattle.run_record.specs.Puts.{wire_texts}
+use Rattle.run_record.specs.Tallies.{AreNoted, no_tally, resets_in}
 use Rattle.scenario_bench.specs.declared.bench_error.BenchError.{BenchError}
 use Rattle.scenario_bench.specs.declared.bench_error.BenchError.TheVariants as errors
 use Rattle.scenario_bench.specs.declared.events.EventsAfterSend.{EventsAfterSend}
@@ -33,7 +35,7 @@ pub record HasPlayed (said : List Said) (old new : Play) : Type 0 where
   pub leads : ActsLead old.lan acts new.lan
   pub noted : AreNoted acts old.record new.record
 
--- The network of a plan was made, and nothing is recorded yet.
+-- The network of a plan was made. No event, no count and no returned frame is recorded yet.
 pub record Begins (plans : List HostPlan) (play : Play) : Type 0 where
   pub made : IsLanAnswer plans (Ok play.lan)
   pub number : play.record.number ≡ 0
@@ -97,11 +99,7 @@ pub record HasPlayedScenario (scenario : Scenario) (traces : List (List (List �
   pub played : HasPlayed (scenario_events scenario traces) old new
   pub tells : TellTallies (length scenario.plan.hosts.items) scenario.plan.hosts.items new hosts
 
--- No frame is recorded yet. Frames that are put will be recorded if `wires`, the number of traces of wires to write, isn't 0.
-abbrev pub IsNewRecord : (wires : ℕ) → Option (List KeptFrame) → Type 0
-IsNewRecord wires None = wires ≡ 0
-IsNewRecord wires (Some puts) = puts ≡ []
-
+-- Frames that adapters put are recorded if `wires`, the number of traces of wires to write, isn't 0.
 abbrev pub AreRecorded : (wires : ℕ) → Option (List KeptFrame) → Type 0
 AreRecorded wires None = wires ≡ 0
 AreRecorded wires (Some puts) = ⊤

@@ -1,7 +1,7 @@
 -- The lines that the program prints of a run (our choice).
 use Rattle.std.specs.Prelude.{◌++◌, [], ℕ, Bool, true, false, List, None, Option, Some, codes, decimal, string_bytes}
 use Rattle.std.specs.List.{flat_map}
-use Rattle.scenario_bench.specs.declared.summary.GivenUp.{GivenUp}
+use Rattle.run_record.specs.declared.tally.GivenUp.{GivenUp}
 use Rattle.scenario_bench.specs.declared.summary.HostSummary.{HostSummary}
 use Rattle.scenario_bench.specs.declared.summary.Summary.{Summary}
 

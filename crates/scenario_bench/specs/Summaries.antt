@@ -1,46 +1,24 @@
--- The summary of each host after a run (our choice).
-use Rattle.std.specs.Prelude.{◌≡◌, ◌↔◌, ℕ, IsTrue, List, Some, length, min, slice_get, string_bytes, sum_by}
-use Rattle.std.specs.Prelude.{◌==◌, ◌∷◌, [], Bool, false, None, Option, if◌then◌else◌, map, option_map}
+-- The summary of a run: of each host, and of the answers (our choice).
+use Rattle.std.specs.Prelude.{◌≡◌, ◌↔◌, ◌-◌, ℕ, IsTrue, List, Some, length, slice_get, string_bytes}
+use Rattle.std.specs.Prelude.{Bool, None, Option, if◌then◌else◌, map, option_map}
 use Rattle.std.specs.List.{flat_map, fold, list_any}
-use Rattle.host_calls.specs.Happenings.{Happening, Given, GivenUp, Reached, accepted, of_host, put, reached, stored}
+use Rattle.host_calls.specs.Happenings.{Happening, accepted, put, reached, stored}
 use Rattle.host_calls.specs.Lists.{holding_in_one, sending_in_one}
-use Rattle.rx_engine.specs.declared.arrival.Fate.TheVariants as fate
 use Rattle.packet_socket.specs.HostState.{HostState}
 use Rattle.adapter.specs.World.{World}
 use Rattle.stations.specs.Stations.{world_at}
 use Rattle.wire.specs.Equations.{IsExact, missed_count}
 use Rattle.host_calls.specs.Networks.{IsHost, NetworkState}
-use Rattle.scenario.specs.SoFar.{Host}
-use Rattle.scenario_bench.specs.Acts.{Act}
-use Rattle.scenario_bench.specs.EventLines.{LogState, lines_from}
-use Rattle.scenario_bench.specs.Given.{greatest_number}
-use Rattle.scenario_bench.specs.RunLogs.{acts_in, no_refusals, refusals_by}
-use Rattle.scenario_bench.specs.declared.summary.GivenUp.{GivenUp as ResetsTold}
+use Rattle.scenario.specs.SoFar.{Draws, Host, Said}
+use Rattle.run_record.specs.Acts.{Act}
+use Rattle.run_record.specs.EventLines.{LogState, lines_from}
+use Rattle.run_record.specs.Numbers.{as_told}
+use Rattle.run_record.specs.RunLogs.{acts_in, no_refusals, refusals_by}
+use Rattle.run_record.specs.Tallies.{all_given, grown_by, off_by, resets}
+use Rattle.run_record.specs.declared.run_log.Refusals.{Refusals}
+use Rattle.run_record.specs.declared.tally.GivenUp.{GivenUp as ResetsTold}
 use Rattle.scenario_bench.specs.declared.summary.HostSummary.{HostSummary}
 use Rattle.scenario_bench.specs.declared.summary.Summary.{Summary}
-
--- a number in a summary: it saturates at the greatest
-abbrev pub as_told : ℕ → ℕ
-as_told number = min number greatest_number
-
--- the number of frames that sockets of the k-th host returned in a happening: 1 or 0
-abbrev pub count_given : ℕ → Happening → ℕ
-count_given k (Given host socket frame) = if k == host then 1 else 0
-count_given k one = 0
-
--- the number of frames that sockets of the k-th host returned
-abbrev pub all_given : ℕ → List Happening → ℕ
-all_given k happened = sum_by (count_given k) happened
-
--- the frame of a happening, if it reached the k-th host while the host's receive side was disabled
-abbrev pub off_by : ℕ → Happening → List (List ℕ)
-off_by k (Reached host frame fate.Off) = of_host k host (frame ∷ [])
-off_by k one = []
-
--- whether a happening is `GivenUp` at the k-th host
-abbrev pub resets : ℕ → Happening → Bool
-resets k (GivenUp host sending holding) = k == host
-resets k one = false
 
 -- The numbers of frames that resets of the k-th host gave up and dropped, if there was a reset.
 abbrev pub resets_told : (k : ℕ) → List Happening → Option ResetsTold
@@ -64,7 +42,7 @@ pub record TellsFrames (k : ℕ) (happened : List Happening) (told : HostSummary
   pub stored : told.stored ≡ as_told (length (stored k happened))
   -- the frames that its sockets returned
   pub given : told.given ≡ as_told (all_given k happened)
-  -- the frames that its resets gave up
+  -- the frames that its resets gave up, and those that reached its adapter while its receive side was disabled
   pub resets : told.given_up ≡ resets_told k happened
 
 -- The summary of the k-th host: its name, the numbers of frames, and its counts.
@@ -93,6 +71,16 @@ pub record TellsHosts (plans : List Host) (happened : List Happening) (network :
 pub record TellsAnswers (plans : List Host) (events : Bool) (entries : List (ℕ × Act)) (told : Summary) : Type 0 where
   -- the numbers of refused calls
   pub refusals : told.refusals ≡ fold refusals_by no_refusals (acts_in entries)
-  -- the lines of events, if they are asked for
+  -- the lines of events and drains, if `events` is true
   pub lines : option_map (λ (log : LogState). log.text) told.events
       ≡ (if events then Some (lines_from (map (λ (plan : Host). plan.name) plans) 0 entries) else None)
+
+-- The numbers of refused calls without those of `auto` commands, after this command. `before` and `after` count all refused calls before
+-- and after this command.
+abbrev pub asked_after : (asked : Refusals) → Said → (before after : Refusals) → Refusals
+asked_after asked (Draws count start) before after = asked
+asked_after asked said before after = record {
+  sends = grown_by (after.sends - before.sends) asked.sends;
+  groups = grown_by (after.groups - before.groups) asked.groups;
+  sockets = grown_by (after.sockets - before.sockets) asked.sockets;
+}

@@ -1,6 +1,13 @@
--- Names of wires, without their places in memory.
-use Rattle.std.specs.Borrow.{Bor}
-use Rattle.std.specs.Prelude.{ℕ, List, map}
+-- The wires of hosts (our choice).
+use Rattle.std.specs.Prelude.{◌++◌, ◌∷◌, [], ℕ, List, if◌then◌else◌}
+use Rattle.std.specs.List.{fold, list_any}
+use Rattle.std.specs.Str.{bytes_eq}
+use Rattle.scenario.specs.SoFar.{Host}
 
-abbrev pub names_in : List (Bor (List ℕ)) → List (List ℕ)
-names_in names = map (λ (name : Bor (List ℕ)). name.now) names
+-- these names, followed by the name of the host's wire if it isn't among them
+abbrev pub with_wire_of : List (List ℕ) → Host → List (List ℕ)
+with_wire_of names host = if list_any (λ (name : List ℕ). bytes_eq name host.wire) names then names else names ++ host.wire ∷ []
+
+-- the wires of these hosts: each name once, in the order in which it first occurs
+abbrev pub wire_names : List Host → List (List ℕ)
+wire_names hosts = fold with_wire_of [] hosts

@@ -1,6 +1,7 @@
 //! The events of a scenario's commands.
 ghost use Rattle.std.specs.Prelude.{◌≡◌, ◌<◌, ◌++◌, ◌∷◌, [], IfOk, None, OnOk, length, map};
 ghost use Rattle.eeprom.specs.Image.{address_bytes};
+ghost use Rattle.run_record.specs.Puts.{wire_name_of};
 ghost use Rattle.scenario.specs.SoFar.{Interrupts, Receives, Sends, Ticks, event_of, hosts_of};
 ghost use Rattle.scenario_bench.specs.EventLists as lists;
 ghost use Rattle.scenario_bench.specs.PlayedEvents.{AreOfSender};
@@ -11,6 +12,7 @@ use descriptors::{LONGEST_LEGAL, SHORTEST_LEGAL};
 use dma_memory::RECEIVE_BUFFER_BYTES;
 use eeprom::Image;
 use network_plan::{Event, HostPlan};
+use run_record::wire_of;
 use stations::Tick;
 use std::alloc::{AllocError, Global};
 
@@ -93,16 +95,6 @@ fn push_arrival(
     Ok(())
 }
 
-/// Returns the name of a host's wire, or an empty name if there is no such host.
-pub(crate) fn wire_of(plans: &[HostPlan], host: usize) -> &str
-    ensures { result.now ≡ lists.wire_name_of (hosts_of plans.now) host }
-{
-    match plans.get(host) {
-        Some(plan) => plan.wire.as_str(),
-        None => "",
-    }
-}
-
 /// Appends the events by which a sender's frame arrives at each other host on its wire, in order. If memory is refused,
 /// some of the events may have been appended.
 fn push_arrivals(
@@ -113,7 +105,7 @@ fn push_arrivals(
     events: &mut Vec<Event>,
 ) -> Result<(), AllocError>
     ensures { OnOk result (map event_of events.new.items ≡ map event_of events.old.items
-        ++ lists.arrivals_from pieces 0 sender (lists.wire_name_of (hosts_of plans.now) sender) (hosts_of plans.now)) }
+        ++ lists.arrivals_from pieces 0 sender (wire_name_of (hosts_of plans.now) sender) (hosts_of plans.now)) }
 {
     let wire = wire_of(plans, sender);
     for (number, plan) in plans.iter().enumerate() {
@@ -142,12 +134,12 @@ fn set_behind_send(
     push_arrivals(alloc, plans, pieces, sender, events)
 }
 
-/// The events after the send of a fed frame from one host. They are made again only if the next frame arrives in a
-/// different number of pieces.
+/// The events after the send of a fed frame from one host. The list is made again only if the next frame arrives in a
+/// different number of pieces, or if memory was refused for the list.
 #[derive(Drop)]
 pub(crate) struct EventsAfterSend {
     alloc: Global,
-    /// The number of pieces for which `list` is made; `None` if it isn't made.
+    /// The number of pieces for which `list` is made; `None` if `list` isn't made.
     pieces: Option<usize>,
     pub(crate) list: Vec<Event>,
 }
@@ -241,8 +233,8 @@ impl EventMemory {
         })
     }
 
-    /// Returns the event in which a host handles an interrupt, and its adapter finishes a frame after the handler's
-    /// first access.
+    /// Returns the event in which a host handles an interrupt. The steps RxData and RxDone of the host's adapter are
+    /// played after the handler's first access and before its second.
     fn late_interrupt(&mut self, host: usize) -> Result<Event, AllocError>
         ensures { IfOk result (λ event. event_of event ≡ Interrupts host (lists.late_frame host)) }
     {

@@ -1,5 +1,5 @@
 //! Plays a scenario.
-ghost use Rattle.std.specs.Prelude.{◌≡◌, ◌<◌, ◌≤◌, ◌∷◌, [], ℕ, All, Bool, Some, length, map, slice_get};
+ghost use Rattle.std.specs.Prelude.{◌≡◌, ◌<◌, ◌≤◌, ◌-◌, ◌∷◌, [], ℕ, All, Bool, Some, length, map, slice_get};
 ghost use Rattle.std.specs.Prelude.{IfErr, IfOk, OnErr, OnOk};
 ghost use Rattle.std.specs.List.{flat_map};
 ghost use Rattle.packet_socket.specs.HostState.{HostState};
@@ -7,52 +7,51 @@ ghost use Rattle.scenario.specs.SoFar.{Drains, event_of, hosts_of, said_of};
 ghost use Rattle.scenario_bench.specs.Benches.{AreAllWritten, Benches, Stops, StopsWriting};
 ghost use Rattle.scenario_bench.specs.Benches.{IsFailedSink, scenario_events, sinks_of};
 ghost use Rattle.scenario_bench.specs.EventLists as lists;
-ghost use Rattle.scenario_bench.specs.EventLogView.{plan_name};
+ghost use Rattle.run_record.specs.EventLogView.{plan_name};
 ghost use Rattle.scenario_bench.specs.Given.{sockets_from};
 ghost use Rattle.scenario_bench.specs.PlayedEvents.{AreOfSender, AreRecorded, Begins, HasPlayed, HasPlayedScenario};
-ghost use Rattle.scenario_bench.specs.PlayedEvents.{IsNewRecord};
+ghost use Rattle.run_record.specs.Recording.{IsNewRecord};
 ghost use Rattle.scenario_bench.specs.PlayedEvents.{StopsAtPlan, StopsWithin, TellTallies, TellsTally, frames_of};
 ghost use Rattle.scenario_bench.specs.PlayedEvents.{socket_texts_in, wire_texts_in};
-ghost use Rattle.scenario_bench.specs.Puts.{wire_names};
-ghost use Rattle.scenario_bench.specs.RunLogs.{asked_after, new_log};
-ghost use Rattle.scenario_bench.specs.WireLists.{names_in};
-ghost use Rattle.scenario_bench.specs.declared.tally.Tally.{Tally};
+ghost use Rattle.scenario_bench.specs.WireLists.{wire_names};
+ghost use Rattle.scenario_bench.specs.Summaries.{asked_after};
+ghost use Rattle.run_record.specs.RunLogs.{new_log};
+ghost use Rattle.run_record.specs.Puts.{names_in};
+ghost use Rattle.run_record.specs.Tallies.{grown_by};
+ghost use Rattle.run_record.specs.declared.tally.Tally.{Tally};
 ghost use Rattle.stations.specs.Stations.{world_at};
 ghost use Rattle.host_calls.specs.Networks.{IsHost};
 
 use crate::bench_error::BenchError;
-use crate::drained::DrainedFrames;
 use crate::events::{EventMemory, EventsAfterSend, pieces_of};
-use crate::kept::KeptFrames;
-use crate::record::Record;
 use crate::socket_list::sockets;
-use crate::summary::{HostSummary, Refusals, Summary};
+use crate::summary::{HostSummary, Summary};
 use crate::wire_list::wires;
 use network_plan::{Event, HostPlan, Plan, Stopped};
-use pcap_trace::{RecordWriter, Sink, Trace, Unit, WriteError};
+use pcap_trace::{RecordWriter, Sink, Trace, Unit};
 use rand_core::SeedableRng;
 use rand_core::utils::NextWord;
 use rand_pcg::Lcg64Xsh32;
+use run_record::{DrainedFrames, Record, Refusals, Traces};
 use scenario::{Command, Scenario};
 use std::alloc::{AllocError, Global};
 use wire::Lan;
 
-/// Returns the line number at this place, or 0 if `lines` is shorter.
-fn line_at(lines: &[u64], place: usize) -> u64 {
-    match lines.get(place) {
-        Some(line) => *line,
-        None => 0,
-    }
-}
-
-/// Hosts on wires, the record of their run, and the room for the frames of a drain.
+/// Hosts on wires, the record of their run, a list for the frames of a drain, and counts of refused calls.
 #[derive(Drop)]
 struct Play {
     lan: Lan,
     record: Record,
     drained: DrainedFrames,
-    /// The numbers of calls that were refused so far, without those of `auto` commands.
+    /// The numbers of calls that were refused in the commands so far, without those of `auto` commands.
     asked: Refusals,
+}
+
+/// Returns this number plus the difference between two later numbers. The sum saturates at the greatest `u64`.
+fn grown(number: u64, before: u64, after: u64) -> u64
+    ensures { result ≡ grown_by (after - before) number }
+{
+    number.saturating_add(after.saturating_sub(before))
 }
 
 /// Returns the numbers of refused calls without those of `auto` commands, after this command. `before` and `after`
@@ -60,9 +59,13 @@ struct Play {
 fn asked_after(asked: Refusals, command: &Command, before: Refusals, after: Refusals) -> Refusals
     ensures { result ≡ asked_after asked (said_of command.now) before after }
 {
-    match command {
-        Command::Auto { .. } => asked,
-        _ => asked.with_later(before, after),
+    if let Command::Auto { .. } = command {
+        return asked;
+    }
+    Refusals {
+        sends: grown(asked.sends, before.sends, after.sends),
+        groups: grown(asked.groups, before.groups, after.groups),
+        sockets: grown(asked.sockets, before.sockets, after.sockets),
     }
 }
 
@@ -76,8 +79,7 @@ impl Play {
         ensures err { IfErr result (StopsAtPlan plan.now.hosts.items) }
     {
         let lan = Lan::new(alloc, plan)?;
-        let puts = new_puts(alloc, wires);
-        let record = Record::new(alloc, plan.hosts.as_slice(), puts, events)?;
+        let record = Record::new(alloc, plan.hosts.as_slice(), wires, events)?;
         let drained = DrainedFrames::new(alloc);
         Ok(Play {
             lan,
@@ -131,8 +133,8 @@ impl Play {
         ran
     }
 
-    /// Runs the events of `feed` for one frame: its send, and the events by which it arrives at the other hosts on the
-    /// wire.
+    /// Runs the events of `feed` for one frame: the send, the steps that put the frame on the wire, and the events by
+    /// which the frame arrives at the other hosts on the wire.
     fn feed_frame(
         &mut self,
         memory: &mut EventMemory,
@@ -225,8 +227,8 @@ impl Play {
         }
     }
 
-    /// Runs the events and drains of these commands, in order. `lines` contains the line number of each command, which
-    /// the lines of its events contain.
+    /// Runs the events and drains of these commands, in order. `lines` contains the line number of each command. The
+    /// record has this number for the events and drains of the command; 0 if `lines` is shorter.
     #[tactic(auto, using(crate::proofs::PlayedEvents::none_fed, crate::proofs::PlayedEvents::all_ran))]
     fn commands(
         &mut self,
@@ -245,7 +247,8 @@ impl Play {
         let mut memory = EventMemory::new(alloc);
         let mut left = commands;
         while let Some((command, later)) = left.split_first() {
-            self.record.line = line_at(lines, commands.len().saturating_sub(left.len()));
+            let place = commands.len().saturating_sub(left.len());
+            self.record.line = lines.get(place).copied().unwrap_or(0);
             let before = self.record.log.refusals;
             self.command(&mut memory, plans, traces, command)?;
             self.asked = asked_after(self.asked, command, before, self.record.log.refusals);
@@ -338,46 +341,6 @@ impl Play {
     }
 
     /// Writes to each sink the frames of its socket, and then to each of `wire_sinks` the frames that were put on its
-    /// wire. `sockets` are the sockets of the plan, and `names` the names of its wires.
-    fn write_traces<W: Sink>(
-        &self,
-        plan: &Plan,
-        sockets: &[(usize, usize)],
-        names: &[&str],
-        writer: &mut RecordWriter,
-        unit: Unit,
-        sinks: &mut [W],
-        wire_sinks: &mut [W],
-    ) -> Result<(), WriteError>
-        requires sockets { sockets.now ≡ sockets_from 0 (hosts_of plan.now.hosts.items) }
-        requires names { names_in names.now ≡ wire_names (hosts_of plan.now.hosts.items) }
-        requires sinks { length sinks.old ≤ length sockets.now }
-        requires wires { length wire_sinks.old ≤ length names.now }
-        requires recorded { AreRecorded (length wire_sinks.old) self.now.record.puts }
-        requires countable { All (λ (sink : W). W.failures sink < u64.MAX) sinks.old }
-        requires wires_countable { All (λ (sink : W). W.failures sink < u64.MAX) wire_sinks.old }
-        ensures ok { OnOk result
-            (AreAllWritten unit (socket_texts_in plan.now.hosts.items self.now)
-            (wire_texts_in plan.now.hosts.items self.now)
-            (sinks_of W.taken W.failures sinks.old sinks.new wire_sinks.old wire_sinks.new)) }
-        ensures err { OnErr result
-            (IsFailedSink unit (socket_texts_in plan.now.hosts.items self.now)
-            (wire_texts_in plan.now.hosts.items self.now)
-            (sinks_of W.taken W.failures sinks.old sinks.new wire_sinks.old wire_sinks.new)) }
-    {
-        self.record
-            .returned
-            .write_sockets(sockets, writer, unit, sinks)?;
-        match &self.record.puts {
-            Some(puts) => {
-                let plans = plan.hosts.as_slice();
-                puts.write_wires(plans, names, writer, unit, wire_sinks)
-            }
-            None => Ok(()),
-        }
-    }
-
-    /// Writes to each sink the frames of its socket, and then to each of `wire_sinks` the frames that were put on its
     /// wire.
     fn write<W: Sink>(
         &self,
@@ -404,10 +367,15 @@ impl Play {
         let plans = plan.hosts.as_slice();
         let sockets = sockets(alloc, plans)?;
         let names = wires(alloc, plans)?;
-        let sockets = sockets.as_slice();
-        let names = names.as_slice();
         let mut writer = RecordWriter::new(alloc, unit)?;
-        self.write_traces(plan, sockets, names, &mut writer, unit, sinks, wire_sinks)?;
+        let of_sockets = Traces::Sockets(sockets.as_slice());
+        let returned = &self.record.returned;
+        returned.write(&of_sockets, &mut writer, unit, sinks)?;
+        let Some(puts) = &self.record.puts else {
+            return Ok(());
+        };
+        let of_wires = Traces::Wires(plans, names.as_slice());
+        puts.write(&of_wires, &mut writer, unit, wire_sinks)?;
         Ok(())
     }
 
@@ -438,16 +406,6 @@ impl Play {
         self.write(alloc, &scenario.plan, unit, sinks, wire_sinks)?;
         Ok(self.summary(hosts))
     }
-}
-
-/// Returns an empty list for the frames that adapters put; `None` if `wires` is 0.
-fn new_puts(alloc: Global, wires: usize) -> Option<KeptFrames>
-    ensures { IsNewRecord wires result }
-{
-    if wires == 0 {
-        return None;
-    }
-    Some(KeptFrames::new(alloc))
 }
 
 /// Plays a scenario: makes the network of its plan, and runs its events and drains in order. Then it writes to each

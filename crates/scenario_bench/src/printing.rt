@@ -4,12 +4,14 @@ ghost use Rattle.std.specs.Io.KnownBytes.{Appends};
 ghost use Rattle.pcap_trace.specs.Devices.{AppendsFront, CountsFailures};
 ghost use Rattle.scenario_bench.specs.Printing.{exact_word, field, host_fields, host_line, resets_text, summary_text};
 
-use crate::summary::{GivenUp, HostSummary, Summary};
+use crate::summary::{HostSummary, Summary};
 use arrayvec::ArrayVec;
 use itoa::Buffer;
 use pcap_trace::{Sink, WriteError, write_all};
+use run_record::GivenUp;
 
-/// Room in bytes for the part of a line after a name: ten labels with numbers, of at most 60 bytes each, and a word.
+/// Room in bytes for the part of a line after a name: ten labels with numbers, of at most 60 bytes each, a word of at
+/// most 8 bytes, and a line feed.
 const LONGEST_LINE: usize = 700;
 
 /// The part of a line after a name.

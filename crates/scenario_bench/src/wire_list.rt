@@ -1,8 +1,8 @@
 //! The wires of a scenario.
 ghost use Rattle.std.specs.Prelude.{◌≡◌, IfOk, length};
 ghost use Rattle.scenario.specs.SoFar.{hosts_of};
-ghost use Rattle.scenario_bench.specs.Puts.{wire_names};
-ghost use Rattle.scenario_bench.specs.WireLists.{names_in};
+ghost use Rattle.scenario_bench.specs.WireLists.{wire_names};
+ghost use Rattle.run_record.specs.Puts.{names_in};
 
 use network_plan::HostPlan;
 use std::alloc::{AllocError, Global};

@@ -1,7 +1,8 @@
 use Rattle.std.proofs.Common.{◌≡◌, ◌++◌, drop}
 use Rattle.std.specs.Prelude.{map}
 use Rattle.scenario.specs.SoFar.{event_of, hosts_of}
-use Rattle.scenario_bench.specs.EventLists.{arrivals_from, wire_name_of}
+use Rattle.scenario_bench.specs.EventLists.{arrivals_from}
+use Rattle.run_record.specs.Puts.{wire_name_of}
 use Rattle.scenario_bench.proofs.events.push_arrivals.Given as goal
 
 -- what is appended so far, and what the hosts that are left add

@@ -1,7 +1,7 @@
 use Rattle.std.proofs.Common.{◌≡◌, ◌∙◌, Bool, List, ℕ, ap, arith, bytes_eq, string_bytes, sym}
 use Rattle.std.specs.Borrow.{Bor}
 use Rattle.std.specs.List.{list_any}
-use Rattle.scenario_bench.proofs.Puts.{wire_more, wire_there}
+use Rattle.scenario_bench.proofs.WireLists.{wire_more, wire_there}
 use Rattle.scenario_bench.proofs.wire_list.wires.Goals as goal
 
 -- whether the name is among the others

@@ -1,7 +1,7 @@
 use Rattle.std.proofs.Common.{◌≡◌, take}
 use Rattle.scenario.specs.SoFar.{hosts_of}
-use Rattle.scenario_bench.specs.Puts.{wire_names}
-use Rattle.scenario_bench.specs.WireLists.{names_in}
+use Rattle.scenario_bench.specs.WireLists.{wire_names}
+use Rattle.run_record.specs.Puts.{names_in}
 use Rattle.scenario_bench.proofs.wire_list.wires.Given as goal
 
 abbrev pub invariant-loop-plan : goal.invariant-loop-plan

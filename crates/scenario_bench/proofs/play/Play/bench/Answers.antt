@@ -5,7 +5,7 @@ use Rattle.scenario_bench.specs.Benches.{sinks_of}
 use Rattle.scenario_bench.specs.PlayedEvents.{frames_of}
 use Rattle.scenario_bench.specs.declared.summary.HostSummary.{HostSummary}
 use Rattle.scenario_bench.proofs.Benching.{bench_failed, benched, recorded, unplayed}
-use Rattle.scenario_bench.proofs.Writing.{state_of}
+use Rattle.run_record.proofs.Writing.{state_of}
 use Rattle.scenario_bench.proofs.play.Play.bench.Goals as goal
 
 pub returns-in_err-hosts-clause-err : goal.returns-in_err-hosts-clause-err

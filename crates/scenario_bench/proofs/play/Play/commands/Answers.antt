@@ -9,7 +9,7 @@ pub loop-command-preserved : goal.loop-command-preserved
 loop-command-preserved c = one_ran (hosts_of c.args.plans.now) (map frames_of c.args.traces.now) c.args.commands.now c.loop-command.left.now
     c.in-Some.later.now c.in-Some.command.now c.args.self.now c.loop-command.self _ c.loop-command.invariant c.in-Some.ensures.cases.0
     (played_counted _ c.asked_after-self.result c.loop-command.self c.command.new.self
-    (played_lined _ c.line_at-self.result c.loop-command.self c.command.new.self c.in_ok-command.ensures.ok))
+    (played_lined _ c.unwrap_or-self.result c.loop-command.self c.command.new.self c.in_ok-command.ensures.ok))
 
 pub returns-in_err-command-clause-err : goal.returns-in_err-command-clause-err
 returns-in_err-command-clause-err c =
@@ -17,4 +17,4 @@ returns-in_err-command-clause-err c =
     rw (p.1, p.2) (command_stops (hosts_of c.args.plans.now) (map frames_of c.args.traces.now) c.args.commands.now c.loop-command.left.now
     c.in-Some.later.now c.in-Some.command.now c.args.self.now c.loop-command.self c.command.new.self _ c.loop-command.invariant
     c.in-Some.ensures.cases.0
-    (stops_lined _ c.line_at-self.result c.loop-command.self c.command.new.self _ c.in_err-command.ensures.err))
+    (stops_lined _ c.unwrap_or-self.result c.loop-command.self c.command.new.self _ c.in_err-command.ensures.err))

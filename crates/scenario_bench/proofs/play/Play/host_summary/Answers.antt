@@ -4,8 +4,8 @@ use Rattle.std.specs.Prelude.{string_bytes}
 use Rattle.stations.specs.Stations.{world_at}
 use Rattle.wire.specs.Counting.{AreCounts}
 use Rattle.wire.specs.declared.counts.Counts.{Counts}
-use Rattle.scenario_bench.specs.Tallies.{resets_in}
-use Rattle.scenario_bench.specs.declared.tally.Tally.{Tally}
+use Rattle.run_record.specs.Tallies.{resets_in}
+use Rattle.run_record.specs.declared.tally.Tally.{Tally}
 use Rattle.scenario_bench.proofs.play.Play.host_summary.Goals as goal
 
 pub returns : goal.returns

@@ -1,0 +1,9 @@
+pub mod Appended
+pub mod Puts
+pub mod Noting
+pub mod AroundTicks
+pub mod NotedEvents
+pub mod NotedDrains
+pub mod RecordLaws
+pub mod Writing
+pub mod Told

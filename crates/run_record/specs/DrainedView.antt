@@ -1,0 +1,6 @@
+-- A frame that a drained host returned, without its place in memory.
+use Rattle.packet_socket.specs.HostCalls.{Given}
+use Rattle.run_record.specs.declared.drained.DrainedFrame.{DrainedFrame}
+
+abbrev pub drained_frame : DrainedFrame → Given
+drained_frame one = record { socket = one.socket; frame = one.frame }

@@ -1,0 +1,92 @@
+-- The line of each event and drain in the log of a run, and the log itself (our choice).
+use Rattle.std.specs.Prelude.{◌++◌, ◌∷◌, [], ℕ, List, codes, length}
+use Rattle.std.specs.List.{flat_map}
+use Rattle.network_plan.specs.Answers.{FrameAnswer}
+use Rattle.network_plan.specs.declared.event.Event.{Event}
+use Rattle.network_plan.specs.declared.reply.Reply.{Reply}
+use Rattle.stations.specs.ToldTicks.{TickTold, tick_told}
+use Rattle.stations.specs.declared.outcomes.Numbered.{Numbered}
+use Rattle.stations.specs.declared.tick.Tick.{Tick}
+use Rattle.wire.specs.RunObservers.{played_ticks}
+use Rattle.run_record.specs.Acts.{Act, Drained, Ran}
+use Rattle.run_record.specs.EventTexts.{answer_text, event_text, name_at, numbered, told_text}
+use Rattle.run_record.specs.Numbers.{next_number}
+
+-- the text of a tick and its outcome
+abbrev pub text_of : (names : List (List ℕ)) → TickTold → List ℕ
+text_of names told = told_text names told.tick told.accesses told.outcome
+
+-- the number of an event or a drain in the run, and the number of its line in the scenario
+pub record Place : Type 0 where
+  -- the number of the event or drain
+  pub number : ℕ
+  -- the number of its line
+  pub line : ℕ
+
+-- `EVENT line LINE`
+abbrev pub place_text : Place → List ℕ
+place_text place = numbered [] place.number ++ numbered (codes " line ") place.line
+
+-- `EVENT line LINE CALL ANSWER accesses N`, the event's ticks with their outcomes, and a line feed
+abbrev pub event_line : (names : List (List ℕ)) → Place → Event → (accesses : ℕ) → FrameAnswer → (outcomes : List ℕ) → List ℕ
+event_line names place event accesses answer outcomes =
+    place_text place ++ event_text names event ++ answer_text answer ++ numbered (codes " accesses ") accesses ++ outcomes ++ codes "\n"
+
+-- `EVENT line LINE drain HOST ok N`: N frames were returned
+abbrev pub drain_line : (names : List (List ℕ)) → Place → (host count : ℕ) → List ℕ
+drain_line names place host count =
+    place_text place ++ (codes " drain " ++ name_at names host) ++ numbered (codes " ok ") count ++ codes "\n"
+
+-- ticks with outcomes: the i-th outcome belongs to the i-th tick
+abbrev pub paired : List Tick → List Numbered → List TickTold
+paired [] outcomes = []
+paired (tick ∷ ticks) [] = []
+paired (tick ∷ ticks) (one ∷ outcomes) = tick_told tick one.accesses one.outcome ∷ paired ticks outcomes
+
+-- the ticks of an event, each with its outcome
+abbrev pub told_in : Event → Reply → List TickTold
+told_in event reply = paired (played_ticks event) reply.outcomes.list
+
+-- the line of an act
+abbrev pub act_line : (names : List (List ℕ)) → Place → Act → List ℕ
+act_line names place (Ran event reply) =
+    event_line names place event reply.accesses reply.answer (flat_map (text_of names) (told_in event reply))
+act_line names place (Drained host buffered given) = drain_line names place host (length given)
+
+-- the place of an event or a drain, from its number and the number of its line
+abbrev pub place_at : (number line : ℕ) → Place
+place_at number line = record { number = number; line = line }
+
+-- The lines of these acts, each with the number of its line in the scenario. The first act has this number.
+abbrev pub lines_from : (names : List (List ℕ)) → (number : ℕ) → List (ℕ × Act) → List ℕ
+lines_from names number [] = []
+lines_from names number (entry ∷ entries) =
+    act_line names (place_at number entry.0) entry.1 ++ lines_from names (next_number number) entries
+
+-- A log.
+
+-- a log: the names of the hosts, the ticks so far of the event that is played, and the lines of the events and drains before this event
+pub record LogState : Type 0 where
+  -- the names of the hosts
+  pub names : List (List ℕ)
+  -- the ticks so far of the event that is played, with their outcomes
+  pub outcomes : List ℕ
+  -- the lines of the events and drains before this event
+  pub text : List ℕ
+
+-- the log of these hosts without lines
+abbrev pub no_lines : (names : List (List ℕ)) → LogState
+no_lines names = record { names = names; outcomes = []; text = [] }
+
+-- the log after the outcome of a tick
+abbrev pub tick_logged : LogState → TickTold → LogState
+tick_logged log told = record log { outcomes = log.outcomes ++ text_of log.names told }
+
+-- the log after the end of an event: the event's line is appended
+abbrev pub end_logged : Place → Event → (accesses : ℕ) → FrameAnswer → LogState → LogState
+end_logged place event accesses answer log =
+    record log { outcomes = []; text = log.text ++ event_line log.names place event accesses answer log.outcomes }
+
+-- the log after a drain: the drain's line is appended
+abbrev pub drain_logged : Place → (host count : ℕ) → LogState → LogState
+drain_logged place host count log = record log { text = log.text ++ drain_line log.names place host count }

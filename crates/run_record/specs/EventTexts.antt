@@ -1,0 +1,139 @@
+-- The parts of the line of an event or a drain in the log of a run (our choice). Hosts are numbered from 0.
+use Rattle.std.specs.Prelude.{◌++◌, [], ℕ, List, Result, Ok, Err, codes, decimal, length, slice_get, unwrap_or}
+use Rattle.adapter.specs.Outcomes.{FrameOutcome}
+use Rattle.adapter.specs.declared.outcome.Outcome.TheVariants as outcome
+use Rattle.adapter.specs.declared.step.StepKind.{StepKind}
+use Rattle.adapter.specs.declared.step.StepKind.TheVariants as step
+use Rattle.driver.specs.declared.interrupt.Handled.TheVariants as handled
+use Rattle.driver.specs.declared.transmit.SendError.{SendError}
+use Rattle.driver.specs.declared.transmit.SendError.TheVariants as send
+use Rattle.bring_up.specs.declared.groups.GroupError.{GroupError}
+use Rattle.bring_up.specs.declared.groups.GroupError.TheVariants as group
+use Rattle.network_plan.specs.Answers.{FrameAnswer}
+use Rattle.network_plan.specs.declared.event.Event.{Event}
+use Rattle.network_plan.specs.declared.event.Event.TheVariants as event
+use Rattle.network_plan.specs.declared.reply.Answer.TheVariants as answer
+use Rattle.packet_socket.specs.declared.receive.RecvError.{RecvError}
+use Rattle.packet_socket.specs.declared.receive.RecvError.TheVariants as recv
+use Rattle.rx_engine.specs.declared.arrival.Fate.{Fate}
+use Rattle.rx_engine.specs.declared.arrival.Fate.TheVariants as fate
+use Rattle.stations.specs.declared.tick.Tick.{Tick}
+use Rattle.stations.specs.declared.tick.Tick.TheVariants as tick
+
+-- a label and a number
+abbrev pub numbered : (label : List ℕ) → ℕ → List ℕ
+numbered label number = label ++ decimal number
+
+-- the name of a host in a list of names, or an empty name if the host isn't in the list
+abbrev pub name_at : List (List ℕ) → ℕ → List ℕ
+name_at names host = unwrap_or (slice_get names host) []
+
+-- Ticks and their outcomes.
+
+-- a blank, the word for a step of an adapter, and a colon
+abbrev pub step_word : StepKind → List ℕ
+step_word step.TxTake = codes " txtake:"
+step_word step.TxPut = codes " txput:"
+step_word step.RxData = codes " rxdata:"
+step_word step.RxDone = codes " rxdone:"
+step_word step.EepromTick = codes " eeprom:"
+step_word step.PhyTick = codes " phy:"
+
+-- a tick, with the name of its host; `go` has no host
+abbrev pub tick_text : (names : List (List ℕ)) → Tick → List ℕ
+tick_text names tick.Go = codes " go"
+tick_text names (tick.Step host kind) = step_word kind ++ name_at names host
+tick_text names (tick.Deliver host) = codes " deliver:" ++ name_at names host
+
+-- a blank and the word for a fate
+abbrev pub fate_word : Fate → List ℕ
+fate_word fate.Off = codes " off"
+fate_word fate.Illegal = codes " illegal"
+fate_word fate.Filtered = codes " filtered"
+fate_word fate.Missed = codes " missed"
+fate_word fate.Stored = codes " stored"
+
+-- a blank and the word for an outcome
+abbrev pub outcome_word : FrameOutcome → List ℕ
+outcome_word outcome.Took = codes " took"
+outcome_word (outcome.Put frame) = codes " put"
+outcome_word outcome.WireFull = codes " wirefull"
+outcome_word outcome.Part = codes " part"
+outcome_word outcome.Moved = codes " moved"
+outcome_word outcome.Done = codes " done"
+outcome_word (outcome.Delivered frame one) = fate_word one
+outcome_word outcome.Ticked = codes " ticked"
+outcome_word outcome.Nothing = codes " nothing"
+outcome_word outcome.Fault = codes " fault"
+
+-- a blank and the size of an outcome's frame in bytes, if the outcome has a frame
+abbrev pub outcome_size : FrameOutcome → List ℕ
+outcome_size (outcome.Put frame) = numbered (codes " ") (length frame)
+outcome_size (outcome.Delivered frame one) = numbered (codes " ") (length frame)
+outcome_size one = []
+
+-- an outcome, with the size of its frame in bytes if it has a frame
+abbrev pub outcome_text : FrameOutcome → List ℕ
+outcome_text one = outcome_word one ++ outcome_size one
+
+-- ` @N TICK OUTCOME`: a tick that was played after N accesses of its call; N is 0 outside a call
+abbrev pub told_text : (names : List (List ℕ)) → Tick → (accesses : ℕ) → FrameOutcome → List ℕ
+told_text names tick accesses one = numbered (codes " @") accesses ++ tick_text names tick ++ outcome_text one
+
+-- Events and their answers.
+
+-- an event, with the name of its host, without its ticks and the address of a group; of an event that is a tick, only the word `tick`
+abbrev pub event_text : (names : List (List ℕ)) → Event → List ℕ
+event_text names (event.Send host frame ticks) = (codes " send " ++ name_at names host) ++ numbered (codes " ") (length frame.items)
+event_text names (event.Recv host socket ticks) = (codes " recv " ++ name_at names host) ++ numbered (codes " ") socket
+event_text names (event.Interrupt host ticks) = codes " interrupt " ++ name_at names host
+event_text names (event.Reset host ticks) = codes " reset " ++ name_at names host
+event_text names (event.Join host group ticks) = codes " join " ++ name_at names host
+event_text names (event.Leave host group ticks) = codes " leave " ++ name_at names host
+event_text names (event.Tick tick) = codes " tick"
+
+-- the result of a send
+abbrev pub sent_word : Result (Unit {0}) SendError → List ℕ
+sent_word (Ok u) = codes " ok"
+sent_word (Err send.TooShort) = codes " E20 TooShort"
+sent_word (Err send.TooLong) = codes " E21 TooLong"
+sent_word (Err send.RingFull) = codes " E22 RingFull"
+
+-- the words for a recv that returned no frame
+abbrev pub recv_word : RecvError → List ℕ
+recv_word recv.Empty = codes " E30 Empty"
+recv_word recv.NoSocket = codes " E31 NoSocket"
+
+-- the result of a join or a leave
+abbrev pub group_word : Result (Unit {0}) GroupError → List ℕ
+group_word (Ok u) = codes " ok"
+group_word (Err group.NotGroup) = codes " E23 NotGroup"
+group_word (Err group.GroupsFull) = codes " E24 GroupsFull"
+group_word (Err group.NotJoined) = codes " E25 NotJoined"
+group_word (Err group.Joined) = codes " E26 Joined"
+
+-- a blank and the words for an answer, without numbers; nothing for `NoCall`, the answer to an event that is a tick
+abbrev pub answer_word : FrameAnswer → List ℕ
+answer_word (answer.Sent sent) = sent_word sent
+answer_word (answer.Received (Ok frame)) = codes " ok"
+answer_word (answer.Received (Err error)) = recv_word error
+answer_word (answer.Interrupted handled.NotMine) = codes " notmine"
+answer_word (answer.Interrupted (handled.Handled taken)) = codes " handled"
+answer_word (answer.Joined joined) = group_word joined
+answer_word (answer.Left left) = group_word left
+answer_word (answer.Reset sending holding on_after) = codes " givenup"
+answer_word answer.NoCall = []
+answer_word answer.NoHost = codes " nohost"
+
+-- the numbers of an answer: the size in bytes of the frame that a socket returned, the number of frames that an interrupt handler took, or
+-- the numbers of frames that a reset gave up, and of its accesses before the receiver was enabled again
+abbrev pub answer_numbers : FrameAnswer → List ℕ
+answer_numbers (answer.Received (Ok frame)) = numbered (codes " ") (length frame)
+answer_numbers (answer.Interrupted (handled.Handled taken)) = numbered (codes " ") taken
+answer_numbers (answer.Reset sending holding on_after) =
+    numbered (codes " ") (length sending.items) ++ numbered (codes " ") (length holding.items) ++ numbered (codes " on ") on_after
+answer_numbers one = []
+
+-- the answer to an event, with its numbers; nothing for `NoCall`
+abbrev pub answer_text : FrameAnswer → List ℕ
+answer_text one = answer_word one ++ answer_numbers one

@@ -1,0 +1,15 @@
+pub mod Numbers
+pub mod Acts
+pub mod EventTexts
+pub mod EventLines
+pub mod EventLogView
+pub mod Kept
+pub mod KeptView
+pub mod Puts
+pub mod Traces
+pub mod WrittenTraces
+pub mod RunLogs
+pub mod Tallies
+pub mod DrainedView
+pub mod Recording
+pub mod RecordingLaws

@@ -1,0 +1,287 @@
+//! The lines of events and drains, and their parts.
+ghost use Rattle.std.specs.Prelude.{◌≡◌, ◌++◌, ℕ, List, OnOk, codes, decimal, length, map, string_bytes};
+ghost use Rattle.adapter.specs.Outcomes.{with_frame};
+ghost use Rattle.network_plan.specs.Answers.{answer_with};
+ghost use Rattle.run_record.specs.EventLines as lines;
+ghost use Rattle.run_record.specs.EventTexts as texts;
+
+use adapter::{Fate, Outcome, StepKind};
+use bring_up::GroupError;
+use driver::{Handled, SendError};
+use itoa::Buffer;
+use network_plan::{Answer, Event};
+use packet_socket::RecvError;
+use stations::Tick;
+use std::alloc::AllocError;
+
+/// Appends a label and a number.
+fn push_number(text: &mut Vec<u8>, label: &[u8], number: u64) -> Result<(), AllocError>
+    ensures { OnOk result (text.new.items ≡ text.old.items ++ (label.now ++ decimal number)) }
+{
+    let mut buffer = Buffer::new();
+    text.extend_from_slice(label)?;
+    text.extend_from_slice(buffer.format(number).as_bytes())
+}
+
+/// Returns the name of a host, or an empty name if there is no such host.
+fn name_of(names: &[String], host: usize) -> &[u8]
+    ensures { result.now ≡ texts.name_at (map string_bytes names.now) host }
+{
+    match names.get(host) {
+        Some(name) => name.as_bytes(),
+        None => b"",
+    }
+}
+
+/// Appends a label and the name of a host.
+fn push_host(
+    text: &mut Vec<u8>,
+    label: &[u8],
+    names: &[String],
+    host: usize,
+) -> Result<(), AllocError>
+    ensures { OnOk result
+        (text.new.items ≡ text.old.items ++ (label.now ++ texts.name_at (map string_bytes names.now) host)) }
+{
+    text.extend_from_slice(label)?;
+    text.extend_from_slice(name_of(names, host))
+}
+
+/// Returns a blank, the word for a step as scenarios spell it, and a colon.
+fn step_word(kind: StepKind) -> &'static [u8]
+    ensures { result.now ≡ texts.step_word kind }
+{
+    match kind {
+        StepKind::TxTake => b" txtake:",
+        StepKind::TxPut => b" txput:",
+        StepKind::RxData => b" rxdata:",
+        StepKind::RxDone => b" rxdone:",
+        StepKind::EepromTick => b" eeprom:",
+        StepKind::PhyTick => b" phy:",
+    }
+}
+
+/// Appends a blank, and a tick as scenarios spell it. The name of a host that doesn't exist is empty.
+fn push_tick(text: &mut Vec<u8>, names: &[String], tick: Tick) -> Result<(), AllocError>
+    ensures { OnOk result
+        (text.new.items ≡ text.old.items ++ texts.tick_text (map string_bytes names.now) tick) }
+{
+    match tick {
+        Tick::Go => text.extend_from_slice(b" go"),
+        Tick::Step(host, kind) => push_host(text, step_word(kind), names, host),
+        Tick::Deliver(host) => push_host(text, b" deliver:", names, host),
+    }
+}
+
+/// Returns a blank and the word for a fate.
+fn fate_word(fate: Fate) -> &'static [u8]
+    ensures { result.now ≡ texts.fate_word fate }
+{
+    match fate {
+        Fate::Off => b" off",
+        Fate::Illegal => b" illegal",
+        Fate::Filtered => b" filtered",
+        Fate::Missed => b" missed",
+        Fate::Stored => b" stored",
+    }
+}
+
+/// Returns a blank and the word for an outcome.
+fn outcome_word(outcome: &Outcome<()>) -> &'static [u8]
+    ensures { (frame : List ℕ) → result.now ≡ texts.outcome_word (with_frame frame outcome.now) }
+{
+    match outcome {
+        Outcome::Took => b" took",
+        Outcome::Put(_) => b" put",
+        Outcome::WireFull => b" wirefull",
+        Outcome::Part => b" part",
+        Outcome::Moved => b" moved",
+        Outcome::Done => b" done",
+        Outcome::Delivered(_, fate) => fate_word(*fate),
+        Outcome::Ticked => b" ticked",
+        Outcome::Nothing => b" nothing",
+        Outcome::Fault => b" fault",
+    }
+}
+
+/// Appends the word for an outcome, and the size of the frame in bytes if the outcome has a frame.
+fn push_outcome(text: &mut Vec<u8>, outcome: &Outcome<()>, frame: &[u8]) -> Result<(), AllocError>
+    ensures { OnOk result
+        (text.new.items ≡ text.old.items ++ texts.outcome_text (with_frame frame.now outcome.now)) }
+{
+    text.extend_from_slice(outcome_word(outcome))?;
+    match outcome {
+        Outcome::Put(_) | Outcome::Delivered(_, _) => push_number(text, b" ", frame.len() as u64),
+        _ => Ok(()),
+    }
+}
+
+/// Appends the number of accesses before a tick, the tick, and its outcome.
+#[inline(never)]
+pub(crate) fn push_told(
+    text: &mut Vec<u8>,
+    names: &[String],
+    tick: Tick,
+    accesses: u64,
+    outcome: &Outcome<()>,
+    frame: &[u8],
+) -> Result<(), AllocError>
+    ensures { OnOk result (text.new.items ≡ text.old.items
+        ++ texts.told_text (map string_bytes names.now) tick accesses (with_frame frame.now outcome.now)) }
+{
+    push_number(text, b" @", accesses)?;
+    push_tick(text, names, tick)?;
+    push_outcome(text, outcome, frame)
+}
+
+/// Appends an event as scenarios spell it, but without the address of a group and without ticks. The size of a frame
+/// in bytes replaces its bytes. For an event that is a tick, appends only the word `tick`.
+fn push_event(text: &mut Vec<u8>, names: &[String], event: &Event) -> Result<(), AllocError>
+    ensures { OnOk result
+        (text.new.items ≡ text.old.items ++ texts.event_text (map string_bytes names.now) event.now) }
+{
+    match event {
+        Event::Send { host, frame, .. } => {
+            push_host(text, b" send ", names, *host)?;
+            push_number(text, b" ", frame.len() as u64)
+        }
+        Event::Recv { host, socket, .. } => {
+            push_host(text, b" recv ", names, *host)?;
+            push_number(text, b" ", *socket as u64)
+        }
+        Event::Interrupt { host, .. } => push_host(text, b" interrupt ", names, *host),
+        Event::Reset { host, .. } => push_host(text, b" reset ", names, *host),
+        Event::Join { host, .. } => push_host(text, b" join ", names, *host),
+        Event::Leave { host, .. } => push_host(text, b" leave ", names, *host),
+        Event::Tick(_) => text.extend_from_slice(b" tick"),
+    }
+}
+
+/// Returns the words for the result of a send.
+fn sent_word(sent: Result<(), SendError>) -> &'static [u8]
+    ensures { result.now ≡ texts.sent_word sent }
+{
+    match sent {
+        Ok(()) => b" ok",
+        Err(SendError::TooShort) => b" E20 TooShort",
+        Err(SendError::TooLong) => b" E21 TooLong",
+        Err(SendError::RingFull) => b" E22 RingFull",
+    }
+}
+
+/// Returns the words for a recv that returned no frame.
+fn recv_word(error: RecvError) -> &'static [u8]
+    ensures { result.now ≡ texts.recv_word error }
+{
+    match error {
+        RecvError::Empty => b" E30 Empty",
+        RecvError::NoSocket => b" E31 NoSocket",
+    }
+}
+
+/// Returns the words for the result of a join or a leave.
+fn group_word(changed: Result<(), GroupError>) -> &'static [u8]
+    ensures { result.now ≡ texts.group_word changed }
+{
+    match changed {
+        Ok(()) => b" ok",
+        Err(GroupError::NotGroup) => b" E23 NotGroup",
+        Err(GroupError::GroupsFull) => b" E24 GroupsFull",
+        Err(GroupError::NotJoined) => b" E25 NotJoined",
+        Err(GroupError::Joined) => b" E26 Joined",
+    }
+}
+
+/// Returns a blank and the words for an answer, without numbers; nothing for `NoCall`, the answer to an event that is a
+/// tick.
+fn answer_word(answer: &Answer<()>) -> &'static [u8]
+    ensures { (frame : List ℕ) → result.now ≡ texts.answer_word (answer_with frame answer.now) }
+{
+    match answer {
+        Answer::Sent(sent) => sent_word(*sent),
+        Answer::Received(Ok(())) => b" ok",
+        Answer::Received(Err(error)) => recv_word(*error),
+        Answer::Interrupted(Handled::NotMine) => b" notmine",
+        Answer::Interrupted(Handled::Handled { .. }) => b" handled",
+        Answer::Joined(changed) | Answer::Left(changed) => group_word(*changed),
+        Answer::Reset { .. } => b" givenup",
+        Answer::NoCall => b"",
+        Answer::NoHost => b" nohost",
+    }
+}
+
+/// Appends the answer to an event, with the size in bytes of the frame that a socket returned. Appends nothing for
+/// `NoCall`, the answer to an event that is a tick.
+fn push_answer(text: &mut Vec<u8>, answer: &Answer<()>, frame: &[u8]) -> Result<(), AllocError>
+    ensures { OnOk result
+        (text.new.items ≡ text.old.items ++ texts.answer_text (answer_with frame.now answer.now)) }
+{
+    text.extend_from_slice(answer_word(answer))?;
+    match answer {
+        Answer::Received(Ok(())) => push_number(text, b" ", frame.len() as u64),
+        Answer::Interrupted(Handled::Handled { taken }) => push_number(text, b" ", *taken),
+        Answer::Reset {
+            sending,
+            holding,
+            on_after,
+        } => {
+            push_number(text, b" ", sending.len() as u64)?;
+            push_number(text, b" ", holding.len() as u64)?;
+            push_number(text, b" on ", *on_after)
+        }
+        _ => Ok(()),
+    }
+}
+
+/// Appends the number of an event, and the number of its line in the scenario.
+fn push_place(text: &mut Vec<u8>, number: u64, line: u64) -> Result<(), AllocError>
+    ensures { OnOk result (text.new.items ≡ text.old.items ++ lines.place_text (lines.place_at number line)) }
+{
+    push_number(text, b"", number)?;
+    push_number(text, b" line ", line)
+}
+
+/// Appends the line of the event with this number. `line` is the number of the event's line in the scenario, and
+/// `outcomes` is the text of the event's ticks.
+#[inline(never)]
+pub(crate) fn push_line(
+    text: &mut Vec<u8>,
+    names: &[String],
+    number: u64,
+    line: u64,
+    event: &Event,
+    accesses: u64,
+    answer: &Answer<()>,
+    frame: &[u8],
+    outcomes: &[u8],
+) -> Result<(), AllocError>
+    ensures { OnOk result (text.new.items ≡ text.old.items
+        ++ lines.event_line (map string_bytes names.now) (lines.place_at number line) event.now accesses
+        (answer_with frame.now answer.now) outcomes.now) }
+{
+    push_place(text, number, line)?;
+    push_event(text, names, event)?;
+    push_answer(text, answer, frame)?;
+    push_number(text, b" accesses ", accesses)?;
+    text.extend_from_slice(outcomes)?;
+    text.extend_from_slice(b"\n")
+}
+
+/// Appends the line of the drain with this number, in which a host returned `count` frames. `line` is the number of the
+/// drain's line in the scenario.
+pub(crate) fn push_drain(
+    text: &mut Vec<u8>,
+    names: &[String],
+    number: u64,
+    line: u64,
+    host: usize,
+    count: usize,
+) -> Result<(), AllocError>
+    ensures { OnOk result (text.new.items ≡ text.old.items
+        ++ lines.drain_line (map string_bytes names.now) (lines.place_at number line) host count) }
+{
+    push_place(text, number, line)?;
+    push_host(text, b" drain ", names, host)?;
+    push_number(text, b" ok ", count as u64)?;
+    text.extend_from_slice(b"\n")
+}

@@ -1,0 +1,338 @@
+//! The record of a run: counts for each host, the frames that each socket returned, the frames that were put on wires,
+//! and the answers.
+ghost use Rattle.std.specs.Prelude.{◌≡◌, ◌≤◌, ◌++◌, ◌∷◌, [], ℕ, List, IfOk, OnOk, length, map, replicate};
+ghost use Rattle.adapter.specs.Outcomes.{with_frame};
+ghost use Rattle.host_calls.specs.Happenings.{tick_host, outcome_happenings};
+ghost use Rattle.network_plan.specs.Answers.{answer_with};
+ghost use Rattle.run_record.specs.Acts.{Drained};
+ghost use Rattle.run_record.specs.DrainedView.{drained_frame};
+ghost use Rattle.run_record.specs.Kept.{FramesGrow, PutsGrow, is_put, put_frames_in, returned_in};
+ghost use Rattle.run_record.specs.EventLogView.{plan_name};
+ghost use Rattle.run_record.specs.Recording.{IsNewRecord, NotesAnswer, NotesLine, answered};
+ghost use Rattle.run_record.specs.RunLogs.{new_log};
+ghost use Rattle.run_record.specs.Tallies.{AreNoted, IsPassage, TalliesGrow, TallyCounts, TallyGivesUp};
+ghost use Rattle.run_record.specs.Tallies.{given_up_of, no_tally};
+ghost use Rattle.wire.specs.DrainedNetworks.{said_of_drain};
+ghost use Rattle.wire.specs.Runs.{accepted_by_answer, given_by_answer};
+
+use crate::drained::DrainedFrame;
+use crate::kept::KeptFrames;
+use crate::run_log::RunLog;
+use crate::tally::{Passage, Tally};
+use adapter::{Fate, Outcome, StepKind};
+use network_plan::{Answer, Event, HostPlan};
+use stations::{Observer, Tick};
+use std::alloc::{AllocError, Global};
+use wire::RunObserver;
+
+/// The record of a run.
+#[derive(Drop)]
+pub struct Record {
+    /// The number of the next event or drain, from 0. It saturates at the greatest `u64`.
+    pub number: u64,
+    /// The number of the scenario's line of the next event or drain, from 1; 0 if no line is known.
+    pub line: u64,
+    /// The counts of each host.
+    pub hosts: Vec<Tally>,
+    /// The frames that sockets returned.
+    pub returned: KeptFrames,
+    /// The frames that adapters put on wires; `None` if they aren't recorded.
+    pub puts: Option<KeptFrames>,
+    /// The numbers of refused calls, and the lines of events and drains.
+    pub log: RunLog,
+    /// Whether memory was refused for a frame that a socket returned or that was put on a wire, or for an event's line.
+    /// The program never sets it to true, because memory is allocated before the event. The proof doesn't use this
+    /// fact.
+    pub failed: bool,
+}
+
+/// Returns the host of a tick, or 0 for a `Go`. The outcome of a `Go` is `Nothing`, which isn't counted.
+fn tick_host(tick: Tick) -> usize
+    ensures { result ≡ tick_host tick }
+{
+    match tick {
+        Tick::Go => 0,
+        Tick::Step(host, _) => host,
+        Tick::Deliver(host) => host,
+    }
+}
+
+/// Returns the passage in an outcome; `None` if the outcome isn't counted.
+fn passage_of(outcome: &Outcome<()>) -> Option<Passage>
+    ensures { (frame : List ℕ) → IsPassage (with_frame frame outcome.now) result }
+{
+    match outcome {
+        Outcome::Put(_) => Some(Passage::Put),
+        Outcome::Delivered(_, Fate::Stored) => Some(Passage::Stored),
+        Outcome::Delivered(_, Fate::Off) => Some(Passage::Off),
+        Outcome::Delivered(_, _) => Some(Passage::Reached),
+        _ => None,
+    }
+}
+
+/// Counts a passage of a frame at a host, if the host exists.
+#[tactic(auto, using(crate::proofs::Noting::counts_there, crate::proofs::Noting::counts_nowhere))]
+fn count(hosts: &mut [Tally], host: usize, passage: Passage)
+    ensures { TallyCounts host passage hosts.old hosts.new }
+{
+    if host < hosts.len() {
+        hosts[host] = hosts[host].with(passage);
+    }
+}
+
+/// Counts the frames that a reset of a host gave up, and notes that the host was reset, if the host exists.
+#[tactic(auto, using(crate::proofs::Noting::given_up_there, crate::proofs::Noting::given_up_nowhere))]
+fn give_up(hosts: &mut [Tally], host: usize, sending: u64, holding: u64)
+    ensures { TallyGivesUp host sending holding hosts.old hosts.new }
+{
+    if host < hosts.len() {
+        hosts[host] = hosts[host].given_up(sending, holding);
+    }
+}
+
+/// Counts the passage in an outcome at a host, if there is a passage.
+#[tactic(auto, using(crate::proofs::Noting::told_passage, crate::proofs::Noting::told_nothing))]
+#[inline(always)]
+fn note_outcome(hosts: &mut [Tally], host: usize, outcome: &Outcome<()>)
+    ensures { (frame : List ℕ)
+        → TalliesGrow (outcome_happenings host (with_frame frame outcome.now)) hosts.old hosts.new }
+{
+    if let Some(passage) = passage_of(outcome) {
+        count(hosts, host, passage);
+    }
+}
+
+/// Returns whether the outcome is that a frame was put on a wire.
+fn is_put(outcome: &Outcome<()>) -> bool
+    ensures { result ≡ is_put outcome.now }
+{
+    matches!(outcome, Outcome::Put(_))
+}
+
+/// Records the frame of an outcome at a host, if the frame was put on a wire and such frames are recorded.
+#[inline(always)]
+fn note_put(
+    puts: &mut Option<KeptFrames>,
+    host: usize,
+    number: u64,
+    outcome: &Outcome<()>,
+    frame: &[u8],
+) -> Result<(), AllocError>
+    requires { length frame.now ≤ 1518 }
+    ensures { OnOk result (PutsGrow (put_frames_in number (outcome_happenings host (with_frame frame.now outcome.now)))
+        puts.old puts.new) }
+{
+    if !is_put(outcome) {
+        return Ok(());
+    }
+    match puts {
+        Some(puts) => puts.push(host, 0, number, frame),
+        None => Ok(()),
+    }
+}
+
+/// Makes room for the frames that `ticks` ticks may put on wires, if such frames are recorded.
+fn reserve_puts(puts: &mut Option<KeptFrames>, ticks: usize) -> Result<(), AllocError>
+    ensures { puts.new ≡ puts.old }
+{
+    match puts {
+        Some(puts) => puts.reserve(ticks),
+        None => Ok(()),
+    }
+}
+
+/// Counts the frame of a send, if the answer is that the send accepted the frame.
+#[tactic(auto, using(crate::specs::RecordingLaws::grows_not))]
+fn note_sent(hosts: &mut [Tally], host: usize, answer: &Answer<()>)
+    ensures { (frame given : List ℕ)
+        → TalliesGrow (accepted_by_answer host frame (answer_with given answer.now)) hosts.old hosts.new }
+{
+    if let Answer::Sent(Ok(())) = answer {
+        count(hosts, host, Passage::Accepted);
+    }
+}
+
+/// Counts the frames that a reset gave up, if the answer is that of a reset.
+#[tactic(auto, using(crate::specs::RecordingLaws::grows_not))]
+#[inline(never)]
+fn note_reset(hosts: &mut [Tally], host: usize, answer: &Answer<()>)
+    ensures { (frame : List ℕ) → TalliesGrow (given_up_of host (answer_with frame answer.now)) hosts.old hosts.new }
+{
+    if let Answer::Reset {
+        sending,
+        holding,
+        ..
+    } = answer
+    {
+        give_up(hosts, host, sending.len() as u64, holding.len() as u64);
+    }
+}
+
+/// Counts and records the frames that a drained host returned.
+fn note_drained(
+    hosts: &mut [Tally],
+    returned: &mut KeptFrames,
+    host: usize,
+    number: u64,
+    given: &[DrainedFrame],
+) -> Result<(), AllocError>
+    ensures hosts { OnOk result
+        (TalliesGrow (said_of_drain host 0 (map drained_frame given.now)) hosts.old hosts.new) }
+    ensures returned { OnOk result (FramesGrow
+        (returned_in number (said_of_drain host 0 (map drained_frame given.now))) returned.old returned.new) }
+{
+    for one in given {
+        count(hosts, host, Passage::Given);
+        returned.push(host, one.socket, number, one.frame.as_slice())?;
+    }
+    Ok(())
+}
+
+impl Record {
+    /// Returns the record of these hosts before a run. Frames that adapters put are recorded unless `wires`, the number
+    /// of traces of wires to write, is 0. If `events` is true, a line is recorded for each event and drain.
+    pub fn new(
+        alloc: Global,
+        plans: &[HostPlan],
+        wires: usize,
+        events: bool,
+    ) -> Result<Record, AllocError>
+        ensures number { IfOk result (λ noted. noted.number ≡ 0) }
+        ensures hosts { IfOk result (λ noted. noted.hosts.items ≡ replicate (length plans.now) no_tally) }
+        ensures returned { IfOk result (λ noted. noted.returned ≡ []) }
+        ensures puts { IfOk result (λ noted. IsNewRecord wires noted.puts) }
+        ensures log { IfOk result (λ noted. noted.log ≡ new_log (map plan_name plans.now) events) }
+    {
+        let hosts = vec![in alloc; Tally::default(); plans.len()]?;
+        let log = RunLog::new(alloc, plans, events)?;
+        Ok(Record {
+            number: 0,
+            line: 0,
+            hosts,
+            returned: KeptFrames::new(alloc),
+            puts: match wires {
+                0 => None,
+                _ => Some(KeptFrames::new(alloc)),
+            },
+            log,
+            failed: false,
+        })
+    }
+
+    /// Counts the answer to an event if it is a refusal, and records the event's line if lines are recorded. Sets
+    /// `failed` if memory was refused.
+    #[inline(always)]
+    fn note_line(&mut self, event: &Event, accesses: u64, answer: &Answer<()>, frame: &[u8])
+        ensures { NotesLine event.now accesses (answer_with frame.now answer.now) self.old self.new }
+    {
+        let ended = self
+            .log
+            .end(self.number, self.line, event, accesses, answer, frame);
+        if ended.is_err() {
+            self.failed = true;
+        }
+    }
+
+    /// Counts and records the frame that a socket returned, if the answer is that it returned a frame. Sets `failed` if
+    /// memory was refused.
+    #[inline(always)]
+    fn note_received(&mut self, host: usize, socket: usize, answer: &Answer<()>, frame: &[u8])
+        requires fits { length frame.now ≤ 1518 }
+        ensures { NotesAnswer (given_by_answer host socket (answer_with frame.now answer.now)) self.old self.new }
+    {
+        if let Answer::Received(Ok(())) = answer {
+            count(self.hosts.as_mut_slice(), host, Passage::Given);
+            if self
+                .returned
+                .push(host, socket, self.number, frame)
+                .is_err()
+            {
+                self.failed = true;
+            }
+        }
+    }
+
+    /// Counts the frames that an event's answer reports, and records the frame that a socket returned. The answers of
+    /// interrupts, joins, leaves and ticks report no frame.
+    #[inline(always)]
+    fn note_answer(&mut self, event: &Event, answer: &Answer<()>, frame: &[u8])
+        requires fits { length frame.now ≤ 1518 }
+        ensures { NotesAnswer (answered event.now (answer_with frame.now answer.now)) self.old self.new }
+    {
+        match event {
+            Event::Send { host, .. } => note_sent(self.hosts.as_mut_slice(), *host, answer),
+            Event::Recv { host, socket, .. } => self.note_received(*host, *socket, answer, frame),
+            Event::Reset { host, .. } => note_reset(self.hosts.as_mut_slice(), *host, answer),
+            Event::Interrupt { .. } | Event::Join { .. } | Event::Leave { .. } | Event::Tick(_) =>
+                {}
+        }
+    }
+
+    /// Records the next drain: the frames that a host returned, and the drain's line if lines are recorded. The number
+    /// of frames that the host's adapter moved isn't recorded.
+    #[tactic(auto, using(crate::proofs::NotedEvents::drain_noted))]
+    pub fn note_drain(&mut self, host: usize, given: &[DrainedFrame]) -> Result<(), AllocError>
+        ensures { OnOk result
+            (AreNoted (Drained host 0 (map drained_frame given.now) ∷ []) self.old self.new) }
+    {
+        self.log.drain(self.number, self.line, host, given.len())?;
+        let hosts = self.hosts.as_mut_slice();
+        note_drained(hosts, &mut self.returned, host, self.number, given)?;
+        self.number = self.number.saturating_add(1);
+        Ok(())
+    }
+}
+
+impl Observer for Record {
+    ghost use Rattle.run_record.specs.RecordingLaws.{ticks_compose};
+    ghost use Rattle.run_record.specs.Recording.{HearsTicks};
+
+    ghost heard = { HearsTicks };
+
+    ghost room_left = { λ now. 18446744073709551616 };
+
+    ghost composes = { ticks_compose };
+
+    #[inline(always)]
+    fn note(&mut self, tick: Tick, accesses: u64, outcome: Outcome<()>, frame: &[u8]) {
+        let host = tick_host(tick);
+        note_outcome(self.hosts.as_mut_slice(), host, &outcome);
+        if note_put(&mut self.puts, host, self.number, &outcome, frame).is_err() {
+            self.failed = true;
+        }
+        if self.log.note(tick, accesses, &outcome, frame).is_err() {
+            self.failed = true;
+        }
+    }
+}
+
+impl RunObserver for Record {
+    ghost use Rattle.std.specs.Prelude.{⊤};
+    ghost use Rattle.run_record.specs.RecordingLaws.{record_composes};
+    ghost use Rattle.run_record.specs.Recording.{RecordsReplies};
+
+    ghost ran = { RecordsReplies };
+
+    ghost ready = { λ now event. ⊤ };
+
+    ghost refuses = { λ now event. ⊤ };
+
+    ghost composes_runs = { record_composes };
+
+    #[inline(always)]
+    fn make_room(&mut self, event: &Event, ticks: usize) -> bool {
+        !self.failed
+            && reserve_puts(&mut self.puts, ticks).is_ok()
+            && self.log.reserve(ticks).is_ok()
+            && (!matches!(event, Event::Recv { .. }) || self.returned.reserve(1).is_ok())
+    }
+
+    // The record changes as `NotesLine` and then `NotesAnswer` state. Then `number` grows by 1, unless it is the
+    // greatest `u64`.
+    #[inline(always)]
+    fn answer(&mut self, event: &Event, accesses: u64, answer: Answer<()>, frame: &[u8]) {
+        self.note_line(event, accesses, &answer, frame);
+        self.note_answer(event, &answer, frame);
+        self.number = self.number.saturating_add(1);
+    }
+}

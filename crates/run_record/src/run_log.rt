@@ -1,0 +1,233 @@
+//! The record of the answers of a run: the numbers of refused calls, and on request a line for each event and drain.
+ghost use Rattle.std.specs.Prelude.{◌≡◌, ◌<◌, ℕ, List, IfOk, OnErr, OnOk, map, string_bytes};
+ghost use Rattle.std.specs.Io.KnownBytes.{Appends};
+ghost use Rattle.adapter.specs.Outcomes.{with_frame};
+ghost use Rattle.network_plan.specs.Answers.{answer_with};
+ghost use Rattle.pcap_trace.specs.Devices.{AppendsFront, CountsFailures};
+ghost use Rattle.stations.specs.ToldTicks.{tick_told};
+ghost use Rattle.run_record.specs.EventLines.{no_lines, place_at};
+ghost use Rattle.run_record.specs.EventLogView.{plan_name};
+ghost use Rattle.run_record.specs.RunLogs.{act_drained, answered_log, log_ended, log_heard, new_log};
+
+use crate::event_text::{push_drain, push_line, push_told};
+use adapter::Outcome;
+use network_plan::{Answer, Event, HostPlan};
+use packet_socket::RecvError;
+use pcap_trace::{Sink, WriteError, write_all};
+use stations::Tick;
+use std::alloc::{AllocError, Global};
+use std::marker::Model;
+
+/// Room for a tick with its outcome, in bytes: more than the bytes of the longest name, two numbers and the words.
+const LONGEST_TOLD: usize = 96;
+
+/// Room for a line without its ticks, in bytes.
+const LONGEST_REST: usize = 192;
+
+/// A line for each event or drain that was played, in order. During an event, the log also contains the outcomes of the
+/// event's ticks so far.
+///
+/// In contracts, the value is a `LogState`: the names of the hosts, the outcomes, and the lines.
+#[derive(Drop)]
+pub struct EventLog {
+    names: Vec<String>,
+    outcomes: Vec<u8>,
+    text: Vec<u8>,
+}
+
+impl Model for EventLog {
+    ghost use Rattle.run_record.specs.EventLines.{LogState};
+
+    ghost Value = { LogState };
+
+    ghost use Rattle.run_record.specs.EventLogView.{log_state_of};
+
+    ghost view = { log_state_of };
+}
+
+/// Numbers of calls that were refused. Each saturates at the greatest `u64`.
+#[derive(Clone, Copy, Default)]
+pub struct Refusals {
+    /// Sends (E20 to E22).
+    pub sends: u64,
+    /// Joins and leaves (E23 to E26).
+    pub groups: u64,
+    /// Recvs from a socket that doesn't exist (E31).
+    pub sockets: u64,
+}
+
+/// The record of the answers of a run.
+#[derive(Drop)]
+pub struct RunLog {
+    /// The numbers of refused calls.
+    pub refusals: Refusals,
+    /// A line for each event and drain; `None` if lines aren't recorded.
+    pub lines: Option<EventLog>,
+}
+
+/// Returns the names of hosts, in order.
+fn names_of(alloc: Global, plans: &[HostPlan]) -> Result<Vec<String>, AllocError>
+    ensures { IfOk result (λ names. map string_bytes names.items ≡ map plan_name plans.now) }
+{
+    let mut names = Vec::new(alloc);
+    for plan in plans {
+        names.push(String::from_str(alloc, plan.name.as_str())?)?;
+    }
+    Ok(names)
+}
+
+impl EventLog {
+    /// Returns a log of these hosts without lines.
+    fn new(alloc: Global, plans: &[HostPlan]) -> Result<EventLog, AllocError>
+        ensures { IfOk result (λ log. log ≡ no_lines (map plan_name plans.now)) }
+    {
+        Ok(EventLog {
+            names: names_of(alloc, plans)?,
+            outcomes: Vec::new(alloc),
+            text: Vec::new(alloc),
+        })
+    }
+
+    /// Makes room for the line of an event with `ticks` ticks.
+    #[inline(never)]
+    fn reserve(&mut self, ticks: usize) -> Result<(), AllocError>
+        ensures { self.new ≡ self.old }
+    {
+        let outcomes = ticks.saturating_mul(LONGEST_TOLD);
+        self.outcomes.reserve(outcomes)?;
+        self.text.reserve(outcomes.saturating_add(LONGEST_REST))
+    }
+
+    /// Writes the lines to a sink. The line of an event is `EVENT line LINE CALL ANSWER accesses N`, followed by ` @N
+    /// TICK OUTCOME` for each tick, whose N is the number of accesses before the tick. The line of a drain is `EVENT
+    /// line LINE drain HOST ok N`. Allocates no memory.
+    ///
+    /// # Errors
+    ///
+    /// E67 [`Write`](WriteError::Write) if the sink fails; then it has a beginning of the text.
+    pub fn write<W: Sink>(&self, sink: &mut W) -> Result<(), WriteError>
+        requires { W.failures sink.old < u64.MAX }
+        ensures ok { OnOk result (Appends (W.taken sink.old) (W.taken sink.new) self.now.text) }
+        ensures err { OnErr result (AppendsFront (W.taken sink.old) (W.taken sink.new) self.now.text) }
+        ensures failures { CountsFailures result (W.failures sink.old) (W.failures sink.new) }
+    {
+        write_all(sink, self.text.as_slice())
+    }
+}
+
+impl RunLog {
+    /// Returns a log without answers. If `events` is true, a line is recorded for each event and drain.
+    pub(crate) fn new(alloc: Global, plans: &[HostPlan], events: bool) -> Result<RunLog, AllocError>
+        ensures { IfOk result (λ log. log ≡ new_log (map plan_name plans.now) events) }
+    {
+        let lines = if events {
+            Some(EventLog::new(alloc, plans)?)
+        } else {
+            None
+        };
+        Ok(RunLog {
+            refusals: Refusals::default(),
+            lines,
+        })
+    }
+
+    /// Makes room for the line of an event with `ticks` ticks, if lines are recorded.
+    #[inline(always)]
+    pub(crate) fn reserve(&mut self, ticks: usize) -> Result<(), AllocError>
+        ensures { self.new ≡ self.old }
+    {
+        match &mut self.lines {
+            Some(lines) => lines.reserve(ticks),
+            None => Ok(()),
+        }
+    }
+
+    /// Records the outcome of a tick, if lines are recorded.
+    #[inline(always)]
+    pub(crate) fn note(
+        &mut self,
+        tick: Tick,
+        accesses: u64,
+        outcome: &Outcome<()>,
+        frame: &[u8],
+    ) -> Result<(), AllocError>
+        ensures { OnOk result
+            (self.new ≡ log_heard self.old (tick_told tick accesses (with_frame frame.now outcome.now))) }
+    {
+        let Some(log) = &mut self.lines else {
+            return Ok(());
+        };
+        let names = log.names.as_slice();
+        push_told(&mut log.outcomes, names, tick, accesses, outcome, frame)
+    }
+
+    /// Counts an answer that refuses a send, a join or a leave, or that reports that a socket doesn't exist.
+    #[inline(always)]
+    fn count(&mut self, answer: &Answer<()>)
+        ensures { (frame : List ℕ) → self.new ≡ answered_log (answer_with frame answer.now) self.old }
+    {
+        let count = &mut self.refusals;
+        match answer {
+            Answer::Sent(Err(_)) => count.sends = count.sends.saturating_add(1),
+            Answer::Joined(Err(_)) | Answer::Left(Err(_)) => {
+                count.groups = count.groups.saturating_add(1);
+            }
+            Answer::Received(Err(RecvError::NoSocket)) => {
+                count.sockets = count.sockets.saturating_add(1);
+            }
+            _ => {}
+        }
+    }
+
+    /// Counts the answer of the event with this number if it is a refusal, and records the event's line if lines are
+    /// recorded. `line` is the number of the event's line in the scenario.
+    #[inline(always)]
+    pub(crate) fn end(
+        &mut self,
+        number: u64,
+        line: u64,
+        event: &Event,
+        accesses: u64,
+        answer: &Answer<()>,
+        frame: &[u8],
+    ) -> Result<(), AllocError>
+        ensures { OnOk result
+            (self.new
+            ≡ log_ended (place_at number line) event.now accesses (answer_with frame.now answer.now) self.old) }
+    {
+        self.count(answer);
+        let Some(log) = &mut self.lines else {
+            return Ok(());
+        };
+        push_line(
+            &mut log.text,
+            log.names.as_slice(),
+            number,
+            line,
+            event,
+            accesses,
+            answer,
+            frame,
+            log.outcomes.as_slice(),
+        )?;
+        log.outcomes.clear();
+        Ok(())
+    }
+
+    /// Records the line of the drain with this number, in which a host returned `count` frames, if lines are recorded.
+    pub(crate) fn drain(
+        &mut self,
+        number: u64,
+        line: u64,
+        host: usize,
+        count: usize,
+    ) -> Result<(), AllocError>
+        ensures { OnOk result (self.new ≡ act_drained (place_at number line) host count self.old) }
+    {
+        let Some(log) = &mut self.lines else {
+            return Ok(());
+        };
+        let names = log.names.as_slice();
+        push_drain(&mut log.text, names, number, line, host, count)
+    }
+}

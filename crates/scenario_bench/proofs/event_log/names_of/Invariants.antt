@@ -1,6 +1,0 @@
-use Rattle.std.proofs.Common.{◌≡◌, map, string_bytes, take}
-use Rattle.scenario_bench.specs.EventLogView.{plan_name}
-use Rattle.scenario_bench.proofs.event_log.names_of.Given as goal
-
-abbrev pub invariant-loop-plan : goal.invariant-loop-plan
-invariant-loop-plan l = map string_bytes l.names.items ≡ map plan_name (take l.plan-index l.plans)
