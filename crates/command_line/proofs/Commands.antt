@@ -1,4 +1,5 @@
--- If clap accepts the words, the subcommand is one of the program's five, and its required paths are given.
+-- The program as clap builds it. If clap accepts the words, the subcommand is one of the program's five, and its required paths are given.
+-- What clap's clauses state of the program, of its errors and of the subcommand that was entered.
 use Rattle.std.specs.List.{find, list_all, slice_index_or}
 use Rattle.std.specs.Option.{option_map, option_map_or}
 use Rattle.std.specs.Prelude.{Result, Ok, Err, IfErr, IsErrAnd, codes, is_some}
@@ -309,7 +310,7 @@ pub found_is : (a : App) (words : List Text) → a ≡ program_app → subcomman
 unfolding found_in
 found_is a words e = ap (λ (x : App). subcommand_of x words) e
 
--- the error made from clap's error is one of the same kinds
+-- if clap's error is that memory was refused, or of one of these kinds, the error made from it is `Memory`, or has clap's error
 pub refused_by : (kinds : Kinds) (error : Error) (made : LineError) → HasKind kinds error → IsMadeOf error made → IsRefusedBy kinds made
 refused_by kinds error Memory h m = tt
 refused_by kinds error (Value value) h m = absurd m

@@ -1,4 +1,4 @@
--- If no use of an argument has a fault, each row has a value.
+-- If no use of an argument has a fault, each row has a value, and each required argument is given.
 use Rattle.std.specs.List.{find, fold, list_all}
 use Rattle.std.specs.Option.{option_map_or}
 use Rattle.std.specs.Str.{bytes_eq}
@@ -101,7 +101,7 @@ some_values_keep : (id : Text) (how : Reading) (s : ValueSource) (values : List 
 some_values_keep id how s [] rows some h = absurd (true≢false (sym some))
 some_values_keep id how s (v ∷ vs) rows some h = with_values_keeps id how s v vs rows h
 
--- a flag used without values has the values for such a use
+-- if there are values for a use without values, each row has a value after the use of a flag
 flag_use_keeps : (a : Rule) (how : Reading) (s : ValueSource) (values : List Text) (rows : List Row) → nat_lt 0 (length a.missing) ≡ true
     → EachHasValue rows → EachHasValue (with_values a.id how s (values_or_missing a values) rows)
 flag_use_keeps a how s [] rows some h = some_values_keep a.id how s a.missing rows some h

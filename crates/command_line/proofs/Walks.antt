@@ -1,4 +1,4 @@
--- After a walk without faults each row has a value, and the subcommand isn't `help`.
+-- After a walk without faults each row has a value, and the subcommand isn't `help`, unless `help` is disabled.
 use Rattle.std.specs.List.{fold, list_all}
 use Rattle.std.specs.Option.{option_map_or}
 use Rattle.std.specs.Prelude.{codes, drop, encode_utf8, if◌then◌else◌, is_some, slice_get}
@@ -41,7 +41,7 @@ not_help true true k ks e d = absurd (cc)
 not_help true false k ks e d = some_kind k ks e
 
 module _ (s : Shape) (each : list_all gives s.rules ≡ true) where
-  -- after a step each row has a value, and the step isn't `help`
+  -- after a step each row has a value, and the step isn't `help`, unless `help` is disabled
   abbrev Keeps : Held × Step → Type 0
   Keeps p = EachHasValue p.0.rows × MeetsOther s.disable_help_subcommand p.1
 
@@ -221,7 +221,7 @@ module _ (s : Shape) (each : list_all gives s.rules ≡ true) where
 
   -- ---- a level
 
-  -- if a level has no fault, its walk, the subcommand, the argument that waits at the end, and the last checks have no fault
+  -- if a level has no fault, `IsGood` holds of its walk, each of its rows has a value, and the subcommand and the last checks have no fault
   pub level_walk : (names : Names) (words : List Text) (has : Bool) (below : Kinds) → level_fault s names nothing_held words has below ≡ []
       → IsGood (walk s.rules names nothing_held words)
   level_walk names words has below f =

@@ -113,7 +113,7 @@ IsJobOf found (Drive job) = (found.0 ≡ codes "drive") × IsDriveJobOf found.1 
 abbrev pub IsWithinBounds : PassFilter → Type 0
 IsWithinBounds filter = IfSome filter.group IsGroup × IfSome filter.vlan (λ n. n ≤ 4095)
 
--- bounds of a `serve` for any words: the packet buffer has an allowed size, and the link needs at least one tick or is never up
+-- bounds of a `serve` for any words: the receive packet buffer has an allowed size, and the link needs 1 to 65,535 ticks or is never up
 abbrev pub IsServable : ServeJob → Type 0
 IsServable job = IsKilobytes job.receive_kilobytes × IsLink job.link
 
@@ -204,17 +204,17 @@ pub record IsInvalidIn (rows : List Row) (value : InvalidValue) : Type 0 where
   pub given : first_of (name_of value.option) rows ≡ Some value.text.now
   pub unspelled : ¬ IsSpelled rows value.option value.text.now
 
--- the option is given, and its text doesn't have the option's form
+-- the option is given, and its text doesn't have the option's form, or the option excludes another option that is given
 pub record IsMisspelled (rows : List Row) (option : ValueOption) : Type 0 where
   pub text : Text
   pub given : first_of (name_of option) rows ≡ Some text
   pub unspelled : ¬ IsSpelled rows option text
 
--- the refused option is `option`, which is given, and its text doesn't have the option's form
+-- the refused option is `option`, and `IsMisspelled` holds of it
 abbrev pub IsMisspelledAs : ValueOption → List Row → ValueOption → Type 0
 IsMisspelledAs option rows refused = (refused ≡ option) × IsMisspelled rows refused
 
--- the option is one of the subcommand with this name, and its text doesn't have the option's form
+-- the subcommand with this name has the option, and `IsMisspelled` holds of the option
 abbrev pub IsMisspelledOf : Text → List Row → ValueOption → Type 0
 IsMisspelledOf name rows option = (has_option name option ≡ true) × IsMisspelled rows option
 

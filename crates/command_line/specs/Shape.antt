@@ -5,15 +5,15 @@ use Rattle.clap.specs.Kinds.{Kinds}
 use Rattle.clap.specs.Simple.{on_top}
 use Rattle.clap.specs.declared.builder.ArgAction.TheVariants as action
 
--- an option with one value, which has one name in the help text and may occur once
+-- an option that takes one value, and occurs at most once; its value has one name in the help text
 abbrev pub option_rule : Text → Rule
 option_rule name = record (new_rule name) { long = Some name; action = Some action.Set; value_names = 1 }
 
--- an option without a value, which may occur once
+-- an option that takes no value, and occurs at most once
 abbrev pub flag_rule : Text → Rule
 flag_rule name = record (new_rule name) { long = Some name; action = Some action.SetTrue }
 
--- an option with one value, which must occur once
+-- an option that takes one value, and occurs exactly once
 abbrev pub required_rule : Text → Rule
 required_rule name = record (option_rule name) { required = true }
 
@@ -56,7 +56,7 @@ drive_app =
     (option_rule (codes "buffers"))) (option_rule (codes "expect"))) (option_rule (codes "idle")))
     (required_rule (codes "send"))) (required_rule (codes "receive"))
 
--- the program, which has a version and requires a subcommand, and shows its help if there are no words
+-- the program, which has a version and requires a subcommand, and shows its help if no word follows its name
 unfoldable pub program_app : App
 unfolding pass_app run_app show_app serve_app drive_app
 program_app =
@@ -69,6 +69,6 @@ program_app =
 unfoldable pub refusals : List Text → Kinds
 refusals words = fault_of program_app words
 
--- the subcommand that clap finds in the words, and for each of its options and paths the texts
+-- the subcommand that clap finds in the words, and the texts of each of its options, flags and paths
 unfoldable pub found_in : List Text → Option (Text × List Row)
 found_in words = subcommand_of program_app words

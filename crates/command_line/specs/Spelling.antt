@@ -1,5 +1,5 @@
--- The texts that spell a group, a number, a VLAN, the kilobytes of a packet buffer, and a link. All of this is our choice, except the
--- group bit, the width of a VLAN identifier and the possible numbers of kilobytes.
+-- The texts that spell the values of options: groups, numbers and links. All of this is our choice, except the group bit, the width of a
+-- VLAN identifier and the possible numbers of kilobytes.
 use Rattle.std.specs.Prelude.{⊤, ◌≡◌, ◌<◌, ◌≤◌, ◌%◌, ◌^◌, ℕ, List, Some, codes, slice_index, IsBitSet}
 use Rattle.text.specs.Addresses.{SpellsAddress}
 use Rattle.text.specs.Numbers.{number_in, number_spelled}
@@ -20,7 +20,7 @@ SpellsGroup text address = SpellsAddress text address × IsGroup address
 abbrev pub SpellsDecimal : Text → ℕ → Type 0
 SpellsDecimal text n = number_in 10 64 text ≡ Some n
 
--- a number of 12 bits, as VLAN identifiers have (IEEE 802.1Q 9.6)
+-- a decimal number of 12 bits, as VLAN identifiers have (IEEE 802.1Q 9.6)
 abbrev pub SpellsVlan : Text → ℕ → Type 0
 SpellsVlan text n = SpellsDecimal text n × (n ≤ 4095)
 
@@ -28,11 +28,11 @@ SpellsVlan text n = SpellsDecimal text n × (n ≤ 4095)
 abbrev pub SpellsWord : Text → ℕ → Type 0
 SpellsWord text n = number_spelled text ≡ Some n
 
--- a count of 32 bits
+-- a decimal count of 32 bits
 abbrev pub SpellsCount : Text → ℕ → Type 0
 SpellsCount text n = SpellsDecimal text n × (n < 2 ^ 32)
 
--- a number of descriptors in a ring, or of receive buffers, of 16 bits
+-- a decimal number of 16 bits: of descriptors in a ring, or of receive buffers
 abbrev pub SpellsRingSize : Text → ℕ → Type 0
 SpellsRingSize text n = SpellsDecimal text n × (n < 2 ^ 16)
 

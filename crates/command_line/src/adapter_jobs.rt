@@ -35,8 +35,8 @@ fn image<'a>(matches: &ArgMatches<'a>) -> Result<ServeImage<'a>, ValueOption>
     }
 }
 
-/// Returns when the link of the served adapter is up: after one tick if `--link` isn't given. Fails if the text of
-/// `--link` doesn't have the option's form.
+/// Returns the value of `--link`: the ticks of the PHY after which the link of the served adapter is up, or never. If
+/// `--link` isn't given, this is one tick. Fails if the text of `--link` doesn't have the option's form.
 fn link(matches: &ArgMatches<'_>) -> Result<ServeLink, ValueOption>
     ensures value { IfOk result (IsValueOr SpellsLink (After 1) (text_in matches.now (codes "link"))) }
     ensures refused { IfErr result (IsMisspelledOf (codes "serve") (rows_of (found_of matches.now))) }

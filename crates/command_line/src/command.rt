@@ -3,7 +3,6 @@ ghost use Rattle.std.specs.Prelude.{◌≡◌, IfOk, false, map};
 ghost use Rattle.clap.specs.Words.{app_of, rule_of};
 ghost use Rattle.clap.specs.declared.builder.command.Command.TheViews.{out-Command as fields_of};
 ghost use Rattle.command_line.specs.Arguments.{app_for, bare_app, is_required_form, rule_for, with_subcommands};
-ghost use Rattle.command_line.specs.Shape.{program_app};
 
 use crate::help::*;
 use clap::{Arg, ArgAction, Command};
@@ -11,7 +10,7 @@ use std::alloc::{AllocError, Global};
 
 /// The form of an argument.
 #[derive(Clone, Copy)]
-enum Form<'a> {
+pub(crate) enum Form<'a> {
     /// An option `--NAME VALUE`, used at most once. The string is the name of the value in help.
     Value(&'a str),
     /// An option `--NAME VALUE`, used exactly once. The string is the name of the value in help.
@@ -24,12 +23,11 @@ enum Form<'a> {
 
 /// An argument of a command: its name, its form, and its help.
 #[derive(Clone, Copy)]
-struct Argument<'a>(&'a str, Form<'a>, &'a str);
+pub(crate) struct Argument<'a>(&'a str, Form<'a>, &'a str);
 
-/// The program or a subcommand: its name, the first line of its help, the text of its help after the options, and its
-/// arguments.
+/// A subcommand: its name, the first line of its help, the text of its help after the options, and its arguments.
 #[derive(Clone, Copy)]
-struct Subcommand<'a>(&'a str, &'a str, &'a str, &'a [Argument<'a>]);
+pub(crate) struct Subcommand<'a>(&'a str, &'a str, &'a str, &'a [Argument<'a>]);
 
 /// Returns whether an argument of this form is required.
 fn is_required(form: Form<'_>) -> bool
@@ -63,7 +61,10 @@ fn clap_command<'a>(alloc: Global, subcommand: &Subcommand<'a>) -> Result<Comman
     let Subcommand(name, about, note, arguments) = *subcommand;
     let mut command = Command::new(alloc, name).about(about).after_help(note);
     for argument in arguments {
-        command = command.arg(clap_argument(alloc, argument))?;
+        let Ok(longer) = command.arg(clap_argument(alloc, argument)) else {
+            return Err(AllocError);
+        };
+        command = longer;
     }
     Ok(command)
 }
@@ -112,10 +113,8 @@ const DRIVE_ARGUMENTS: [Argument<'static>; 9] = [
     Argument("receive", Form::Required("OUT"), RECEIVE_HELP),
 ];
 
-const PROGRAM: Subcommand<'static> = Subcommand("nicbench", PROGRAM_ABOUT, PROGRAM_NOTE, &[]);
-
 /// The commands, and the arguments of each, in the order of help.
-const SUBCOMMANDS: [Subcommand<'static>; 5] = [
+pub(crate) const SUBCOMMANDS: [Subcommand<'static>; 5] = [
     Subcommand("pass", PASS_ABOUT, PASS_NOTE, &PASS_ARGUMENTS),
     Subcommand("run", RUN_ABOUT, RUN_NOTE, &RUN_ARGUMENTS),
     Subcommand("show", SHOW_ABOUT, SHOW_NOTE, &SHOW_ARGUMENTS),
@@ -124,21 +123,20 @@ const SUBCOMMANDS: [Subcommand<'static>; 5] = [
 ];
 
 /// Returns the program without its subcommands.
-fn bare_program<'a>(alloc: Global) -> Result<Command<'a>, AllocError>
-    ensures app { IfOk result (λ command. app_of command ≡ bare_app) }
-    ensures local { IfOk result (λ command. (fields_of command).has_globals ≡ false) }
+fn bare_program<'a>(alloc: Global) -> Command<'a>
+    ensures app { app_of result ≡ bare_app }
+    ensures local { (fields_of result).has_globals ≡ false }
 {
-    let command = clap_command(alloc, &PROGRAM)?;
-    Ok(
-        command
-            .version(VERSION)
-            .subcommand_required(true)
-            .arg_required_else_help(true),
-    )
+    Command::new(alloc, "nicbench")
+        .about(PROGRAM_ABOUT)
+        .after_help(PROGRAM_NOTE)
+        .version(VERSION)
+        .subcommand_required(true)
+        .arg_required_else_help(true)
 }
 
 /// Returns the program with these subcommands.
-fn program_with<'a>(
+pub(crate) fn program_with<'a>(
     alloc: Global,
     subcommands: &[Subcommand<'a>],
 ) -> Result<Command<'a>, AllocError>
@@ -146,18 +144,15 @@ fn program_with<'a>(
         ≡ with_subcommands bare_app (map app_for subcommands.now)) }
     ensures local { IfOk result (λ command. (fields_of command).has_globals ≡ false) }
 {
-    let mut program = bare_program(alloc)?;
+    let mut program = bare_program(alloc);
     for subcommand in subcommands {
-        let command = clap_command(alloc, subcommand)?;
-        program = program.subcommand(command)?;
+        let Ok(command) = clap_command(alloc, subcommand) else {
+            return Err(AllocError);
+        };
+        let Ok(larger) = program.subcommand(command) else {
+            return Err(AllocError);
+        };
+        program = larger;
     }
     Ok(program)
-}
-
-/// Returns the program with its subcommands.
-pub(crate) fn program<'a>(alloc: Global) -> Result<Command<'a>, AllocError>
-    ensures app { IfOk result (λ command. app_of command ≡ program_app) }
-    ensures local { IfOk result (λ command. (fields_of command).has_globals ≡ false) }
-{
-    program_with(alloc, &SUBCOMMANDS)
 }

@@ -82,7 +82,7 @@ impl fmt::Display for InvalidValue<'_> {
 }
 
 /// Returns the end of an error's first line, after the option's name: the name of the option's value in help, and
-/// which values are valid.
+/// which values are valid, or for `--image` why it was refused.
 fn form_of(option: ValueOption) -> &'static str {
     match option {
         ValueOption::Address =>

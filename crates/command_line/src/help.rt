@@ -331,7 +331,7 @@ pub(crate) const BUFFERS_HELP: &str = "Receive buffers, from --rx to 8192 [512]"
 pub(crate) const EXPECT_HELP: &str = "Stop after N frames were received; status 1 if fewer were";
 
 pub(crate) const IDLE_HELP: &str =
-    "Stop after N calls of the handler in a row that received no frame";
+    "Most calls in a row without a frame received or passed to the driver";
 
 pub(crate) const DRIVE_NOTE: &str =
     "The driver initializes the adapter, sends the frames of IN, and writes received frames to OUT. Each
@@ -341,9 +341,11 @@ your own. This script joins drive with QEMU:
 
   $ examples/emulators/qemu.py
 
-drive ends after N frames were received (--expect), or after N calls of the handler in a row in
-which no frame was received and none was accepted for sending (--idle, 1000 by default). At the end
-it prints its counts on standard error:
+When all frames of IN were passed to the driver, drive ends after N frames were received in all
+(--expect), or after N calls of the handler in a row that received no frame (--idle, 1000 by
+default). While the transmit ring is full, drive calls the handler, too: after N such calls in a row
+(--idle), it sends no more frames, and ends as above. At the end it prints its counts on standard
+error:
 
   sent 10000 illegal 0 received 10000 missed 0 exact
 

@@ -1,6 +1,7 @@
 //! The jobs that a command line can ask for.
 
-/// A job of the program.
+/// A job of the program. The path `-` means standard input as an input, except for `drive` and `--schedule`, and
+/// standard output as OUT of `pass` or the file of `--events`.
 #[derive(Clone, Copy)]
 pub enum Job<'a> {
     /// `pass`: the frames of a trace go through a receive filter and a ring to another trace.
@@ -8,7 +9,7 @@ pub enum Job<'a> {
     /// `run`: runs a scenario, and writes the frames that its sockets returned to traces, on request also the frames on
     /// its wires.
     Run(RunJob<'a>),
-    /// `show`: the frames of a trace are listed.
+    /// `show`: lists the frames of a trace.
     Show(ShowJob<'a>),
     /// `serve`: an adapter answers requests.
     Serve(ServeJob<'a>),
@@ -71,11 +72,11 @@ pub struct ServeJob<'a> {
     pub registers: u64,
     /// The contents of the adapter's EEPROM (`--address`, `--image`, an image of 02:00:00:00:00:01).
     pub image: ServeImage<'a>,
-    /// The number of ticks until the link is up (`--link`; by default one tick).
+    /// When the link is up (`--link`, after one tick).
     pub link: ServeLink,
     /// The kilobytes of the adapter's receive packet buffer, an even number from 2 to 48 (`--rxa`, 48).
     pub receive_kilobytes: u8,
-    /// The seed from which interleaved steps are drawn (`--seed`, 0).
+    /// The seed of all random numbers after a request `interleave` (`--seed`, 0).
     pub seed: u64,
     /// The count of missed frames (MPC) that the adapter begins with (`--missed`, 0).
     pub missed: u32,
@@ -85,7 +86,7 @@ pub struct ServeJob<'a> {
     pub record: Option<&'a str>,
 }
 
-/// The job of `drive`. Addresses and sizes that aren't given have their defaults here.
+/// The job of `drive`. An option that isn't given has its default here, or is `None`.
 #[derive(Clone, Copy)]
 pub struct DriveJob<'a> {
     /// The address of the first byte of registers (`--registers`, 0xFEB00000).
@@ -102,10 +103,10 @@ pub struct DriveJob<'a> {
     pub send: &'a str,
     /// The path of the trace that received frames are written into, OUT (`--receive`).
     pub receive: &'a str,
-    /// The number of received frames after which the run ends (`--expect`).
+    /// The number of received frames after which `drive` ends once it sends no more frames (`--expect`).
     pub expect: Option<u64>,
-    /// The run ends after this number of calls of the handler in a row in which no frame was received or passed to the
-    /// driver (`--idle`).
+    /// The number of calls of the handler in a row, without a frame received or passed to the driver, after which
+    /// `drive` sends no more frames, or ends if it already sends no more (`--idle`).
     pub idle: Option<u64>,
 }
 

@@ -19,10 +19,10 @@ pub struct DriveLimits {
     /// The number of received frames after which the drive ends, once it sends no more frames. If it is `None`, only
     /// `idle` ends the drive.
     pub expect: Option<u64>,
-    /// The number of turns in a row in which no frame was received or passed to the driver, after which the drive ends.
-    /// A turn calls the interrupt handler, and takes the received frames. If the transmit ring is full during this
-    /// number of such turns, the drive sends no more frames. It then ends after this number of further turns in a row
-    /// without a received frame.
+    /// The number of turns in a row, without a frame received or passed to the driver, after which the drive ends. A
+    /// turn calls the interrupt handler, and takes the received frames. If the transmit ring was full before the last
+    /// of these turns, the drive doesn't end, but sends no more frames. It then ends after this number of further turns
+    /// in a row without a received frame.
     pub idle: u64,
 }
 

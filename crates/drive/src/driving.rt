@@ -1,4 +1,4 @@
-// Sends the frames of a list, and receives frames.
+// A drive: initializes an adapter, sends the frames of a list, and receives frames.
 
 ghost use Rattle.std.specs.Prelude.{◌≡◌, ◌<◌, ◌≤◌, [], IfOk, OnOk};
 ghost use Rattle.std.specs.Io.KnownBytes.{append_known};
@@ -63,8 +63,8 @@ fn reason(fault: Option<BusFault>, error: InitError) -> DriveError {
 }
 
 impl Exchange {
-    /// Makes turns until the number of frames in `limits.expect` was received, if there is one, or no frame was
-    /// received in `limits.idle` turns in a row.
+    /// Makes turns until the number of frames in `limits.expect` was received, if there is one, or `quiet` is at least
+    /// `limits.idle`.
     fn wait<B: WatchedBus, S: Sink>(
         &mut self,
         bus: &mut B,
@@ -89,9 +89,9 @@ impl Exchange {
     }
 }
 
-/// Initializes an adapter with these rings, sends the frames of a list, and receives frames until `limits` are met. The
-/// frames received are written to `sink`, as a trace. The time of each frame in microseconds is the frame's number,
-/// from 0 on.
+/// Initializes an adapter with these rings, sends the frames of a list, and receives frames, until an end that `limits`
+/// determines. The frames received are written to `sink`, as a trace. The time of each frame in microseconds is the
+/// frame's number, from 0 on.
 ///
 /// The frames are passed to the driver in order, each at most once. While its transmit ring is full, and after the last
 /// frame, the handler is called repeatedly. Each call reads ICR, so the bus needn't report the interrupt line. While

@@ -67,8 +67,8 @@ impl Exchange {
         error != SendError::RingFull
     }
 
-    /// Passes a frame to the driver, and makes turns while the transmit ring is full. Returns `false` after `idle`
-    /// turns in a row in which no frame was received or passed, if the ring was full before the last of these turns.
+    /// Passes a frame to the driver, and makes turns while the transmit ring is full. Returns `false` after a turn
+    /// before which the ring was full, if `quiet` is then at least `idle`. Otherwise returns `true`.
     fn send<B: WatchedBus, S: Sink>(
         &mut self,
         bus: &mut B,
@@ -117,8 +117,8 @@ impl Exchange {
         self.turn(bus, sink)
     }
 
-    /// Passes the frames of a list to the driver, in order, until `send` returns `false`. After each frame, makes a
-    /// turn if the interrupt line is asserted.
+    /// Passes the frames of a list to the driver, in order, until `send` returns `false`. After each frame that was
+    /// passed, makes a turn if the interrupt line is asserted.
     pub(crate) fn send_all<B: WatchedBus, S: Sink>(
         &mut self,
         bus: &mut B,

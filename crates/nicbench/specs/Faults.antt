@@ -1,7 +1,10 @@
--- The exit status of the program after a fault (our choice: 4 if memory is refused; 3 if a file or a stream can't be opened, read or
--- written, is too long, or is used twice; 1 for every other fault, such as an input that is refused).
-use Rattle.std.specs.Prelude.{ℕ}
+-- The exit status of the program after a fault, and what is printed with the fault's code (our choice). The status is 4 if memory is
+-- refused; 3 if a file or a stream can't be opened, read or written, is too long, or is used twice; 1 for every other fault, such as an
+-- input that is refused.
+use Rattle.std.specs.Prelude.{◌≡◌, ◌⊎◌, ℕ, List, string_bytes}
+use Rattle.adapter_server.specs.declared.serve_error.ServeError.{ServeError}
 use Rattle.adapter_server.specs.declared.serve_error.ServeError.TheVariants as server
+use Rattle.drive.specs.declared.drive_error.DriveError.{DriveError}
 use Rattle.drive.specs.declared.drive_error.DriveError.TheVariants as drive
 use Rattle.network_plan.specs.declared.plan_error.PlanError.{PlanError}
 use Rattle.network_plan.specs.declared.plan_error.PlanError.TheVariants as plan
@@ -13,13 +16,34 @@ use Rattle.program_files.specs.declared.file_error.FileError.{FileError}
 use Rattle.program_files.specs.declared.file_error.FileError.TheVariants as files
 use Rattle.qtest_bus.specs.declared.bus_fault.BusFault.{BusFault}
 use Rattle.qtest_bus.specs.declared.bus_fault.BusFault.TheVariants as bus
+use Rattle.scenario.specs.declared.refusal.Refusal.{Refusal}
 use Rattle.scenario.specs.declared.refusal.Refusal.TheVariants as refusals
+use Rattle.scenario_bench.specs.declared.bench_error.BenchError.{BenchError}
 use Rattle.scenario_bench.specs.declared.bench_error.BenchError.TheVariants as bench
 use Rattle.step_schedules.specs.declared.schedule_error.ScheduleError.{ScheduleError}
 use Rattle.step_schedules.specs.declared.schedule_error.ScheduleError.TheVariants as schedules
+use Rattle.nicbench.specs.declared.fault.Detail.{Detail}
+use Rattle.nicbench.specs.declared.fault.Detail.TheVariants as details
+use Rattle.nicbench.specs.declared.fault.Failure.{Failure}
+use Rattle.nicbench.specs.declared.fault.Failure.TheVariants as failures
 use Rattle.nicbench.specs.declared.fault.Fault.{Fault}
-use Rattle.nicbench.specs.declared.fault.Fault.TheVariants as faults
 
+abbrev pub IsFault : ℕ → Detail → Fault → Type 0
+IsFault status detail fault = (fault.code.status ≡ status) × (fault.detail ≡ detail)
+
+abbrev pub nothing : Detail
+nothing = details.Nothing
+
+abbrev pub IsPath : List ℕ → Detail → Type 0
+IsPath path (details.Path text) = string_bytes text ≡ path
+IsPath path _ = ⊥
+
+-- the fault of a file that is used twice, with its path; or memory for the path was refused
+abbrev pub IsSameFile : List ℕ → Fault → Type 0
+IsSameFile path fault =
+    ((fault.code.status ≡ 3) × IsPath path fault.detail) ⊎ IsFault 4 nothing fault
+
+-- the status of an input that isn't a trace or can't be read
 abbrev pub status_of_input : ReadError → ℕ
 status_of_input input.Memory = 4
 status_of_input input.Read = 3
@@ -35,48 +59,68 @@ status_of_bus bus.Answer = 1
 status_of_bus bus.Read = 3
 status_of_bus bus.Write = 3
 
-abbrev pub status_of : Fault → ℕ
-status_of (faults.Input error path) = status_of_input error
-status_of faults.TraceMemory = 4
-status_of faults.Pipe = 3
-status_of faults.Write = 3
-status_of (faults.Open path) = 3
-status_of (faults.SameFile path) = 3
-status_of (faults.Scenario (refusals.Line line fault)) = 1
-status_of (faults.Scenario refusals.Memory) = 4
-status_of (faults.Bench (bench.Plan error)) = status_of_plan error
-status_of (faults.Bench (bench.Run stopped)) = 4
-status_of (faults.Bench bench.Memory) = 4
-status_of (faults.Bench (bench.Write error)) = 3
-status_of (faults.Serve server.Memory) = 4
-status_of (faults.Serve server.Read) = 3
-status_of (faults.Serve server.Write) = 3
-status_of (faults.Drive drive.Memory) = 4
-status_of (faults.Drive (drive.Init error)) = 1
-status_of (faults.Drive (drive.Bus fault)) = status_of_bus fault
-status_of (faults.Drive drive.Write) = 3
-status_of faults.Fewer = 1
-status_of faults.Image = 1
-status_of (faults.Schedule error) = 1
-status_of faults.Options = 1
-status_of faults.Unmet = 1
-status_of faults.Memory = 4
+abbrev pub status_of_file : FileError → ℕ
+status_of_file (files.Open path) = 3
+status_of_file (files.Input error path) = status_of_input error
+status_of_file files.TraceMemory = 4
+status_of_file files.Pipe = 3
+status_of_file files.Memory = 4
 
--- the fault of a text that isn't read as a schedule
-abbrev pub schedule_fault : ScheduleError → Fault
-schedule_fault (schedules.Line line fault) = faults.Schedule (schedules.Line line fault)
-schedule_fault schedules.Text = faults.Schedule schedules.Text
-schedule_fault schedules.Memory = faults.Memory
+abbrev pub status_of_pass : PassError → ℕ
+status_of_pass pass.Memory = 4
+status_of_pass pass.Write = 3
 
--- the fault of an input or an output that can't be used
-abbrev pub file_fault : FileError → Fault
-file_fault (files.Open path) = faults.Open path
-file_fault (files.Input error path) = faults.Input error path
-file_fault files.TraceMemory = faults.TraceMemory
-file_fault files.Pipe = faults.Pipe
-file_fault files.Memory = faults.Memory
+abbrev pub status_of_refusal : Refusal → ℕ
+status_of_refusal (refusals.Line line fault) = 1
+status_of_refusal refusals.Memory = 4
 
--- the fault of a `pass` that failed
-abbrev pub pass_fault : PassError → Fault
-pass_fault pass.Memory = faults.Memory
-pass_fault pass.Write = faults.Write
+abbrev pub status_of_bench : BenchError → ℕ
+status_of_bench (bench.Plan error) = status_of_plan error
+status_of_bench (bench.Run stopped) = 4
+status_of_bench bench.Memory = 4
+status_of_bench (bench.Write error) = 3
+
+abbrev pub status_of_serve : ServeError → ℕ
+status_of_serve server.Memory = 4
+status_of_serve server.Read = 3
+status_of_serve server.Write = 3
+
+abbrev pub status_of_drive : DriveError → ℕ
+status_of_drive drive.Memory = 4
+status_of_drive (drive.Init error) = 1
+status_of_drive (drive.Bus fault) = status_of_bus fault
+status_of_drive drive.Write = 3
+
+abbrev pub status_of_schedule : ScheduleError → ℕ
+status_of_schedule (schedules.Line line fault) = 1
+status_of_schedule schedules.Text = 1
+status_of_schedule schedules.Memory = 4
+
+abbrev pub detail_of_failure : Failure → Detail
+detail_of_failure failures.Options = details.Options
+detail_of_failure _ = nothing
+
+abbrev pub detail_of_file : FileError → Detail
+detail_of_file (files.Open path) = details.Path path
+detail_of_file (files.Input error path) = details.Input path
+detail_of_file _ = nothing
+
+abbrev pub detail_of_refusal : Refusal → Detail
+detail_of_refusal (refusals.Line line fault) = details.Line line
+detail_of_refusal refusals.Memory = nothing
+
+abbrev pub detail_of_plan : PlanError → Detail
+detail_of_plan (plan.Init host reason) = details.Reason reason
+detail_of_plan _ = nothing
+
+abbrev pub detail_of_bench : BenchError → Detail
+detail_of_bench (bench.Plan error) = detail_of_plan error
+detail_of_bench _ = nothing
+
+abbrev pub detail_of_drive : DriveError → Detail
+detail_of_drive (drive.Init reason) = details.Reason reason
+detail_of_drive _ = nothing
+
+abbrev pub detail_of_schedule : ScheduleError → Detail
+detail_of_schedule schedules.Memory = nothing
+detail_of_schedule error = details.Schedule error

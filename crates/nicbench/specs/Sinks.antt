@@ -3,7 +3,7 @@ use Rattle.std.specs.Prelude.{ℕ, List, length}
 use Rattle.network_plan.specs.declared.plan.HostPlan.{HostPlan}
 use Rattle.scenario.specs.SoFar.{hosts_of}
 use Rattle.scenario_bench.specs.Given.{sockets_from}
-use Rattle.scenario_bench.specs.Puts.{wire_names}
+use Rattle.scenario_bench.specs.WireLists.{wire_names}
 
 abbrev pub sockets_in : List HostPlan → ℕ
 sockets_in plans = length (sockets_from 0 (hosts_of plans))

@@ -1,12 +1,13 @@
 //! The command `drive`.
 ghost use Rattle.std.specs.Prelude.{◌<◌};
 
-use crate::fault::Fault;
+use crate::fault::{Failure, Fault};
 use command_line::DriveJob;
 use drive::{DriveCounts, DriveLimits, DriveRings, drive};
 use pcap_bench::{Frames, Sink, Trace};
 use program_files::{FileError, create, read_trace};
 use qtest_bus::QtestBus;
+use std::alloc::AllocError;
 use std::io::{self, BufReader};
 
 /// The limit of turns in a row without a frame ([`DriveLimits`]), if `--idle` isn't given.
@@ -23,7 +24,7 @@ fn drive_adapter<S: Sink>(
     requires { S.failures sink.old < u64.MAX }
 {
     let Ok(input) = BufReader::new(rt.alloc(), rt.reader()) else {
-        return Err(Fault::Memory);
+        return Err(Fault::from(AllocError));
     };
     let mut bus = QtestBus::new(rt.alloc(), input, io::writer(rt), job.registers, job.memory);
     let rings = DriveRings {
@@ -37,20 +38,8 @@ fn drive_adapter<S: Sink>(
     };
     match drive(rt.alloc(), &mut bus, frames, &rings, &limits, sink) {
         Ok(counts) => Ok(counts),
-        Err(error) => Err(Fault::Drive(error)),
+        Err(error) => Err(Fault::from(error)),
     }
-}
-
-/// Sends these frames and writes OUT. Returns the counts, and whether all frames were passed to the driver and the
-/// expected number, if any, was received.
-fn exchange_frames(
-    rt: &HostRuntime,
-    job: &DriveJob<'_>,
-    frames: &Frames,
-) -> Result<(DriveCounts, bool), Fault> {
-    let mut sink = create(rt, job.receive)?;
-    let counts = drive_adapter(rt, job, frames, &mut sink)?;
-    Ok((counts, counts.is_all(frames.len() as u64, job.expect)))
 }
 
 /// Reads a trace from a file or a pipe with a path. The path `-` is refused, because the adapter's answers are read
@@ -67,7 +56,10 @@ fn read_file_trace(rt: &HostRuntime, path: &str) -> Result<Trace, FileError> {
 /// expected number, if any, was received.
 fn exchange(rt: &HostRuntime, job: &DriveJob<'_>) -> Result<(DriveCounts, bool), Fault> {
     let trace = read_file_trace(rt, job.send)?;
-    exchange_frames(rt, job, &trace.frames)
+    let mut sink = create(rt, job.receive)?;
+    let counts = drive_adapter(rt, job, &trace.frames, &mut sink)?;
+    let frames = trace.frames.len() as u64;
+    Ok((counts, counts.is_all(frames, job.expect)))
 }
 
 /// Runs `drive`. Writes its counts to standard error, because it writes requests to standard output. Fails if not all
@@ -85,5 +77,9 @@ pub(crate) fn run_drive(rt: &HostRuntime, job: &DriveJob<'_>) -> Result<(), Faul
     let _ = eprintln!(rt;
         "sent {sent} illegal {illegal} received {received} missed {missed} {exact}"
     );
-    if is_all { Ok(()) } else { Err(Fault::Fewer) }
+    if is_all {
+        Ok(())
+    } else {
+        Err(Fault::from(Failure::Fewer))
+    }
 }

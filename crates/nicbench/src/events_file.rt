@@ -47,40 +47,20 @@ fn is_in_folder(
     Ok(false)
 }
 
-/// Returns whether a path is that of a socket's file in OUTDIR.
-fn is_socket_file(
-    rt: &HostRuntime,
-    path: &str,
-    job: &RunJob<'_>,
-    plans: &[HostPlan],
-) -> Result<bool, AllocError> {
-    let names = socket_files(rt.alloc(), plans)?;
-    is_in_folder(rt, path, job.directory, names.as_slice())
-}
-
-/// Returns whether a path is that of a wire's file in OUTDIR. Returns false if the job doesn't ask for the files of
-/// wires.
-fn is_wire_file(
-    rt: &HostRuntime,
-    path: &str,
-    job: &RunJob<'_>,
-    plans: &[HostPlan],
-) -> Result<bool, AllocError> {
-    let names = wire_files(rt.alloc(), job, plans)?;
-    is_in_folder(rt, path, job.directory, names.as_slice())
-}
-
-/// Returns whether a path is that of a file that a run writes in OUTDIR.
+/// Returns whether a path is that of a file that a run writes in OUTDIR: the file of a socket, or of a wire if the job
+/// asks for the files of wires.
 fn is_written(
     rt: &HostRuntime,
     path: &str,
     job: &RunJob<'_>,
     plans: &[HostPlan],
 ) -> Result<bool, AllocError> {
-    if is_socket_file(rt, path, job, plans)? {
+    let sockets = socket_files(rt.alloc(), plans)?;
+    if is_in_folder(rt, path, job.directory, sockets.as_slice())? {
         return Ok(true);
     }
-    is_wire_file(rt, path, job, plans)
+    let wires = wire_files(rt.alloc(), job, plans)?;
+    is_in_folder(rt, path, job.directory, wires.as_slice())
 }
 
 /// Refuses a path if it is that of a file that a run writes in OUTDIR.

@@ -1,14 +1,13 @@
 //! Why the program ended.
 ghost use Rattle.std.specs.Prelude.{◌≡◌};
-ghost use Rattle.nicbench.specs.Faults.{file_fault, pass_fault, schedule_fault, status_of, status_of_bus};
-ghost use Rattle.nicbench.specs.Faults.{status_of_input, status_of_plan};
-ghost use Rattle.nicbench.specs.declared.fault.Fault.TheVariants as faults;
+ghost use Rattle.nicbench.specs.Faults as spec;
 
 use crate::codes::{
     Code, E40, E41, E42, E43, E44, E45, E46, E47, E50, E51, E52, E53, E54, E55, E56, E57, E58, E59,
     E60, E61, E62, E63, E64, E65, E66, E67, E68, E69, E70, E71, E72, E73,
 };
 use adapter_server::ServeError;
+use bring_up::InitError;
 use drive::DriveError;
 use network_plan::PlanError;
 use pcap_bench::{PassError, ReadError, WriteError};
@@ -22,45 +21,48 @@ use step_schedules::ScheduleError;
 
 /// Why the program ended.
 #[derive(Drop)]
-pub(crate) enum Fault {
-    /// The input at this path was refused, or couldn't be read.
-    Input(ReadError, String),
-    /// Memory was refused while a trace was read.
-    TraceMemory,
-    /// Standard input or a pipe has more bytes than the program reads.
-    Pipe,
-    /// A file or standard output couldn't be written.
-    Write,
-    /// The file at this path couldn't be opened or created, or the program doesn't accept it.
-    Open(String),
-    /// The file of `--events`, at this path, is also a file that the run reads, or a file that the run writes in
-    /// OUTDIR.
-    SameFile(String),
-    /// A scenario was refused.
-    Scenario(Refusal),
-    /// The plan of a scenario was refused, or the run of the scenario failed.
-    Bench(BenchError),
-    /// A server ended before its input did.
-    Serve(ServeError),
-    /// `drive` failed.
-    Drive(DriveError),
+pub(crate) struct Fault {
+    /// The code, with the exit status.
+    pub(crate) code: Code,
+    /// What is printed with the code.
+    detail: Detail,
+}
+
+/// What the program prints with a code.
+#[derive(Drop)]
+pub(crate) enum Detail {
+    /// Nothing.
+    Nothing,
+    /// The number of the line of a scenario that was refused, from 1.
+    Line(usize),
+    /// Why an adapter wasn't initialized.
+    Reason(InitError),
+    /// The path of a file that couldn't be opened or created, or that the program doesn't accept.
+    Path(String),
+    /// The path of an input that was refused or couldn't be read. It isn't printed with the code, but in the advice.
+    Input(String),
+    /// Why a text isn't a schedule.
+    Schedule(ScheduleError),
+    /// The word `options`: a schedule is for an adapter with other options.
+    Options,
+}
+
+/// A failure that no library reports.
+#[derive(Clone, Copy)]
+pub(crate) enum Failure {
     /// `drive` ended before all frames were passed to the driver, or before the expected number, if any, was received.
     Fewer,
     /// The image of an EEPROM doesn't have 128 bytes.
     Image,
-    /// A text isn't a schedule.
-    Schedule(ScheduleError),
     /// A schedule is for an adapter with other options.
     Options,
     /// Deviations of a schedule weren't met.
     Unmet,
-    /// Memory was refused, and no other variant states when.
-    Memory,
 }
 
 /// Returns the code of an input that was refused or couldn't be read.
 fn input_code(error: ReadError) -> Code
-    ensures { result.status ≡ status_of_input error }
+    ensures { result.status ≡ spec.status_of_input error }
 {
     match error {
         ReadError::Header => E60,
@@ -90,7 +92,7 @@ fn line_code(fault: LineFault) -> Code
 
 /// Returns the code of an error for which no network was made from a plan.
 fn plan_code(error: PlanError) -> Code
-    ensures { result.status ≡ status_of_plan error }
+    ensures { result.status ≡ spec.status_of_plan error }
 {
     match error {
         PlanError::Name => E40,
@@ -105,7 +107,7 @@ fn plan_code(error: PlanError) -> Code
 
 /// Returns the code of a bus that stopped.
 fn bus_code(fault: BusFault) -> Code
-    ensures { result.status ≡ status_of_bus fault }
+    ensures { result.status ≡ spec.status_of_bus fault }
 {
     match fault {
         BusFault::Memory => E57,
@@ -115,153 +117,202 @@ fn bus_code(fault: BusFault) -> Code
     }
 }
 
-impl Fault {
-    /// Returns the code of this fault.
-    pub(crate) fn code(&self) -> Code
-        ensures { result.status ≡ status_of self.now }
-    {
-        match self {
-            Fault::Input(error, _) => input_code(*error),
-            Fault::TraceMemory => E65,
-            Fault::Pipe => E72,
-            Fault::Write => E67,
-            Fault::Open(_) => E68,
-            Fault::SameFile(_) => E73,
-            Fault::Scenario(Refusal::Line { line: _, fault }) => line_code(*fault),
-            Fault::Scenario(Refusal::Memory) => E57,
-            Fault::Bench(BenchError::Plan(error)) => plan_code(*error),
-            Fault::Bench(BenchError::Run(_)) => E47,
-            Fault::Bench(BenchError::Memory) => E57,
-            Fault::Bench(BenchError::Write(_)) => E67,
-            Fault::Serve(ServeError::Memory) => E57,
-            Fault::Serve(ServeError::Read) => E66,
-            Fault::Serve(ServeError::Write) => E67,
-            Fault::Drive(DriveError::Memory) => E57,
-            Fault::Drive(DriveError::Init(_)) => E46,
-            Fault::Drive(DriveError::Bus(fault)) => bus_code(*fault),
-            Fault::Drive(DriveError::Write) => E67,
-            Fault::Fewer => E69,
-            Fault::Image => E58,
-            Fault::Schedule(_) | Fault::Options => E70,
-            Fault::Unmet => E71,
-            Fault::Memory => E57,
-        }
-    }
-}
-
 /// The text that follows `nicbench: ` on standard error.
 impl Display for Fault {
     fn fmt<W: fmt::Write>(&self, f: &mut fmt::Formatter<W>) -> fmt::Result {
-        let code = self.code();
-        match self {
-            Fault::Scenario(Refusal::Line { line, fault: _ }) => write!(f, "line {line}: {code}"),
-            Fault::Bench(BenchError::Plan(PlanError::Init(_, reason))) => {
-                write!(f, "{code}: {reason}")
-            }
-            Fault::Drive(DriveError::Init(reason)) => write!(f, "{code}: {reason}"),
-            Fault::Open(path) | Fault::SameFile(path) => write!(f, "{code}: {path}"),
-            Fault::Schedule(error) => write!(f, "{code} {error}"),
-            Fault::Options => write!(f, "{code} options"),
-            _ => code.fmt(f),
+        let code = self.code;
+        match &self.detail {
+            Detail::Nothing | Detail::Input(_) => code.fmt(f),
+            Detail::Line(line) => write!(f, "line {line}: {code}"),
+            Detail::Reason(reason) => write!(f, "{code}: {reason}"),
+            Detail::Path(path) => write!(f, "{code}: {path}"),
+            Detail::Schedule(error) => write!(f, "{code} {error}"),
+            Detail::Options => write!(f, "{code} options"),
         }
     }
 }
 
 impl Fault {
+    /// Returns the fault with this code, with which nothing is printed.
+    fn of(code: Code) -> Fault
+        ensures { spec.IsFault code.status spec.nothing result }
+    {
+        Fault {
+            code,
+            detail: Detail::Nothing,
+        }
+    }
+
     /// Returns the fault of a run whose `--events` file is also a file that the run reads or writes in OUTDIR. It is
-    /// `Memory` if there is no memory for the path.
-    pub(crate) fn same_file(alloc: Global, path: &str) -> Fault {
+    /// E57 if there is no memory for the path.
+    pub(crate) fn same_file(alloc: Global, path: &str) -> Fault
+        ensures { spec.IsSameFile path.now result }
+    {
         match String::from_str(alloc, path) {
-            Ok(path) => Fault::SameFile(path),
-            Err(_) => Fault::Memory,
+            Ok(path) => Fault {
+                code: E73,
+                detail: Detail::Path(path),
+            },
+            Err(_) => Fault::of(E57),
         }
     }
 
     /// Returns whether existing files in OUTDIR are certainly unchanged after a run that ended with this fault. A run
     /// writes these files after its last event, so they can change only if the fault is a failed write (E67).
     pub(crate) fn leaves_files(&self) -> bool {
-        !matches!(self, Fault::Write | Fault::Bench(BenchError::Write(_)))
+        self.code.label != E67.label
     }
 
     /// Returns the meaning of a fault of an input and what a user can do, with the path of the input. `None` for other
     /// faults, and if there is no memory for this text.
     pub(crate) fn advice(&self, alloc: Global) -> Option<String> {
-        match self {
-            Fault::Input(error, path) => {
-                input_code(*error)
-                    .text
-                    .replace(alloc, "IN", path.as_str())
-                    .ok()
-            }
+        match &self.detail {
+            Detail::Input(path) => self.code.text.replace(alloc, "IN", path.as_str()).ok(),
             _ => None,
         }
     }
 }
 
+impl From<Failure> for Fault {
+    ghost from_gives = { λ e. spec.IsFault 1 (spec.detail_of_failure e) };
+
+    fn from(failure: Failure) -> Fault {
+        match failure {
+            Failure::Fewer => Fault::of(E69),
+            Failure::Image => Fault::of(E58),
+            Failure::Options => Fault {
+                code: E70,
+                detail: Detail::Options,
+            },
+            Failure::Unmet => Fault::of(E71),
+        }
+    }
+}
+
 impl From<FileError> for Fault {
-    ghost from_gives = { λ e f. f ≡ file_fault e };
+    ghost from_gives = { λ e. spec.IsFault (spec.status_of_file e) (spec.detail_of_file e) };
 
     fn from(error: FileError) -> Fault {
         match error {
-            FileError::Open(path) => Fault::Open(path),
-            FileError::Input(error, path) => Fault::Input(error, path),
-            FileError::TraceMemory => Fault::TraceMemory,
-            FileError::Pipe => Fault::Pipe,
-            FileError::Memory => Fault::Memory,
+            FileError::Open(path) => Fault {
+                code: E68,
+                detail: Detail::Path(path),
+            },
+            FileError::Input(error, path) => Fault {
+                code: input_code(error),
+                detail: Detail::Input(path),
+            },
+            FileError::TraceMemory => Fault::of(E65),
+            FileError::Pipe => Fault::of(E72),
+            FileError::Memory => Fault::of(E57),
         }
     }
 }
 
 impl From<WriteError> for Fault {
-    ghost from_gives = { λ _ f. f ≡ faults.Write };
+    ghost from_gives = { λ _. spec.IsFault 3 spec.nothing };
 
     fn from(_error: WriteError) -> Fault {
-        Fault::Write
+        Fault::of(E67)
     }
 }
 
 impl From<PassError> for Fault {
-    ghost from_gives = { λ e f. f ≡ pass_fault e };
+    ghost from_gives = { λ e. spec.IsFault (spec.status_of_pass e) spec.nothing };
 
     fn from(error: PassError) -> Fault {
         match error {
-            PassError::Memory => Fault::Memory,
-            PassError::Write => Fault::Write,
+            PassError::Memory => Fault::of(E57),
+            PassError::Write => Fault::of(E67),
         }
     }
 }
 
 impl From<Refusal> for Fault {
-    ghost from_gives = { λ e f. f ≡ faults.Scenario e };
+    ghost from_gives = { λ e. spec.IsFault (spec.status_of_refusal e) (spec.detail_of_refusal e) };
 
     fn from(refusal: Refusal) -> Fault {
-        Fault::Scenario(refusal)
+        match refusal {
+            Refusal::Line { line, fault } => Fault {
+                code: line_code(fault),
+                detail: Detail::Line(line),
+            },
+            Refusal::Memory => Fault::of(E57),
+        }
+    }
+}
+
+impl From<BenchError> for Fault {
+    ghost from_gives = { λ e. spec.IsFault (spec.status_of_bench e) (spec.detail_of_bench e) };
+
+    fn from(error: BenchError) -> Fault {
+        match error {
+            BenchError::Plan(PlanError::Init(_, reason)) => Fault {
+                code: E46,
+                detail: Detail::Reason(reason),
+            },
+            BenchError::Plan(error) => Fault::of(plan_code(error)),
+            BenchError::Run(_) => Fault::of(E47),
+            BenchError::Memory => Fault::of(E57),
+            BenchError::Write(_) => Fault::of(E67),
+        }
+    }
+}
+
+impl From<ServeError> for Fault {
+    ghost from_gives = { λ e. spec.IsFault (spec.status_of_serve e) spec.nothing };
+
+    fn from(error: ServeError) -> Fault {
+        match error {
+            ServeError::Memory => Fault::of(E57),
+            ServeError::Read => Fault::of(E66),
+            ServeError::Write => Fault::of(E67),
+        }
+    }
+}
+
+impl From<DriveError> for Fault {
+    ghost from_gives = { λ e. spec.IsFault (spec.status_of_drive e) (spec.detail_of_drive e) };
+
+    fn from(error: DriveError) -> Fault {
+        match error {
+            DriveError::Memory => Fault::of(E57),
+            DriveError::Init(reason) => Fault {
+                code: E46,
+                detail: Detail::Reason(reason),
+            },
+            DriveError::Bus(fault) => Fault::of(bus_code(fault)),
+            DriveError::Write => Fault::of(E67),
+        }
     }
 }
 
 impl From<ScheduleError> for Fault {
-    ghost from_gives = { λ e f. f ≡ schedule_fault e };
+    ghost from_gives = { λ e. spec.IsFault (spec.status_of_schedule e) (spec.detail_of_schedule e) };
 
     fn from(error: ScheduleError) -> Fault {
         match error {
-            ScheduleError::Memory => Fault::Memory,
-            ScheduleError::Text | ScheduleError::Line { .. } => Fault::Schedule(error),
+            ScheduleError::Memory => Fault::of(E57),
+            ScheduleError::Text | ScheduleError::Line { .. } => Fault {
+                code: E70,
+                detail: Detail::Schedule(error),
+            },
         }
     }
 }
 
 impl From<AllocError> for Fault {
-    ghost from_gives = { λ _ f. f ≡ faults.Memory };
+    ghost from_gives = { λ _. spec.IsFault 4 spec.nothing };
 
     fn from(_error: AllocError) -> Fault {
-        Fault::Memory
+        Fault::of(E57)
     }
 }
 
 impl<T: Drop> From<AllocFailed<T>> for Fault {
-    ghost from_gives = { λ _ f. f ≡ faults.Memory };
+    ghost from_gives = { λ _. spec.IsFault 4 spec.nothing };
 
     fn from(_error: AllocFailed<T>) -> Fault {
-        Fault::Memory
+        Fault::of(E57)
     }
 }

@@ -26,7 +26,7 @@ use std::env;
 use std::io::ErrorKind;
 use std::process::ExitCode;
 
-/// The exit status if the words are refused, or ask for help or the version.
+/// The exit status if the words ask for help or the version, or are refused for another reason than memory.
 const USAGE: u8 = 2;
 
 /// Returns the words that the program was called with.
@@ -53,9 +53,9 @@ fn refuse(rt: &HostRuntime, error: &LineError<'_>) -> ExitCode {
     }
 }
 
-/// Reports a fault of a job on standard error: its code, and what to do if an input was refused. For `run`, also
-/// reports that existing files in OUTDIR are unchanged, if they are. Returns the exit status, which is the fault's even
-/// if standard error accepts nothing.
+/// Reports a fault of a job on standard error: its text, and what to do if an input was refused or couldn't be read. For
+/// `run`, also reports that existing files in OUTDIR are unchanged, unless a write failed. Returns the exit status,
+/// which is the fault's even if standard error accepts nothing.
 fn report(rt: &HostRuntime, job: &Job<'_>, fault: &Fault) -> ExitCode {
     let _ = eprintln!(rt; "nicbench: {fault}");
     if let Some(advice) = fault.advice(rt.alloc()) {
@@ -64,10 +64,10 @@ fn report(rt: &HostRuntime, job: &Job<'_>, fault: &Fault) -> ExitCode {
     if matches!(job, Job::Run(_)) && fault.leaves_files() {
         let _ = eprintln!(rt; "nicbench: existing files in OUTDIR are unchanged");
     }
-    ExitCode::from(fault.code().status)
+    ExitCode::from(fault.code.status)
 }
 
-/// Does the job that these words ask for. Returns the exit status.
+/// Does this job, which these words ask for, and reports its fault, if any. Returns the exit status.
 fn obey(rt: &HostRuntime, words: &[String], job: &Job<'_>) -> ExitCode
     requires { HasBounds job.now }
 {

@@ -20,15 +20,10 @@ use std::io;
 /// The path that means standard output.
 const STANDARD_OUTPUT: &str = "-";
 
-/// Returns the scenario with this text.
-fn scenario_of(alloc: Global, text: &[u8]) -> Result<Scenario, Fault> {
-    Ok(Scenario::read(alloc, text)?)
-}
-
 /// Reads a scenario.
 fn read_scenario(rt: &HostRuntime, path: &str) -> Result<Scenario, Fault> {
     let text = read_bytes(rt, path)?;
-    scenario_of(rt.alloc(), text.as_slice())
+    Ok(Scenario::read(rt.alloc(), text.as_slice())?)
 }
 
 /// Reads a trace, and appends it.
@@ -156,7 +151,8 @@ fn create_wire_sinks(
     Ok(sinks)
 }
 
-/// Plays a scenario, and writes the traces to these sinks.
+/// Plays a scenario, and writes the traces to these sinks. If the scenario feeds many frames and standard error is a
+/// terminal, first reports that the run begins.
 fn play_to_sinks<W: Sink>(
     rt: &HostRuntime,
     job: &RunJob<'_>,
@@ -184,24 +180,8 @@ fn play_to_sinks<W: Sink>(
         events,
     ) {
         Ok(summary) => Ok(summary),
-        Err(error) => Err(Fault::Bench(error)),
+        Err(error) => Err(Fault::from(error)),
     }
-}
-
-/// Opens the files of wires, if the job asks for them. Then plays a scenario, and writes the traces.
-fn play_to_sockets(
-    rt: &HostRuntime,
-    job: &RunJob<'_>,
-    scenario: &Scenario,
-    traces: &[Trace],
-    sinks: &mut [FileSink<File>],
-) -> Result<Summary, Fault>
-    requires traces { length traces.now ≡ length scenario.now.traces.items }
-    requires sinks { length sinks.old ≡ sockets_in scenario.now.plan.hosts.items }
-    requires countable { All (λ sink. ⟦<FileSink<File> as Sink>⟧.failures sink ≡ 0) sinks.old }
-{
-    let mut wire_sinks = create_wire_sinks(rt, job, scenario.plan.hosts.as_slice())?;
-    play_to_sinks(rt, job, scenario, traces, sinks, wire_sinks.as_mut_slice())
 }
 
 /// Opens the files in OUTDIR, plays a scenario, and writes the files. The files of sockets are written before those of
@@ -214,8 +194,17 @@ fn play(
 ) -> Result<Summary, Fault>
     requires { length traces.now ≡ length scenario.now.traces.items }
 {
-    let mut sinks = create_socket_sinks(rt, job.directory, scenario.plan.hosts.as_slice())?;
-    play_to_sockets(rt, job, scenario, traces, sinks.as_mut_slice())
+    let plans = scenario.plan.hosts.as_slice();
+    let mut sinks = create_socket_sinks(rt, job.directory, plans)?;
+    let mut wire_sinks = create_wire_sinks(rt, job, plans)?;
+    play_to_sinks(
+        rt,
+        job,
+        scenario,
+        traces,
+        sinks.as_mut_slice(),
+        wire_sinks.as_mut_slice(),
+    )
 }
 
 /// Warns on standard error, once, if calls outside `auto` lines were refused. These refusals don't change the exit
@@ -233,8 +222,8 @@ fn warn(rt: &HostRuntime, summary: &Summary) {
     }
 }
 
-/// Writes the lines of events to standard output, and the lines of hosts to standard error. A failed write to standard
-/// error isn't an error.
+/// Writes the lines of events to standard output, and the lines of hosts and a warning, if any, to standard error. A
+/// failed write to standard error isn't an error.
 fn print_to_standard_output(rt: &HostRuntime, summary: &Summary) -> Result<(), Fault> {
     if let Some(events) = &summary.events {
         events.write(&mut WriterSink::new(io::writer(rt)))?;
@@ -267,7 +256,7 @@ fn write_events<W: Sink>(summary: &Summary, file: &mut Option<W>) -> Result<(), 
     }
 }
 
-/// Writes the lines of hosts to standard output.
+/// Writes the lines of hosts to standard output, and a warning, if any, to standard error.
 fn print(rt: &HostRuntime, summary: &Summary) -> Result<(), Fault> {
     print_summary(summary, &mut WriterSink::new(io::writer(rt)))?;
     warn(rt, summary);
@@ -286,22 +275,6 @@ fn print_with_file<W: Sink>(
     print(rt, summary)
 }
 
-/// Plays a scenario. Writes the lines of events to a file that was opened before, if the job asks for them, and the
-/// lines of hosts to standard output.
-fn play_with_file<W: Sink>(
-    rt: &HostRuntime,
-    job: &RunJob<'_>,
-    scenario: &Scenario,
-    traces: &[Trace],
-    file: &mut Option<W>,
-) -> Result<(), Fault>
-    requires traces { length traces.now ≡ length scenario.now.traces.items }
-    requires countable { IfSome file.old (λ sink. W.failures sink < u64.MAX) }
-{
-    let summary = play(rt, job, scenario, traces)?;
-    print_with_file(rt, &summary, file)
-}
-
 /// Plays a scenario. Writes the lines of events to their file, if the job asks for them, and the lines of hosts to
 /// standard output.
 fn play_to_file(
@@ -313,7 +286,8 @@ fn play_to_file(
     requires { length traces.now ≡ length scenario.now.traces.items }
 {
     let mut file = create_events_sink(rt, job, scenario)?;
-    play_with_file(rt, job, scenario, traces, &mut file)
+    let summary = play(rt, job, scenario, traces)?;
+    print_with_file(rt, &summary, &mut file)
 }
 
 /// Plays a scenario with these traces, and writes its lines where the job asks for them.
@@ -332,15 +306,10 @@ fn play_scenario(
     }
 }
 
-/// Reads the traces that a scenario feeds, and plays the scenario.
-fn read_and_play(rt: &HostRuntime, job: &RunJob<'_>, scenario: &Scenario) -> Result<(), Fault> {
-    let traces = read_traces(rt, scenario.trace_names())?;
-    play_scenario(rt, job, scenario, traces.as_slice())
-}
-
 /// Reads SCENARIO and the traces that it feeds, plays the scenario, and writes its files. Prints a line for each host,
 /// and on request a line for each event and drain.
 pub(crate) fn run_scenario(rt: &HostRuntime, job: &RunJob<'_>) -> Result<(), Fault> {
     let scenario = read_scenario(rt, job.scenario)?;
-    read_and_play(rt, job, &scenario)
+    let traces = read_traces(rt, scenario.trace_names())?;
+    play_scenario(rt, job, &scenario, traces.as_slice())
 }

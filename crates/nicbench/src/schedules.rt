@@ -1,7 +1,8 @@
 //! The schedules of `serve`: the schedule that is played, and the schedule that is recorded.
 
-use crate::fault::Fault;
+use crate::fault::{Failure, Fault};
 use command_line::ServeJob;
+use pcap_bench::WriteError;
 use program_files::{FileError, LateFile, adapter_options, create_file, is_for, read_bytes};
 use std::alloc::{AllocError, Global};
 use std::fs::{File, OpenFile};
@@ -22,13 +23,13 @@ fn is_for_job(alloc: Global, schedule: &Schedule, job: &ServeJob<'_>) -> Result<
     }
 }
 
-/// Returns the schedule with this text, which must be for the adapter of this job.
-fn schedule_of(alloc: Global, text: &[u8], job: &ServeJob<'_>) -> Result<Schedule, Fault> {
+/// Returns the player of the schedule with this text, which must be for the adapter of this job.
+fn player_in(alloc: Global, text: &[u8], job: &ServeJob<'_>) -> Result<Player, Fault> {
     let schedule = Schedule::parse(alloc, text)?;
     if is_for_job(alloc, &schedule, job)? {
-        Ok(schedule)
+        Ok(Player::playing(alloc, schedule)?)
     } else {
-        Err(Fault::Options)
+        Err(Fault::from(Failure::Options))
     }
 }
 
@@ -41,16 +42,10 @@ fn read_file(rt: &HostRuntime, path: &str) -> Result<Vec<u8>, FileError> {
     }
 }
 
-/// Reads the schedule at a path, which must be for the adapter of this job.
-fn read_schedule(rt: &HostRuntime, path: &str, job: &ServeJob<'_>) -> Result<Schedule, Fault> {
-    let bytes = read_file(rt, path)?;
-    schedule_of(rt.alloc(), bytes.as_slice(), job)
-}
-
-/// Returns the player of the schedule at a path.
+/// Returns the player of the schedule at a path, which must be for the adapter of this job.
 fn playing(rt: &HostRuntime, path: &str, job: &ServeJob<'_>) -> Result<Player, Fault> {
-    let schedule = read_schedule(rt, path, job)?;
-    Ok(Player::playing(rt.alloc(), schedule)?)
+    let bytes = read_file(rt, path)?;
+    player_in(rt.alloc(), bytes.as_slice(), job)
 }
 
 /// Returns the player that records, if the job asks for a record.
@@ -86,9 +81,9 @@ pub(crate) fn record_of(
 fn recorded(alloc: Global, words: &[String], player: &Player) -> Result<String, AllocError> {
     let options = adapter_options(alloc, words)?;
     if options.is_empty() {
-        player.recorded(alloc, None)
+        player.recorder.recorded(alloc, None)
     } else {
-        player.recorded(alloc, Some(options))
+        player.recorder.recorded(alloc, Some(options))
     }
 }
 
@@ -102,19 +97,19 @@ pub(crate) fn store<F: OpenFile + Write>(
 ) -> Result<(), Fault> {
     let text = recorded(alloc, words, player)?;
     if file.write_all(COMMENT).is_err() || file.write_all(text.as_bytes()).is_err() {
-        return Err(Fault::Write);
+        return Err(Fault::from(WriteError::Write));
     }
     Ok(())
 }
 
 /// Reports the deviations that weren't met, on standard error. Fails if there is one.
 pub(crate) fn report_unmet(rt: &HostRuntime, player: &Player) -> Result<(), Fault> {
-    let unmet = player.unmet(rt.alloc())?;
+    let unmet = player.agenda.unmet(rt.alloc())?;
     if unmet.is_empty() {
         return Ok(());
     }
     for line in unmet.lines() {
         let _ = eprintln!(rt; "nicbench: not met: {line}");
     }
-    Err(Fault::Unmet)
+    Err(Fault::from(Failure::Unmet))
 }

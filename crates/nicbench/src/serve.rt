@@ -2,13 +2,14 @@
 ghost use Rattle.std.specs.Prelude.{◌≡◌, IfOk};
 ghost use Rattle.nicbench.specs.Served.{IsImageFor, link_of, options_of};
 
-use crate::fault::Fault;
+use crate::fault::{Failure, Fault};
 use crate::schedules::{player_of, record_of, report_unmet, store};
 use adapter_server::{ServeOptions, serve};
 use command_line::{ServeImage, ServeJob, ServeLink};
 use eeprom::{Image, WORDS};
 use mdic_phy::Link;
 use program_files::{LateFile, read_front};
+use std::alloc::AllocError;
 use std::fs::File;
 use std::io::{self, BufReader, BufWriter};
 use step_schedules::Player;
@@ -49,7 +50,7 @@ fn image_of(rt: &HostRuntime, image: ServeImage<'_>) -> Result<Image, Fault>
     let bytes = read_front(rt, path, IMAGE_BYTES as u64 + 1)?;
     match image_in(bytes.as_slice()) {
         Some(image) => Ok(image),
-        None => Err(Fault::Image),
+        None => Err(Fault::from(Failure::Image)),
     }
 }
 
@@ -77,14 +78,14 @@ fn serve_input(
 ) -> Result<Option<Player>, Fault> {
     let alloc = rt.alloc();
     let Ok(input) = BufReader::new(alloc, rt.reader()) else {
-        return Err(Fault::Memory);
+        return Err(Fault::from(AllocError));
     };
     let Ok(mut output) = BufWriter::new(alloc, io::writer(rt)) else {
-        return Err(Fault::Memory);
+        return Err(Fault::from(AllocError));
     };
     match serve(alloc, options, player, input, &mut output) {
         Ok(left) => Ok(left),
-        Err(error) => Err(Fault::Serve(error)),
+        Err(error) => Err(Fault::from(error)),
     }
 }
 
@@ -101,21 +102,8 @@ fn finish(
     report_unmet(rt, player)
 }
 
-/// Serves with this player, and stores what it recorded.
-fn serve_and_store(
-    rt: &HostRuntime,
-    words: &[String],
-    options: &ServeOptions,
-    player: Option<Player>,
-    record: &mut Option<LateFile<File>>,
-) -> Result<(), Fault> {
-    match serve_input(rt, options, player)? {
-        Some(player) => finish(rt, words, record, &player),
-        None => Ok(()),
-    }
-}
-
-/// Serves with this player. The file for the recorded schedule is opened first.
+/// Serves with this player. The file for the recorded schedule is opened first. At the end, stores the schedule that was
+/// recorded if there is a file for it, and reports the deviations that weren't met.
 fn serve_with(
     rt: &HostRuntime,
     words: &[String],
@@ -124,7 +112,10 @@ fn serve_with(
     player: Option<Player>,
 ) -> Result<(), Fault> {
     let mut record = record_of(rt, job)?;
-    serve_and_store(rt, words, options, player, &mut record)
+    match serve_input(rt, options, player)? {
+        Some(player) => finish(rt, words, &mut record, &player),
+        None => Ok(()),
+    }
 }
 
 /// Runs `serve`. `words` are the words of the program, from which the job was read. At the end, a recorded schedule is

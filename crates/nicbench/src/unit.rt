@@ -2,7 +2,7 @@
 
 use pcap_bench::Unit;
 
-/// Returns the unit with or without `--nanos`.
+/// Returns nanoseconds if `nanos` is true (`--nanos`), and otherwise microseconds.
 pub(crate) fn unit_of(nanos: bool) -> Unit {
     if nanos { Unit::Nanos } else { Unit::Micros }
 }

@@ -28,7 +28,7 @@ abbrev pub NameBuffers : List ℕ → Type 0
 NameBuffers memory = (slot : ℕ) → slot < slots → named_address memory (16 * slot) ≡ buffer_at slot
 
 -- RDBAL, RDBAH, RDLEN, RDH and RDT: the ring of 8 descriptors is at address 0, and its tail is the slot before `slot`. So the adapter owns
--- the slots from the head up to, but not including, that slot.
+-- the slots from the head up to, but not including, the tail.
 abbrev pub ring_at : ℕ → ℕ → RingRegisters
 ring_at head slot = record { base_low = 0; base_high = 0; length_bytes = 16 * slots; head = head; tail = (slot + 7) % slots }
 
@@ -44,8 +44,8 @@ pub record IsReceiving (control : ℕ) : Type 0 where
   pub not_extended : ¬ (HasBit control rctl_bsex)
   pub size : field control rctl_bsize 2 ≡ 0
 
--- The invariant of a lane: its adapter receives, and its receive packet buffer has 48 KB and is empty. The ring's tail is the slot before
--- the driver's, memory has 34,816 bytes, and each descriptor points to its slot's buffer.
+-- The invariant of a lane: its adapter receives, and its receive packet buffer has 48 KB and is empty. The driver's slot is below 8, and
+-- the ring's tail is the slot before the driver's. Memory has 34,816 bytes, and each descriptor points to its slot's buffer.
 pub record IsLane (lane : LaneState) : Type 0 where
   pub receiving : IsReceiving lane.adapter.filter.rctl
   pub room : lane.adapter.receive_kilobytes ≡ 48

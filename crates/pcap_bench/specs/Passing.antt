@@ -15,7 +15,7 @@ Filter = List ℕ → Type 0
 
 -- ---- the fate of each frame
 
--- the fate of a frame: its size is illegal, the filter rejects it, or it is written
+-- the fate of a frame: its size is illegal, the filter rejects it, or the filter accepts it
 pub data Fate : Type 0 where
   illegal : Fate
   filtered : Fate
@@ -47,7 +47,7 @@ is_filtered illegal = false
 is_filtered filtered = true
 is_filtered kept = false
 
--- whether this is the fate of a frame that is written
+-- whether this is the fate of a frame that the filter accepts
 abbrev pub is_kept : Fate → Bool
 is_kept illegal = false
 is_kept filtered = false

@@ -1,10 +1,11 @@
-//! The calls of `PlayedAdapter`, each made twice. Both observers are told the same list.
+//! The calls of `PlayedAdapter`, each made twice. If a call has an observer, both observers are told the same list.
 
 ghost use Rattle.std.specs.Prelude.{◌≡◌, List, true};
 ghost use Rattle.played_adapter.specs.Told.{Told};
 
 use adapter::{Fate, Outcome, StepKind};
-use played_adapter::{Move, Observer, PlayedAdapter};
+use played_adapter::{Observer, PlayedAdapter};
+use step_schedules::{Agenda, Before};
 
 /// [`PlayedAdapter::step`] twice.
 pub fn step<O: Observer>(
@@ -53,20 +54,24 @@ pub fn deliver_all<O: Observer>(
     other.deliver_all(another);
 }
 
-/// [`PlayedAdapter::make_all`] twice.
-pub fn make_all<O: Observer>(
+/// [`PlayedAdapter::meet_request`] twice.
+pub fn meet_request<O: Observer>(
     one: &mut PlayedAdapter,
     other: &mut PlayedAdapter,
-    moves: &[Move],
+    agenda: &mut Agenda,
+    same_agenda: &mut Agenda,
+    name: &[u8],
     observer: &mut O,
     another: &mut O,
 )
-    requires { one.old ≡ other.old }
+    requires player { one.old ≡ other.old }
+    requires agenda { agenda.old ≡ same_agenda.old }
     ensures state { one.new ≡ other.new }
+    ensures agenda { agenda.new ≡ same_agenda.new }
     ensures told { (told : List Told) × O.heard observer.old observer.new told × O.heard another.old another.new told }
 {
-    one.make_all(moves, observer);
-    other.make_all(moves, another);
+    one.meet_request(agenda, Before::Request, name, observer);
+    other.meet_request(same_agenda, Before::Request, name, another);
 }
 
 /// [`PlayedAdapter::read`] twice.

@@ -1,51 +1,55 @@
-//! The calls of `Player`, each made twice. The contracts leave open when memory is refused.
+//! The calls of `Agenda` and `Recorder`, each made twice. The contracts leave open when memory is refused.
 
 ghost use Rattle.std.specs.Prelude.{◌≡◌, IfOk, OnOk, string_bytes};
 ghost use Rattle.std.specs.Option.{option_map};
+ghost use Rattle.step_schedules.specs.Events.{event_read};
 ghost use Rattle.step_schedules.specs.Schedules.{option_texts};
 
 use std::alloc::{AllocError, Global};
-use step_schedules::{Action, Before, Player};
+use step_schedules::{Action, Agenda, Before, Event, Held, Place, Recorder};
 
-/// [`Player::meet`] twice.
-pub fn meet(
-    one: &mut Player,
-    other: &mut Player,
-    alloc: Global,
+/// [`Agenda::coming`] twice.
+pub fn coming<'a>(
+    one: &Agenda,
+    other: &Agenda,
     before: Before,
-    name: String,
-    same_name: String,
-) -> (
-    Result<Vec<Action>, AllocError>,
-    Result<Vec<Action>, AllocError>,
-)
-    requires player { one.old ≡ other.old }
-    requires name { string_bytes name ≡ string_bytes same_name }
-    ensures due { IfOk result.0 (λ actions. IfOk result.1 (λ others. actions.items ≡ others.items)) }
-    ensures player { OnOk result.0 (OnOk result.1 (one.new ≡ other.new)) }
+    name: &'a [u8],
+) -> (Event<'a>, Event<'a>)
+    requires { one.now ≡ other.now }
+    ensures { event_read result.0 ≡ event_read result.1 }
 {
-    (
-        one.meet(alloc, before, name),
-        other.meet(alloc, before, same_name),
-    )
+    (one.coming(before, name), other.coming(before, name))
 }
 
-/// [`Player::note`] twice.
-pub fn note(
-    one: &mut Player,
-    other: &mut Player,
-    action: Action,
-) -> (Result<(), AllocError>, Result<(), AllocError>)
+/// [`Agenda::held`] twice.
+pub fn held(one: &Agenda, other: &Agenda, event: &Event<'_>) -> (Held, Held)
+    requires { one.now ≡ other.now }
+    ensures { result.0 ≡ result.1 }
+{
+    (one.held(event), other.held(event))
+}
+
+/// [`Agenda::chosen`] twice.
+pub fn chosen(one: &Agenda, other: &Agenda, event: &Event<'_>) -> (u32, u32)
+    requires { one.now ≡ other.now }
+    ensures { result.0 ≡ result.1 }
+{
+    (one.chosen(event), other.chosen(event))
+}
+
+/// [`Agenda::count`] twice.
+pub fn count(one: &mut Agenda, other: &mut Agenda, event: &Event<'_>)
     requires { one.old ≡ other.old }
-    ensures { OnOk result.0 (OnOk result.1 (one.new ≡ other.new)) }
+    ensures { one.new ≡ other.new }
 {
-    (one.note(action), other.note(action))
+    one.count(event);
+    other.count(event);
 }
 
-/// [`Player::unmet`] twice.
+/// [`Agenda::unmet`] twice.
 pub fn unmet(
-    one: &Player,
-    other: &Player,
+    one: &Agenda,
+    other: &Agenda,
     alloc: Global,
 ) -> (Result<String, AllocError>, Result<String, AllocError>)
     requires { one.now ≡ other.now }
@@ -54,15 +58,44 @@ pub fn unmet(
     (one.unmet(alloc), other.unmet(alloc))
 }
 
-/// [`Player::recorded`] twice.
+/// [`Recorder::begin`] twice.
+pub fn begin(
+    one: &mut Recorder,
+    other: &mut Recorder,
+    place: Place,
+    before: Before,
+    name: String,
+    same_name: String,
+)
+    requires recorder { one.old ≡ other.old }
+    requires name { string_bytes name ≡ string_bytes same_name }
+    ensures { one.new ≡ other.new }
+{
+    one.begin(place, before, name);
+    other.begin(place, before, same_name);
+}
+
+/// [`Recorder::note`] twice.
+pub fn note(
+    one: &mut Recorder,
+    other: &mut Recorder,
+    action: Action,
+) -> (Result<(), AllocError>, Result<(), AllocError>)
+    requires { one.old ≡ other.old }
+    ensures { OnOk result.0 (OnOk result.1 (one.new ≡ other.new)) }
+{
+    (one.note(action), other.note(action))
+}
+
+/// [`Recorder::recorded`] twice.
 pub fn recorded(
-    one: &Player,
-    other: &Player,
+    one: &Recorder,
+    other: &Recorder,
     alloc: Global,
     options: Option<Vec<String>>,
     same_options: Option<Vec<String>>,
 ) -> (Result<String, AllocError>, Result<String, AllocError>)
-    requires player { one.now ≡ other.now }
+    requires recorder { one.now ≡ other.now }
     requires options { option_map option_texts options ≡ option_map option_texts same_options }
     ensures { IfOk result.0 (λ text. IfOk result.1 (λ same. string_bytes text ≡ string_bytes same)) }
 {

@@ -27,16 +27,21 @@ fn the_code_of_the_readme_of_step_schedules_where_a_schedule_is_played(
     rt: HostRuntime,
 ) -> Result<(), Fail> {
     let alloc = rt.alloc();
-    let text = b"1.0 arrive before settle\n2.1 tx before write TDT\nrx before read ICR#1\n";
+    let text = b"0.1 hold phy before read ICR\n1.0 tx before settle\nchoose 2 before choose#1\n";
     let mut player = Player::playing(alloc, Schedule::parse(alloc, text)?)?;
-    let due = player.meet(alloc, Before::Request, "settle".to_string(alloc)?)?;
-    assert_eq!(rt; due.as_slice(), [Action::Arrive].as_slice());
-    let due = player.meet(alloc, Before::Read, "ICR".to_string(alloc)?)?;
-    assert_eq!(rt; due.as_slice(), [Action::Rx].as_slice());
-    player.note(Action::Rx)?;
-    let unmet = player.unmet(alloc)?;
-    assert_eq!(rt; unmet.as_str(), "2.1 tx before write TDT\n");
-    let recorded = player.recorded(alloc, None)?;
-    assert_eq!(rt; recorded.as_str(), "1.1 rx before read ICR\n");
+    let event = player.agenda.coming(Before::Read, b"ICR");
+    assert!(rt; player.agenda.held(&event).phy);
+    player.agenda.count(&event);
+    player
+        .recorder
+        .begin(event.place, Before::Read, "ICR".to_string(alloc)?);
+    player.recorder.note(Action::HoldPhy)?;
+    let event = player.agenda.coming(Before::Choice, b"choose");
+    assert_eq!(rt; player.agenda.chosen(&event), 2);
+    player.agenda.count(&event);
+    let unmet = player.agenda.unmet(alloc)?;
+    assert_eq!(rt; unmet.as_str(), "1.0 tx before settle\n");
+    let recorded = player.recorder.recorded(alloc, None)?;
+    assert_eq!(rt; recorded.as_str(), "0.1 hold phy before read ICR\n");
     Ok(())
 }

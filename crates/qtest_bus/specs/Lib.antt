@@ -1,3 +1,4 @@
+pub mod Lines
 pub mod QtestLaws
 pub mod QtestState
 pub mod Requests

@@ -1,6 +1,7 @@
-// The answers to requests.
+// The lines of the program that answers: answers to requests, and lines before an answer.
 
 ghost use Rattle.std.specs.Prelude.{◌≡◌, length};
+ghost use Rattle.qtest_bus.specs.Lines as spec;
 
 use crate::BusFault;
 use std::io::BufRead;
@@ -17,33 +18,37 @@ const BYTES: &[u8] = b"OK 0x";
 /// The size of a register's value in an answer, in bytes. Each byte has two hexadecimal digits.
 const VALUE_BYTES: usize = 8;
 
-/// The reader of answers, and the level of the interrupt line that the last `IRQ` line reported.
+/// The reader of lines, the last line, and the level of the interrupt line.
 #[derive(Drop)]
 pub(crate) struct Answers<R> {
     pub(crate) input: R,
-    /// The line that was read last, without its line feed.
+    /// The line that was read last, without its line feed. If its read failed, bytes of this line.
     pub(crate) line: Vec<u8>,
+    /// Whether the interrupt line is asserted, as the last `IRQ` line reported. It is `false` before the first one.
     pub(crate) asserted: bool,
 }
 
 /// The kind of a line.
 enum Line {
-    /// Whether the interrupt line is asserted now.
+    /// An `IRQ` line: whether the interrupt line is asserted now.
     Interrupt(bool),
-    /// A report about a frame that was put on the wire or arrived, or a line of the log.
+    /// A report of a frame on the wire, of the arrival of an offered frame, or of a fault; or a line of the log.
     Report,
     /// Any other line, which is an answer.
     Answer,
 }
 
 /// Returns the kind of a line.
-fn kind_of(line: &[u8]) -> Line {
+fn kind_of(line: &[u8]) -> Line
+    ensures { result ≡ spec.kind_of line.now }
+{
     if line.starts_with(b"IRQ raise ") {
         Line::Interrupt(true)
     } else if line.starts_with(b"IRQ lower ") {
         Line::Interrupt(false)
     } else if line.starts_with(b"frame ")
         || line.starts_with(b"arrived ")
+        || line.starts_with(b"fault ")
         || line.starts_with(b"#")
     {
         Line::Report
@@ -53,7 +58,7 @@ fn kind_of(line: &[u8]) -> Line {
 }
 
 /// Fills `into` from the digits in an answer. Returns `false` if the answer isn't `OK 0x` and exactly two digits for
-/// each byte of `into`.
+/// each byte of `into`; then `into` may be changed.
 fn take_bytes(answer: &[u8], into: &mut [u8]) -> bool
     ensures length { length into.new ≡ length into.old }
 {

@@ -19,7 +19,7 @@ use std::marker::Model;
 ///
 /// Each access is one request: `readl` or `writel` for a register, `read` or `write` for bytes of memory. Before an
 /// answer, lines `IRQ raise ..` and `IRQ lower ..` report the level of the interrupt line, and lines `frame ..`,
-/// `arrived ..` and `#..` are skipped. Any other line is an answer.
+/// `arrived ..`, `fault ..` and `#..` are skipped. Any other line is an answer.
 ///
 /// At the first fault, the bus stops: if the access that failed or a later access reads, it reads zeros. No later
 /// access writes a request.

@@ -15,8 +15,9 @@ helping s = record s { arg_required_else_help = true }
 
 pub returns-clause-app : goal.returns-clause-app
 returns-clause-app c =
-    let named : app_of c.in_ok-command.command ≡ new_app (codes "nicbench") = c.in_ok-command.ensures.app in
-    let first : app_of c.version.result ≡ on_top versioned (app_of c.in_ok-command.command) = ap app_of_fields c.version.ensures in
+    let named : app_of c.after_help.result ≡ new_app (codes "nicbench") =
+    ap app_of_fields c.after_help.ensures ∙ ap app_of_fields c.about.ensures ∙ c.new.ensures.app in
+    let first : app_of c.version.result ≡ on_top versioned (app_of c.after_help.result) = ap app_of_fields c.version.ensures in
     let second : app_of c.subcommand_required.result ≡ on_top needing (app_of c.version.result) =
     ap app_of_fields c.subcommand_required.ensures in
     let third : app_of c.arg_required_else_help.result ≡ on_top helping (app_of c.subcommand_required.result) =

@@ -7,12 +7,12 @@ use Rattle.command_line.proofs.command.program_with.Goals as goal
 pub loop-subcommand-preserved : goal.loop-subcommand-preserved
 loop-subcommand-preserved c =
     let old = c.loop-subcommand.program in
-    let new = c.in_ok-program-2.program in
-    let command = c.in_ok-command.command in
+    let new = c.in-Ok-subcommand.larger in
+    let command = c.in-Ok.command in
     record {
       app = with_command old new command bare_app c.args.subcommands.now c.loop-subcommand.subcommand-index _ (omega arith)
-          c.in_ok-program-2.ensures c.in_ok-command.ensures.local c.in_ok-command.ensures.app c.loop-subcommand.invariant.app;
-      local = local_command old new command c.in_ok-program-2.ensures c.in_ok-command.ensures.local c.loop-subcommand.invariant.local;
+          c.in-Ok-subcommand.ensures c.in-Ok.ensures.local c.in-Ok.ensures.app c.loop-subcommand.invariant.app;
+      local = local_command old new command c.in-Ok-subcommand.ensures c.in-Ok.ensures.local c.loop-subcommand.invariant.local;
     }
 
 pub returns-clause-app : goal.returns-clause-app

@@ -1,8 +1,8 @@
-use Rattle.std.proofs.Common.{◌∙◌, ap, subst, sym}
+use Rattle.std.proofs.Common.{◌≡◌, ◌∙◌, ap, subst, sym}
 use Rattle.clap.proofs.CallerLemmas.{subcommand_required}
 use Rattle.clap.specs.Faults.{is_simple_and_free}
 use Rattle.clap.specs.Kinds.{HasKind, Kinds}
-use Rattle.command_line.specs.Shape.{refusals}
+use Rattle.command_line.specs.Shape.{drive_app, pass_app, program_app, refusals, run_app, serve_app, show_app}
 use Rattle.clap.specs.Simple.{App, is_simple}
 use Rattle.std.specs.Prelude.{map}
 use Rattle.clap.specs.Words.{app_of}
@@ -10,8 +10,9 @@ use Rattle.command_line.proofs.Commands.{found_is, needs_subcommand, refusals_ar
 use Rattle.command_line.proofs.reader.matches_of.Goals as goal
 
 pub returns-in_err-matches-clause-refused : goal.returns-in_err-matches-clause-refused
+unfolding program_app pass_app run_app show_app serve_app drive_app
 returns-in_err-matches-clause-refused g c =
-    let is = c.in_ok-command.ensures.app in
+    let is : app_of c.in_ok-command.command ≡ program_app = c.in_ok-command.ensures.app in
     let words = map g.S.AsStr.text c.args.words.now in
     let error = c.in_err-matches.field-0.0 in
     let known = c.in_err-matches.ensures.kinds (ap is_simple_and_free is ∙ simple_and_free) in
@@ -20,15 +21,17 @@ returns-in_err-matches-clause-refused g c =
     c.from_residual-in_err-matches.ensures.1
 
 pub returns-clause-taken : goal.returns-clause-taken
+unfolding program_app pass_app run_app show_app serve_app drive_app
 returns-clause-taken g c =
-    let is = c.in_ok-command.ensures.app in
+    let is : app_of c.in_ok-command.command ≡ program_app = c.in_ok-command.ensures.app in
     let words = map g.S.AsStr.text c.args.words.now in
     sym (refusals_are (app_of c.in_ok-command.command) words is)
     ∙ c.in_ok-matches.ensures.kinds (ap is_simple_and_free is ∙ simple_and_free)
 
 pub returns-clause-found : goal.returns-clause-found
+unfolding program_app pass_app run_app show_app serve_app drive_app
 returns-clause-found g c =
-    let is = c.in_ok-command.ensures.app in
+    let is : app_of c.in_ok-command.command ≡ program_app = c.in_ok-command.ensures.app in
     let words = map g.S.AsStr.text c.args.words.now in
     let m = c.in_ok-matches in (
       subcommand_required c.in_ok-command.command m.matches m.ensures.parsed c.in_ok-command.ensures.local
