@@ -1,4 +1,4 @@
-//! The calls of `Adapter`, each made twice.
+//! The calls of `Adapter`, each made twice. Only `has_work` is made once, before the step whose outcome it states.
 
 ghost use Rattle.std.specs.Prelude.{◌≡◌, ◌≢◌, ◌↔◌, IfSome, IsNone, IsTrue};
 ghost use Rattle.adapter.specs.declared.outcome.Outcome.TheVariants.{Nothing};

@@ -1,4 +1,4 @@
-//! The calls of `Stations`, each made twice, and a call of the bus to which stations are lent.
+//! Calls of `Stations` and `LentBus`, each made twice, and a twin of a read over a `LentBus`.
 
 ghost use Rattle.std.specs.Prelude.{◌≡◌, ◌<◌, ◌∷◌, [], List};
 ghost use Rattle.adapter.specs.Outcomes.{FrameOutcome};

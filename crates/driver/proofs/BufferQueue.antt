@@ -175,3 +175,22 @@ tail_write-none slot (number ∷ later) none = absurd (omega (arith, none))
 pub tail_write-some : (slot : ℕ) (staged : List ℕ) → ¬ (length staged ≡ 0) → tail_write slot staged ≡ Writes 0x2818 slot ∷ []
 tail_write-some slot [] some = absurd (some refl)
 tail_write-some slot (number ∷ later) some = refl
+
+-- The number of slots of a driver, and the room for one more.
+
+pub slots-inside : (inside : Inside) (d : DriverState) → Receives inside → driver_state_of inside ≡ d
+    → length d.buffers + length d.staged ≡ length inside.buffers.items
+slots-inside inside d receives shown =
+    let split = queue-split inside receives in
+    omega (
+      arith,
+      split.outstanding,
+      split.staged,
+      ap (λ (s : DriverState). length s.buffers) shown,
+      ap (λ (s : DriverState). length s.staged) shown,
+    )
+
+pub room-inside : (inside : Inside) (d : DriverState) → Receives inside → driver_state_of inside ≡ d
+    → length d.buffers + length d.staged < d.layout.rx
+room-inside inside d receives shown =
+    omega (arith, slots-inside inside d receives shown, receives.room, ap (λ (s : DriverState). s.layout.rx) shown)

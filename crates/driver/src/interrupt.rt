@@ -74,8 +74,9 @@ impl Driver {
     /// `NotMine`, no work is forgotten at the end if none was forgotten at the beginning.
     ///
     /// If the bus doesn't obey the law or the driver isn't ready, the contract states no accesses. The contract then
-    /// states only that the bus keeps its size and the values lent to it, and how the driver, its buffers and the
-    /// receiver change. `bus` must have at least `layout().size()` bytes.
+    /// states how the driver, its buffers and the receiver change. The bus keeps its size and the values lent to it. A
+    /// bus that obeys the law still obeys it after the call, and a lively bus is still lively. `bus` must have at least
+    /// `layout().size()` bytes.
     pub fn interrupt<B: Bus, R: Receiver>(&mut self, bus: &mut B, receiver: &mut R) -> Handled
         requires memory { size_of self.old.layout ≤ B.extent bus.old }
         ensures keeps { Keeps B.Bus bus.old bus.new }

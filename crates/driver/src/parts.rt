@@ -1,4 +1,4 @@
-// The buffers of a received frame.
+// The pieces of a received frame, each in its buffer.
 
 ghost use Rattle.std.specs.Prelude.{◌≡◌, ◌<◌, ◌≤◌, ◌++◌, ◌∷◌, [], length, IfNone, IfSome, slice_index_or};
 

@@ -13,6 +13,10 @@ use bus::Bus;
 impl Driver {
     /// Copies a received frame to the front of `into`, by one load from each of its buffers, and returns its size in
     /// bytes. The bytes of `into` after this size don't change.
+    ///
+    /// The frame must have 60 to 1,518 bytes, the sum of its pieces' sizes, and each piece at most 256 bytes. The
+    /// numbers of its buffers must be below the number of the driver's buffers. `bus` must have at least
+    /// `layout().size()` bytes.
     pub fn read<B: Bus>(&self, bus: &mut B, received: &Received, into: &mut [u8; 1518]) -> usize
         requires memory { size_of self.now.layout ≤ B.extent bus.old }
         requires known { All (λ number. number < self.now.layout.buffers) (buffers_in received.now.parts) }

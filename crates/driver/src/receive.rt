@@ -122,8 +122,9 @@ impl Driver {
 
     /// Takes runs of finished receive slots, the oldest first, until [`look`](Driver::look) finds no run. Shows the
     /// frame of each whole run to the receiver, and returns the number of these frames. Finished slots after the last
-    /// run remain in the ring. Over a bus that obeys the law, each descriptor is loaded once, and after the descriptors
-    /// of a frame its bytes 12 and 13 are loaded.
+    /// run remain in the ring. If the bus obeys the law and the driver is ready, each descriptor is loaded once, and
+    /// after the descriptors of a frame its bytes 12 and 13 are loaded. `bus` must have at least `layout().size()`
+    /// bytes.
     pub fn take_finished<B: Bus, R: Receiver>(&mut self, bus: &mut B, receiver: &mut R) -> usize
         requires memory { size_of self.old.layout ≤ B.extent bus.old }
         ensures keeps { Keeps B.Bus bus.old bus.new }

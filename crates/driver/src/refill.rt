@@ -120,7 +120,8 @@ impl Driver {
     }
 
     /// Offers receive slots with free buffers, until no buffer is free, or all slots except one are outstanding. The
-    /// call stores the descriptors, and then writes RDT once if any slot is staged.
+    /// call stores the descriptors, and then writes RDT once if any slot is staged. `bus` must have at least
+    /// `layout().size()` bytes.
     pub fn refill<B: Bus>(&mut self, bus: &mut B)
         requires memory { size_of self.old.layout ≤ B.extent bus.old }
         ensures keeps { Keeps B.Bus bus.old bus.new }
@@ -133,7 +134,8 @@ impl Driver {
         self.offer(bus);
     }
 
-    /// Puts the buffers of a frame that a receiver kept back into the pool, and refills the ring.
+    /// Puts the buffers of a frame that a receiver kept back into the pool, and refills the ring. These buffers must be
+    /// the driver's, and must have no other owner. `bus` must have at least `layout().size()` bytes.
     pub fn give<B: Bus>(&mut self, bus: &mut B, parts: Parts)
         requires memory { size_of self.old.layout ≤ B.extent bus.old }
         requires one_owner { HasNoSecondOwner self.old.layout.buffers (buffers_in parts ++ owners self.old) }

@@ -96,7 +96,8 @@ impl Driver {
     /// Resets the adapter and sets it up again as [`init`](Driver::init) did, with the groups joined now. Unlike
     /// `init`, the call doesn't read the EEPROM, and doesn't wait for the link. A link that is up remains up. Frames
     /// that are still to be sent, and frames that the driver hasn't taken, are lost. Frames that a receiver kept are
-    /// still in their buffers. The call allocates no memory, and can't fail.
+    /// still in their buffers. The call allocates no memory, and can't fail. `bus` must have at least `layout().size()`
+    /// bytes.
     pub fn reset<B: Bus>(&mut self, bus: &mut B)
         requires memory { size_of self.old.layout ≤ B.extent bus.old }
         ensures keeps { Keeps B.Bus bus.old bus.new }

@@ -72,7 +72,8 @@ fn whole_packet(buffer: u64, size: u16) -> [u8; TX_DESC_BYTES]
 }
 
 impl Driver {
-    /// Frees the oldest outstanding transmit slot if its descriptor has DD. Returns whether a slot was freed.
+    /// Frees the oldest outstanding transmit slot if there is one and its descriptor has DD. Returns whether a slot was
+    /// freed.
     fn free_oldest<B: Bus>(&mut self, bus: &mut B) -> bool
         requires memory { size_of self.old.layout ≤ B.extent bus.old }
         ensures keeps { Keeps B.Bus bus.old bus.new }

@@ -44,6 +44,19 @@ pub fn interrupt<B: Bus, R: Receiver>(driver: &mut Driver, bus: &mut B, receiver
     ensures handles { WhereReadyIn B.Bus (scene bus.old driver.old receiver.old) (scene bus.new driver.new receiver.new)
         (Handles B.Bus R.Receiver result) }
 {
+    driver.interrupt(bus, receiver)
+}
+
+/// A twin of [`Driver::interrupt`].
+pub fn interrupt_with_answers<B: Bus, R: Receiver>(
+    driver: &mut Driver,
+    bus: &mut B,
+    receiver: &mut R,
+) -> Handled
+    requires memory { size_of driver.old.layout ≤ B.extent bus.old }
+    ensures handles { WhereReadyIn B.Bus (scene bus.old driver.old receiver.old) (scene bus.new driver.new receiver.new)
+        (Handles B.Bus R.Receiver result) }
+{
     match driver.interrupt(bus, receiver) {
         Handled::NotMine => Handled::NotMine,
         Handled::Handled { taken } => Handled::Handled { taken },

@@ -52,6 +52,20 @@ pub fn call<B: Bus>(
     ensures does { CallsBy B.Bus (call_request call.entry) (answer_in into.new result)
         (host_at bus.old host.old) (host_at bus.new host.new) }
 {
+    host.call(bus, call, into)
+}
+
+/// A twin of [`Host::call`].
+pub fn call_with_answers<B: Bus>(
+    host: &mut Host,
+    bus: &mut B,
+    call: HostCall,
+    into: &mut [u8; 1518],
+) -> HostAnswer<usize>
+    requires memory { size_of host.old.driver.layout ≤ B.extent bus.old }
+    ensures does { CallsBy B.Bus (call_request call.entry) (answer_in into.new result)
+        (host_at bus.old host.old) (host_at bus.new host.new) }
+{
     match host.call(bus, call, into) {
         HostAnswer::Sent(sent) => HostAnswer::Sent(sent),
         HostAnswer::Received(received) => HostAnswer::Received(received),

@@ -5,8 +5,6 @@
 #[cfg(test)]
 mod adapter_readme;
 #[cfg(test)]
-mod adapter_without_memory;
-#[cfg(test)]
 mod bring_up_readme;
 #[cfg(test)]
 mod buses;

@@ -14,11 +14,10 @@ fn the_code_of_the_readme_of_rx_engine(rt: HostRuntime) -> Result<(), Fail> {
     let control = Rctl::EN.union(Rctl::BAM);
     let mut filter = Filter::new();
     filter.write_rctl(control.bits());
-    // A ring of eight descriptors at address 0. The adapter owns the first, which points to a buffer at 0x800.
+    // A ring of eight descriptors at 0x800. The adapter owns the first, whose zeros point to a buffer at address 0.
     let mut memory = HostMemory::new(rt.alloc(), 4_096)?;
-    memory.store(0, &0x800u64.to_le_bytes())?;
     let mut ring = Ring {
-        base: 0,
+        base: 0x800,
         bytes: 128,
         head: 0,
         tail: 1,
@@ -30,8 +29,8 @@ fn the_code_of_the_readme_of_rx_engine(rt: HostRuntime) -> Result<(), Fail> {
     let moved = rx_data(&mut engine, &mut ring, control, &mut memory);
     assert_eq!(rt; moved, Data::Moved { low: false });
     assert_eq!(rt; rx_done(&mut engine, &mut memory), Done::Done);
-    assert_eq!(rt; memory.view(0x800, 60), Ok(frame.as_slice()));
-    assert_eq!(rt; memory.view(12, 1), Ok([0x03].as_slice()));
+    assert_eq!(rt; memory.view(0, 60), Ok(frame.as_slice()));
+    assert_eq!(rt; memory.view(0x80C, 1), Ok([0x03].as_slice())); // DD and EOP
     Ok(())
 }
 

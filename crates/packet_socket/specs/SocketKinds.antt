@@ -3,12 +3,12 @@ use Rattle.std.specs.Prelude.{◌==◌, ℕ, Bool, true, false, List, Option, No
 use Rattle.packet_socket.specs.declared.socket_kind.SocketKind.{SocketKind}
 use Rattle.packet_socket.specs.declared.socket_kind.SocketKind.TheVariants.{Ether, All}
 
--- whether a socket takes the frames of this EtherType, and no others
+-- whether a socket is an `Ether` socket of this EtherType
 abbrev pub is_of_type : ℕ → SocketKind → Bool
 is_of_type ether_type (Ether own) = own == ether_type
 is_of_type ether_type All = false
 
--- whether a socket takes the frames of all EtherTypes
+-- whether a socket is an `All` socket
 abbrev pub takes_all : SocketKind → Bool
 takes_all (Ether own) = false
 takes_all All = true
@@ -18,8 +18,8 @@ abbrev pub number_or_else : Option ℕ → Option ℕ → Option ℕ
 number_or_else (Some first) second = Some first
 number_or_else None second = second
 
--- The socket of an EtherType: the first in the table that takes only this EtherType, else the first that takes all
--- EtherTypes, else no socket.
+-- The socket of an EtherType: the first `Ether` socket of this EtherType in the table, else the first `All` socket,
+-- else no socket.
 abbrev pub socket_of : List SocketKind → ℕ → Option ℕ
 socket_of kinds ether_type = number_or_else (position (is_of_type ether_type) kinds) (position takes_all kinds)
 

@@ -49,8 +49,8 @@ impl Model for Host {
 }
 
 impl Host {
-    /// Initializes the adapter by `config`, and makes a host with these sockets. Each queue has room for all buffers,
-    /// so no later call allocates memory.
+    /// Initializes the adapter by `config`, and makes a host with these sockets. Each queue has room for as many frames
+    /// as there are receive buffers, so no later call allocates memory.
     ///
     /// # Errors
     ///
@@ -118,7 +118,7 @@ impl Host {
     }
 
     /// Returns the driver's sum of missed frames, and whether this sum is exact. A sum below 0xFFFF_FFFF is exact. If
-    /// the sum isn't exact, more frames may have been missed.
+    /// the sum isn't exact, more frames may have been missed before the last read of MPC.
     pub fn missed(&self) -> (u64, bool)
         ensures sum { result.0 ≡ self.now.driver.missed }
         ensures exact { result.1 ≡ self.now.driver.exact }

@@ -19,7 +19,7 @@ impl Host {
     }
 
     /// Resets the adapter by [`Driver::reset`](driver::Driver::reset). The frames that are queued for sockets remain
-    /// queued.
+    /// queued. `bus` must have at least `layout().size()` bytes.
     pub fn reset<B: Bus>(&mut self, bus: &mut B)
         requires memory { size_of self.old.driver.layout ≤ B.extent bus.old }
         ensures keeps { Keeps B.Bus bus.old bus.new }

@@ -14,7 +14,7 @@ pub enum SocketKind {
 }
 
 impl SocketKind {
-    /// Returns whether the socket takes the frames of this EtherType, and no others.
+    /// Returns whether this is an `Ether` socket of this EtherType.
     fn is_of(self, ether_type: u16) -> bool
         ensures { result ≡ kinds.is_of_type ether_type self }
     {
@@ -24,7 +24,7 @@ impl SocketKind {
         }
     }
 
-    /// Returns whether the socket takes the frames of all EtherTypes.
+    /// Returns whether this is an `All` socket.
     fn takes_all(self) -> bool
         ensures { result ≡ kinds.takes_all self }
     {
@@ -35,22 +35,22 @@ impl SocketKind {
     }
 }
 
-/// Returns the index of the first socket that takes only the frames of this EtherType, if there is such a socket.
+/// Returns the index of the first `Ether` socket of this EtherType, if there is such a socket.
 fn first_of(table: &[SocketKind], ether_type: u16) -> Option<usize>
     ensures { result ≡ position (kinds.is_of_type ether_type) table.now }
 {
     table.iter().position(|kind| kind.is_of(ether_type))
 }
 
-/// Returns the index of the first socket that takes all frames, if there is such a socket.
+/// Returns the index of the first `All` socket, if there is such a socket.
 fn first_for_all(table: &[SocketKind]) -> Option<usize>
     ensures { result ≡ position kinds.takes_all table.now }
 {
     table.iter().position(|kind| kind.takes_all())
 }
 
-/// Returns the index of the socket that takes the frames of an EtherType: the first socket for this EtherType, else
-/// the first for all frames, else `None`.
+/// Returns the index of the socket that takes the frames of an EtherType: the first `Ether` socket of this EtherType,
+/// else the first `All` socket, else `None`.
 pub(crate) fn socket_of(table: &[SocketKind], ether_type: u16) -> Option<usize>
     ensures socket { result ≡ kinds.socket_of table.now ether_type }
     ensures there { IfSome result (λ socket. socket < length table.now) }

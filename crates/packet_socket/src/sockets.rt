@@ -110,8 +110,8 @@ impl Receiver for Sockets {
 
     ghost took = { Sorts };
 
-    /// Puts a frame at the end of its socket's queue, if the queue has room. A frame without a socket is counted, and
-    /// its buffers are returned at once.
+    /// Puts a frame at the end of its socket's queue. In a host, the queue has room for the frame. A frame without a
+    /// socket is counted, and its buffers are returned at once.
     fn take(&mut self, received: Received) -> Parts {
         let Some(socket) = socket_of(self.kinds.as_slice(), received.ether_type) else {
             self.unclaimed = self.unclaimed.saturating_add(1);

@@ -1,1 +1,2 @@
+mod DataAnswers
 mod FinishedWalk

@@ -1,4 +1,5 @@
--- Parts of a frame, a list of bytes that begins with its destination (IEEE 802.3 clause 3.2; tags: IEEE 802.1Q).
+-- Ethernet addresses, their register words and group numbers, and the parts of a frame that the receive filter reads. A frame is a list
+-- of bytes that begins with its destination (IEEE 802.3 clause 3.2; tags: IEEE 802.1Q).
 use Rattle.std.specs.Prelude.{◌≡◌, ◌<◌, ◌+◌, ◌*◌, ◌/◌, ◌%◌, ◌^◌, ℕ, List, [], ◌∷◌, length, slice_index, take}
 
 -- The destination address: bytes 0 to 5.

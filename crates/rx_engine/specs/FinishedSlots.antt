@@ -1,4 +1,4 @@
--- The finished slots of a receive ring, from a slot on, and their pieces.
+-- The finished slots of a receive ring, from a slot on, their pieces, and whether both are inside memory.
 use Rattle.std.specs.Prelude.{◌*◌, ℕ, List, map, take_while}
 use Rattle.dma_memory.specs.Areas.{Area, bytes_in}
 use Rattle.dma_memory.specs.HostMemory.{LiesIn}

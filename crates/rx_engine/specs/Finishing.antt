@@ -24,8 +24,8 @@ finished_bytes n ends = little_bytes 2 n ++ 0 ∷ 0 ∷ finished_status ends ∷
 abbrev pub engine_after_done : Receiver → Receiver
 engine_after_done engine = record engine { work = None }
 
--- Memory after a done step: bytes 8 to 15 of the descriptor in progress are written. If no piece is in progress, or memory ends before
--- the end of the descriptor, nothing is written.
+-- Memory after a done step: bytes 8 to 15 of the descriptor of the piece in progress are written. If no piece is in progress, or memory
+-- ends before the end of the descriptor, nothing is written.
 abbrev pub memory_after_done : Option Work → List ℕ → List ℕ
 memory_after_done None memory = memory
 memory_after_done (Some work) memory =

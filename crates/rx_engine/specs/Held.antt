@@ -91,9 +91,10 @@ DataKeepsHeld =
     (held (memory_after_data answer control ring engine memory) finished (engine_after_data answer control ring engine)) []
     (memory_after_data answer control ring engine memory) finished (engine_after_data answer control ring engine)
 
--- The piece in progress is finished at its descriptor. If the piece is added to the finished ones, the same frames are held.
+-- `work` is the piece in progress before a done step. After the step, its descriptor is finished with the bytes of this piece, and the
+-- piece is the last of the finished pieces. The step doesn't change the frames held.
 pub record Finishes (memory : List ℕ) (finished : List Piece) (engine : Receiver) (work : Work) : Type 0 where
-  -- The descriptor is finished with the bytes of the piece.
+  -- After the step, the descriptor is finished with the bytes of the piece.
   pub stands : IsFinished (memory_after_done engine.work memory) work.descriptor work.ends (bytes_of_work memory work)
   -- The same frames are held before and after the step.
   pub holds :

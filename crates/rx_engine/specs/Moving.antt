@@ -22,6 +22,10 @@ pub record HasFrameToMove (control : ℕ) (ring : Ring) (engine : Receiver) : Ty
   -- At least one descriptor is offered: RDH and RDT differ.
   pub offered : ring.head ≢ ring.tail
 
+-- With this value of RCTL, RCTL.EN is set, and at least one descriptor is offered.
+abbrev pub IsOffered : ℕ → Ring → Type 0
+IsOffered control ring = HasBit control rctl_en × (ring.head ≢ ring.tail)
+
 -- The size of a receive buffer in bytes, by RCTL.BSIZE.
 abbrev pub buffer_bytes : ℕ → ℕ
 buffer_bytes control = buffer_size_of (field control rctl_bsize 2)
@@ -52,6 +56,11 @@ pub record CanMove (control : ℕ) (ring : Ring) (memory : List ℕ) (n : ℕ) :
 -- Whether exactly half of the ring's descriptors are offered (13.4.22, RDMTS 00).
 abbrev pub is_half_offered : Ring → Bool
 is_half_offered ring = 2 * distance_of ring ring.head ring.tail == count_of ring
+
+-- The answer of a step that moved a piece: `Moved` if the frame ends in the piece, and `Part` otherwise.
+abbrev pub moved_by : (ends low : Bool) → Data
+moved_by true low = Moved low
+moved_by false low = Part low
 
 -- The step moved a piece, and more pieces of its frame follow.
 abbrev pub IsPartMoved : Data → Type 0

@@ -1,4 +1,4 @@
--- Lemmas: which frames lists of pieces join to.
+-- Lemmas about lists of pieces: the frames that end in them, and the bytes after the last end of a frame.
 use Rattle.std.proofs.Common.{◌≡◌, ◌≤◌, ◌+◌, ◌-◌, [], ◌∷◌, ◌++◌, ◌∙◌}
 use Rattle.std.proofs.Common.{ℕ, List, length, length-drop, take, drop, refl, sym, ap}
 use Rattle.std.proofs.Common.{append_assoc, arith}
@@ -20,7 +20,7 @@ begun-append begun [] later = refl
 begun-append begun (Part bytes ∷ first) later = begun-append (begun ++ bytes) first later
 begun-append begun (Last bytes ∷ first) later = begun-append [] first later
 
--- No frame ends in a list of parts, and the bytes after the last end are all bytes of the parts.
+-- No frame ends in a list of parts. The bytes after the last end are those that the frame began with, and all bytes of the parts.
 pub frames-parts : (begun : List ℕ) (seen : List (List ℕ)) → frames_from begun (parts seen) ≡ []
 frames-parts begun [] = refl
 frames-parts begun (bytes ∷ seen) = frames-parts (begun ++ bytes) seen

@@ -1,5 +1,5 @@
--- The slots of a descriptor ring as a driver counts them, from its oldest slot on ("3.2.6 Receive Descriptor Queue Structure", "3.4
--- Transmit Descriptor Ring Structure"). A slot is identified by the address of its descriptor.
+-- The slots of a descriptor ring that the adapter owns, and those from a driver's oldest slot on ("3.2.6 Receive Descriptor Queue
+-- Structure", "3.4 Transmit Descriptor Ring Structure"). A slot is identified by the address of its descriptor.
 use Rattle.std.specs.Prelude.{ℕ, Bool, List, map, slice_index, take_while}
 use Rattle.dma_memory.specs.HostMemory.{bytes_at}
 use Rattle.registers.specs.Bits.{is_set}

@@ -1,4 +1,4 @@
-// Ethernet addresses, and the parts of a frame that the filter reads.
+// Ethernet addresses, their register words and group numbers, and the parts of a frame that the filter reads.
 
 ghost use Rattle.std.specs.Prelude.{◌≡◌, ◌+◌, ◌*◌, ◌/◌, ◌%◌, ◌^◌, ◌≤◌, ◌<◌, ◌↔◌, IsTrue, length, slice_index};
 ghost use Rattle.registers.specs.Bits.{HasBit};
@@ -19,7 +19,7 @@ const BROADCAST: [u8; 6] = [0xFF; 6];
 const ADDRESS_VALID: u32 = 1 << 31;
 
 /// The two words of an entry of the receive addresses.
-#[derive(Clone, Copy, Debug, PartialEq, Eq)]
+#[derive(Clone, Copy)]
 pub struct AddressWords {
     /// RAL: bytes 0 to 3 of the address, the earlier byte the lower one (13.5.2).
     pub low: u32,
@@ -90,9 +90,12 @@ pub(crate) fn has_entry(
 ) -> bool
     ensures { IsTrue result ↔ HasEntry ral.now rah.now address.now }
 {
-    ral.iter()
-        .zip(rah)
-        .any(|(low, high)| holds_address(*low, *high, address))
+    for n in 0..RECEIVE_ADDRESSES {
+        if holds_address(ral[n], rah[n], address) {
+            return true;
+        }
+    }
+    false
 }
 
 /// Returns the type of a frame: bytes 12 and 13, the higher one first.
@@ -103,7 +106,7 @@ pub(crate) fn ether_type_of(frame: &[u8]) -> u16
     u16::from_be_bytes([frame[12], frame[13]])
 }
 
-/// Returns the VLAN number in bytes 14 and 15 of a tagged frame.
+/// Returns the low 12 bits of bytes 14 and 15, the higher byte first: the VLAN number of a tagged frame.
 pub(crate) fn vlan_number_of(frame: &[u8]) -> u16
     requires { 16 ≤ length frame.now }
     ensures { result ≡ vlan_number frame.now }

@@ -9,7 +9,7 @@ ghost use Rattle.dma_memory.specs.HostMemory.{LiesIn, with_bytes};
 ghost use Rattle.rx_engine.specs.Descriptors.{named_address};
 ghost use Rattle.rx_engine.specs.Receiver.{IsReceiver};
 ghost use Rattle.rx_engine.specs.Moving.{HasFrameToMove, CanMove, engine_after_data, is_last, next_piece};
-ghost use Rattle.rx_engine.specs.Moving.{ring_after_data};
+ghost use Rattle.rx_engine.specs.Moving.{ring_after_data, moved_by, IsOffered};
 ghost use Rattle.rx_engine.specs.Moving.{memory_after_data, IsMoved, IsPartMoved, IfMoved, is_half_offered};
 
 use crate::storing::store_in;
@@ -36,6 +36,19 @@ pub enum Data {
     },
     /// The engine moved no piece, and moves none until a reset (our choice).
     Fault,
+}
+
+impl Data {
+    /// Returns the result of a step that moved a piece. `ends` is whether this piece is the last one of its frame.
+    fn of_piece(ends: bool, low: bool) -> Data
+        ensures { result ≡ moved_by ends low }
+    {
+        if ends {
+            Data::Moved { low }
+        } else {
+            Data::Part { low }
+        }
+    }
 }
 
 /// Writes the next piece of the packet buffer's oldest frame to the buffer that the descriptor at the head points to.
@@ -80,7 +93,7 @@ pub fn rx_data(
     let Some(left) = engine.left() else {
         return Data::Nothing;
     };
-    if !control.is_enabled() || ring.head == ring.tail {
+    if !is_offered(ring, control) {
         return Data::Nothing;
     }
     let size = usize::from(control.buffer_size());
@@ -97,19 +110,21 @@ pub fn rx_data(
         ends,
     });
     ring.head = ring.next(ring.head);
-    let low = is_half_offered(ring);
-    if ends {
-        Data::Moved { low }
-    } else {
-        Data::Part { low }
-    }
+    Data::of_piece(ends, is_half_offered(ring))
 }
 
 /// Returns whether [`rx_data`] has a frame to move, so that it wouldn't return `Nothing`.
 pub fn has_frame_to_move(engine: &RxEngine, ring: &Ring, control: Rctl) -> bool
     ensures { IsTrue result ↔ HasFrameToMove control.0 ring.now engine.now }
 {
-    engine.left().is_some() && control.is_enabled() && ring.head != ring.tail
+    engine.left().is_some() && is_offered(ring, control)
+}
+
+/// Returns whether RCTL.EN is set, and at least one descriptor is offered.
+fn is_offered(ring: &Ring, control: Rctl) -> bool
+    ensures { IsTrue result ↔ IsOffered control.0 ring.now }
+{
+    control.is_enabled() && ring.head != ring.tail
 }
 
 /// Returns whether `left` bytes, the rest of a frame, fit into a buffer of `size` bytes, so that the next piece is the

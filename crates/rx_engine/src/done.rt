@@ -1,4 +1,4 @@
-// The done step, which writes back a descriptor.
+// The done step, which ends the piece in progress, and writes back its descriptor if this is inside memory.
 
 ghost use Rattle.std.specs.Prelude.{◌≡◌, ◌+◌, ◌↔◌, None, IfSome};
 ghost use Rattle.dma_memory.specs.Areas.{ChangesOnly, area_at};
@@ -24,15 +24,15 @@ const LENGTH_PLACE: u64 = 8;
 pub enum Done {
     /// No piece was in progress, and nothing changed.
     Nothing,
-    /// The descriptor of the piece in progress is written back, and no piece is in progress any more.
+    /// No piece is in progress any more. The descriptor of the piece is written back if it is inside memory.
     Done,
 }
 
-/// Writes back the descriptor of the piece in progress ("3.2.3 Receive Descriptor Format"): the length of the piece,
-/// DD, no error, and EOP if the frame ends in this piece. Returns `Nothing` if no piece is in progress.
+/// Ends the piece in progress, and writes back its descriptor ("3.2.3 Receive Descriptor Format"): the length of the
+/// piece, DD, no error, and EOP if the frame ends in this piece. Returns `Nothing` if no piece is in progress.
 ///
-/// If `memory` has the same size as in the call of [`rx_data`](crate::rx_data), the descriptor is inside memory. If
-/// memory ends before the end of the descriptor, nothing is written.
+/// If memory ends before the end of the descriptor, nothing is written, but the piece is ended, too. This can't happen
+/// if `memory` has the same size as in the call of [`rx_data`](crate::rx_data) that moved the piece.
 pub fn rx_done(engine: &mut RxEngine, memory: &mut HostMemory) -> Done
     ensures nothing { (result ≡ Done.Nothing) ↔ (engine.old.work ≡ None) }
     ensures engine { engine.new ≡ engine_after_done engine.old }

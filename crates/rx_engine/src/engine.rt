@@ -23,7 +23,7 @@ const QUEUE_BYTES: usize = 65_536;
 const UNIT_BYTES: u32 = 16;
 
 /// The piece of a frame in progress: it is in memory, and its descriptor isn't written back yet.
-#[derive(Clone, Copy, Debug, PartialEq, Eq)]
+#[derive(Clone, Copy)]
 pub struct Work {
     /// The address at which the piece's descriptor was read.
     pub descriptor: u64,
@@ -35,7 +35,7 @@ pub struct Work {
 
 /// The receive engine: its packet buffer, the number of moved bytes of the oldest frame, the piece in progress, and
 /// whether a fault has stopped the engine.
-#[derive(Clone, Debug, Drop)]
+#[derive(Clone, Drop)]
 pub struct RxEngine {
     buffer: PackedQueue,
     /// The number of bytes that the frames in `buffer` occupy.
@@ -216,7 +216,7 @@ impl RxEngine {
     }
 }
 
-/// Feeds the piece in progress, if any, to a hasher.
+/// Feeds to a hasher whether a piece is in progress, and then the piece if there is one.
 fn feed_work<H: Hasher>(work: Option<Work>, hasher: &mut H)
     ensures { hasher.new ≡ fold H.write hasher.old (work_writes work) }
 {

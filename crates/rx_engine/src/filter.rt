@@ -30,7 +30,7 @@ pub const VLAN_TYPE: u16 = 0x8100;
 const ADDRESS_HIGH_BITS: u32 = 0x8000_FFFF;
 
 /// The receive filter: its registers, which determine the frames that pass. No call allocates memory.
-#[derive(Clone, PartialEq, Eq, Debug, Drop)]
+#[derive(Clone, Drop)]
 pub struct Filter {
     ral: [u32; RECEIVE_ADDRESSES],
     rah: [u32; RECEIVE_ADDRESSES],

@@ -1,4 +1,4 @@
-// The frames in the slots of a receive ring.
+// The frames in the finished slots of a receive ring, and the bytes of the piece in progress.
 
 ghost use Rattle.std.specs.Prelude.{◌≡◌, ◌≤◌, ◌<◌, ◌+◌, ◌++◌, ◌∷◌, ◌⊎◌, [], All, IfSome, IfNone, IsSome};
 ghost use Rattle.std.specs.Prelude.{length, vec_capacity, true, false};
@@ -20,7 +20,8 @@ use descriptors::{Frame, RX_DESC_BYTES, Ring, RxDesc, RxStatus};
 use dma_memory::HostMemory;
 
 /// Adds the next piece to the frame whose beginning is in `begun`. If the frame ends in the piece, appends the frame to
-/// the list and clears `begun`.
+/// the list and clears `begun`. The frame must have at most 1,518 bytes with this piece. If the frame ends, the list
+/// must have room for one more frame.
 pub fn append_piece(
     bytes: &[u8],
     ends: bool,
@@ -110,10 +111,11 @@ pub fn bytes_in_progress<'a>(memory: &'a HostMemory, work: &Work) -> Option<&'a 
     memory.view(address, usize::from(work.length)).ok()
 }
 
-/// Appends the frames that end in the finished slots of a ring, from slot `oldest` on. The first piece continues the
-/// frame whose beginning is in `begun`. Afterwards `begun` contains the beginning of the frame that doesn't end in
-/// these slots. The ring and its finished pieces must be inside memory. The list must have room for these frames, and
-/// `begun` for the bytes of each.
+/// Appends the frames that end in the finished slots of a ring, from slot `oldest` up to the first outstanding slot
+/// that isn't done. The first piece continues the frame whose beginning is in `begun`. Afterwards `begun` contains the
+/// beginning of the frame that doesn't end in these slots. `oldest` must be a slot of the ring, unless no slot is
+/// outstanding. The ring and its finished pieces must be inside memory. The list must have room for these frames, and
+/// each frame must have at most 1,518 bytes.
 pub fn append_finished(
     memory: &HostMemory,
     ring: &Ring,

@@ -2,8 +2,8 @@
 //!
 //! Frames wait in the receive packet buffer, oldest first. A data step writes the next piece of the oldest frame to
 //! the buffer that the descriptor at the head of the receive ring points to. A done step then writes back this
-//! descriptor. Section numbers are those of Intel's "PCI/PCI-X Family of Gigabit Ethernet Controllers Software
-//! Developer's Manual".
+//! descriptor, if memory still contains it. Section numbers are those of Intel's "PCI/PCI-X Family of Gigabit Ethernet
+//! Controllers Software Developer's Manual".
 //!
 //! The crate also contains the receive filter: receive addresses, the multicast table, and VLANs. The filter allocates
 //! no memory.

@@ -13,7 +13,7 @@ pub(crate) const NUMBERS: u16 = 4096;
 const WORD_NUMBERS: u16 = 32;
 
 /// The place of a number's bit in MTA or VFTA.
-#[derive(Clone, Copy, Debug, PartialEq, Eq)]
+#[derive(Clone, Copy)]
 pub struct TableBit {
     /// The word of the table, 0 to 127.
     pub word: u8,

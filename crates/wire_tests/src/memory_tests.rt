@@ -1,4 +1,4 @@
-//! A test that a run continues after a failed allocation.
+//! A test that a network is made, and that a run continues, after a failed allocation.
 
 use crate::texts::prepared;
 use network_plan::PlanError;

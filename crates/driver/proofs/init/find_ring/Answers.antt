@@ -1,6 +1,7 @@
 use Rattle.std.proofs.Common.{◌≡◌, ◌≤◌, ◌*◌, ℕ, List, length, ap, subst, ◌∙◌, sym, arith}
 use Rattle.dma_memory.specs.Layout.{Counts, ReceiveRing}
 use Rattle.dma_memory.specs.LayoutLaws.{place-below_size}
+use Rattle.bus.proofs.Keeping.{keeps-on}
 use Rattle.bus.specs.Pasts.{joined}
 use Rattle.bring_up.specs.Configuration.{configured_counts, vlans_of}
 use Rattle.eeprom.specs.Image.{address_bytes}
@@ -59,3 +60,9 @@ returns-clause-finds g c honest =
       why = tt;
       why_lively = λ lively. tt;
     }
+
+pub returns-clause-keeps : goal.returns-clause-keeps
+returns-clause-keeps g c =
+    let on = keeps-on g.B.Bus g.met.B.Bus.composes.lent_stays_on c.args.bus.now in
+    on c.set_filter.new.bus c.set_receive_ring.new.bus
+    (on c.find_device.new.bus c.set_filter.new.bus c.find_device.ensures.keeps c.set_filter.ensures.keeps) c.set_receive_ring.ensures.keeps

@@ -1,4 +1,5 @@
-use Rattle.std.proofs.Common.{◌≡◌, true, false, ◌++◌, length, length-append, ap, refl, subst, arith}
+use Rattle.std.proofs.Common.{◌≡◌, true, false, ◌++◌, length, length-append, ap, refl, subst, ◌∙◌, arith}
+use Rattle.bus.proofs.Keeping.{keeps-on}
 use Rattle.registers.specs.Bits.{Meet}
 use Rattle.driver_law.proofs.RegisterAccesses.{reads-causes}
 use Rattle.driver_law.specs.DriverState.{DriverState, holding}
@@ -25,6 +26,41 @@ returns-then-not-is_mine-clause-handles g c up held is =
         work = reads.work (λ bit. none (handled-timer c.read.result c.read.type_inv bit));
         flows = reads.flows;
       };
+    }
+
+pub returns-then-not-is_mine-clause-only_receives : goal.returns-then-not-is_mine-clause-only_receives
+returns-then-not-is_mine-clause-only_receives g c = record {
+  layout = refl;
+  oldest = refl;
+  sending = refl;
+  setup = refl;
+  groups = refl;
+}
+
+pub returns-clause-keeps : goal.returns-clause-keeps
+returns-clause-keeps g c =
+    let on = keeps-on g.B.Bus g.met.B.Bus.composes.lent_stays_on c.args.bus.now in
+    let k2 = on c.read.new.self c.count_missed.new.bus c.read.ensures.keeps c.count_missed.ensures.keeps in
+    let k3 = on c.count_missed.new.bus c.take_finished-taken.new.bus k2 c.take_finished-taken.ensures.keeps in
+    on c.take_finished-taken.new.bus c.refill.new.bus k3 c.refill.ensures.keeps
+
+-- What the three calls leave as it was.
+pub returns-clause-only_receives : goal.returns-clause-only_receives
+returns-clause-only_receives g c =
+    let counted = c.count_missed.ensures.others in
+    let taken = c.take_finished-taken.ensures.slots.others in
+    let offers = c.refill.ensures.offers.others in
+    record {
+      layout = ap (λ (d : DriverState). d.layout) offers ∙ ap (λ (d : DriverState). d.layout) taken
+          ∙ ap (λ (d : DriverState). d.layout) counted;
+      oldest = ap (λ (d : DriverState). d.oldest_transmit) offers ∙ ap (λ (d : DriverState). d.oldest_transmit) taken
+          ∙ ap (λ (d : DriverState). d.oldest_transmit) counted;
+      sending = ap (λ (d : DriverState). d.sending) offers ∙ ap (λ (d : DriverState). d.sending) taken
+          ∙ ap (λ (d : DriverState). d.sending) counted;
+      setup = ap (λ (d : DriverState). d.setup) offers ∙ ap (λ (d : DriverState). d.setup) taken
+          ∙ ap (λ (d : DriverState). d.setup) counted;
+      groups = ap (λ (d : DriverState). d.groups) offers ∙ ap (λ (d : DriverState). d.groups) taken
+          ∙ ap (λ (d : DriverState). d.groups) counted;
     }
 
 pub returns-clause-serves : goal.returns-clause-serves

@@ -1,5 +1,6 @@
 -- The slot is the one after the outstanding ones, as the driver keeps it.
 use Rattle.std.proofs.Common.{◌≡◌, ◌+◌, ◌%◌, ℕ, length, true, sym, ap, subst, ◌∙◌, arith}
+use Rattle.bus.proofs.Keeping.{keeps-on}
 use Rattle.driver_law.proofs.TransmitRuns.{run-sends}
 use Rattle.driver_law.specs.DriverState.{DriverState, holding, transmit_slot, transmit_tail}
 use Rattle.driver_law.specs.Calls.{Ran, at, transmit_buffer, whole_descriptor}
@@ -58,3 +59,9 @@ returns-clause-sends g c held is =
     let sent = ap (λ (state : DriverState). let more : DriverState = record (holding held state) { sending = state.sending + 1 } in more)
     (sym c.self.view_is) in
     subst (λ (state : DriverState). Ran g.B.Bus true (sent_now d frame) (at c.args.bus.now d) (at c.write.new.self state)) sent ran
+
+pub returns-clause-keeps : goal.returns-clause-keeps
+returns-clause-keeps g c =
+    let on = keeps-on g.B.Bus g.met.B.Bus.composes.lent_stays_on c.args.bus.now in
+    on c.store-2.new.self c.write.new.self (on c.store.new.self c.store-2.new.self c.store.ensures.keeps c.store-2.ensures.keeps)
+    c.write.ensures.keeps

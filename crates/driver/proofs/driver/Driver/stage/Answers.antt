@@ -1,13 +1,16 @@
-use Rattle.std.proofs.Common.{◌≡◌, ◌<◌, ◌+◌, ◌*◌, ◌%◌, ◌∷◌, [], ℕ, length, sym, ap, subst, ◌∙◌, arith}
+use Rattle.std.proofs.Common.{◌≡◌, ◌<◌, ◌+◌, ◌*◌, ◌%◌, ◌∷◌, [], ℕ, length, sym, refl, inl, inr, ap, subst, ◌∙◌, arith}
+use Rattle.bus.proofs.Keeping.{keeps-here}
 use Rattle.dma_memory.specs.Layout.{ReceiveRing}
 use Rattle.dma_memory.specs.LayoutLaws.{place-below_size}
+use Rattle.dma_memory.specs.Numbers.{Numbers}
 use Rattle.descriptors.specs.Laws.{length-rx_desc_bytes}
 use Rattle.driver_law.proofs.ReceiveAccesses.{ran_by-stages}
 use Rattle.driver_law.specs.Calls.{Ran, at, only, stores_from}
 use Rattle.driver_law.specs.DriverState.{DriverState, buffer_at, holding, next_receive}
 use Rattle.driver_law.specs.ReadyDrivers.{empty_descriptor}
-use Rattle.driver.specs.InsideDriver.{driver_state_of}
-use Rattle.driver.proofs.BufferQueue.{queue-split, staged-inside}
+use Rattle.driver.specs.InsideDriver.{IsConsistentDriver, driver_state_of}
+use Rattle.driver.specs.declared.driver.Driver.TheInside.{Inside}
+use Rattle.driver.proofs.BufferQueue.{queue-split, room-inside, slots-inside, staged-inside}
 use Rattle.driver.proofs.driver.Driver.stage.Goals as goal
 
 pub store-requires : goal.store-requires
@@ -75,3 +78,44 @@ returns-clause-stages g c =
             (c.store.ensures.acts is.honest) is.ready);
       },
     )
+
+pub returns-then-len-from : goal.returns-then-len-from
+returns-then-len-from g c =
+    let d = c.args.self.now in
+    let slots = slots-inside c.self.inside d c.self.invariant.receives c.self.view_is in
+    let rx = ap (λ (s : DriverState). s.layout.rx) c.self.view_is in
+    record {
+      keeps = keeps-here g.B.Bus g.met.B.Bus.composes.lent_stays_here c.args.bus.now;
+      stages = tt;
+      room = room-inside c.self.inside d c.self.invariant.receives c.self.view_is;
+      stays = refl;
+      still = refl;
+      full = inr (omega (arith, slots, rx, c.if-len-from.true, c.len.ensures.len, c.from.ensures, c.rx-count.ensures.count));
+    }
+
+pub invariant_of-self : goal.invariant_of-self
+invariant_of-self g c =
+    subst (λ (pool : Numbers). IsConsistentDriver (record c.self.inside { pool = pool })) (sym c.in_default.ensures.stays) c.self.invariant
+
+pub returns-in_default : goal.returns-in_default
+returns-in_default g c =
+    let with_pool : Numbers → Inside = λ pool. record c.self.inside { pool = pool } in
+    let is = c.in_default.ensures in
+    record {
+      keeps = keeps-here g.B.Bus g.met.B.Bus.composes.lent_stays_here c.args.bus.now;
+      stages = tt;
+      room = room-inside (with_pool c.take.new.self) (driver_state_of (with_pool c.take.new.self)) (invariant_of-self g c).receives refl;
+      stays = ap (λ (pool : Numbers). driver_state_of (with_pool pool)) is.stays ∙ c.self.view_is;
+      still = refl;
+      full = inl (ap (λ (pool : Numbers). pool.free) is.stays ∙ is.none.0 refl);
+    }
+
+pub returns-clause-room : goal.returns-clause-room
+returns-clause-room g c =
+    let after : Inside = record c.self.inside {
+      next_receive = (c.self.inside.next_receive + 1) % c.rx-count.result;
+      buffers = c.push_back.new.self;
+      staged = c.self.inside.staged + 1;
+      pool = c.take.new.self;
+    } in
+    room-inside after (driver_state_of after) (invariant_of-self-2 g c).receives refl

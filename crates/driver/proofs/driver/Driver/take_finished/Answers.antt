@@ -1,5 +1,7 @@
 use Rattle.std.proofs.Common.{Bool, ◌≡◌, ◌+◌, ◌++◌, ◌∷◌, [], length, sum, ap, sym, subst, ◌∙◌, arith}
 use Rattle.bus.proofs.Keeping.{keeps-here, keeps-on}
+use Rattle.dma_memory.specs.Layout.{size_of}
+use Rattle.driver_law.specs.DriverState.{DriverState}
 use Rattle.driver.specs.HandlerSteps.{run_with, whole_frames}
 use Rattle.driver.specs.Parts.{FitIntoBuffers, pieces_of}
 use Rattle.driver.proofs.SeenSlots.{fills-fit}
@@ -97,3 +99,34 @@ returns-clause-takes g c up held is =
       loads_are = look.loads_are;
       looks = look.ran;
     }
+
+pub look-requires : goal.look-requires
+look-requires g c =
+    let slots = c.loop-run.invariant.walks.slots in
+    let same = ap (λ (d : DriverState). size_of d.layout) slots.others in
+    omega (arith, same, c.requires.memory, c.loop-run.invariant.keeps.extent)
+
+pub returns-clause-keeps : goal.returns-clause-keeps
+returns-clause-keeps g c =
+    keeps-on g.B.Bus g.met.B.Bus.composes.lent_stays_on c.args.bus.now c.loop-run.bus c.look.new.bus c.loop-run.invariant.keeps
+    c.look.ensures.keeps
+
+pub returns-clause-slots : goal.returns-clause-slots
+returns-clause-slots g c = c.loop-run.invariant.walks.slots
+
+pub take_run-parts-requires : goal.take_run-parts-requires
+take_run-parts-requires g c = record {
+  size = c.in-Some.ensures.finds.room;
+  few = c.in-Some.ensures.finds.most;
+  enough = c.in-Some.ensures.finds.inside;
+}
+
+pub pass_on-requires-clause-memory : goal.pass_on-requires-clause-memory
+pass_on-requires-clause-memory g c =
+    let i = c.loop-run.invariant in
+    let same = ap (λ (d : DriverState). size_of d.layout) i.walks.slots.others in
+    let left = ap (λ (d : DriverState). size_of d.layout) c.take_run-parts.ensures.leaves.others in
+    omega (arith, same, left, c.requires.memory, i.keeps.extent, c.look.ensures.keeps.extent)
+
+pub pass_on-requires-clause-one_owner : goal.pass_on-requires-clause-one_owner
+pass_on-requires-clause-one_owner g c = c.take_run-parts.ensures.one_owner

@@ -1,9 +1,11 @@
 -- Slots are freed, and then the frame is sent if there is room.
-use Rattle.std.proofs.Common.{◌≡◌, ◌+◌, ap, arith}
+use Rattle.std.proofs.Common.{◌≡◌, ◌+◌, ◌∙◌, sym, ap, arith}
+use Rattle.bus.proofs.Keeping.{keeps-on}
 use Rattle.driver_law.proofs.Accesses.{ran_by-stays}
 use Rattle.driver_law.proofs.Calls.{ready-on}
 use Rattle.driver_law.specs.Calls.{at, held_at}
 use Rattle.driver_law.specs.DriverState.{DriverState, holding}
+use Rattle.driver.specs.SendSteps.{with_transmit_slots}
 use Rattle.driver.proofs.SentFrames.{frees-and-sends, was-full}
 use Rattle.driver.proofs.driver.Driver.transmit.Goals as goal
 
@@ -45,3 +47,20 @@ returns-clause-transmits g c held is =
     frees-and-sends g.B.Bus g.met.B.Bus.composes.joins (held_at held (at c.args.bus.now d)) (held_at held (at c.reclaim.new.bus freed))
     (held_at held (at c.send.new.bus c.send.new.self)) c.args.frame.now (ap (holding held) c.reclaim.ensures.others)
     c.reclaim.ensures.tail (ap (holding held) c.send.ensures.others) reclaims sends
+
+pub returns-then-self-tx-clause-full : goal.returns-then-self-tx-clause-full
+returns-then-self-tx-clause-full g c is =
+    let sending = ap (λ (state : DriverState). state.sending) c.self.view_is in
+    let tx = ap (λ (state : DriverState). state.layout.tx) c.self.view_is in
+    omega (arith, c.if-self-tx.true, c.tx.ensures.count, sending, tx)
+
+pub returns-clause-keeps : goal.returns-clause-keeps
+returns-clause-keeps g c =
+    keeps-on g.B.Bus g.met.B.Bus.composes.lent_stays_on c.args.bus.now c.reclaim.new.bus c.send.new.bus c.reclaim.ensures.keeps
+    c.send.ensures.keeps
+
+pub returns-clause-others : goal.returns-clause-others
+returns-clause-others g c =
+    c.send.ensures.others ∙ ap (λ (state : DriverState). with_transmit_slots state c.reclaim.new.self.oldest_transmit
+    (c.reclaim.new.self.sending + 1)) c.reclaim.ensures.others
+    ∙ sym (ap (λ (state : DriverState). with_transmit_slots c.args.self.now state.oldest_transmit state.sending) c.send.ensures.others)
