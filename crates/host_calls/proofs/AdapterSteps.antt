@@ -83,7 +83,7 @@ elsewhere number k event other =
       | inr differ ↦ subst (λ (here : Bool). (if here then event ∷ [] else []) ++ [] ≡ []) (sym differ.0) refl
     ]
 
--- The host makes no access in the step.
+-- In a step of its adapter, the host makes no access, and takes, returns and accepts no frame.
 pub step-runs : (number : ℕ) (kind : StepKind) (answer : FrameOutcome) (a b : List StationState) (h : HostState)
     → CanBeDrained h (world_at a number) → TakesStep number kind answer a b
     → HostRuns number (At number (Steps kind true answer) ∷ []) (host_did [] [] []) (connected h a) (connected h b)
@@ -103,7 +103,7 @@ held-stays number n played a b h leads moved runs =
     (nothing-stored number number played a b n leads moved) in
     omega (arith, holds)
 
--- No work is forgotten
+-- The steps that remain for a piece in progress
 
 pub work-counted : (work : Option Work) → work ≢ None → (length (slot_of_work work) ≡ 1) × ((line : ℕ) → count_pending work line ≡ 3)
 work-counted None some = absurd (some refl)
@@ -183,7 +183,7 @@ done-steps number a b h stands takes =
     (ap (λ (w : World). w.adapter.filter) takes.world) (omega (arith, before.0, left, ends, pending, pending'))
     (omega (arith, before.0, behind.0, left))
 
--- No piece was in progress.
+-- A step with the outcome Nothing that changes no adapter is no step of the drain.
 idle-steps : (number : ℕ) (kind : StepKind) (a b : List StationState) (h : HostState) → (kind ≡ RxData) ⊎ (kind ≡ RxDone)
     → CanBeDrained h (world_at a number)
     → TakesStep number kind outcome.Nothing a b → (world_at b number).adapter ≡ (world_at a number).adapter
@@ -304,7 +304,7 @@ moves-piece number a b h outcome.Moved below occurs is one stands free =
     moved-steps number a b h stands free (takes-step number RxData outcome.Moved a b below (λ e. absurd (cc e)) occurs is)
 moves-piece number a b h result below occurs is one stands free = elim one [ inl same ↦ absurd (cc same) | inr same ↦ absurd (cc same) ]
 
--- No piece is moved: there was no frame to move, because no engine is stopped.
+-- RxData moved no piece, and changed no adapter. The outcome is Nothing, not Fault, because no engine is stopped.
 pub record MovesNone (number : ℕ) (a b : List StationState) (h : HostState) : Type 0 where
   pub on : StepsOn 0 number [] (connected h a) (connected h b)
   pub takes : TakesStep number RxData outcome.Nothing a b

@@ -71,7 +71,7 @@ none-in_work P work is = absurd (cc)
 one-in_work : (P : Work → Type 0) (work : Work) → P work → ForSome (Some work) P
 one-in_work P work holds other is = let same : work ≡ other = cc in subst P same holds
 
--- an empty engine
+-- an empty engine meets its invariant
 is-empty : IsReceiver new_receiver
 is-empty = record {
   room = omega arith;
@@ -110,7 +110,7 @@ first-legal : (frames : List (List ℕ)) → frames ≢ [] → All IsLegal frame
 first-legal [] some are = absurd (some refl)
 first-legal (frame ∷ later) some are = all-head IsLegal frame later are
 
--- a receive buffer isn't empty
+-- a receive buffer has at least one byte
 some-sized : (code : ℕ) → code < 4 → 1 ≤ buffer_size_of code
 some-sized zero small = omega arith
 some-sized (suc zero) small = omega arith

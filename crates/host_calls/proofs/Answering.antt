@@ -38,7 +38,7 @@ use Rattle.host_calls.specs.CausesLaws.{AnswerTells}
 use Rattle.host_calls.specs.ConnectedHosts.{ConnectedHost}
 use Rattle.host_calls.specs.InterruptCauses.{HadCause, ReadsIcrFirst, TellsCauses, WasQuiet}
 
--- The value of ICR is the recorded causes.
+-- A read of ICR returns the recorded causes.
 icr-answers : (adapter : AdapterState) → answer_at ICR adapter ≡ adapter.causes.recorded
 icr-answers adapter = ap (λ (found : Option Register). answer_of found adapter) (register_at-there Icr tt)
 

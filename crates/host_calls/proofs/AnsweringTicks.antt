@@ -25,7 +25,7 @@ use Rattle.adapter.specs.declared.outcome.Outcome.TheVariants.{Done, Fault, Move
 use Rattle.host_calls.specs.Counts.{bytes_left, counts_of, negotiation_ticks, phy_counts}
 use Rattle.host_calls.specs.StepOutcomes.{has_idle_phy, has_nothing_to_move, has_nothing_to_take, left_of_oldest, moved_or_part, nothing_if}
 
--- it is Nothing if the test holds, and the other outcome if it doesn't
+-- the outcome is Nothing if the test is true, and the other outcome if the test is false
 idles : (test : Bool) (other : FrameOutcome) → test ≡ true → Nothing ≡ nothing_if test other
 idles true other is = refl
 idles false other is = absurd (cc)

@@ -73,7 +73,7 @@ quiet number played a b counts leads none own =
       only = drain-steps number played are;
     }
 
--- The line isn't asserted after a call if it wasn't before.
+-- If the interrupt line isn't asserted before a call, it isn't asserted after the call.
 line-stays : (a b : AdapterState) → LeavesEngine a b → count_line b.causes ≤ count_line a.causes
 line-stays a b leaves = ⊎_elim
     (λ (same : b.causes.recorded ≡ a.causes.recorded).
@@ -226,7 +226,7 @@ given-steps number socket frame a b heard accesses h h' ready calls free =
     one-call number n runs.steps a b h h' runs.taken (given_by socket (Ok frame)) ready of_call.leads of_call.played runs.runs
     stay (omega arith) (omega arith) (omega (arith, known)) free (omega arith) (omega (arith, line))
 
--- A frame was returned, because one was queued.
+-- If a frame is queued for a socket, a call of this socket returns no error.
 pub not-refused : (result : Result (List ℕ) RecvError) (error : RecvError) (socket : ℕ) (h h' : HostState) (Runs : HostAct → Type 0)
     (world : World) → RecvEffect socket result h h' Runs world → socket < length h.kinds → queue_at h.queues socket ≢ []
     → result ≡ Err error → ⊥
@@ -234,7 +234,7 @@ not-refused (Ok frame) error socket h h' Runs world does known some is = absurd 
 not-refused (Err Empty) error socket h h' Runs world does known some is = some does.1
 not-refused (Err NoSocket) error socket h h' Runs world does known some is = let none = does.0 in omega (arith, none, known)
 
--- A call with this answer.
+-- Calls whose answer is that of an interrupt, or a returned frame.
 
 pub interrupted-call : (answer : HostAnswer (List ℕ)) (call : PlayedCall) (old new : ConnectedHost)
     → Calls call [] [] (OfAnswer (interrupted_in answer) InterruptEffect) old new

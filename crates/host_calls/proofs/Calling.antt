@@ -29,7 +29,7 @@ use Rattle.packet_socket.specs.HostActs.{IsOfHost, OnlyLastWrites}
 use Rattle.host_calls.proofs.HostTrails.{happens-alone, happens-elsewhere, none-alone, none-elsewhere}
 use Rattle.host_calls.specs.ConnectedHosts.{PlayedCall, connected, played_call}
 
--- Whether work is forgotten doesn't depend on the pieces that others hold.
+-- Whether work is forgotten doesn't depend on the pieces in the sockets' queues.
 pub work-held : (h : HostState) (a world : World) → HasNoForgottenWork h.driver world → HasNoForgottenWork (driver_of h a) world
 work-held h a world work = record { enabled = work.enabled; asked = work.asked }
 
@@ -55,7 +55,7 @@ pub work-goes : (h : HostState) (a : World) (h' : HostState) (b : World) (taken 
 work-goes h a h' b taken given accepted past goes work =
     work-unheld h' b b (work_kept (driver_of h a) (driver_of h' b) a b taken accepted past goes.driver (work-held h a a work))
 
--- A host that makes no access.
+-- What a host that makes no access does.
 pub runs-alone : (k : ℕ) (steps : List AtomicStep) (a b : List StationState) (h : HostState) → HostReady h (world_at a k)
     → Happens (world_at a k) (world_at b k) (past_at k steps) → (past_at k steps).accesses ≡ []
     → HostRuns k steps (host_did [] [] []) (connected h a) (connected h b)
@@ -172,7 +172,7 @@ call-runs_by composes a m b past h h' taken given accepted zero interval flows a
       refl,
     )
 
--- Every other host.
+-- What every other host does during a call.
 pub others-run : (caller k : ℕ) (steps : List AtomicStep) (a b : List StationState) (h : HostState) → k ≢ caller
     → LeadsTo caller steps a b → HostReady h (world_at a k) → HostRuns k steps (host_did [] [] []) (connected h a) (connected h b)
 others-run caller k steps a b h other leads ready =

@@ -95,7 +95,7 @@ chosen-more : {X : Type 0} (g : Event → List X) (here : Bool) (event : Event) 
 chosen-more g true event later = refl
 chosen-more g false event later = refl
 
--- the list of an event's happenings for host k is this list of the event
+-- for each event at a host, `f` finds the list `g event` in the event's happenings if this host is k, else the empty list
 abbrev pub Tells : {X : Type 0} → (Happening → List X) → (Event → List X) → (k : ℕ) → Type 0
 Tells f g k =
     (host : ℕ) (event : Event) (world : World) → Occurs event world

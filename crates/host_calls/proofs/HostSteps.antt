@@ -159,7 +159,7 @@ lowered (Running left) runs = elim (leb_tells left 1) [
   | inr more ↦ rw more.0 (omega (arith, more.1))
 ]
 
--- or a tick ends a command, which may start a countdown
+-- a tick ends a pending command, which may start a countdown
 countdown-left : (value : ℕ) (pending : Option Operation) (phy : PhyState)
     → has_work (record { value = value; pending = pending }) phy ≡ true
     → negotiation_ticks (phy_after_tick (record { value = value; pending = pending }) phy).negotiation

@@ -91,7 +91,7 @@ pub length-played : (step : AtomicStep) (stations : List StationState) → lengt
 length-played (At host event) stations = length-event host event stations
 length-played (Idles tick) stations = refl
 
--- What holds of the k-th host and the stations after a change of stations only holds of the network.
+-- If only stations change, what holds of the k-th host and the stations holds of the network.
 pub stations-changed : (Holds : ConnectedHost → ConnectedHost → Type 0) (hosts : List HostState) (stations : List StationState)
     (n : NetworkState) (k : ℕ) (left : List StationState) → network hosts stations ≡ n
     → Holds (connected (nth_host n k) stations) (connected (nth_host n k) left)
@@ -111,7 +111,7 @@ station-there hosts stations n k shown same below = omega (arith, same, inside h
 
 -- Of all hosts only one changed
 
--- this host didn't change either
+-- no host changed
 pub only-same : (a b : NetworkState) (k : ℕ) → k < length a.hosts → b.hosts ≡ a.hosts → OnlyHostChanges k a b
 only-same a b k below same =
     let own = nth_host b k in
@@ -119,7 +119,7 @@ only-same a b k below same =
     ap (λ (list : List HostState). host_or_empty (slice_get list k)) same ∙ ap host_or_empty (slice_get-get_or a.hosts k own below) in
     same ∙ sym (ap (λ (host : HostState). slice_set a.hosts k host) found ∙ set-get_or a.hosts k own)
 
--- this host changed twice
+-- the same host changed twice
 pub only-join : (a b c : NetworkState) (k : ℕ) → OnlyHostChanges k a b → OnlyHostChanges k b c → OnlyHostChanges k a c
 only-join a b c k one two =
     two

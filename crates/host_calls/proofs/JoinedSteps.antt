@@ -87,7 +87,7 @@ steps-join m n number a b c h1 h2 h3 given more one two =
       };
     }
 
--- A look that did nothing comes first.
+-- First, a step was tried that didn't apply; then further steps follow.
 pub steps-after : (first : Bool) (n number : ℕ) (a b c : List StationState) (h m h' : HostState) (given : List Given) → first ≡ false
     → StepsOn (steps_of first) number [] (connected h a) (connected m b) → StepsOn n number given (connected m b) (connected h' c)
     → StepsOn n number given (connected h a) (connected h' c)
@@ -97,7 +97,7 @@ steps-after first n number a b c h m h' given none one two =
     (steps-join 0 n number a b c h m h' [] given
     (subst (λ (stepped : Bool). StepsOn (steps_of stepped) number [] (connected h a) (connected m b)) none one) two)
 
--- What moves of frames into memory say: nothing is put, reaches a host, is stored or missed.
+-- If frames are only moved to memory, no frame is put, reaches a host, is stored or is missed.
 
 pub moves-put : (k n number : ℕ) → put k (replicate n (Moved number)) ≡ []
 moves-put k zero number = refl
@@ -124,7 +124,7 @@ pub nothing-stored : (number k : ℕ) (played : List AtomicStep) (a b : List Sta
 nothing-stored number k played a b n leads moved =
     sym (frames-move number k played a b leads).stored ∙ ap (stored k) moved ∙ moves-stored k n number
 
--- Into an frame_sink.
+-- The frames that sockets returned are appended to a sink.
 
 pub into-none : (number : ℕ) (a b : List StationState) (h h' : HostState) (had : List Given) (room steps : ℕ)
     → StepsOn steps number [] (connected h a) (connected h' b)
@@ -148,5 +148,3 @@ into-join m n number a b c h1 h2 h3 x y z p q r one two = record {
   room = omega (arith, one.room, two.room, length-append one.given two.given);
   on = steps-join m n number a b c h1 h2 h3 one.given two.given one.on two.on;
 }
-
--- a host that is there is there after steps of a drain

@@ -40,7 +40,7 @@ use Rattle.host_calls.proofs.Calling.{call-runs_by, lent_call, whole-accesses}
 use Rattle.host_calls.proofs.HostTrails.{none-alone}
 use Rattle.host_calls.proofs.LentIntervals.{lent_interval-ends, lent_intervals-join}
 
--- A report of a lent bus, whose steps and then the ticks that are left make these stages.
+-- `HappenedLent` of a lent bus, whose steps, followed by the remaining ticks, make these stages.
 abbrev pub Told : {O : Type 0} {g : OfObserver O} (stages : CallStages) (a m : LentBus O g) (last : List AtomicStep) → Past → Type 0
 Told stages a m last past = (interval : HappenedLent a m past) × MakesStages a.host stages (interval.steps ++ last) a.stations.now
 
@@ -74,13 +74,13 @@ stages-told {O} {g} composes (Then made Holds later) a m last past none it =
       },
     )
 
--- Frames that were taken went to the ends of their sockets' queues.
+-- Frames that were taken were appended to their sockets' queues.
 
 part-append : (kinds : List SocketKind) (socket : ℕ) (xs ys : List (List ℕ))
     → socket_frames kinds socket (xs ++ ys) ≡ socket_frames kinds socket xs ++ socket_frames kinds socket ys
 part-append kinds socket xs ys = filter-append (λ (frame : List ℕ). goes_to kinds socket (ether_type frame)) xs ys
 
--- t ++ n = o ++ s, and w' ++ part n = (w ++ part o) ++ part s: so w' = w ++ part t.
+-- If the taken and the remaining frames are the held and the stored ones, a queue grows by the taken frames that go to its socket.
 queue-grows : (kinds : List SocketKind) (socket : ℕ) (waiting before taken now held stored : List (List ℕ))
     → taken ++ now ≡ held ++ stored
     → waiting ++ socket_frames kinds socket now ≡ (before ++ socket_frames kinds socket held) ++ socket_frames kinds socket stored
@@ -110,7 +110,7 @@ queues-grow k socket steps a b h h' taken given accepted runs =
     ∙ append_assoc gave waiting (socket_frames h'.kinds socket now)
     ∙ accounts.sockets socket)
 
--- An act over a lent bus, and the ticks that are left.
+-- An act over a lent bus, and the remaining ticks.
 pub lift-act : {O : Type 0} {g : OfObserver O} → ComposesTold g.heard → (a m b : LentBus O g) (h h' : HostState) (given : List Given)
     (accepted : List (List ℕ)) → a.accesses ≡ 0 → HostReady h (world_here a) → Finished m b
     → (act : HostAct) → OverBus lent true given accepted (host_at a h) (host_at m h') act

@@ -1,4 +1,4 @@
--- Lists that grow at their end, and from whose end a reset takes frames.
+-- Lists that grow at their end, and from whose end a reset removes frames.
 use Rattle.std.proofs.Common.{◌≡◌, ◌++◌, ◌∷◌, [], ℕ, List, map, refl, sym, ap, subst, ◌∙◌, append_assoc}
 use Rattle.std.specs.List.{flat_map}
 use Rattle.std.proofs.lemmas.List.{append-nil, append_cancel_right, map-append}

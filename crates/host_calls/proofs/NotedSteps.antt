@@ -25,7 +25,7 @@ use Rattle.host_calls.proofs.SplitSteps.{own-accesses}
 abbrev pub picked : (test : ℕ → Bool) → (frames : FrameOutcome → List (List ℕ)) → (k : ℕ) → TickTold → List (List ℕ)
 picked test frames k told = if is_of_host k told.tick && test told.accesses then frames told.outcome else []
 
--- The frames of an outcome are those of what it tells of its host.
+-- For host k, `by` finds the frames `frames` in the happenings of an outcome at host k, and no frame at another host.
 pub record AreTold (frames : FrameOutcome → List (List ℕ)) (by : ℕ → Happening → List (List ℕ)) : Type 0 where
   pub at : (k host : ℕ) (outcome : FrameOutcome)
       → flat_map (by k) (outcome_happenings host outcome) ≡ (if k == host then frames outcome else [])
@@ -76,7 +76,7 @@ fails : (here passed : Bool) (frames : List (List ℕ)) → passed ≡ false →
 fails true passed frames is = ap (λ (b : Bool). if b then frames else []) is
 fails false passed frames is = refl
 
--- Up to a number each tick of the host is noted,
+-- While the number of accesses is at most the limit, each tick of the host is noted.
 
 one-picked : (test : ℕ → Bool) (frames : FrameOutcome → List (List ℕ)) (by : ℕ → Happening → List (List ℕ)) → AreTold frames by
     → (k host n : ℕ) (one : FrameOutcome) → test n ≡ true
@@ -116,7 +116,7 @@ all-picked test frames by are k limit n (Idles tick ∷ steps) a b leads passing
     ap (λ (list : List (List ℕ)). list ++ flat_map (picked test frames k) (steps_told n steps)) none
     ∙ all-picked test frames by are k limit n steps a b leads.2 passing few
 
--- and above it none is.
+-- While the number of accesses is above the limit, no tick is noted.
 none-picked : (test : ℕ → Bool) (frames : FrameOutcome → List (List ℕ)) (k limit n : ℕ) (steps : List AtomicStep)
     → ((m : ℕ) → limit < m → test m ≡ false) → limit < n → limit < most_accesses
     → flat_map (picked test frames k) (steps_told n steps) ≡ []
@@ -144,7 +144,7 @@ up-to m few = le-leb m 2 few
 beyond : (m : ℕ) → 2 < m → nat_le m 2 ≡ false
 beyond m many = lt-leb m 2 many
 
--- Put by outcomes numbered up to 2.
+-- The frames put by ticks with at most 2 accesses before them.
 pub early-puts : (k n : ℕ) (steps : List AtomicStep) (a b : List StationState) → LeadsTo k steps a b
     → n + length (past_at k steps).accesses ≤ 2 → flat_map (early_put k) (steps_told n steps) ≡ put k (happened_in steps)
 early-puts k n steps a b leads few = all-picked (λ m. nat_le m 2) frames_put put_in_one put-told k 2 n steps a b leads up-to few
@@ -152,7 +152,7 @@ early-puts k n steps a b leads few = all-picked (λ m. nat_le m 2) frames_put pu
 pub no-late_puts : (k n : ℕ) (steps : List AtomicStep) → 2 < n → flat_map (early_put k) (steps_told n steps) ≡ []
 no-late_puts k n steps late = none-picked (λ m. nat_le m 2) frames_put k 2 n steps beyond late (omega arith)
 
--- Stored by outcomes numbered 0.
+-- The frames stored by ticks with no access before them.
 pub first-stores : (k : ℕ) (steps : List AtomicStep) (a b : List StationState) → LeadsTo k steps a b
     → (past_at k steps).accesses ≡ [] → flat_map (first_stored k) (steps_told 0 steps) ≡ stored k (happened_in steps)
 first-stores k steps a b leads none =

@@ -39,7 +39,7 @@ late (Go ∷ ticks) i n behind = late ticks (i + 1) n (omega (arith, behind))
 late (Step host kind ∷ ticks) i n behind = next i n (min n n) ticks _ (omega (arith, behind)) (late ticks i n behind)
 late (Deliver host ∷ ticks) i n behind = next i n (min n n) ticks _ (omega (arith, behind)) (late ticks i n behind)
 
--- Counts grow.
+-- The count `j` is at least `i`, and at most the greatest count.
 record Grows (i j : ℕ) : Type 0 where
   least : i ≤ j
   most : j ≤ most_accesses

@@ -1,4 +1,4 @@
--- The frames that a ready host has to send and holds can be read, and how many they are at most.
+-- The frames that a ready host has to send and those that it holds can be read; bounds of their numbers.
 use Rattle.std.proofs.Common.{◌≡◌, ◌≤◌, ◌<◌, ◌+◌, ◌++◌, [], ℕ, None, Some, List, Option, arith, inl, length, length-append}
 use Rattle.std.proofs.Common.{slice_index_or, subst, sym, ap}
 use Rattle.std.specs.List.{All}
@@ -39,7 +39,7 @@ use Rattle.host_calls.proofs.HostsOfNetworks.{host-found, network, ready-before,
 use Rattle.host_calls.proofs.PiecesLeft.{ending-most, held-counted}
 use Rattle.host_calls.proofs.SocketCounts.{ended-few}
 
--- All that the conditions of the law name lies in memory.
+-- All areas that the conditions of the law name are in memory.
 lying : (d : DriverState) (w : World) → Ready d w → OfAreas (λ area. LiesIn w.memory area.address area.size) d.oldest_receive w
 lying d w ready = of-areas (λ area. LiesIn w.memory area.address area.size) d.oldest_receive w ready.law.sound.separate.lie
 
@@ -98,11 +98,11 @@ can-read_held d w ready =
       };
     }
 
--- Fewer frames are to be sent than the transmit ring has slots,
+-- Fewer frames are to be sent than the transmit ring has slots.
 pub sending-at_most : (d : DriverState) (w : World) → Ready d w → length (frames_to_send w) + 1 ≤ d.layout.tx
 sending-at_most d w ready = (slots_have_frames d w ready).most
 
--- and of those held a slot of the receive ring has at most one, and the packet buffer the others.
+-- The number of held frames is at most the number of receive slots, plus MOST_FRAMES for the packet buffer.
 pub held-in_room : (d : DriverState) (w : World) → Ready d w → IsAdapter w.adapter
     → length (frames_held d.oldest_receive w) ≤ d.layout.rx + MOST_FRAMES
 held-in_room d w ready adapter =
@@ -124,9 +124,9 @@ held-in_room d w ready adapter =
       count-fits w.adapter.receiver.buffer adapter.receiver.frames adapter.receiver.room,
     )
 
--- A host of a network, as code has it.
+-- A host of a network, found by its number
 
--- what code knows of the host whose number is k
+-- what is known of the host that was found with number k
 pub record IsFound (n : NetworkState) (stations : List StationState) (k : ℕ) (h : HostState) : Type 0 where
   pub is : h ≡ nth_host n k
   pub ready : HostReady h (world_at stations k)
@@ -141,7 +141,7 @@ found-host hosts stations n k h shown below found ready adapter = record {
   adapter = subst (λ (list : List StationState). IsAdapter (world_at list k).adapter) (stations-are hosts stations n shown) adapter;
 }
 
--- what is to be sent, and what is held, is the same by the network's own words
+-- the frames to be sent and those held are the same if they are read from the network's value
 pub found-before : (n : NetworkState) (stations : List StationState) (k : ℕ) (h : HostState) (found : GivenUp) → IsFound n stations k h
     → n.stations ≡ stations → found.sending.items ≡ frames_to_send (world_at stations k)
     → found.holding.items ≡ frames_held h.driver.oldest_receive (world_at stations k)

@@ -26,7 +26,7 @@ use Rattle.driver_law.specs.ReadyDrivers.{Ready}
 use Rattle.host_calls.specs.DrainedHosts.{buffers_for, count_left, count_pieces, count_queued_pieces, pieces_left}
 use Rattle.host_calls.specs.DrainSteps.{count_pending}
 
--- Each frame has a piece at least, and a legal one has six at most.
+-- A legal frame has at least one piece, and at most six.
 
 pub pieces-append : (first later : List (List ℕ)) → count_pieces (first ++ later) ≡ count_pieces first + count_pieces later
 pieces-append first later = sum_by-append (λ (frame : List ℕ). buffers_for (length frame)) first later
@@ -70,19 +70,19 @@ pub left-most : (moved : ℕ) (buffer : List (List ℕ)) → pieces_left moved b
 left-most moved [] = omega arith
 left-most moved (frame ∷ later) = omega (arith, pieces-cons frame later)
 
--- If a full buffer of the oldest frame has been moved, one less is.
+-- If at least one full buffer of the oldest frame has been moved, one piece less is to be moved.
 pub left-begun : (moved : ℕ) (buffer : List (List ℕ)) → receive_buffer_bytes ≤ length (take moved (oldest buffer))
     → pieces_left moved buffer + 1 ≤ count_pieces buffer
 left-begun moved [] full = absurd (omega (arith, full, length-take moved (oldest [])))
 left-begun moved (frame ∷ later) full = omega (arith, full, length-take moved frame, pieces-cons frame later)
 
--- A piece is moved that isn't the last of its frame,
+-- A piece is moved that isn't the last of its frame.
 pub left-part : (moved : ℕ) (buffer : List (List ℕ)) → receive_buffer_bytes < length (oldest buffer) - moved
     → pieces_left moved buffer ≡ 1 + pieces_left (moved + receive_buffer_bytes) buffer
 left-part moved [] more = absurd (omega (arith, more))
 left-part moved (frame ∷ later) more = omega (arith, more)
 
--- or the last one.
+-- The last piece of a frame is moved.
 pub left-last : (moved : ℕ) (buffer : List (List ℕ)) → buffer ≢ [] → All IsLegal buffer → moved ≤ length (oldest buffer) - 1
     → length (oldest buffer) - moved ≤ receive_buffer_bytes
     → pieces_left moved buffer ≡ 1 + pieces_left 0 (drop 1 buffer)
@@ -94,9 +94,9 @@ left-last moved (frame ∷ later) some legal begun short =
     whole [] = refl
     whole (next ∷ later) = omega (arith, pieces-cons next later)
 
--- Work.
+-- The piece in progress
 
--- 1 if a frame ends in the piece in progress
+-- 1 if a frame ends in the piece in progress, else 0
 abbrev pub count_ending : Option Work → ℕ
 count_ending work = if is_ending work then 1 else 0
 
@@ -108,7 +108,7 @@ pub ending-most : (work : Option Work) → count_ending work ≤ length (slot_of
 ending-most None = omega arith
 ending-most (Some work) = omega (arith, ending-few work.ends)
 
--- The frames held are those that end in finished slots, that which ends in the piece in progress, and those in the packet buffer.
+-- The held frames are those that end in finished slots, the frame that ends in the piece in progress, and those in the packet buffer.
 pub held-counted : (oldest : ℕ) (world : World)
     → length (frames_held oldest world)
     ≡ length (frames_of (finished_pieces oldest world))
@@ -133,7 +133,7 @@ held-counted o world =
     works begun memory None = refl
     works begun memory (Some work) = piece begun work.ends (bytes_of_work memory work)
 
--- A piece in progress is one of a frame that ends in it, or a full buffer of the packet buffer's oldest frame.
+-- A piece in progress is the last of its frame, or a full buffer of the oldest frame in the packet buffer.
 asked-by : (memory : List ℕ) (finished : List Piece) (work : Option Work) (moved : ℕ) (buffer : List (List ℕ)) (line : ℕ)
     → line ≤ 1 → All (IsCut receive_buffer_bytes) (finished ++ pieces_in_work memory work)
     → begun_of (finished ++ pieces_in_work memory work) ≡ take moved (oldest buffer)
@@ -161,9 +161,9 @@ asked-most d world line ready few =
     asked-by world.memory (finished_pieces d.oldest_receive world) world.adapter.receiver.work
     world.adapter.receiver.moved world.adapter.receiver.buffer line few ready.law.whole.cut ready.law.sound.begun
 
--- Slots in which no frame ends.
+-- Slots in which no frame ends
 
--- They contain parts only,
+-- These slots contain only parts of one frame.
 record ArePartsOnly (pieces : List Piece) : Type 0 where
   seen : List (List ℕ)
   is : pieces ≡ parts seen ++ []
@@ -180,7 +180,7 @@ parts-only begun (Part bytes ∷ later) none =
     }
 parts-only begun (Last bytes ∷ later) none = absurd (cc none)
 
--- and so they are at most five.
+-- If no frame ends in finished slots, there are at most five of them.
 pub finished-few : (d : DriverState) (world : World) → Ready d world → frames_of (finished_pieces d.oldest_receive world) ≡ []
     → length (finished_pieces d.oldest_receive world) ≤ 5
 finished-few d world ready none =

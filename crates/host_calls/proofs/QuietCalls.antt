@@ -1,4 +1,4 @@
--- Calls in which no tick is played: their steps are accesses of one driver, which leave the receive engine.
+-- Calls in which no tick is played. Their steps are accesses of one driver, and don't change the receive engine.
 use Rattle.std.specs.Bool.{⊤}
 use Rattle.std.proofs.Common.{◌≡◌, ◌≢◌, ◌<◌, ◌⊎◌, ◌==◌, ◌++◌, ◌∷◌, [], ℕ, Bool, true, false, List, map, inl, inr, ⊎_elim}
 use Rattle.std.proofs.Common.{if◌then◌else◌, refl, sym, ap, subst, ◌∙◌}
@@ -27,7 +27,7 @@ use Rattle.host_calls.specs.Happenings.{happened_in}
 use Rattle.packet_socket.specs.HostActs.{IsOfDriver, IsTailWrite}
 use Rattle.host_calls.specs.DrainedHosts.{IsDrainStep}
 
--- The engine, the filter and the mask of causes stay, and the recorded causes stay or are cleared.
+-- The engine, the filter and the mask of causes don't change. The recorded causes don't change or are all cleared.
 pub record LeavesEngine (a b : AdapterState) : Type 0 where
   pub receiver : b.receiver ≡ a.receiver
   pub filter : b.filter ≡ a.filter
@@ -103,7 +103,7 @@ trail-leaves counts (Accesses access ∷ later) a b are own trail =
     (trail-leaves counts later (world_after_access access a) b (all-tail IsAccess (Accesses access) later are)
     (all-tail (IsOfDriver counts) access (past_of later).accesses own) trail.1)
 
--- With a read of ICR among them no cause is recorded then.
+-- If ICR is read in a trail of accesses, no cause is recorded at its end.
 pub trail-clears : (counts : Counts) (first : List Event) (causes : ℕ) (later : List Event) (a b : World)
     → All IsAccess (first ++ Accesses (Reads ICR causes) ∷ later)
     → All (IsOfDriver counts) (past_of (first ++ Accesses (Reads ICR causes) ∷ later)).accesses
@@ -147,7 +147,7 @@ accesses-alone caller (At host (Accesses access) ∷ later) a b leads none =
     (accesses-alone caller later (after (At host (Accesses access)) a) b leads.2 none)
 accesses-alone caller (Idles tick ∷ later) a b leads none = absurd (idle-none tick (map tick_of later) leads.1 none)
 
--- They are steps that a drain may play.
+-- The steps of a call without ticks are steps that a drain may take.
 pub drain-steps : (caller : ℕ) (steps : List AtomicStep) → All (IsAccessAt caller) steps → All (IsDrainStep caller) steps
 drain-steps caller [] are = all-none (IsDrainStep caller)
 drain-steps caller (At host (Steps kind wire_free answer) ∷ later) are =
@@ -160,7 +160,7 @@ drain-steps caller (At host (Accesses access) ∷ later) are =
     (drain-steps caller later (all-tail (IsAccessAt caller) (At host (Accesses access)) later are))
 drain-steps caller (Idles tick ∷ later) are = absurd (all-head (IsAccessAt caller) (Idles tick) later are)
 
--- Nothing happens to frames,
+-- Accesses have no happenings.
 pub nothing-happened : (caller : ℕ) (steps : List AtomicStep) → All (IsAccessAt caller) steps → happened_in steps ≡ []
 nothing-happened caller [] are = refl
 nothing-happened caller (At host (Steps kind wire_free answer) ∷ later) are =
@@ -171,7 +171,7 @@ nothing-happened caller (At host (Accesses access) ∷ later) are =
     nothing-happened caller later (all-tail (IsAccessAt caller) (At host (Accesses access)) later are)
 nothing-happened caller (Idles tick ∷ later) are = absurd (all-head (IsAccessAt caller) (Idles tick) later are)
 
--- at the host there are accesses alone,
+-- At each host, the events are only accesses.
 pub events-here : (caller k : ℕ) (steps : List AtomicStep) → All (IsAccessAt caller) steps → All IsAccess (events_at k steps)
 events-here caller k [] are = all-none IsAccess
 events-here caller k (At host (Steps kind wire_free answer) ∷ later) are =
@@ -187,7 +187,7 @@ events-here caller k (At host (Accesses access) ∷ later) are =
     chosen false rest = rest
 events-here caller k (Idles tick ∷ later) are = absurd (all-head (IsAccessAt caller) (Idles tick) later are)
 
--- and at no other host anything.
+-- There is no event at any other host.
 pub events-elsewhere : (caller k : ℕ) (steps : List AtomicStep) → k ≢ caller → All (IsAccessAt caller) steps → events_at k steps ≡ []
 events-elsewhere caller k [] other are = refl
 events-elsewhere caller k (At host (Steps kind wire_free answer) ∷ later) other are =

@@ -1,4 +1,4 @@
--- If no handled cause is recorded at the end of a trail, nothing has happened that records one.
+-- If no cause that a driver handles is recorded at the end of a trail, no event of the trail records such a cause.
 use Rattle.std.proofs.Common.{◌≡◌, ◌<◌, ◌^◌, ◌++◌, ◌∷◌, [], ◌∙◌}
 use Rattle.std.proofs.Common.{ℕ, Bool, true, false, Option, Some, None, List, refl, sym, ap, subst}
 use Rattle.std.proofs.Common.{arith}
@@ -49,17 +49,17 @@ common causes meet =
     let both = (Meet-places handled_causes causes handled-fits).0
     (subst (λ (n : ℕ). 0 < n) (and_comm causes handled_causes) meet) in (both.0, both.2, both.1)
 
--- Without accesses causes aren't moved.
+-- Events without accesses clear no cause.
 pub leaves-alone : (events : List Event) → All IsStep events → All LeavesCauses (past_of events).accesses
 leaves-alone events are =
     subst (λ (list : List Access). All LeavesCauses list) (sym (no_access events are)) (all-none LeavesCauses)
 
--- Each frame in the packet buffer asks for a report.
+-- If each frame in the packet buffer is to be reported (RS), the oldest frame is to be reported.
 front-reports : (buffer more : List Queued) → All Reports (buffer ++ more) → IfFront buffer (λ queued. queued.report ≡ true)
 front-reports [] more all = tt
 front-reports (queued ∷ later) more all = all-head Reports queued (later ++ more) all
 
--- What kinds of steps don't do.
+-- Steps of each kind that record no cause that a driver handles
 
 take-quiet : (ends : Bool) (memory : List ℕ) (state : AdapterState) (answer : FrameOutcome) → TakeAnswers memory state answer
     → IsQuietOutcome ends answer
@@ -88,7 +88,7 @@ not-ending false none = refl
 abbrev pub ends_in : World → Bool
 ends_in world = is_ending world.adapter.receiver.work
 
--- One event, if its causes would be seen at the end.
+-- One event, if no later access clears the causes that it records.
 quiet-event : (event : Event) (later : List Event) (a b : World) (oldest_receive oldest_transmit : ℕ) → IsStep event
     → All LeavesCauses (past_of later).accesses → Trail (event ∷ later) a b → Sound oldest_receive oldest_transmit a
     → ¬ (Meet b.adapter.causes.recorded handled_causes) → IsQuietOutcome (ends_in a) (outcome_of_event event)
@@ -156,7 +156,7 @@ ends-on (Arrives frame Missed) world is occurs = refl
 ends-on (Arrives frame Stored) world is occurs = refl
 ends-on (Accesses access) world is occurs = absurd is
 
--- All of a trail.
+-- All events of a trail.
 pub quiet-events : (events : List Event) (a b : World) (oldest_receive oldest_transmit : ℕ) → All IsStep events → Trail events a b
     → Sound oldest_receive oldest_transmit a → ¬ (Meet b.adapter.causes.recorded handled_causes)
     → AreQuietEvents (ends_in a) events

@@ -1,4 +1,4 @@
--- What a reset gives up, by what was noted of its ticks; and how many accesses it makes until RCTL is written again.
+-- The frames that a reset gives up, by the notes of its ticks. The number of accesses up to the second write of RCTL.
 use Rattle.std.proofs.Common.{◌≡◌, ◌≤◌, ◌+◌, ◌-◌, ◌*◌, ◌%◌, ◌++◌, ◌∷◌, [], ℕ, zero, suc, List, drop, length, length-append, min, take}
 use Rattle.std.proofs.Common.{refl, sym, ap, ◌∙◌, append_assoc, arith}
 use Rattle.std.specs.List.{flat_map}
@@ -40,7 +40,7 @@ use Rattle.host_calls.specs.NotesLaws.{take-whole}
 use Rattle.host_calls.specs.ResetSteps.{PartsAccess, ResetParts, ResetValues, at_rest, before_reset, disable_of, enable_of, reset_of}
 use Rattle.host_calls.specs.ResetsInSteps.{GivesUp, ResetsInSteps}
 
--- The accesses until CTRL.RST is written are two.
+-- There are two accesses before the write of CTRL.RST.
 before-accesses : (k : ℕ) (counts : Counts) (setup : DriverSetup) (values : ResetValues) (parts : ResetParts)
     → PartsAccess k counts setup values parts
     → (past_at k (before_reset k parts)).accesses ≡ Writes RCTL 0 ∷ Reads MPC values.misses ∷ []
@@ -50,7 +50,7 @@ before-accesses k counts setup values parts are =
     ∙ own-accesses k k (Writes RCTL 0) parts.stopping refl
     ∙ ap (λ (list : List Access). Writes RCTL 0 ∷ list) are.stopping
 
--- What was stored until then was stored before RCTL was written.
+-- The frames stored before the write of CTRL.RST were stored before the write of 0 to RCTL.
 before-stored : (k : ℕ) (parts : ResetParts) → (past_at k parts.stopping).stored ≡ []
     → (past_at k (before_reset k parts)).stored ≡ (past_at k parts.early).stored
 before-stored k parts none =
@@ -61,7 +61,7 @@ before-stored k parts none =
     ∙ ap (λ (list : List (List ℕ)). (past_at k parts.early).stored ++ list) none
     ∙ append-nil (past_at k parts.early).stored
 
--- What is given up.
+-- The frames that the reset gives up.
 pub gives-up : (k : ℕ) (steps : List AtomicStep) (old new : ConnectedHost) (it : ResetsInSteps k steps old new)
     → GivesUp (frames_to_send (world_at it.last k)) (frames_held old.host.driver.oldest_receive (world_at it.last k)) k
     old.host.driver.oldest_receive it.parts (world_at old.stations k) (world_at it.last k)
@@ -76,7 +76,7 @@ gives-up k steps old new it =
           (before-stored k it.parts it.stops.none_stored);
     }
 
--- The numbers of outcomes.
+-- The numbers of accesses before outcomes
 
 before-counted : (k : ℕ) (steps : List AtomicStep) (old new : ConnectedHost) (it : ResetsInSteps k steps old new)
     → counted_of 0 (before_reset k it.parts) ≡ 2
@@ -129,7 +129,7 @@ stores-noted k steps old new it =
     ∙ first-stores k early old.stations start.0 start.1 it.accesses.early
     ∙ (frames-move k k early old.stations start.0 start.1).stored
 
--- What the notes say.
+-- What the notes contain
 
 -- the notes of a host before a reset; these frames are held
 abbrev pub first_notes : (k most : ℕ) → List (List ℕ) → Notes
@@ -139,7 +139,7 @@ drop-first : {X : Type 0} (xs ys : List X) → drop (length xs) (xs ++ ys) ≡ y
 drop-first [] ys = refl
 drop-first (x ∷ xs) ys = drop-first xs ys
 
--- What was to be sent, without what was put.
+-- The frames that were to be sent, without those that were put.
 pub sending-noted : (k most : ℕ) (steps : List AtomicStep) (old new : ConnectedHost) (it : ResetsInSteps k steps old new)
     (holding : List (List ℕ)) (count taken : ℕ) → length (frames_to_send (world_at old.stations k)) ≤ most_accesses
     → count ≡ (noted_after (steps_told 0 steps) (first_notes k most holding)).put
@@ -156,7 +156,7 @@ sending-noted k most steps old new it holding count taken few noted taken_is =
     ∙ ap (drop (length puts)) (sym since)
     ∙ drop-first puts (frames_to_send (world_at it.last k))
 
--- What is held when CTRL.RST is written has room in the list.
+-- The list has room for the frames that are held at the write of CTRL.RST.
 last-in_room : (k : ℕ) (steps : List AtomicStep) (old new : ConnectedHost) (it : ResetsInSteps k steps old new)
     → IsAdapter (world_at old.stations k).adapter
     → length (frames_held old.host.driver.oldest_receive (world_at it.last k)) ≤ old.host.driver.layout.rx + MOST_FRAMES
@@ -165,7 +165,7 @@ last-in_room k steps old new it adapter =
     held-in_room _ (world_at it.last k) it.stops.goes.driver.flows.ready
     (adapter-behind (events_at k (before_reset k it.parts)) (world_at old.stations k) (world_at it.last k) trail adapter)
 
--- What was held, and what was stored before RCTL was written.
+-- The frames that were held, and those stored before the write of 0 to RCTL.
 pub holding-noted : (k most : ℕ) (steps : List AtomicStep) (old new : ConnectedHost) (it : ResetsInSteps k steps old new)
     → IsAdapter (world_at old.stations k).adapter → old.host.driver.layout.rx + MOST_FRAMES ≤ most
     → (noted_after (steps_told 0 steps)
@@ -179,7 +179,7 @@ holding-noted k most steps old new it adapter room =
     let fits = last-in_room k steps old new it adapter in
     ap (take most) is ∙ take-whole most last (omega (arith, fits, room))
 
--- How many accesses it makes until RCTL is written.
+-- The number of accesses up to the second write of RCTL
 
 length-writes : (writes : List Write) → length (accesses_of writes) ≡ length writes
 length-writes writes = length-map writes (λ (write : Write). Writes write.offset write.value)

@@ -84,7 +84,7 @@ frames-join first later one two = record {
   none_missed = rw (one.none_missed, two.none_missed) refl;
 }
 
--- Ticks don't change RCTL.
+-- Ticks keep the receive side disabled, and no frame is stored or missed in them.
 pub off-ticks : (k : ℕ) (steps : List AtomicStep) (a b : List StationState) → All IsTick steps → LeadsTo k steps a b
     → IsOff (world_at a k) → NoArrival (past_at k steps) × IsOff (world_at b k)
 off-ticks k steps a b are leads off =
@@ -106,7 +106,7 @@ read-leaves : (misses : ℕ) (w : World) → IsOff w → IsOff (world_after_acce
 read-leaves misses w off =
     subst (λ (found : Option Register). ¬ (HasBit (left_by_read found w.adapter).filter.rctl rctl_en)) (sym (register_at-there Mpc tt)) off
 
--- MPC is read among these steps.
+-- Steps in which MPC is read keep the receive side disabled, and no frame is stored or missed in them.
 pub off-read : (k misses : ℕ) (steps : List AtomicStep) (a b : List StationState) → LeadsTo k steps a b
     → (past_at k steps).accesses ≡ Reads MPC misses ∷ [] → IsOff (world_at a k) → NoArrival (past_at k steps) × IsOff (world_at b k)
 off-read k misses steps a b leads is off =

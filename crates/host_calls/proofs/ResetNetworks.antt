@@ -59,7 +59,7 @@ stations-back call hosts a left back k h h' runs returned same =
     ap (λ (list : List StationState). length list) returned
     ∙ length-stays call.caller runs.steps a left runs.of_call.leads ∙ same ∙ sym (length-set hosts k h')
 
--- The part of what was told that the observer itself was told.
+-- The steps of a call, with another statement of what the observer was told.
 with-heard : (call : PlayedCall) (heard : List TickTold → Type 0) (steps : List AtomicStep) (a b : List StationState)
     → StepsOfCall call steps a b → heard (steps_told 0 steps)
     → StepsOfCall (played_call call.caller call.ticks heard call.accesses) steps a b
@@ -72,7 +72,7 @@ with-heard call heard steps a b of_call told = record {
   counted = of_call.counted;
 }
 
--- What the observer was told, for another state of the observer.
+-- A reset, with a weaker statement of what the observer was told.
 pub runs-told : (k accesses : ℕ) (ticks : List Tick) (heard heard' : List TickTold → Type 0) (old new : ConnectedHost)
     → ((told : List TickTold) → heard told → heard' told) → RunsReset (played_call k ticks heard accesses) old new
     → RunsReset (played_call k ticks heard' accesses) old new
@@ -127,7 +127,7 @@ makes-reset k most accesses on_after ticks heard old new before after sending ho
       enabled_after = is.on_after_is ∙ sym (enabled-after k runs.steps old new it is.small);
     }
 
--- The same, for the values that were found.
+-- `Answered` for the host and the values that were found.
 pub answered : (hosts : List HostState) (stations : List StationState) (n : NetworkState) (k : ℕ) (h : HostState) (rx most wide : ℕ)
     (found : GivenUp) (before after : Notes) (sending holding : List (List ℕ)) → network hosts stations ≡ n → k < length n.hosts
     → h ≡ slice_index_or hosts k h → HostReady (nth_host n k) (world_at n.stations k) → IsAdapter (world_at n.stations k).adapter

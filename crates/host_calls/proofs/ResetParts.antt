@@ -286,7 +286,7 @@ restarts-are k h h' a b ran cut =
 
 -- What the reset doesn't change
 
--- Sums of missed frames don't depend on the pieces that others hold.
+-- Sums of missed frames depend only on the driver's sum, and on whether it is exact.
 pub sums-held : (d d' e e' : DriverState) (a b : World) (past : Past) → e.missed ≡ d.missed → e.exact ≡ d.exact → e'.missed ≡ d'.missed
     → e'.exact ≡ d'.exact → SumsMisses (driver_in d a) (driver_in d' b) past → SumsMisses (driver_in e a) (driver_in e' b) past
 sums-held d d' e e' a b past missed exact missed' exact' sums = record {

@@ -56,7 +56,7 @@ use Rattle.host_calls.specs.Reception.{IsNotOfReception, LeavesReception, Receiv
 abbrev Has : List (List ℕ) → AdapterState → Type 0
 Has groups a = HasNumbers a.filter.mta (numbers_of_groups groups)
 
--- Registers that are the same except MTA have the same right fates.
+-- If the filter registers are the same except MTA, the right fates are the same.
 judged-alike : (a b : FilterRegisters) (room : ℕ) (now final : Reception) (all : List Mark) → SameButGroups a b
     → AreRightFates b room now all final → AreRightFates a room now all final
 unfolding filter_of

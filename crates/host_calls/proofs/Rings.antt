@@ -42,7 +42,7 @@ none-offered ring has = (
   λ same. distance-forward ring.slots ring.head ring.tail has.tail (omega (arith, same)) ∙ omega (arith, same),
 )
 
--- If the head advances, one slot less is offered.
+-- If a slot is offered and the head advances by one, one slot less is offered.
 pub one-taken : OneIsTaken
 one-taken ring has apart =
     let step = distance-step ring.slots ring.head ring.tail has.head has.tail apart in (

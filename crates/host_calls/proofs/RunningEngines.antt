@@ -1,4 +1,4 @@
--- Engines that run still run if no step is a fault, whatever is written; a reset starts them.
+-- Engines that aren't stopped remain so if no step is a fault, whatever is written. A reset starts stopped engines.
 use Rattle.std.proofs.Common.{◌≡◌, ◌≢◌, ◌==◌, ℕ, Bool, true, false, Option, Some, None, List, [], ◌∷◌, refl, sym, ap, subst, ◌∙◌}
 use Rattle.std.proofs.Common.{if◌then◌else◌}
 use Rattle.std.specs.List.{All}
@@ -33,7 +33,7 @@ use Rattle.stations.specs.AtomicSteps.{At, AtomicStep, Idles, step_outcome, outc
 use Rattle.stations.specs.declared.tick.Tick.{Tick}
 use Rattle.host_calls.specs.StepOutcomes.{IsTickOf, OfEachTick}
 
--- the engines are stopped in b exactly if they are in a
+-- if the flags `stopped` are the same in a and b, and no engine is stopped in a, no engine is stopped in b
 same : (a b : AdapterState) → b.receiver.stopped ≡ a.receiver.stopped → b.transmitter.stopped ≡ a.transmitter.stopped
     → EnginesRun a → EnginesRun b
 same a b receiver transmitter run = record { receiver = receiver ∙ run.receiver; transmitter = transmitter ∙ run.transmitter }

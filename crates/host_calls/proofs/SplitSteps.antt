@@ -28,7 +28,7 @@ pub record SplitSteps (k : ℕ) (access : Access) (first later : List Access) (s
     pub leads : LeadsTo k before a middle
     pub rest : LeadsTo k (At k (Accesses access) ∷ behind) middle b
 
--- An access of the caller comes before the accesses after it.
+-- An access of the caller is the first of the accesses from this step on.
 pub own-accesses : (k host : ℕ) (one : Access) (later : List AtomicStep) → host ≡ k
     → (past_at k (At host (Accesses one) ∷ later)).accesses ≡ one ∷ (past_at k later).accesses
 own-accesses k host one later is =

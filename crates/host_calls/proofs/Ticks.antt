@@ -101,7 +101,7 @@ first-event host event later = elim (eqb_tells host host) [
   | inr other ↦ absurd (other.1 refl)
 ]
 
--- the first step of a run whose engines run at its end is no fault
+-- if no access resets the adapter and both engines run at the end, the first step is no fault
 no-fault : (caller host : ℕ) (event : Event) (later : List AtomicStep) (a b : List StationState)
     → LeadsTo caller (At host event ∷ later) a b → ResetNothing host (At host event ∷ later) → EnginesRun (world_at b host).adapter
     → IsNoFault event
@@ -111,7 +111,7 @@ no-fault caller host event later a b leads none run =
     all-head IsNoFault event (events_at host later)
     (subst (λ (events : List Event). All IsNoFault events) (first-event host event later) whole)
 
--- both engines run at its beginning
+-- if no access resets the adapter and both engines run at the end, both engines run at the beginning
 run-before : (caller host : ℕ) (steps : List AtomicStep) (a b : List StationState) → LeadsTo caller steps a b → ResetNothing host steps
     → EnginesRun (world_at b host).adapter → EnginesRun (world_at a host).adapter
 run-before caller host steps a b leads none run =

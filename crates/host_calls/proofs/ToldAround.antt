@@ -15,7 +15,7 @@ use Rattle.host_calls.specs.DeliveryLaws.{CallsAreToldBetweenTicks, IsBetween, N
 use Rattle.host_calls.specs.DeliveryLaws.{OnlyTicksAreTold}
 use Rattle.host_calls.specs.Happenings.{Happening, happened_by, happened_in, tick_happenings, tick_happenings_around, outcome_happenings}
 
--- It is between two of them
+-- What the call did is between two parts of the happenings
 
 nothing-more : (middle : List Happening) → IsBetween middle [] middle
 nothing-more middle = record { before = []; behind = []; ticks = refl; all = sym (append-nil middle) }

@@ -181,11 +181,11 @@ some-end-full stations sender wire none = elim (full-or-room stations sender wir
   | inr room ↦ absurd (none (λ host station is. room host station (slice_get_within stations host station is) is))
 ]
 
--- two hosts on the same wire share a wire
+-- equal numbers of wires pass the test
 same-wire : (wire wire' : ℕ) → wire ≡ wire' → (wire == wire') ≡ true
 same-wire wire wire' same = elim (eqb_tells wire wire') [ inl is ↦ is.0 | inr other ↦ absurd (other.1 same) ]
 
--- if not each other end has room, an end is full by the counts
+-- if not every other end has room, another end is full, by the frames that wait
 pub full-by-counting : (caller host wire : ℕ) (before : List AtomicStep) (a b : List StationState) → LeadsTo caller before a b
     → wire_at b host ≡ Some wire → (WireHasRoom b host wire → ⊥) → WireIsFull a before host
 full-by-counting caller host wire before a b leads on none =

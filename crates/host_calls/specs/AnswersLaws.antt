@@ -1,4 +1,4 @@
--- Laws of the outcomes of ticks (our choice).
+-- Laws of the outcomes of ticks, and of the slots that a driver offers (our choice).
 use Rattle.std.specs.Prelude.{◌≡◌, ◌≢◌, ◌<◌, ◌≤◌, ◌↔◌, ◌+◌, ◌%◌, ◌++◌, ◌∷◌, ℕ, None, List, All, slice_get}
 use Rattle.adapter.specs.declared.offsets.TheConstants.{RDT, TDT}
 use Rattle.bus.specs.Accesses.{IsNoReset}
@@ -23,7 +23,8 @@ pub record MeetsNoFault (host : ℕ) (steps : List AtomicStep) (start : List Sta
   pub run : EnginesRun (world_at start host).adapter
   pub none : OfEachTick host steps (λ before tick outcome. outcome ≢ Fault)
 
--- The outcome of each tick of a host follows from the counts and waiting frames at the start, changed by what happened before the tick.
+-- The outcome of each tick of a host follows from the counts and waiting frames at the start, changed by what happened before the tick. Of a
+-- delivery, only the frame follows, not its fate.
 -- `MeetsNoFault` must hold, and the host's driver may not write MDIC.
 abbrev pub TicksAreAnsweredByCounting : Type 0
 TicksAreAnsweredByCounting =
@@ -68,30 +69,32 @@ AbsentHostsAnswerNothing =
 abbrev pub GoAnswersNothing : Type 0
 GoAnswersNothing = (step : AtomicStep) → tick_of step ≡ Go → step_outcome step ≡ Nothing
 
--- No slot is offered exactly if the head equals the tail.
+-- If head and tail are indices of slots, no slot is offered exactly if the head equals the tail.
 abbrev pub NoSlotIsOffered : Type 0
 NoSlotIsOffered = (ring : RingCounts) → HasSlots ring → offered_in ring ≡ 0 ↔ ring.head ≡ ring.tail
 
--- If a slot is offered and the adapter takes the slot at the head, the number of offered slots decreases by one.
+-- If head and tail are indices of slots, a slot is offered, and the adapter takes the slot at the head, the number of offered slots
+-- decreases by one.
 abbrev pub OneIsTaken : Type 0
 OneIsTaken =
     (ring : RingCounts) → HasSlots ring → ring.head ≢ ring.tail
     → HasSlots (one_taken ring) × (offered_in (one_taken ring) + 1 ≡ offered_in ring)
 
--- When the tail advances by N places, N more slots are offered, if the ring has more slots than are then offered.
+-- When the tail advances by N places, N more slots are offered, if head and tail are indices of slots, and the ring has more slots than are
+-- then offered.
 abbrev pub TailsOfferSlots : Type 0
 TailsOfferSlots =
     (ring : RingCounts) (places : ℕ) → HasSlots ring → offered_in ring + places < ring.slots
     → offered_in (record ring { tail = (ring.tail + places) % ring.slots }) ≡ offered_in ring + places
 
--- A write of a slot's index to RDT moves the tail of the receive ring to this slot.
+-- A write of a slot's index to RDT moves the tail of the receive ring to this slot, if the ring has at most 65,536 slots.
 abbrev pub ReceiveTailWritesAreCounted : Type 0
 ReceiveTailWritesAreCounted =
     (value : ℕ) (counts : HostCounts) → value < counts.receive.ring.slots → counts.receive.ring.slots ≤ 65536
     → counts_after_access (Writes RDT value) counts
     ≡ record counts { receive = record counts.receive { ring = record counts.receive.ring { tail = value } } }
 
--- A write of a slot's index to TDT moves the tail of the transmit ring to this slot.
+-- A write of a slot's index to TDT moves the tail of the transmit ring to this slot, if the ring has at most 65,536 slots.
 abbrev pub TransmitTailWritesAreCounted : Type 0
 TransmitTailWritesAreCounted =
     (value : ℕ) (counts : HostCounts) → value < counts.transmit.ring.slots → counts.transmit.ring.slots ≤ 65536

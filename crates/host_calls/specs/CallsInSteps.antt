@@ -63,8 +63,8 @@ pub record InSteps (k : ℕ) (given : List Given) (steps : List AtomicStep) (old
   -- returned were at the front of its queue.
   pub queues : (socket : ℕ) → given_for socket given ++ waiting_frames new.host socket (world_at new.stations k)
       ≡ waiting_frames old.host socket (world_at old.stations k) ++ socket_frames old.host.kinds socket act.taken
-  -- If the first access reads ICR, the value that was read implies which causes were recorded when the call began, and
-  -- what happened before the read.
+  -- If the first access reads ICR, `TellsCauses` holds of the value that was read: what this value implies about the
+  -- adapter when the call began, and about the steps before the read.
   pub icr : (causes : ℕ) (more : List Access) → accesses_in act.stages ≡ Reads ICR causes ∷ more
       → TellsCauses k steps causes (world_at old.stations k).adapter
 

@@ -1,5 +1,5 @@
--- Counts of a host's adapter, and how outcomes and accesses change them (our choice). The counts determine the outcomes of the adapter's
--- steps, except WireFull and the frame of Put.
+-- Counts of a host's adapter, and how outcomes and accesses change them (our choice). If no step is a fault, the counts determine the
+-- outcomes of the adapter's steps, except WireFull and the frame of Put.
 use Rattle.std.specs.Prelude.{◌<◌, ◌+◌, ◌-◌, ◌/◌, ◌%◌, ◌++◌, ℕ, Bool, true, false, Option, Some, None, List, [], ◌∷◌, bit_and, drop}
 use Rattle.std.specs.Prelude.{is_some, length, map, max, min, if◌then◌else◌}
 use Rattle.registers.specs.Bits.{is_set}

@@ -171,8 +171,8 @@ abbrev pub StepsMoveFrames : Type 0
 StepsMoveFrames =
     (caller k : ℕ) (steps : List AtomicStep) (a b : List StationState) → LeadsTo caller steps a b → MovesFrames k steps a b
 
--- The fates of the frames that reach a host are right, while it has joined these groups. At the end, MTA has exactly the
--- bits of these groups.
+-- The fates of the frames that reach a host are right, while the host has joined these groups. At the end, MTA has exactly
+-- the bits of these groups.
 pub record KeepsReceiving (groups : List (List ℕ)) (a : AdapterState) (all : List Mark) (b : AdapterState) : Type 0 where
   pub right : ReceivesRightly groups a all groups b
   pub has : HasNumbers b.filter.mta (numbers_of_groups groups)

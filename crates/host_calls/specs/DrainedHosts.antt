@@ -89,8 +89,8 @@ pub record KeepsMisses (h : HostState) (a : World) (h' : HostState) (b : World) 
       → h'.driver.missed + b.adapter.missed_packets ≡ h.driver.missed + a.adapter.missed_packets
   -- a sum of at least the greatest u64 remains at least the greatest u64
   pub sticks : sum_limit - 1 ≤ h.driver.missed + a.adapter.missed_packets → sum_limit - 1 ≤ h'.driver.missed + b.adapter.missed_packets
-  -- Let the driver's sum be exact, MPC be below its greatest value, and both together fit into a u64. Then the sum
-  -- remains exact, and MPC remains below its greatest value.
+  -- if the driver's sum is exact, MPC is below its greatest value, and the sum of both fits into a u64, the driver's sum
+  -- remains exact, and MPC remains below its greatest value
   pub exact :
       IsTrue h.driver.exact → a.adapter.missed_packets < greatest_count → h.driver.missed + a.adapter.missed_packets < sum_limit
       → IsTrue h'.driver.exact × (b.adapter.missed_packets < greatest_count)

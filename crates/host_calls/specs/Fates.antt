@@ -65,7 +65,8 @@ abbrev pub in_force : FilterRegisters → (groups : List (List ℕ)) → Receive
 in_force registers groups = record (filter_of registers) { groups = λ number. Contains (numbers_of_groups groups) number }
 
 -- The fate is the first one that applies, with this filter in force, if the buffer of `room` bytes contains these
--- frames. Each frame has the fate Off while the receive side is disabled, and no frame while it is enabled.
+-- frames. While the receive side is disabled, each frame has the fate Off. While it is enabled, no frame has
+-- this fate.
 abbrev pub IsRightFate : ReceiveFilter → (room : ℕ) → (enabled : Bool) → (buffered : List (List ℕ)) → List ℕ → Fate → Type 0
 IsRightFate filter room false buffered frame fate = fate ≡ Off
 IsRightFate filter room true buffered frame Off = ⊥

@@ -69,8 +69,8 @@ tick_happenings_where is_such (Deliver host ∷ ticks) [] = []
 tick_happenings_where is_such (Deliver host ∷ ticks) (one ∷ outcomes) =
     (if is_such one.accesses then outcome_happenings host one.outcome else []) ++ tick_happenings_where is_such ticks outcomes
 
--- The happenings of the ticks of a call, with what the call itself did (`middle`) after the ticks before the first
--- access.
+-- The happenings of the ticks of a call, with what the call itself did (`middle`) after the first ticks whose outcomes have
+-- 0 accesses.
 abbrev pub tick_happenings_around : (middle : List Happening) → List Tick → List Numbered → List Happening
 tick_happenings_around middle [] outcomes = middle
 tick_happenings_around middle (Go ∷ ticks) outcomes = tick_happenings_around middle ticks outcomes

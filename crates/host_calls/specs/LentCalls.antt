@@ -1,4 +1,4 @@
--- Calls over a lent bus.
+-- The ghost members of a lent bus, for contracts of calls over this bus.
 use Rattle.std.specs.Prelude.{⊤}
 use Rattle.bus.specs.declared.bus.Bus.{Ghosts}
 use Rattle.stations.specs.LentBuses.{HappenedLent, SameLent, bytes_here, world_here}

@@ -1,4 +1,4 @@
--- The frames that wait at the ends of wires, and how atomic steps change them (our choice).
+-- The frames that wait at the ends of wires, before and after atomic steps (our choice).
 use Rattle.std.specs.Prelude.{◌≡◌, ◌≢◌, ◌≤◌, ◌==◌, ◌++◌, ℕ, Bool, true, false, Option, Some, None, List, [], ◌∷◌, length}
 use Rattle.std.specs.Prelude.{if◌then◌else◌}
 use Rattle.bus.specs.Trails.{past_of_event}

@@ -1,4 +1,4 @@
-//! Laws of the outcomes of ticks.
+//! Laws of the outcomes of ticks, and of the slots that a driver offers.
 
 ghost use Rattle.host_calls.specs.AnswersLaws.{AbsentHostsAnswerNothing, CountsGoByOutcomes, FaultNeverComes};
 ghost use Rattle.host_calls.specs.AnswersLaws.{FaultNeverComesAroundReset, GoAnswersNothing, NoSlotIsOffered};
@@ -6,17 +6,19 @@ ghost use Rattle.host_calls.specs.AnswersLaws.{OneIsTaken, ReceiveTailWritesAreC
 ghost use Rattle.host_calls.specs.AnswersLaws.{TailsOfferSlots, TicksAreAnsweredByCounting};
 ghost use Rattle.host_calls.specs.AnswersLaws.{TransmitTailWritesAreCounted, WaitingFramesGoByOutcomes};
 
-/// The outcome of each tick of a host follows from the counts and the waiting frames at the start. No engine of the
-/// host may be stopped at the start, and no step may be a fault. The host's driver may not write MDIC. The driver may
-/// write any other register, and may reset its adapter.
+/// The outcome of each tick of a host follows from the counts and the waiting frames at the start, even if the host's
+/// driver resets its adapter.
 /// - `answers`: the outcome of a tick follows from the counts and the waiting frames at the start, changed by what
-///   happened before the tick.
-/// - `counts`: the counts of the host at the end are those at the start, changed by all outcomes and accesses.
-/// - `waiting`: the frames that wait at any host's end of its wire at the end are those at the start, changed by all
-///   outcomes.
-/// - `faultless`: no step is a fault, if the adapter isn't reset and no engine is stopped at the end.
-/// - `around_reset`: no step is a fault, if only one access may reset the adapter. No engine may be stopped right
-///   before this access or at the end.
+///   happened before the tick. No engine of the host may be stopped at the start, no step may be a fault, and the
+///   host's driver may not write MDIC.
+/// - `counts`: the counts of the host at the end are those at the start, changed by all outcomes and accesses. The
+///   host's driver may not write MDIC.
+/// - `waiting`: the frames that finally wait at a host's end of its wire are those that waited there at first, changed
+///   by all outcomes.
+/// - `faultless`: no engine is stopped at the start and no step is a fault, if no access resets the adapter and no
+///   engine is stopped at the end.
+/// - `around_reset`: the same is true if only one access may reset the adapter, and no engine is stopped right before
+///   this access or at the end.
 pub fn ticks_are_answered_by_counting()
     ensures answers { TicksAreAnsweredByCounting }
     ensures counts { CountsGoByOutcomes }
@@ -33,7 +35,9 @@ pub fn idle_ticks_answer_nothing()
     ensures go { GoAnswersNothing }
 {}
 
-/// Laws of the slots that a driver offers: from the head up to, but not including, the tail.
+/// Laws of the slots that a driver offers: from the head up to, but not including, the tail. For `none`, `taken` and
+/// `places`, head and tail must be indices of slots. For `receive` and `transmit`, the ring may have at most 65,536
+/// slots.
 /// - `none`: no slot is offered exactly if the head equals the tail.
 /// - `taken`: if a slot is offered and the adapter takes the slot at the head, the number of offered slots decreases
 ///   by one.

@@ -32,8 +32,7 @@ pub fn lent_calls_are_told<O: Observer>()
 /// - `between`: the happenings of the ticks are the same, in the same order. What the call did is between two of them,
 ///   or before or after all of them.
 /// - `nothing`: if the call did nothing, the happenings are those of its ticks.
-/// - `access`: if the call made one access, what it did is between the happenings before this access and those after
-///   it.
+/// - `access`: if the call made one access, what it did is between the happenings before and after this access.
 /// - `none`: if the call made no access, what it did is after the happenings of all its ticks.
 /// - `numbers`: the outcomes whose numbers of accesses meet a condition determine what happened in the steps with
 ///   these numbers of accesses before them.
@@ -45,22 +44,22 @@ pub fn calls_say_at_their_access()
     ensures numbers { OutcomesTellByNumber }
 {}
 
-/// What atomic steps do to the frames of each host. The happenings contain exactly the frames that its adapter put,
-/// stored and missed. The frames that waited at the host's end of the wire, followed by those that other hosts put
-/// there, have reached the host in this order or still wait. Hosts and wires don't change, and no frame is accepted or
-/// returned.
+/// What atomic steps do to the frames of each host. The happenings contain exactly the frames that the host's adapter
+/// put and stored, and the number of frames that it missed. The frames that waited at the host's end of the wire,
+/// followed by those that other hosts put there, have reached the host in this order or still wait. Hosts and wires
+/// don't change, and no frame is accepted or returned.
 pub fn steps_move_frames()
     ensures { StepsMoveFrames }
 {}
 
 /// The conditions under which fates are right.
 /// - `fates`: each frame that reaches the host has the first fate that applies, by the filter and by the frames in the
-///   packet buffer. RCTL.EN must be 1, and MTA must have exactly the bits of the joined groups. The host's driver may
-///   write no registers except RDT, TCTL, IMS and those of the transmit ring. The filter, the groups and the buffer's
-///   room don't change.
+///   packet buffer. RCTL.EN must be 1 at the start, and MTA must then have exactly the bits of the joined groups. The
+///   host's driver may write no registers except RDT, TCTL, IMS and those of the transmit ring. Under these conditions,
+///   the filter, the joined groups and PBA.RXA don't change.
 /// - `tails`: `fates` permits writes of RDT and TDT.
 /// - `off`: while RCTL.EN is 0 and RCTL isn't written, each frame that reaches a host is dropped. No frame is moved
-///   from its receive packet buffer to memory.
+///   from the host's receive packet buffer to memory.
 /// - `filter`: while only the registers of `fates` are written, the filter doesn't change.
 pub fn fates_are_right()
     ensures fates { FatesAreRight }
@@ -69,7 +68,8 @@ pub fn fates_are_right()
     ensures filter { FilterStays }
 {}
 
-/// A host joins or leaves a group. The filter except MTA, and the frames in the packet buffer, don't change.
+/// `ReceivesRightly` holds for a join or a leave: the filter except MTA, and the frames in the packet buffer, don't
+/// change.
 /// - `written`: the driver writes a word of MTA.
 /// - `alone`: the driver makes no access.
 pub fn groups_change()
@@ -78,7 +78,8 @@ pub fn groups_change()
 {}
 
 /// Two consecutive lists of happenings join.
-/// - `lists`: each list of a host is its list for the first happenings, followed by its list for the later ones.
+/// - `lists`: each list of a host is its list for the first happenings, followed by its list for the later ones. The
+///   numbers of missed frames are added.
 /// - `toward`: the frames that other hosts put on a host's wire depend only on the wires of the hosts.
 /// - `waits`: the frames that reached a host, followed by those that wait at its end, are those that waited at the
 ///   start, followed by those that others put on its wire. If this is true of each of two consecutive intervals, and

@@ -33,7 +33,8 @@ fn first_waiting(host: &Host) -> Option<usize>
 
 impl Network {
     /// Drains a host: passes each frame that the host holds for its sockets to `sink`, and returns the number of steps.
-    /// No tick is played in the calls of the host.
+    /// No tick is played in the calls of the host. `sink` must have room for [`MOST_FRAMES`] (614) more frames than the
+    /// host has receive buffers.
     ///
     /// Each step is the first of these that applies. If a piece of a frame is in progress, the host's adapter writes
     /// back the descriptor of the piece. If the interrupt line is asserted, the host handles an interrupt. If a frame

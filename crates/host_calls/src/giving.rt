@@ -61,8 +61,8 @@ impl Noted {
         }
     }
 
-    /// Notes a tick. Counts a frame that this host put after at most 2 accesses, and appends a frame that it stored
-    /// before the first access.
+    /// Notes a tick. Counts a frame that this host put after at most 2 accesses, and appends a frame that this
+    /// host stored before the first access.
     fn note(&mut self, tick: Tick, accesses: u64, outcome: Outcome<()>, frame: &[u8])
         requires fits { length frame.now ≤ longest_frame }
         ensures { NotesTicks self.old self.new (tick_told tick accesses (with_frame frame.now outcome) ∷ []) }

@@ -1,5 +1,5 @@
-//! A network of hosts on wires: calls of hosts with ticks inside them, drains of a host, and what an interrupt
-//! handler's answer implies. Laws of what happens to frames in a network.
+//! A network of hosts on wires: calls and resets of hosts with ticks inside them, and drains of a host. Laws of what
+//! happens to frames in a network, of the outcomes of ticks, and of what an interrupt handler's answer implies.
 #![tactic(auto)]
 
 mod calls;

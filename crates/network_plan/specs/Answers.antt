@@ -1,4 +1,4 @@
--- Events and answers of calls, with the frame that a socket returned (our choice).
+-- The answers to events, with the bytes of a returned frame, and the ticks of events (our choice).
 use Rattle.std.specs.Prelude.{◌∷◌, [], Err, List, Ok, ℕ}
 use Rattle.stations.specs.declared.tick.Tick.{Tick}
 use Rattle.packet_socket.specs.declared.call.HostAnswer.{HostAnswer}

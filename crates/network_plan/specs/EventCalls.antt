@@ -15,7 +15,7 @@ pub record EventCall : Type 0 where
   -- the ticks that are played in the call
   pub ticks : List Tick
 
--- an event
+-- an event, by its kind
 pub data EventKind : Type 0 where
   ByCall : (call : EventCall) → EventKind
   ByReset : (host : ℕ) (ticks : List Tick) → EventKind

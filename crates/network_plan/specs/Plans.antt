@@ -1,4 +1,4 @@
--- When a network can be made of a plan (our choice).
+-- When a plan is valid, and the first reason to reject a plan (our choice).
 use Rattle.std.specs.Prelude.{◌≡◌, ◌≢◌, ◌≤◌, ◌-◌, ◌^◌, ◌&&◌, ◌||◌, ◌==◌, ℕ, Bool, true, List, All, Err, Ok, Result, String, count_by}
 use Rattle.std.specs.Prelude.{length, nat_le}
 use Rattle.std.specs.Prelude.{string_bytes, string_eq}

@@ -2,9 +2,9 @@
 
 use stations::Tick;
 
-/// An event of a run. Just before each access of a call or of a reset, its ticks up to the next [`Go`](Tick::Go) are
-/// played, or all remaining ticks if no `Go` remains. After the last access, the remaining ticks are played, and each
-/// `Go` is skipped. Hosts are numbered from 0 in the order of the plan.
+/// An event of a run. Just before each access of a call or of a reset, the event's ticks up to the next
+/// [`Go`](Tick::Go) are played, or all remaining ticks if no `Go` remains. After the last access, the remaining ticks
+/// are played, and each `Go` is skipped. Hosts are numbered from 0 in the order of the plan.
 #[derive(Debug, Drop)]
 pub enum Event {
     /// A host sends a frame of any length. The answer is E20 if the frame has fewer than 14 bytes, and E21 if the frame

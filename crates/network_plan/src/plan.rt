@@ -38,7 +38,7 @@ pub struct HostPlan {
     pub link: Link,
     /// The configuration with which the host's adapter is initialized.
     pub config: Config,
-    /// The host's sockets. The order decides which of several matching sockets gets a frame.
+    /// The host's sockets. A frame goes to the first socket for its EtherType, else to the first socket for all frames.
     pub sockets: ArrayVec<SocketKind, MOST_SOCKETS>,
 }
 
@@ -56,8 +56,8 @@ impl Plan {
     ///
     /// # Errors
     ///
-    /// [`Name`](PlanError::Name), [`Ends`](PlanError::Ends), [`Hosts`](PlanError::Hosts),
-    /// [`Address`](PlanError::Address) and [`Config`](PlanError::Config), the first that applies to any host.
+    /// The first that applies of [`Name`](PlanError::Name), [`Ends`](PlanError::Ends), [`Hosts`](PlanError::Hosts),
+    /// [`Address`](PlanError::Address) and [`Config`](PlanError::Config).
     pub fn check(&self) -> Result<(), PlanError>
         ensures { IsPlanAnswer self.now.hosts.items result }
     {

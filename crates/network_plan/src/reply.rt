@@ -23,8 +23,8 @@ pub enum Answer<F> {
     Joined(Result<(), GroupError>),
     /// A host left a group, or the leave was rejected.
     Left(Result<(), GroupError>),
-    /// An adapter was reset by a write of CTRL.RST. The frames that were to be sent at this write are given up, and so
-    /// are those that the host held outside its sockets' queues.
+    /// An adapter was reset by a write of CTRL.RST. The reset gives up the frames that weren't yet on the wire when
+    /// CTRL.RST was written, and the received frames that the host held outside its sockets' queues.
     Reset {
         /// The frames that were to be sent, oldest first.
         sending: Vec<Frame>,
@@ -33,7 +33,7 @@ pub enum Answer<F> {
         /// The number of accesses up to and including the write of RCTL that enabled the receiver again.
         on_after: u64,
     },
-    /// A tick was played outside a call.
+    /// The event was a tick outside a call. The tick was played, unless it was a `Go`.
     NoCall,
     /// There is no such host. The ticks of the call or the reset were played.
     NoHost,
@@ -78,8 +78,8 @@ impl<F> Answer<F> {
 pub struct Reply {
     /// The answer to the event.
     pub answer: Answer<HeapFrame>,
-    /// The number of accesses of the call or the reset; 0 for a tick outside a call. The number saturates at the
-    /// greatest `u64`.
+    /// The number of accesses of the call or the reset; 0 for a tick outside a call, and if there is no such host. The
+    /// number saturates at the greatest `u64`.
     pub accesses: u64,
     /// The outcomes of the event's ticks.
     pub outcomes: Outcomes,

@@ -11,10 +11,11 @@ use Rattle.pcap_trace.specs.declared.trace.Trace.{Trace}
 use Rattle.pcap_trace.specs.Devices.{Receives}
 use Rattle.pcap_trace.specs.Format.{Order, number_in, oversized, ending_of, IsFileHeader, IsBody, IsTraceIn, IsTrace}
 use Rattle.pcap_trace.specs.Reading.{header_fault, IsHeaderFault, HasOversized, IsAnswer, IsOnlyAnswer, IsBodyFault, is_of_bytes}
+use Rattle.pcap_trace.specs.Reading.{TellsFailure}
 use Rattle.pcap_trace.proofs.Unique.{body_unique}
 use Rattle.pcap_trace.proofs.Orders.{number_first, one_order}
-use Rattle.pcap_trace.proofs.FileHeaders.{header_fault-record, header_fault-none, header_fault-known, told_fault, told_fault-in}
-use Rattle.pcap_trace.proofs.FileHeaders.{told_fault-magic, IsFileHeader-from_none}
+use Rattle.pcap_trace.proofs.FileHeaders.{header_fault-record, header_fault-read, header_fault-none, header_fault-known, told_fault}
+use Rattle.pcap_trace.proofs.FileHeaders.{told_fault-in, told_fault-magic, IsFileHeader-from_none}
 
 -- ---- no other result fits
 
@@ -52,7 +53,7 @@ not_both bytes t p q =
     (body_unique (number_in p.0) (number_first p.0) (drop 24 bytes) t.frames big.0 t.skipped big.1
     (ending_of t.cut) oversized p.1.1 big.2).2
 
--- the fault of the header if a result fits
+-- the fault of the header that a result reports, if it reports one
 abbrev fault_of : Result Trace ReadError → Option ReadError
 fault_of (Ok t) = None
 fault_of (Err errors.Record) = None
@@ -110,6 +111,14 @@ silent_fits None r silent = tt
 silent_fits (Some bytes) (Err errors.Memory) silent = tt
 silent_fits (Some bytes) (Err errors.Read) silent = tt
 silent_fits (Some bytes) r silent = absurd cc
+
+-- an error that doesn't depend on the bytes fits them after a file header too
+pub silent_body : (number : Order) (o : Option (List ℕ)) (e : ReadError) → is_of_bytes (Err e) ≡ false
+    → IfSome o (λ bytes. IsBodyFault number bytes e)
+silent_body number None e silent = tt
+silent_body number (Some bytes) errors.Memory silent = tt
+silent_body number (Some bytes) errors.Read silent = tt
+silent_body number (Some bytes) e silent = absurd cc
 
 -- ---- the result of a reader if a block contains the front of its bytes
 
@@ -179,3 +188,12 @@ fits_body order (Some bytes) (Some rest) held r got filled header ok fault =
     ∙ drop-append-le 24 held rest held_header.long_enough) in
     body_fits order bytes r whole (told_ok number r (drop 24 held ++ rest) (drop 24 bytes) behind ok)
     (subst (λ (x : List ℕ). IfErr r (λ e. IsBodyFault number x e)) behind fault)
+
+-- a fault of the header isn't a failure of the source
+pub told_header : (T : Type 0) (bytes : List ℕ) (e : ReadError) (n : ℕ) → IsHeaderFault bytes e → TellsFailure {T = T} (Err e) n n
+told_header T bytes errors.Read n h = absurd (header_fault-read (number_in h.0) bytes h.1)
+told_header T bytes e n h = refl
+
+-- bytes whose header has no fault have at least the 24 bytes of a file header
+pub passed_long : (order : Endianness) (held : List ℕ) → header_fault (number_in order) held ≡ None → 24 ≤ length held
+passed_long order held h = (IsFileHeader-from_none (number_in order) held h).long_enough

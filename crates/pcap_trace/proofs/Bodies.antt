@@ -118,7 +118,7 @@ GoesOn-skipped number first bytes rest frames skipped n told short long some so_
     let sum : skipped + suc others ≡ skipped + 1 + others = omega arith in
     subst (λ (m : ℕ). IsBody number bytes (frames ++ more) m e) sum (so_far more (suc others) e one)
 
--- the loop ends if the rest is no complete packet
+-- if the rest doesn't begin with a complete packet, the bytes are a body with the frames so far
 pub GoesOn-ends : (number : Order) (bytes rest : List ℕ) (frames : List (List ℕ)) (skipped : ℕ) (e : Ending) → IsRest number rest e
     → GoesOn number bytes rest frames skipped → IsBody number bytes frames skipped e
 GoesOn-ends number bytes rest frames skipped e ends so_far =

@@ -39,7 +39,15 @@ never_record false true true false e h = cc
 never_record false true true true false h = cc
 never_record false true true true true h = cc
 
--- the same in two byte orders; the first one is checked if its first word is a magic number
+never_read : (a b c d e : Bool) → first_fault a b c d e ≡ Some errors.Read → ⊥
+never_read true b c d e h = cc
+never_read false false c d e h = cc
+never_read false true false d e h = cc
+never_read false true true false e h = cc
+never_read false true true true false h = cc
+never_read false true true true true h = cc
+
+-- the first fault in one byte order if the first word is a magic number in this order, otherwise the first fault in the other order
 abbrev told : Bool → Bool → Bool → Bool → Bool → Bool → Bool → Bool → Bool → Option ReadError
 told short a b c d e f g h = if a then first_fault short a b c d else first_fault short e f g h
 
@@ -60,7 +68,7 @@ told_same : (a : Bool) (x y z : Option ReadError) → x ≡ z → y ≡ z → (i
 told_same true x y z p q = p
 told_same false x y z p q = q
 
--- the fault in the byte order in which the first word is a magic number, if there is one
+-- the fault in little-endian order if the first word is a magic number in this order, otherwise the fault in big-endian order
 abbrev pub told_fault : List ℕ → Option ReadError
 told_fault bytes = if is_magic (little_number 4 bytes) then header_fault little_number bytes else header_fault big_number bytes
 
@@ -82,7 +90,7 @@ told_fault-in Big bytes x is other =
     (is_magic (big_number 4 bytes)) (big_number 2 (drop 4 bytes) == 2) (big_number 2 (drop 6 bytes) == 4)
     (big_number 4 (drop 20 bytes) == 1) x (both_orders bytes) is other
 
--- a fault other than `Magic` in one of the byte orders
+-- a fault other than `Magic` in one of the byte orders is a fault of the header
 pub header_fault-in : (order : Endianness) (bytes : List ℕ) (e : ReadError) → (e ≡ errors.Magic → ⊥)
     → header_fault (number_in order) bytes ≡ Some e → IsHeaderFault bytes e
 header_fault-in order bytes errors.Magic other is = absurd (other refl)
@@ -91,6 +99,11 @@ header_fault-in order bytes e other is = (order, is)
 pub header_fault-record : (number : Order) (bytes : List ℕ) → header_fault number bytes ≡ Some errors.Record → ⊥
 header_fault-record number bytes h =
     never_record (nat_lt (length bytes) 24) (is_magic (number 4 bytes)) (number 2 (drop 4 bytes) == 2) (number 2 (drop 6 bytes) == 4)
+    (number 4 (drop 20 bytes) == 1) h
+
+pub header_fault-read : (number : Order) (bytes : List ℕ) → header_fault number bytes ≡ Some errors.Read → ⊥
+header_fault-read number bytes h =
+    never_read (nat_lt (length bytes) 24) (is_magic (number 4 bytes)) (number 2 (drop 4 bytes) == 2) (number 2 (drop 6 bytes) == 4)
     (number 4 (drop 20 bytes) == 1) h
 
 pub IsFileHeader-from_none : (number : Order) (bytes : List ℕ) → header_fault number bytes ≡ None → IsFileHeader number bytes

@@ -57,7 +57,7 @@ pub header_waits : (unit : Unit) (a : Option (List ℕ)) (waiting : List ℕ) �
 header_waits unit a waiting is = subst (λ (w : List ℕ). Appends a (append_known a w) (written unit [])) (sym is)
     (waits a (file_header unit))
 
--- These bytes were written, or the last of them wait.
+-- The bytes `bytes` were written, except those at their end that still wait.
 pub record GoesOut (before now : Option (List ℕ)) (waiting bytes : List ℕ) : Type 0 where
   pub grown : Grows before now
   pub went : Appends before (append_known now waiting) bytes

@@ -28,7 +28,7 @@ GoesOnKnown-read number (Some bytes) (Some left) (Some rest) old new frames skip
     ∙ ap (λ (t : List ℕ). t ++ rest) (sym r.1) in
     subst (λ (x : List ℕ). GoesOn number bytes x frames skipped) same so_far
 
--- the words of a header don't change
+-- a read doesn't change the words that the block already contained
 pub word-read : (number : Order) → ReadsFirst number → (at : ℕ) (old new : List ℕ) (before after : Option (List ℕ)) → at + 4 ≤ length old
     → Receives old new before after → number 4 (drop at new) ≡ number 4 (drop at old)
 word-read number first at old new before after long r = ap (λ (t : List ℕ). number 4 (drop at t)) r.1
@@ -79,13 +79,13 @@ GoesOnKnown-skipped number first (Some bytes) (Some left) held frames skipped n 
 
 -- ---- the end
 
--- less than a header is left
+-- fewer bytes than a header are left
 rest_short : (number : Order) (held : List ℕ) (empty : Bool) → empty ≡ eqb (length held) 0 → length held < 16
     → IsRest number held (ending_of (not empty))
 rest_short number held true is short = nil_from_length held (eqb-true _ _ (sym is))
 rest_short number held false is short = inl (omega (arith, eqb-false _ _ (sym is)), short)
 
--- less than the packet is left
+-- a header is left, and fewer bytes than its packet
 rest_cut : (number : Order) (held : List ℕ) (empty : Bool) (n : ℕ) → empty ≡ eqb (length held) 0 → n ≡ captured_length number held
     → 16 ≤ length held → n ≤ most_captured → length held < 16 + n
     → IsRest number held (ending_of (not empty))

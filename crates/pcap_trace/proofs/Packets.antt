@@ -27,7 +27,7 @@ pub written-append : (unit : Unit) (ts us : List Timed) → written unit (ts ++ 
 written-append unit ts us = ap (λ (x : List ℕ). file_header unit ++ x) (flat_map-append (packet_of unit) ts us)
     ∙ sym (append_assoc (file_header unit) (flat_map (packet_of unit) ts) (flat_map (packet_of unit) us))
 
--- a loop over the pairs of a program
+-- one more pair of a slice
 timed-more : (ps : List (ℕ × List ℕ)) (i : ℕ) (p : ℕ × List ℕ) → i < length ps → p ≡ get_or ps i p
     → map timed (take (i + 1) ps) ≡ map timed (take i ps) ++ timed p ∷ []
 timed-more ps i p below is = ap (map timed) (take_more ps i p below ∙ ap (λ (q : ℕ × List ℕ). take i ps ++ q ∷ []) (sym is))

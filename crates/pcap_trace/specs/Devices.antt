@@ -23,6 +23,6 @@ pub record Uses (before after : Option (List ℕ)) : Type 0 where
 abbrev pub first_of : ℕ → Option (List ℕ) → Option (List ℕ)
 first_of limit bytes = option_map (take limit) bytes
 
--- Bytes were appended to those that a sink has taken. (our choice)
+-- Bytes, perhaps none, were appended to those that a sink has taken. (our choice)
 abbrev pub Grows : Option (List ℕ) → Option (List ℕ) → Type 0
 Grows before after = (out : List ℕ) × Appends before after out

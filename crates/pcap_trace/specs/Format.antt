@@ -1,4 +1,5 @@
 -- The trace files of libpcap, version 2.4 (pcap-savefile): a file header, packets, and perhaps the beginning of one more packet.
+-- At the end, the bytes of a written trace, and the laws about these bytes.
 use Rattle.std.specs.Prelude.{◌≡◌, ◌==◌, ◌||◌, ◌<◌, ◌≤◌, ◌+◌, ◌*◌, ◌/◌, ◌%◌, ◌^◌, ◌⊎◌, ◌++◌, ℕ, suc, List, [], ◌∷◌, length, drop}
 use Rattle.std.specs.Prelude.{Bool, true, false, IsTrue, nat_lt, if◌then◌else◌, map}
 use Rattle.std.specs.List.{flat_map, AllByRecursion}
@@ -19,11 +20,11 @@ number_in Little = little_number
 
 -- ---- the file header (pcap-savefile, "File Header")
 
--- times in seconds and microseconds
+-- the magic number of a trace with times in seconds and microseconds
 abbrev pub microseconds_magic : ℕ
 microseconds_magic = 0xA1B2_C3D4
 
--- times in seconds and nanoseconds
+-- the magic number of a trace with times in seconds and nanoseconds
 abbrev pub nanoseconds_magic : ℕ
 nanoseconds_magic = 0xA1B2_3C4D
 
@@ -46,7 +47,7 @@ pub record Packet : Type 0 where
   pub header : List ℕ
   pub captured : List ℕ
 
--- the captured length of a packet header; the original length follows it
+-- the captured length in a packet header, in bytes; the original length follows it
 abbrev pub captured_length : Order → List ℕ → ℕ
 captured_length number header = number 4 (drop 8 header)
 

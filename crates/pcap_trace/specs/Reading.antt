@@ -51,7 +51,8 @@ abbrev pub TellsFailure : {T : Type 0} → Result T ReadError → ℕ → ℕ �
 TellsFailure (Err errors.Read) old new = new ≡ old + 1
 TellsFailure _ old new = new ≡ old
 
--- The error of reading these bytes, which follow the file header, is `Memory`, `Read`, or `Record` if a captured length is too large.
+-- An error fits these bytes, which follow the file header. `Memory` and `Read` fit any bytes. `Record` fits if a captured length is too
+-- large. No other error fits. (our choice)
 abbrev pub IsBodyFault : Order → List ℕ → ReadError → Type 0
 IsBodyFault number bytes errors.Record = HasOversized number bytes
 IsBodyFault number bytes errors.Memory = ⊤

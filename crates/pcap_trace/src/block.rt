@@ -32,8 +32,8 @@ impl Model for Block {
     ghost invariant = { λ b. (b.start ≤ b.end) × (b.end ≤ length b.bytes.items) × (length b.bytes.items ≡ 327696) };
 }
 
-/// Reads at most 65,536 bytes once into a slice, after its first `end` bytes, which don't change. Returns the number of
-/// bytes read. If the slice has more than `end` bytes, 0 means that the source is at its end.
+/// Reads at most 65,536 bytes once into a slice, after its first `end` bytes, which don't change. The slice must have
+/// more than `end` bytes. Returns the number of bytes read; 0 means that the source is at its end.
 fn read_behind<S: Source>(
     source: &mut S,
     bytes: &mut [u8],
@@ -79,16 +79,18 @@ impl Block {
         &self.bytes.as_slice()[self.start..self.end]
     }
 
-    /// Drops bytes from the front.
+    /// Drops `count` bytes from the front. The block must have at least `count` bytes.
     pub fn skip(&mut self, count: usize)
         requires { count ≤ length self.old }
-        ensures { self.new ≡ drop count self.old }
+        ensures rest { self.new ≡ drop count self.old }
+        ensures room { length self.new ≤ ROOM }
     {
         self.start += count;
     }
 
-    /// Moves the bytes to the front of the block's memory, and reads once from a source into the memory after these
-    /// bytes. There must be room for at least one more byte.
+    /// Moves the bytes to the front of the block's memory, and reads at most 65,536 bytes once from a source into the
+    /// memory after these bytes. There must be room for at least one more byte. Returns the number of bytes read; 0
+    /// means that the source is at its end.
     fn read_more<S: Source>(&mut self, source: &mut S) -> Result<usize, DeviceError>
         requires countable { S.failures source.old < u64.MAX }
         requires room { length self.old < ROOM }
@@ -131,7 +133,8 @@ impl Block {
         self.fill_slowly(source, want)
     }
 
-    /// Does what [`fill`](Block::fill) does. A separate function for missing bytes, so that `fill` can be inlined.
+    /// Does what [`fill`](Block::fill) does. It is a separate function, called if bytes are missing, so that `fill` can
+    /// be inlined.
     #[inline(never)]
     fn fill_slowly<S: Source>(&mut self, source: &mut S, want: usize) -> Result<(), DeviceError>
         requires countable { S.failures source.old < u64.MAX }

@@ -6,37 +6,49 @@ ghost use Rattle.pcap_trace.specs.declared.fault.WriteError.TheVariants.{Write};
 
 use crate::device::DeviceError;
 use std::alloc::AllocError;
+use std::error;
+use std::fmt::{self, Display, Formatter};
 use thiserror::Error;
 
 /// Why a trace was not read. A call that fails returns no part of the trace.
 ///
 /// The first four are faults of the file header (libpcap, "pcap-savefile", File Header). If a header has several
 /// faults, the first in this order is returned.
-#[derive(Clone, Copy, Debug, PartialEq, Eq, Error)]
+#[derive(Clone, Copy, Debug, PartialEq, Eq)]
 pub enum ReadError {
     /// The source has fewer than the 24 bytes of a file header.
-    #[error("a trace has at least 24 bytes")]
     Header,
     /// The first four bytes are neither 0xA1B2C3D4 (times in microseconds) nor 0xA1B23C4D (nanoseconds), in either byte
     /// order.
-    #[error("this isn't a pcap file")]
     Magic,
     /// The version isn't 2.4.
-    #[error("the version of the pcap file isn't 2.4")]
     Version,
     /// The link type isn't 1, Ethernet.
-    #[error("the packets aren't Ethernet frames")]
     LinkType,
-    /// After complete packets, a complete packet header has a captured length above 262,144 bytes.
-    #[error("a packet has more than 262,144 bytes")]
+    /// A complete packet header, at the beginning or after complete packets, has a captured length above 262,144 bytes.
     Record,
     /// Memory was refused.
-    #[error("out of memory")]
     Memory,
     /// The source failed during the call.
-    #[error("the source failed")]
     Read,
 }
+
+impl Display for ReadError {
+    fn fmt<W: fmt::Write>(&self, f: &mut Formatter<W>) -> fmt::Result {
+        let text = match self {
+            ReadError::Header => "a trace has at least 24 bytes",
+            ReadError::Magic => "this isn't a pcap file",
+            ReadError::Version => "the version of the pcap file isn't 2.4",
+            ReadError::LinkType => "the packets aren't Ethernet frames",
+            ReadError::Record => "a packet has more than 262,144 bytes",
+            ReadError::Memory => "out of memory",
+            ReadError::Read => "the source failed",
+        };
+        f.write_str(text)
+    }
+}
+
+impl error::Error for ReadError {}
 
 impl From<AllocError> for ReadError {
     ghost from_gives = { λ _ e. e ≡ Memory };
@@ -57,7 +69,7 @@ impl From<DeviceError> for ReadError {
 /// Why a trace was not written.
 #[derive(Clone, Copy, Debug, PartialEq, Eq, Error)]
 pub enum WriteError {
-    /// The sink failed during the call. The sink has taken only a beginning of the bytes.
+    /// The sink failed during the call. The sink has taken a beginning of the bytes, perhaps no byte.
     #[error("the sink failed")]
     Write,
 }

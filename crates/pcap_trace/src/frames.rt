@@ -9,7 +9,8 @@ use std::marker::Model;
 /// A list of frames, each of any number of bytes below 2^32. In contracts, the value is the list of the frames, each as
 /// the list of its bytes.
 ///
-/// The frames are in one piece of memory, one after the other. Their lengths are in another, four bytes each.
+/// The frames are in one piece of memory, one after the other. Their lengths are in another piece of memory, four bytes
+/// each.
 #[derive(Drop)]
 pub struct Frames {
     bytes: Vec<u8>,
@@ -62,7 +63,7 @@ impl Frames {
         self.bytes.reserve(bytes)
     }
 
-    /// Appends a frame.
+    /// Appends a frame of fewer than 2^32 bytes.
     ///
     /// # Errors
     ///

@@ -1,5 +1,5 @@
-//! The headers of a trace file and of its packets, as they are written (libpcap, "pcap-savefile", File Header and
-//! Packet Header).
+//! The headers of a trace file and of its packets: their sizes and constants, and the headers of a written trace
+//! (libpcap, "pcap-savefile", File Header and Packet Header).
 ghost use Rattle.std.specs.Prelude.{◌≡◌};
 ghost use Rattle.pcap_trace.specs.Format.{file_header, fraction_of, magic_of, packet_header};
 
@@ -71,8 +71,8 @@ pub fn file_header(unit: Unit) -> [u8; FILE_HEADER]
     header
 }
 
-/// Returns the packet header of a frame of `length` bytes. `time` is in microseconds, and `unit` is that of the
-/// fraction in the header.
+/// Returns the packet header of a frame of `length` bytes. `time` is in microseconds. The header contains the low 32
+/// bits of the seconds, the fraction of a second in `unit`, and the length twice.
 #[tactic(auto, unfolding(crate::specs::Format::packet_header))]
 pub fn packet_header(unit: Unit, time: u64, length: u32) -> [u8; PACKET_HEADER]
     ensures { result ≡ packet_header unit time length }

@@ -1,5 +1,5 @@
 //! Traces read from a source.
-ghost use Rattle.std.specs.Prelude.{◌≡◌, ◌<◌, ◌≤◌, ◌+◌, length, IfOk, IfErr, IfSome, IfNone, OnOk, OnSome};
+ghost use Rattle.std.specs.Prelude.{◌≡◌, ◌<◌, ◌≤◌, ◌+◌, [], length, IfOk, IfErr, IfSome, IfNone, OnOk, OnSome};
 ghost use Rattle.std.specs.Io.KnownBytes.{IsAtEnd, prepend_known};
 ghost use Rattle.pcap_trace.specs.Format.{IsBody, ending_of, captured_length, number_in, original_length};
 ghost use Rattle.pcap_trace.specs.Devices.{Uses};
@@ -60,7 +60,7 @@ fn read_body<T: ByteOrder, S: Source>(
     ensures end { OnOk result (IsAtEnd (S.left source.new)) }
     ensures used { Uses (S.left source.old) (S.left source.new) }
 {
-    // The source has fewer than 2^64 bytes left, and each skipped packet takes at least 16, so `skipped` can't
+    // The source has fewer than 2^64 bytes left, and each skipped packet takes at least 16 bytes, so `skipped` can't
     // overflow.
     let _limit = source.limit();
     let mut frames = Frames::new(alloc);
@@ -116,6 +116,25 @@ fn read_body_in<S: Source>(
     }
 }
 
+/// Reads a whole trace through an empty block. The results are those of [`Trace::read`].
+fn read_through<S: Source>(
+    alloc: Global,
+    block: &mut Block,
+    source: &mut S,
+) -> Result<Trace, ReadError>
+    requires countable { S.failures source.old < u64.MAX }
+    requires empty { block.old ≡ [] }
+    ensures fits { IfSome (S.left source.old) (λ bytes. IsAnswer bytes result) }
+    ensures failure { TellsFailure result (S.failures source.old) (S.failures source.new) }
+    ensures end { OnOk result (IsAtEnd (S.left source.new)) }
+    ensures used { Uses (S.left source.old) (S.left source.new) }
+{
+    block.fill(source, FILE_HEADER)?;
+    let order = byte_order(block.held())?;
+    block.skip(FILE_HEADER);
+    read_body_in(order, alloc, block, source)
+}
+
 impl Trace {
     /// Reads the trace that a source has left, up to its end. The trace is a file of libpcap version 2.4 (its manual
     /// page "pcap-savefile"), big-endian or little-endian, with times in microseconds or nanoseconds, of link type
@@ -125,8 +144,8 @@ impl Trace {
     /// # Errors
     ///
     /// The faults of the file header, [`Header`](ReadError::Header) to [`LinkType`](ReadError::LinkType), are looked
-    /// for in this order, and before any packet. [`Record`](ReadError::Record) is returned if, after complete packets,
-    /// a complete packet header has a captured length above 262,144 bytes, whatever follows.
+    /// for in this order, and before any packet. [`Record`](ReadError::Record) is returned if, at the beginning or
+    /// after complete packets, a complete packet header has a captured length above 262,144 bytes, whatever follows.
     /// [`Memory`](ReadError::Memory) is returned if memory is refused. A failure of the device is always
     /// [`Read`](ReadError::Read). After an error, some bytes of the source may be used up, and no other byte is lost.
     pub fn read<S: Source>(alloc: Global, source: &mut S) -> Result<Trace, ReadError>
@@ -144,9 +163,6 @@ impl Trace {
         ensures used { Uses (S.left source.old) (S.left source.new) }
     {
         let mut block = Block::new(alloc)?;
-        block.fill(source, FILE_HEADER)?;
-        let order = byte_order(block.held())?;
-        block.skip(FILE_HEADER);
-        read_body_in(order, alloc, &mut block, source)
+        read_through(alloc, &mut block, source)
     }
 }

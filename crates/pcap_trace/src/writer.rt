@@ -12,7 +12,7 @@ use crate::writing::write_all;
 use std::alloc::{AllocError, Global};
 use std::marker::Model;
 
-/// The number of bytes of the block that waits for the sink.
+/// The size in bytes of the block in which bytes wait for the sink.
 const BLOCK: usize = 65_536;
 
 /// Writes a trace packet by packet: little-endian, times in a [`Unit`], version 2.4, snapshot length 65,535, link
@@ -72,9 +72,10 @@ impl RecordWriter {
     pub fn new(alloc: Global, unit: Unit) -> Result<RecordWriter, AllocError>
         ensures { IfOk result (λ w. w ≡ file_header unit) }
     {
-        let mut block = new_block(alloc)?;
-        let end = put(block.as_mut_slice(), 0, &file_header(unit));
-        Ok(RecordWriter { block, end })
+        let block = new_block(alloc)?;
+        let mut writer = RecordWriter { block, end: 0 };
+        writer.begin(unit);
+        Ok(writer)
     }
 
     /// Begins another trace: only the file header waits. Bytes that waited before are dropped.
@@ -116,7 +117,7 @@ impl RecordWriter {
         Ok(())
     }
 
-    /// Appends a packet, for which there is room.
+    /// Appends the packet of a frame of at most 1,518 bytes. The block must have room for the packet.
     #[inline(always)]
     fn append(&mut self, unit: Unit, time: u64, frame: &[u8])
         requires short { length frame.now ≤ 1518 }

@@ -1,8 +1,12 @@
 -- The one address that a text spells.
-use Rattle.std.proofs.Common.{◌≡◌, ℕ, List, [], ◌∷◌, Option, Some, None, IfSome, IfNone, lit<, subst, arith}
+use Rattle.std.proofs.Common.{◌≡◌, ℕ, List, [], ◌∷◌, Option, Some, None, IfSome, IfNone, lit<, refl, subst, arith}
 use Rattle.std.specs.Option.{SomeIff}
 use Rattle.text.specs.Addresses.{SpellsAddress}
 use Rattle.scenario.specs.Spellings.{IsAddress, address_in}
+
+six : {a b c d e f a' b' c' d' e' f' : ℕ} → a ≡ a' → b ≡ b' → c ≡ c' → d ≡ d' → e ≡ e' → f ≡ f'
+    → (a ∷ b ∷ c ∷ d ∷ e ∷ f ∷ []) ≡ (a' ∷ b' ∷ c' ∷ d' ∷ e' ∷ f' ∷ [])
+six p q r s t u = rw (p, q, r, s, t, u) refl
 
 pub same-address : (text address : List ℕ) → SpellsAddress text address → address ≡ address_in text
 same-address text (a ∷ b ∷ c ∷ d ∷ e ∷ f ∷ []) spelled =
@@ -12,7 +16,7 @@ same-address text (a ∷ b ∷ c ∷ d ∷ e ∷ f ∷ []) spelled =
     let fourth = (spelled.pairs 3 (lit< tt)).value in
     let fifth = (spelled.pairs 4 (lit< tt)).value in
     let sixth = (spelled.pairs 5 (lit< tt)).value in
-    cc
+    six first second third fourth fifth sixth
 same-address text _ spelled = absurd (omega (arith, spelled.bytes))
 
 pub some-address : (found : Option (List ℕ)) (text : List ℕ) → IfSome found (SpellsAddress text)

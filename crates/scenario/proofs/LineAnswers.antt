@@ -1,11 +1,13 @@
--- The result of reading a line, by that of reading its words.
-use Rattle.std.proofs.Common.{◌≡◌, ◌∙◌, ◌≤◌, false, cond, List, Option, Some, None, Result, Ok, Err, length, ap, sym, subst}
+-- The result of reading a line, by the result of reading its words.
+use Rattle.std.proofs.Common.{◌≡◌, ◌∙◌, ◌<◌, ◌≤◌, false, true, cond, Bor, List, [], ◌∷◌}
+use Rattle.std.proofs.Common.{Option, Some, None, Result, Ok, Err, length, ap, arith, sym, subst}
+use Rattle.std.proofs.lemmas.Bool.{false≢true}
 use Rattle.std.specs.Option.{IsSomeAnd}
 use Rattle.std.specs.Str.{IsUtf8}
 use Rattle.scenario.specs.Answers.{IsAnswer, IsFaulty, IsGood, IsLineAnswer, IsWordsAnswer, after_kind, is_skipped}
 use Rattle.scenario.specs.Kinds.{kind_named}
 use Rattle.scenario.specs.SoFar.{SoFar}
-use Rattle.scenario.specs.Words.{Text, word, words_of}
+use Rattle.scenario.specs.Words.{Text, texts, word, words_of}
 use Rattle.scenario.specs.declared.line_kind.LineKind.{LineKind}
 use Rattle.scenario.specs.declared.refusal.Fault.TheVariants as fault
 use Rattle.scenario.specs.declared.refusal.Stop.{Stop}
@@ -30,6 +32,18 @@ module _ (before after : SoFar) (words : List Text) (kind : LineKind) (says : is
   words-said (Err (stop.Fault fault.Order)) h = (says, some-and (λ one. IsFaulty one before words fault.Order) h)
   words-said (Err (stop.Fault fault.Long)) h = absurd h
   words-said (Err (stop.Fault fault.Text)) h = absurd h
+
+-- a skipped line changes nothing
+pub skipped-said : (before : SoFar) (words : List Text) → is_skipped words ≡ true → IsWordsAnswer before words (Ok tt) before
+skipped-said before words skips = (
+  λ same. absurd (false≢true (sym same ∙ skips)),
+  sym (ap (λ b. cond b before (after_kind (kind_named (word 0 words)) before words)) skips),
+)
+
+-- a line that isn't skipped has a word
+pub words-there : (words : List (Bor Text)) → is_skipped (texts words) ≡ false → 0 < length words
+words-there [] says = absurd (false≢true (sym says))
+words-there (first ∷ words) says = omega arith
 
 no-fault : (found : Option LineKind) → IsSomeAnd found (λ kind. ⊥) → ⊥
 no-fault (Some kind) h = h

@@ -27,7 +27,7 @@ use Rattle.scenario.specs.declared.refusal.Stop.TheVariants as stop
 pub text-count : (words : List (Bor Text)) → length (texts words) ≡ length words
 text-count words = length-map words (λ (one : Bor Text). one.now)
 
--- if the check of the options' counts passes, the words have the number that a `host` line needs
+-- if the check of the options' counts passes, the line has the words and the options that a `host` line needs
 pub host-counted : (words : List (Bor Text)) (uses : List HostUse) (test : Bool) → 4 ≤ length words
     → uses ≡ uses_in (option_words (texts words)) → IsTrue test ↔ AreCounted uses → test ≡ true → HasHostWords (texts words)
 host-counted words uses test least is told passes = record {

@@ -13,7 +13,7 @@ use Rattle.scenario.specs.declared.refusal.Fault.{Fault}
 use Rattle.scenario.specs.declared.refusal.Stop.{Stop}
 use Rattle.scenario.specs.declared.refusal.Stop.TheVariants as stop
 
--- The bytes before `start` are read: they are `count` lines, all lines are valid or skipped, and `said` is what they add.
+-- The bytes before `start` are `count` lines. All these lines are valid or skipped, and `said` contains their hosts, commands and traces.
 pub record IsReadUpTo (text : Text) (start count : ℕ) (said : SoFar) : Type 0 where
   pub within : start ≤ length text
   pub number : count ≤ start

@@ -1,4 +1,4 @@
--- Which lines are valid, and the faults of invalid lines (our choice).
+-- Which lines are valid, the faults of invalid lines, and the results of reading lines and texts (our choice).
 use Rattle.std.specs.Prelude.{◌≡◌, ◌<◌, ◌≤◌, ◌==◌, ℕ, Bool, true, false, List, [], ◌∷◌, Option, Some, None, Result, Ok, Err, if◌then◌else◌}
 use Rattle.std.specs.Prelude.{◌-◌, IsSomeAnd, length, slice_index, take}
 use Rattle.std.specs.List.{fold}

@@ -67,7 +67,7 @@ abbrev pub use_without : Option OptionKind → HostUse
 use_without (Some kind) = lone_use kind
 use_without None = uses.Unknown
 
--- The uses that words spell. An option that takes a value takes the next word, if there is one. Every other word is a use by itself.
+-- The uses that words spell. An option that takes a value takes the next word, if there is one. Any other word is a use by itself.
 abbrev pub uses_in : List Text → List HostUse
 uses_in [] = []
 uses_in (word ∷ []) = use_without (option_named word) ∷ []

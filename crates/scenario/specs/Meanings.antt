@@ -49,7 +49,7 @@ call_words words = words_before (codes "/") words
 abbrev pub tick_words : List Text → List Text
 tick_words words = words_after (codes "/") words
 
--- the words of the options of a `host` line
+-- the words of the options of a `host` line: all words after the first four
 abbrev pub option_words : List Text → List Text
 option_words words = drop 4 words
 

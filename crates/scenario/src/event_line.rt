@@ -39,7 +39,8 @@ fn are_ticks(words: &[&str]) -> bool
 ///
 /// # Errors
 ///
-/// [`Name`](Fault::Name) if a word doesn't spell a tick at a known host.
+/// [`Name`](Fault::Name) if a word spells neither `go` nor a tick at a known host, or [`Memory`](Stop::Memory) if
+/// memory is refused.
 fn ticks_of(alloc: Global, hosts: &[HostPlan], words: &[&str]) -> Result<Vec<Tick>, Stop>
     ensures ok { IfOk result (λ ticks. AreTicks (hosts_of hosts.now) (texts words.now) ticks.items) }
     ensures err { IfErr result (λ stop. IfFault stop (λ fault.
@@ -59,7 +60,8 @@ fn ticks_of(alloc: Global, hosts: &[HostPlan], words: &[&str]) -> Result<Vec<Tic
 ///
 /// # Errors
 ///
-/// [`Value`](Fault::Value) if a word doesn't spell a tick, else [`Name`](Fault::Name) if a host isn't known.
+/// [`Value`](Fault::Value) if a word doesn't spell a tick, else [`Name`](Fault::Name) if a host isn't known. Or
+/// [`Memory`](Stop::Memory) if memory is refused.
 fn call_of(
     alloc: Global,
     hosts: &[HostPlan],
@@ -79,7 +81,7 @@ fn call_of(
     Ok((host, ticks))
 }
 
-/// Appends a command.
+/// Appends a command. Fails only if memory is refused.
 fn say(scenario: &mut Scenario, command: Command) -> Result<(), Stop>
     ensures said { OnOk result (so_far scenario.new ≡ meanings.saying (said_of command) (so_far scenario.old)) }
     ensures memory { IfErr result (λ stopped. stopped ≡ stops.Memory) }
@@ -139,7 +141,8 @@ fn size_of_call(kind: CallKind) -> usize
 ///
 /// # Errors
 ///
-/// [`Value`](Fault::Value) if a word doesn't have the form for its place.
+/// [`Value`](Fault::Value) if a word doesn't have the form for its place, or [`Memory`](Stop::Memory) if memory is
+/// refused.
 fn asked_of(alloc: Global, kind: CallKind, call: &[&str]) -> Result<Asked, Stop>
     requires { length call.now ≡ meanings.size_of_call kind }
     ensures ok { IfOk result (meanings.IsAsked kind (texts call.now)) }
@@ -221,7 +224,8 @@ pub(crate) fn read_feed(alloc: Global, scenario: &mut Scenario, words: &[&str]) 
     say(scenario, Command::Feed { host, trace })
 }
 
-/// Returns the number of events that a word asks to draw, if the word is a decimal number of at most 1,000,000.
+/// Returns the number of events that a word asks to draw, if the word is a decimal number of at most 1,000,000;
+/// otherwise `None`.
 fn count_of(text: &str) -> Option<u32>
     ensures { SomeIff result (meanings.is_count text.now ≡ true) (digits_value 10 text.now) }
 {

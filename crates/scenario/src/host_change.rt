@@ -1,6 +1,6 @@
 // A new host of a plan, and its groups, VLANs and sockets.
 
-ghost use Rattle.std.specs.Prelude.{◌≡◌, IfOk};
+ghost use Rattle.std.specs.Prelude.{◌≡◌, ◌∷◌, ◌++◌, [], OnOk};
 ghost use Rattle.scenario.specs.Answers.{IsChange, IsGrowth};
 ghost use Rattle.scenario.specs.Meanings as meanings;
 ghost use Rattle.scenario.specs.SoFar.{host_of_plan, hosts_of};
@@ -26,19 +26,28 @@ pub(crate) enum Item {
     Socket(SocketKind),
 }
 
-/// Returns the host of a `host` line.
-pub(crate) fn new_host(
+/// Appends the host of a `host` line.
+///
+/// # Errors
+///
+/// Only if memory is refused; then the hosts don't change.
+pub(crate) fn add_host(
     alloc: Global,
+    hosts: &mut Vec<HostPlan>,
     name: &str,
     address: [u8; 6],
     wire: &str,
     options: HostOptions,
-) -> Result<HostPlan, AllocError>
-    ensures { IfOk result (λ host. host_of_plan host ≡ meanings.host_described name.now address wire.now options) }
+) -> Result<(), AllocError>
+    ensures { OnOk result (hosts_of hosts.new.items
+        ≡ hosts_of hosts.old.items ++ meanings.host_described name.now address wire.now options ∷ []) }
 {
-    Ok(HostPlan {
-        name: String::from_str(alloc, name)?,
-        wire: String::from_str(alloc, wire)?,
+    hosts.reserve(1)?;
+    let name = String::from_str(alloc, name)?;
+    let wire = String::from_str(alloc, wire)?;
+    hosts.push_reserved(HostPlan {
+        name,
+        wire,
         image: Image::with_address(address),
         link: options.link,
         config: Config {
@@ -51,10 +60,11 @@ pub(crate) fn new_host(
             vlans: None,
         },
         sockets: ArrayVec::new(),
-    })
+    });
+    Ok(())
 }
 
-/// Adds a group to a host, if the host has room.
+/// Adds a group to a host. Fails with [`Name`](Fault::Name) if the host has no room for another group.
 fn push_group(host: &mut HostPlan, group: [u8; 6]) -> Result<(), Fault>
     ensures { IsGrowth meanings.groups_held meanings.most_groups (meanings.with_group group)
         (host_of_plan host.old) result (host_of_plan host.new) }
@@ -66,7 +76,7 @@ fn push_group(host: &mut HostPlan, group: [u8; 6]) -> Result<(), Fault>
     Ok(())
 }
 
-/// Adds a VLAN to a host, if the host has room.
+/// Adds a VLAN to a host. Fails with [`Name`](Fault::Name) if the host has no room for another VLAN.
 fn push_vlan(host: &mut HostPlan, vlan: u16) -> Result<(), Fault>
     ensures { IsGrowth meanings.vlans_held meanings.most_vlans (meanings.with_vlan vlan)
         (host_of_plan host.old) result (host_of_plan host.new) }
@@ -80,7 +90,7 @@ fn push_vlan(host: &mut HostPlan, vlan: u16) -> Result<(), Fault>
     Ok(())
 }
 
-/// Adds a socket to a host, if the host has room.
+/// Adds a socket to a host. Fails with [`Name`](Fault::Name) if the host has no room for another socket.
 fn push_socket(host: &mut HostPlan, kind: SocketKind) -> Result<(), Fault>
     ensures { IsGrowth meanings.sockets_held meanings.most_sockets (meanings.with_socket kind)
         (host_of_plan host.old) result (host_of_plan host.new) }
@@ -92,7 +102,7 @@ fn push_socket(host: &mut HostPlan, kind: SocketKind) -> Result<(), Fault>
     Ok(())
 }
 
-/// Adds an item to a host, if the host has room.
+/// Adds an item to a host. Fails with [`Name`](Fault::Name) if the host has no room for the item.
 fn push_item(host: &mut HostPlan, item: Item) -> Result<(), Fault>
     ensures { IsGrowth (meanings.items_held item) (meanings.most_items item) (meanings.with_item item)
         (host_of_plan host.old) result (host_of_plan host.new) }
@@ -104,7 +114,8 @@ fn push_item(host: &mut HostPlan, item: Item) -> Result<(), Fault>
     }
 }
 
-/// Adds an item to the host with this name, if the host exists and has room.
+/// Adds an item to the first host with this name. Fails with [`Name`](Fault::Name) if there is no such host, or the
+/// host has no room for the item.
 #[tactic(auto, using(crate::proofs::Changes::no_room))]
 pub(crate) fn add_item(hosts: &mut [HostPlan], name: &str, item: Item) -> Result<(), Fault>
     ensures { IsChange name.now (meanings.items_held item) (meanings.most_items item) (meanings.with_item item)

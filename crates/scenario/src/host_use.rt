@@ -26,7 +26,8 @@ pub(crate) enum OptionKind {
     Promiscuous,
 }
 
-/// A use of an option: a word of a `host` line after the wire, and the value that follows the word, if any.
+/// A use of a word of a `host` line after the wire. An option that takes a value includes the next word, if there is
+/// one.
 #[derive(Clone, Copy)]
 pub(crate) enum HostUse {
     /// The word isn't an option.
@@ -151,7 +152,8 @@ impl HostUse {
 }
 
 impl HostOptions {
-    /// Returns these options with the value of one more use, if the use has a value.
+    /// Returns these options after one more use. Only a use of an option whose value was read, or of `promiscuous`,
+    /// changes an option.
     fn with_use(self, one: HostUse) -> HostOptions
         ensures { result ≡ options.with_use self one }
     {
@@ -177,7 +179,7 @@ fn link_of(value: &str) -> Option<Link>
     if value == "never" {
         return Some(Link::Never);
     }
-    Some(Link::After(number16_of(value)?))
+    number16_of(value).map(Link::After)
 }
 
 /// The names of the options.
@@ -190,7 +192,7 @@ const OPTION_KINDS: [(&str, OptionKind); 6] = [
     ("promiscuous", OptionKind::Promiscuous),
 ];
 
-/// Returns the option with this name.
+/// Returns the option with this name; `None` if there is no such option.
 #[tactic(auto, unfolding(crate::specs::HostOptions::option_named))]
 fn option_of(word: &str) -> Option<OptionKind>
     ensures { result ≡ options.option_named word.now }
@@ -249,7 +251,7 @@ fn are_once(uses: &[HostUse]) -> bool
         && is_once(uses, OptionKind::Promiscuous)
 }
 
-/// Returns whether each option has its value, and is used at most once.
+/// Returns whether each option that takes a value has one, and each option is used at most once.
 pub(crate) fn are_counted(uses: &[HostUse]) -> bool
     ensures { IsTrue result ↔ options.AreCounted uses.now }
 {

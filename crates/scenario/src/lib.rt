@@ -1,7 +1,7 @@
 //! Reads a scenario for `nicbench run`, line by line: the plan of a network, and commands for its hosts.
 //!
 //! [`Scenario::read`] returns the plan and the commands, or a [`Refusal`]: the number and the fault of the first faulty
-//! line, or refused memory.
+//! line, or that memory was refused.
 #![tactic(auto)]
 
 mod command;

@@ -1,7 +1,7 @@
 // Reads one line.
 
 ghost use Rattle.std.specs.Prelude.{◌≡◌};
-ghost use Rattle.scenario.specs.Answers.{IsAnswer, IsLineAnswer, IsWordsAnswer};
+ghost use Rattle.scenario.specs.Answers.{IsAnswer, IsLineAnswer, IsWordsAnswer, is_skipped};
 ghost use Rattle.scenario.specs.SoFar.{so_far};
 ghost use Rattle.scenario.specs.Words.{texts};
 
@@ -12,7 +12,7 @@ use crate::refusal::{Fault, Stop};
 use crate::setup_line::{read_host, read_item};
 use std::alloc::Global;
 use std::str;
-use text::words_in;
+use text::{word_at, words_in};
 
 /// The maximum number of bytes of a line (our choice).
 const MOST_LINE_BYTES: usize = 8192;
@@ -37,20 +37,27 @@ fn read_kind(
     }
 }
 
+/// Returns whether the line of these words is skipped: it has no word, or its first word begins with `#`.
+fn is_skipped(words: &[&str]) -> bool
+    ensures { result ≡ is_skipped (texts words.now) }
+{
+    match words.first() {
+        Some(first) => first.starts_with('#'),
+        None => true,
+    }
+}
+
 /// Reads the words of a line.
 fn read_words(alloc: Global, scenario: &mut Scenario, words: &[&str]) -> Result<(), Stop>
     ensures { IsWordsAnswer (so_far scenario.old) (texts words.now) result (so_far scenario.new) }
 {
-    let Some(first) = words.first() else {
-        return Ok(());
-    };
-    if first.starts_with('#') {
+    if is_skipped(words) {
         return Ok(());
     }
-    let Some(kind) = kind_of(first) else {
-        return Err(Stop::Fault(Fault::Word));
-    };
-    read_kind(alloc, scenario, kind, words)
+    match kind_of(word_at(words, 0)) {
+        Some(kind) => read_kind(alloc, scenario, kind, words),
+        None => Err(Stop::Fault(Fault::Word)),
+    }
 }
 
 /// Reads a line.

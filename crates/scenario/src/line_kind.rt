@@ -16,7 +16,7 @@ pub(crate) enum ItemKind {
     Socket,
 }
 
-/// The kinds of calls of a host in a run.
+/// The kinds of calls of a host in a run, including a reset.
 #[derive(Clone, Copy)]
 pub(crate) enum CallKind {
     /// `send`: the host sends a frame.
@@ -40,7 +40,7 @@ pub(crate) enum LineKind {
     Host,
     /// `group`, `vlan` or `socket`: a new item of a host.
     Item(ItemKind),
-    /// A host's call, with ticks inside it.
+    /// A host's call or reset, with ticks inside it.
     Call(CallKind),
     /// `tick`: a tick between calls.
     Tick,

@@ -12,14 +12,14 @@ use thiserror::Error;
 pub enum Fault {
     /// The first word of the line isn't known.
     Word,
-    /// The line has too few or too many words, an option without its value, or an option twice.
+    /// The line has too few or too many words, an option without its value, or an option more than once.
     Count,
     /// A word doesn't have the form for its place, or an option isn't known.
     Value,
     /// A host that the line names isn't known, or the name of a new host is taken. Or a host has no room for another
     /// socket, group or VLAN.
     Name,
-    /// A `host`, `group`, `vlan` or `socket` line comes after an event.
+    /// A `host`, `group`, `vlan` or `socket` line comes after a command.
     Order,
     /// The line has more than 8,192 bytes.
     Long,

@@ -45,8 +45,8 @@ fn without_return(line: &[u8]) -> &[u8]
     kept
 }
 
-/// Returns the first line of a text, and the number of its bytes with its line feed and carriage return, if it has
-/// them.
+/// Returns the first line of a text that isn't empty, without its line feed and the carriage return before the line
+/// feed, if the line has them. Also returns the number of bytes of the line with these characters.
 fn first_line(text: &[u8]) -> (&[u8], usize)
     requires { 0 < length text.now }
     ensures first { lines text.now ≡ result.0.now ∷ lines (drop result.1 text.now) }

@@ -11,7 +11,7 @@ ghost use Rattle.scenario.specs.Words.{texts};
 ghost use Rattle.scenario.specs.declared.line_kind.LineKind.TheVariants as line;
 
 use crate::command::Scenario;
-use crate::host_change::{Item, add_item, new_host};
+use crate::host_change::{Item, add_host, add_item};
 use crate::host_use::{HostOptions, HostUse, are_counted, are_read, options_of, uses_of};
 use crate::line_kind::ItemKind;
 use crate::refusal::{Fault, Stop};
@@ -74,7 +74,7 @@ fn values_in(
 ///
 /// # Errors
 ///
-/// The first fault of the line.
+/// The first fault of the line, or [`Memory`](Stop::Memory) if memory is refused.
 fn host_values(
     alloc: Global,
     scenario: &Scenario,
@@ -98,18 +98,19 @@ pub(crate) fn read_host(alloc: Global, scenario: &mut Scenario, words: &[&str]) 
     ensures { IsAnswer line.Host (so_far scenario.old) (texts words.now) result (so_far scenario.new) }
 {
     let (address, options) = host_values(alloc, scenario, words)?;
-    let host = new_host(
+    let (name, wire) = (word_at(words, 1), word_at(words, 3));
+    add_host(
         alloc,
-        word_at(words, 1),
+        &mut scenario.plan.hosts,
+        name,
         address,
-        word_at(words, 3),
+        wire,
         options,
     )?;
-    scenario.plan.hosts.push(host)?;
     Ok(())
 }
 
-/// Returns the item of this kind that a text spells.
+/// Returns the item of this kind that a text spells; `None` if the text doesn't have the form.
 fn item_of(kind: ItemKind, text: &str) -> Option<Item>
     ensures { SomeIff result (IsItem kind text.now) (item_in kind text.now) }
 {

@@ -1,4 +1,4 @@
-// What words spell: numbers, addresses, frames and EtherTypes.
+// What words spell: numbers, addresses, frames, EtherTypes, and the frames that sockets take.
 
 ghost use Rattle.std.specs.Prelude.{◌≡◌, IfErr, IfOk};
 ghost use Rattle.std.specs.Option.{SomeIff};
@@ -24,28 +24,28 @@ const DECIMAL: u32 = 10;
 
 const HEXADECIMAL: u32 = 16;
 
-/// Returns the number below 2^64 that a text of decimal digits spells.
+/// Returns the number below 2^64 that a text of decimal digits spells; `None` for any other text.
 pub(crate) fn number_of(text: &str) -> Option<u64>
     ensures { result ≡ number_in 10 64 text.now }
 {
     digits_of(text, DECIMAL)
 }
 
-/// Returns the number below 2^16 that a text of decimal digits spells.
+/// Returns the number below 2^16 that a text of decimal digits spells; `None` for any other text.
 pub(crate) fn number16_of(text: &str) -> Option<u16>
     ensures { result ≡ number_in 10 16 text.now }
 {
     u16::try_from(number_of(text)?).ok()
 }
 
-/// Returns the number below 2^8 that a text of decimal digits spells.
+/// Returns the number below 2^8 that a text of decimal digits spells; `None` for any other text.
 pub(crate) fn number8_of(text: &str) -> Option<u8>
     ensures { result ≡ number_in 10 8 text.now }
 {
     u8::try_from(number_of(text)?).ok()
 }
 
-/// Returns the number that four hexadecimal digits spell.
+/// Returns the number that four hexadecimal digits spell; `None` for any other text.
 fn ether_type_of(text: &str) -> Option<u16>
     ensures { result ≡ ether_type_in text.now }
 {
@@ -56,17 +56,17 @@ fn ether_type_of(text: &str) -> Option<u16>
 }
 
 /// Returns which frames a socket takes: `all` spells [`All`](SocketKind::All), and four hexadecimal digits spell an
-/// EtherType.
+/// EtherType. `None` for any other text.
 pub(crate) fn socket_of(text: &str) -> Option<SocketKind>
     ensures { result ≡ socket_in text.now }
 {
     if text == "all" {
         return Some(SocketKind::All);
     }
-    Some(SocketKind::Ether(ether_type_of(text)?))
+    ether_type_of(text).map(SocketKind::Ether)
 }
 
-/// Returns the address that six pairs of hexadecimal digits spell, joined by colons.
+/// Returns the address that six pairs of hexadecimal digits spell, joined by colons; `None` for any other text.
 pub(crate) fn address_of(text: &str) -> Option<[u8; 6]>
     ensures { SomeIff result (IsAddress text.now) (address_in text.now) }
 {
@@ -77,7 +77,8 @@ pub(crate) fn address_of(text: &str) -> Option<[u8; 6]>
 ///
 /// # Errors
 ///
-/// [`Value`](Fault::Value) if there are other characters, an odd number of digits, or more than 8,000 digits.
+/// [`Value`](Fault::Value) if there are other characters, an odd number of digits, or more than 8,000 digits. Or
+/// [`Memory`](Stop::Memory) if memory is refused.
 pub(crate) fn frame_of(alloc: Global, text: &str) -> Result<Vec<u8>, Stop>
     ensures ok { IfOk result (λ frame. IsFrame text.now × (frame.items ≡ frame_in text.now)) }
     ensures err { IfErr result (λ stop. IfFault stop (λ fault. (fault ≡ faults.Value) × (¬ IsFrame text.now))) }

@@ -41,7 +41,7 @@ const TICK_KINDS: [(&str, TickKind); 7] = [
     ("deliver", TickKind::Deliver),
 ];
 
-/// Returns the kind of ticks with this name.
+/// Returns the kind of ticks with this name; `None` if there is no such kind.
 #[tactic(auto, unfolding(crate::specs::TickWords::tick_kind_named))]
 fn tick_kind_of(word: &str) -> Option<TickKind>
     ensures { result ≡ words.tick_kind_named word.now }
@@ -56,7 +56,7 @@ fn is_named(host: &HostPlan, name: &str) -> bool
     host.name.as_str() == name
 }
 
-/// Returns the number of the host with this name.
+/// Returns the number of the first host with this name; `None` if there is no such host.
 pub(crate) fn host_named(hosts: &[HostPlan], name: &str) -> Option<usize>
     ensures place { result ≡ place_of name.now (hosts_of hosts.now) }
     ensures there { IfSome result (λ host. host < length hosts.now) }
@@ -64,7 +64,7 @@ pub(crate) fn host_named(hosts: &[HostPlan], name: &str) -> Option<usize>
     hosts.iter().position(|host| is_named(host, name))
 }
 
-/// Returns whether a word spells a tick, at a host of any name.
+/// Returns whether a word spells a tick: `go`, or a kind, a colon and any name.
 pub(crate) fn is_tick(word: &str) -> bool
     ensures { result ≡ words.is_tick word.now }
 {
@@ -77,7 +77,7 @@ pub(crate) fn is_tick(word: &str) -> bool
     }
 }
 
-/// Returns the tick that a word spells, if its kind and its host are known.
+/// Returns the tick that a word spells, if the word is `go`, or its kind and its host are known.
 pub(crate) fn tick_of(hosts: &[HostPlan], word: &str) -> Option<Tick>
     ensures { result ≡ words.tick_named (hosts_of hosts.now) word.now }
 {

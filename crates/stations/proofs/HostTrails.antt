@@ -16,7 +16,7 @@ use Rattle.stations.specs.Stations.{StationState, each_after, station_after, sta
 use Rattle.stations.specs.Stations.{world_of}
 use Rattle.stations.specs.AtomicRuns.{IsTick, LeadsTo, events_at}
 
--- There is a host with this number, on this wire.
+-- There is a host with this number, and it is on this wire.
 record Stands (ss : List StationState) (host wire : ℕ) : Type 0 where
   station : StationState
   is : slice_get ss host ≡ Some station

@@ -57,7 +57,7 @@ module _ (log : ℕ) (before : List LogEntry) (ends : List End) (reader second :
   counted : (k : ℕ) (entries : List LogEntry) → length (frames_of_others k entries) ≡ length (filter (is_of_other k) entries)
   counted k entries = length-map (filter (is_of_other k) entries) (λ (entry : LogEntry). entry.1)
 
-  -- The frames that wait at an end are at most `end_frames`.
+  -- At most `end_frames` frames wait at an end.
   waits-at : (k : ℕ) → IsReader log ends k → length (filter (is_of_other k) (drop (end_at ends k).cursor before)) ≤ 64
   waits-at k is =
       let one = reads-at k is in

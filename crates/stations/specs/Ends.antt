@@ -19,7 +19,7 @@ EndHasRoomFor sender wire k end = k ≢ sender → end.wire ≡ wire → length 
 abbrev pub HaveRoom : List EndState → (sender wire : ℕ) → Type 0
 HaveRoom ends sender wire = (k : ℕ) (end : EndState) → slice_get ends k ≡ Some end → EndHasRoomFor sender wire k end
 
--- The k-th end after a sender put frames onto a wire. If this end is another end of the wire, the frames wait there, too.
+-- The k-th end after a sender put frames onto a wire. If this end is another end of the wire, the frames wait at this end, too.
 abbrev pub with_line : (sender wire : ℕ) → List (List ℕ) → (k : ℕ) → EndState → EndState
 with_line sender wire frames k end =
     if not (k == sender) && (end.wire == wire) then record end { line = end.line ++ frames } else end

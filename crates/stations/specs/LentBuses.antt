@@ -36,9 +36,10 @@ pub record CountsAccesses {O : Type 0} {g : OfObserver O} (a b : LentBus O g) (s
   -- The count grows by the number of accesses, up to the greatest count.
   pub count : min b.accesses most_accesses ≡ min (a.accesses + length past.accesses) most_accesses
 
--- What happened between two states of a lent bus. The atomic steps `steps` are exactly the accesses in `past`, each
--- after the ticks up to its Go. The observer was told the outcome of each tick in order, with the number of accesses
--- before the tick.
+-- What happened between two states of a lent bus: the atomic steps `steps`. `past` contains the events of the calling
+-- host in these steps. The steps are the accesses in `past`, each after the ticks up to the next Go, or after all ticks if
+-- no Go remains. The observer was told the outcome of each of these ticks in order, with the number of accesses before the
+-- tick.
 pub record HappenedLent {O : Type 0} {g : OfObserver O} (a b : LentBus O g) (past : Past) : Type 0 where
   pub lent : SameLent a b
   pub steps : List AtomicStep

@@ -1,4 +1,4 @@
--- What a put does to the ends that read a log (our choice).
+-- The ends that read a log: the log of a new end, and what a put does to a log and to the ends that read it (our choice).
 use Rattle.std.specs.Prelude.{◌≡◌, ◌≢◌, ◌≤◌, ◌<◌, ◌-◌, ◌+◌, ◌⊎◌, ◌↔◌, ◌++◌, ◌==◌, ◌&&◌, not, ℕ, Some, List}
 use Rattle.std.specs.Prelude.{[], ◌∷◌, drop, length, option_map, slice_get}
 use Rattle.std.specs.Prelude.{slice_index_or, if◌then◌else◌}
@@ -54,8 +54,8 @@ pub record IsLeastCursor (number log but limit : ℕ) (ends : List End) (cursor 
   pub least : (k : ℕ) → k < number → k ≢ but → (end_at ends k).log ≡ log → cursor ≤ (end_at ends k).cursor
   pub found : (cursor ≡ limit) ⊎ HasCursor log but cursor ends
 
--- The end after this number of entries were dropped from a log. If it reads this log, its cursor is reduced by this number, to at least
--- 0.
+-- The end after this number of entries were dropped from a log. If the end reads this log, its cursor is reduced by this number, to at
+-- least 0.
 abbrev pub moved_cursor : (log dropped : ℕ) → End → End
 moved_cursor log dropped end = if end.log == log then record end { cursor = end.cursor - dropped } else end
 

@@ -4,7 +4,7 @@ use Rattle.stations.specs.ToldTicks.{TickTold}
 use Rattle.stations.specs.declared.outcomes.Numbered.{Numbered}
 use Rattle.stations.specs.declared.outcomes.Outcomes.TheInside.{Inside}
 
--- The outcomes of a call, in order, and the number of further outcomes for which there is room.
+-- The collected outcomes, in order, and the number of further outcomes for which there is room.
 pub record OutcomeList : Type 0 where
   pub list : List Numbered
   pub room : ℕ

@@ -70,7 +70,8 @@ station_after event station = record station {
   backlog = backlog_after event station.backlog;
 }
 
--- The station after a sender put frames onto a wire. If the station's end is another end of this wire, the frames wait there, too.
+-- The station after a sender put frames onto a wire. If the station's end is another end of this wire, the frames wait at this end,
+-- too.
 abbrev pub with_frames : (sender wire : ℕ) → List (List ℕ) → (host : ℕ) → StationState → StationState
 with_frames sender wire frames host station =
     if not (host == sender) && (station.wire == wire) then record station { backlog = station.backlog ++ frames } else station

@@ -28,8 +28,8 @@ frames_of_others reader entries = map (λ (entry : LogEntry). entry.1) (filter (
 abbrev pub last_of_others : (reader count : ℕ) → List LogEntry → List (List ℕ)
 last_of_others reader count entries = drop (length (frames_of_others reader entries) - count) (frames_of_others reader entries)
 
--- A log without the entries before `first`, and without the entries of the host `reader` before `second`. Let `first` be the least cursor,
--- `reader` the host of the end with this cursor, and `second` the least cursor of the other ends. Then each end has read the removed
--- entries of other senders.
+-- A log without the entries before `first`, and without the entries of the host `reader` before `second`. If `first` is the least cursor,
+-- `reader` the host of the end with this cursor, and `second` the least cursor of the other ends, each end has read the removed entries of
+-- other senders.
 abbrev pub closed_up : (reader first second : ℕ) → List LogEntry → List LogEntry
 closed_up reader first second entries = filter (is_of_other reader) (take (second - first) (drop first entries)) ++ drop second entries

@@ -1,11 +1,11 @@
 //! The stations of a network: for each host an adapter, its memory and its end of a wire.
 //!
-//! Ticks are played on the stations. A tick is one step of one adapter, one delivery, or `Go`, after which the next
+//! Ticks are played on the stations. A tick is one step of one adapter, one delivery, or `Go`. After a `Go`, the next
 //! access of a call is made. A bus lends the stations to a call of one host.
 //!
 //! A wire never delivers by itself: a frame that a host puts onto a wire waits at each other end until a tick delivers
-//! it there. Before each access of a call, the ticks that the caller chose are played on all hosts, and an observer is
-//! told the outcome of each tick.
+//! it there. Before each access of a call, the ticks that the caller chose are played on all hosts. An observer is told
+//! the outcome of each tick, except a `Go` inside a call.
 #![tactic(auto)]
 
 mod accesses;

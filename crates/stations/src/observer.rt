@@ -8,8 +8,8 @@ ghost use Rattle.stations.specs.ToldTicks.{ComposesTold, TickTold, tick_told};
 use crate::tick::Tick;
 use adapter::Outcome;
 
-/// An observer is told the outcome of each tick, in order. An observer only borrows the frame of an outcome, so it
-/// must copy a frame that it needs later.
+/// An observer is told the outcome of each tick, in order, except a `Go` inside a call. The frame of an outcome is only
+/// borrowed, so an observer must copy a frame that it needs later.
 pub trait Observer {
     /// Between these two states of the observer, it was told exactly this list, in order.
     ghost heard: { Self → Self → List TickTold → Type 0 };

@@ -16,7 +16,7 @@ pub struct Numbered {
     pub outcome: Outcome<HeapFrame>,
 }
 
-/// An observer that collects the outcomes of a call's ticks, in order. Room for an outcome includes room for its frame.
+/// An observer that collects the outcomes of ticks, in order. Room for an outcome includes room for its frame.
 ///
 /// In contracts, the value is an `OutcomeList`: the list of these outcomes, and the number of further outcomes for
 /// which it has room.

@@ -9,6 +9,6 @@ use Rattle.text.specs.Words.{Text}
 abbrev pub entry_of : {T : Type 0} → Bor Text × T → Text × T
 entry_of entry = (entry.0.now, entry.1)
 
--- the value of a word in a table, if the word is in the table
+-- the value of the first entry with this word in a table, if there is one
 abbrev pub value_in : {T : Type 0} → List (Text × T) → Text → Option T
 value_in table word = lookup (bytes_eq word) table

@@ -41,5 +41,6 @@ place_of mark words = position_or_len (is_same mark) words
 abbrev pub words_before : (mark : Text) → List Text → List Text
 words_before mark words = take (place_of mark words) words
 
+-- the words after the first word that is `mark`, or no word if no word is
 abbrev pub words_after : (mark : Text) → List Text → List Text
 words_after mark words = drop (place_of mark words + 1) words

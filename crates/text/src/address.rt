@@ -12,6 +12,7 @@ const ADDRESS_TEXT_LENGTH: usize = 17;
 
 const HEXADECIMAL: u32 = 16;
 
+/// Returns the value of a hexadecimal digit in either case; `None` for any other character.
 #[tactic(auto, unfolding(crate::specs::Addresses::hexadecimal_value))]
 fn hexadecimal_digit(digit: u8) -> Option<u8>
     ensures { SomeIff result (IsHexadecimalDigit digit) (hexadecimal_value digit) }
@@ -20,6 +21,7 @@ fn hexadecimal_digit(digit: u8) -> Option<u8>
     Some(value as u8)
 }
 
+/// Returns the byte that two hexadecimal digits spell, the upper half first; `None` for other characters.
 fn byte_of(high: u8, low: u8) -> Option<u8>
     ensures spelled { IfSome result (SpellsByte high low) }
     ensures refused { IfNone result ((byte : ℕ) → ¬ SpellsByte high low byte) }

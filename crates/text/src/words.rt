@@ -15,7 +15,7 @@ pub fn words_in<'a>(alloc: Global, line: &'a str) -> Result<Vec<&'a str>, AllocE
         .collect(alloc)
 }
 
-/// Returns the word at this index, from 0.
+/// Returns the word at this index, from 0. The index must be below the number of words.
 #[tactic(auto, using(crate::proofs::Slices::at_texts))]
 pub fn word_at<'a>(words: &[&'a str], place: usize) -> &'a str
     requires { place < length words.now }
@@ -33,7 +33,7 @@ fn place_of(words: &[&str], mark: &str) -> Option<usize>
 }
 
 /// Returns the words before the first word that is `mark`, and the words after it. If no word is `mark`, the first
-/// slice has all words.
+/// slice has all words, and the second is empty.
 pub fn split_at_word<'a, 'b>(words: &'b [&'a str], mark: &str) -> (&'b [&'a str], &'b [&'a str])
     ensures before { texts result.0.now ≡ words_before mark.now (texts words.entry.now) }
     ensures after { texts result.1.now ≡ words_after mark.now (texts words.entry.now) }

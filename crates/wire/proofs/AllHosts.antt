@@ -26,7 +26,7 @@ number-same (plan ∷ later) a b same =
     ap (λ (is : Bool). cond (not is) (1 + wire_number later a) 0) (same-name a b plan.wire same)
     ∙ ap (λ (n : ℕ). cond (not (string_eq plan.wire b)) (1 + n) 0) (number-same later a b same)
 
--- two wires with the same number have the same name
+-- two wire names with the same number are equal
 first-tells : (here there : Bool) (n m : ℕ) → here ≡ true → cond (not here) (1 + n) 0 ≡ cond (not there) (1 + m) 0 → there ≡ true
 first-tells here true n m is same = refl
 first-tells true false n m is same = absurd (omega (arith, same))

@@ -53,7 +53,7 @@ answer-some (Interrupted result) = λ none. absurd (cc)
 answer-some (Joined result) = λ none. absurd (cc)
 answer-some (Left result) = λ none. absurd (cc)
 
--- An answer of another kind has no effect.
+-- The happenings of a call, by its answer. An answer of another kind of call has no effect, so this case is impossible.
 tells-request : (k host : ℕ) (request : Request) (result : HostAnswer (List ℕ)) (ticks : List Tick) (outcomes : List Numbered)
     (steps : List AtomicStep) (wires : ℕ → Option ℕ) (h h' : HostState) (Runs : HostAct → Type 0) (world : World)
     → EffectOf request result h h' Runs world → tick_happenings ticks outcomes ≡ happened_in steps
@@ -137,7 +137,7 @@ pub others-said : (k : ℕ) (call : EventCall) (result : HostAnswer (List ℕ)) 
 others-said k call result steps h h' Runs world does said other =
     others-request k call.host call.request result call.ticks (noted_of 0 steps) steps h h' Runs world does said other
 
--- The fates at its own host are right by the groups in force
+-- The fates at the calling host are right by the groups in force
 
 refused-right : (caller : ℕ) (ticks : List Tick) (steps : List AtomicStep) (a b : List StationState) (h h' : HostState)
     (given : List Given) → HostStands h (world_at a caller) → LeadsTo caller steps a b

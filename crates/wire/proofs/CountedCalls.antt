@@ -1,4 +1,4 @@
--- The outcomes of a call's ticks follow from counts, and both sides of its host's adapter are enabled after it.
+-- The outcomes of a call's ticks follow from counts, and both sides of the host's adapter are enabled after the call.
 use Rattle.std.proofs.Common.{◌≡◌, ◌<◌, ℕ, true, List, Option, Some, length, sym, ap, subst, ◌∙◌, arith, refl, ⊎_elim}
 use Rattle.std.specs.List.{All}
 use Rattle.std.specs.Prelude.{IfSome}
@@ -92,7 +92,7 @@ transmit-valid h world ready =
     let tail = place-below d.layout.tx d.oldest_transmit d.sending up.oldest_slot in
     record { head = omega (arith, up.knows.head_slot, up.knows.slots); tail = omega (arith, tail, up.knows.last, up.knows.slots) }
 
--- Both sides are enabled after a call if they were before.
+-- If both sides are enabled before a call, they are enabled after the call.
 
 bit-set : (value place : ℕ) → HasBit value place → is_set value place ≡ true
 bit-set value place = eq-eqb _ _

@@ -81,7 +81,7 @@ frames-append : (kinds : List SocketKind) (socket : ℕ) (xs ys : List (List ℕ
     → socket_frames kinds socket (xs ++ ys) ≡ socket_frames kinds socket xs ++ socket_frames kinds socket ys
 frames-append kinds socket xs ys = filter-append (λ (frame : List ℕ). goes_to kinds socket (ether_type frame)) xs ys
 
--- p ++ m = o ++ g and q ++ n = m ++ h give (p ++ q) ++ n = o ++ (g ++ h).
+-- If p ++ m = o ++ g, and q ++ n = m ++ h, then (p ++ q) ++ n = o ++ (g ++ h).
 pub in-turn : (p q m n o g h : List (List ℕ)) → p ++ m ≡ o ++ g → q ++ n ≡ m ++ h → (p ++ q) ++ n ≡ o ++ (g ++ h)
 in-turn p q m n o g h one two =
     append_assoc p q n

@@ -54,7 +54,7 @@ pub record Right (k : ℕ) (happened : List Happening) (a b : List StationState)
   pub set_up : HasSetup h'.driver.setup (world_at b k).adapter
   pub table : HasTable h'.driver.groups (world_at b k)
 
--- Adapters whose filters are the same except MTA have the same setup.
+-- Adapters whose filters are the same except MTA, and whose PBA.RXA is the same, have the same setup.
 pub same-setup : (setup other : DriverSetup) (a b : AdapterState) → SameButGroups a.filter b.filter
     → b.receive_kilobytes ≡ a.receive_kilobytes → other ≡ setup → HasSetup setup a → HasSetup other b
 same-setup setup other a b filter kilobytes same has =

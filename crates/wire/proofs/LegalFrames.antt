@@ -449,7 +449,7 @@ pub runs-legal : (old new : NetworkState) (events : List Event) (before behind :
     → HasLegalFrames old → StaysLegal old new (happenings events runs.replies)
 runs-legal old new events before behind runs legal = states-legal old events runs.replies new runs.states legal
 
--- A network that a plan made has no frames.
+-- A network that was made by a plan has no frames.
 pub made-legal : (plans : List HostPlan) (network : NetworkState) → IsMadeByPlan plans network → HasLegalFrames network
 made-legal plans network made = record {
   to_send = λ k below. subst (All IsLegal) (sym (up k below).0) (all-none IsLegal);

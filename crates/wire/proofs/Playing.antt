@@ -124,7 +124,7 @@ hosts-as Holds n hosts is holds =
     subst (λ (list : List HostState). let network : NetworkState = record { hosts = list; stations = n.stations } in Holds network)
     (sym is) holds
 
--- The call's answer and its numbered outcomes, if its host was replaced.
+-- A call that was played, with its answer and its outcomes, if the list of hosts has the calling host's new state.
 set-played : (call : EventCall) (old : NetworkState) (stations : List StationState) (heard : List TickTold → Type 0)
     (accesses : ℕ) (result : HostAnswer (List ℕ)) (h h' : HostState) (reply : Reply)
     → NetworkStands old → IsHost old call.host h → call.host < length old.hosts
@@ -175,7 +175,7 @@ set-played call old stations heard accesses result h h' reply stands there below
           }));
     }
 
--- The same, for networks.
+-- A call that was played, for the state of a network.
 pub call-played : (call : EventCall) (old new : NetworkState) (heard : List TickTold → Type 0) (accesses : ℕ)
     (result : HostAnswer (List ℕ)) (reply : Reply)
     → NetworkStands old → call.host < length old.hosts → OnlyHostChanges call.host old new

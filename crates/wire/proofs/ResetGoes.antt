@@ -37,7 +37,7 @@ use Rattle.wire.proofs.ResetTicks.{reset-can, reset-counts, reset-ticks}
 use Rattle.wire.proofs.ResetTold.{reset_said}
 use Rattle.wire.proofs.Standing.{caller-behind, other-behind, stands-behind, stands-with}
 
--- The reset, and what is known of it.
+-- What is known of a reset of host k.
 pub record ResetKnown (k : ℕ) (answer : ResetAnswer) (steps : List AtomicStep) (h h' : HostState) (a b : List StationState) : Type 0 where
   pub leads : LeadsTo k steps a b
   pub resets : ResetsInSteps k steps (connected h a) (connected h' b)
@@ -83,7 +83,7 @@ reset-stands k answer steps h h' a b known stands =
     (subst (λ (list : List (List ℕ)). HasTable list (world_at b k)) (sym groups) resets.keeps.groups)
     (reset-can k steps (connected h a) (connected h' b) resets) (resets.keeps.sums.small stands.exact.reads)
 
--- All hosts.
+-- What a reset of host k does to each host.
 pub reset-goes : (k : ℕ) (answer : ResetAnswer) (steps : List AtomicStep) (h h' : HostState) (old : NetworkState)
     (stations : List StationState) → NetworkStands old → IsHost old k h
     → (known : ResetKnown k answer steps h h' old.stations stations)

@@ -46,9 +46,9 @@ use Rattle.wire.specs.Runs.{ResetAnswer}
 use Rattle.wire.proofs.Delivering.{Tells, misses-of}
 use Rattle.wire.proofs.ResetTold.{reset_said}
 
--- What each list of frames gets.
+-- What a reset adds to each list of frames
 
--- The parts, put together.
+-- The happenings of all steps are those of the parts, in order.
 pub parts-happened : (k : ℕ) (setup : DriverSetup) (parts : ResetParts) → happened_in (whole_reset k setup parts)
     ≡ happened_in parts.early ++ (happened_in parts.stopping ++ (happened_in parts.resting ++ happened_in parts.later))
 parts-happened k setup parts =
@@ -114,7 +114,7 @@ reset-missed n k answer setup parts =
 itself : {T : Type 0} (k : ℕ) (list : List T) → of_host k k list ≡ list
 itself k list = ap (λ (here : Bool). if here then list else []) (eq-eqb k k refl)
 
--- Another host finds its ticks alone.
+-- At another host, the happenings of a reset are those of its steps.
 pub reset-tells : (n k : ℕ) (answer : ResetAnswer) (setup : DriverSetup) (parts : ResetParts) (wires : ℕ → Option ℕ)
     → of_host n k answer.sending ≡ [] → of_host n k answer.holding ≡ []
     → Tells n (reset_said k answer parts) (whole_reset k setup parts) wires [] []
@@ -132,7 +132,7 @@ reset-tells n k answer setup parts wires sending holding =
       given = λ socket. reset-list (given_in_one n socket) k answer setup parts refl refl refl ∙ given-none n socket steps;
     }
 
--- Its own lists lose their end.
+-- The lists of the host that is reset lose their end
 
 pub leads-split : (caller : ℕ) (first later : List AtomicStep) (a b : List StationState) → LeadsTo caller (first ++ later) a b
     → (m : List StationState) × LeadsTo caller first a m × LeadsTo caller later m b
@@ -156,7 +156,7 @@ come-grows k list more steps is =
     (goes-without_drops (stored_by k) (holding_in_one k) list (list ++ more) (happened_in steps) (holding-none k steps)).1
     (ap (λ (frames : List (List ℕ)). list ++ frames) (sym is))
 
--- the reset takes off the end what it gives up
+-- the reset removes the frames that it gives up from the end of a list
 reset-goes_down : (adds drops : Happening → List (List ℕ)) (k : ℕ) (answer : ResetAnswer) (parts : ResetParts)
     (begin first before left middle end gone : List (List ℕ))
     → ListGoes adds drops begin (happened_in parts.early) first → adds (Disabled k) ≡ [] → drops (Disabled k) ≡ []
@@ -261,7 +261,7 @@ reset-keeps k answer steps h h' a b resets gives =
       };
     }
 
--- Its misses are counted.
+-- The missed frames of the host that is reset are counted.
 reset-misses : (k : ℕ) (answer : ResetAnswer) (steps : List AtomicStep) (h h' : HostState) (a b : List StationState)
     (resets : ResetsInSteps k steps (connected h a) (connected h' b)) → LeadsTo k steps a b
     → CountsMisses h (world_at a k) (missed k (reset_said k answer resets.parts)) h' (world_at b k)
@@ -284,7 +284,7 @@ reset-misses k answer steps h h' a b resets leads =
     let sum = sums.counted (omega (arith, small, missed_are)) (omega (arith, fits, missed_are)) in
     (stays, omega (arith, sum, missed_are)))
 
--- All of it.
+-- All equations of the host that is reset.
 pub reset-delivers : (k : ℕ) (answer : ResetAnswer) (steps : List AtomicStep) (h h' : HostState) (a b : List StationState)
     (resets : ResetsInSteps k steps (connected h a) (connected h' b)) → LeadsTo k steps a b
     → GivesUp answer.sending answer.holding k h.driver.oldest_receive resets.parts (world_at a k) (world_at resets.last k)

@@ -74,11 +74,11 @@ parts-counted k steps h h' a b on_after resets is within =
     ∙ counted_join 3 parts.resting (enable ∷ []) in
     record { early = none; stopping = two; resting = omega (arith, all, within); within = omega (arith, within) }
 
--- RCTL is written long before the count saturates.
+-- The number of the second write of RCTL is below the count at which accesses saturate.
 pub few-slots : (counts : Counts) → size_of counts < 2 ^ 64 → 302 + counts.rx < most_accesses
 few-slots counts size = let rings = (begins counts).behind_rings in omega (arith, size, rings)
 
--- What it answers, by the numbers of the outcomes.
+-- The answer of a reset, by the numbers of accesses before its outcomes
 
 below-three : (number : ℕ) → number < 3 → nat_lt number 3 ≡ true
 below-three number below = lt-ltb number 3 below
@@ -86,7 +86,7 @@ below-three number below = lt-ltb number 3 below
 not-below_three : (number : ℕ) → 3 ≤ number → nat_lt number 3 ≡ false
 not-below_three number above = lt-leb (suc number) 3 (omega (arith, above))
 
--- The outcomes with numbers 0 to 2 tell what happened before the reset.
+-- The outcomes with at most 2 accesses before them determine what happened before the write of CTRL.RST.
 told-before : (k : ℕ) (ticks : List Tick) (setup : DriverSetup) (parts : ResetParts) (a b : List StationState) (on_after : ℕ)
     → PartsCounted parts on_after → LeadsTo k (whole_reset k setup parts) a b
     → without_go is_go (map tick_of (whole_reset k setup parts)) ≡ without_go is_go ticks
@@ -138,7 +138,7 @@ reset-answers k ticks full answer steps h h' a b known is counted played on_afte
       holding_then = known.gives.holding_then;
     }
 
--- It answers, and its outcomes are numbered. Its host was set.
+-- A reset that was played, with its answer and its outcomes, if the list of hosts has the host's new state.
 set-reset : (host : ℕ) (ticks : List Tick) (old : NetworkState) (stations : List StationState) (heard : List TickTold → Type 0)
     (accesses : ℕ) (full : FrameAnswer) (answer : ResetAnswer) (h h' : HostState) (reply : Reply)
     → NetworkStands old → IsHost old host h → host < length old.hosts → reset_answer full ≡ Some answer → full ≢ NoHost
@@ -197,7 +197,7 @@ set-reset host ticks old stations heard accesses full answer h h' reply stands t
           (reset-answers host ticks reply.answer answer steps h h' a stations known answered counted runs.of_call.played on_after));
     }
 
--- The same, of networks; and the observer is told.
+-- A reset that was played, for the state of a network, and what the observer was told.
 pub reset-told : {O : Type 0} {ran : O → O → List Event → List Reply → Type 0} (heard : List TickTold → Type 0) (event : Event)
     (host : ℕ) (ticks : List Tick) (old new : NetworkState) (accesses : ℕ) (full : FrameAnswer) (answer : ResetAnswer) (from to : O)
     → NetworkStands old → host < length old.hosts → OnlyHostChanges host old new → reset_answer full ≡ Some answer → full ≢ NoHost
@@ -214,7 +214,7 @@ reset-told heard event host ticks old new accesses full answer from to stands be
       (host-there old host below) below is some makes on_after tells.replies);
 }
 
--- A reset of a host that isn't there plays ticks.
+-- A reset of a host that doesn't exist only plays its ticks.
 pub absent-reset : {O : Type 0} {g : OfObserver O} {ran : O → O → List Event → List Reply → Type 0} (host : ℕ) (ticks : List Tick)
     (event : Event) (old new : NetworkState) (from to : O)
     → NetworkStands old → length old.hosts ≤ host → new.hosts ≡ old.hosts

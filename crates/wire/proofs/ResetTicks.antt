@@ -1,4 +1,4 @@
--- The outcomes of a reset's ticks follow from counts, and both sides of the adapter are enabled after it.
+-- The outcomes of a reset's ticks follow from counts, and both sides of the adapter are enabled after the reset.
 use Rattle.std.proofs.Common.{◌≡◌, ◌<◌, ◌+◌, ◌*◌, ◌++◌, ◌∷◌, [], ℕ, Bool, List, None, Option, Some}
 use Rattle.std.proofs.Common.{append_assoc, arith, false, suc, true, zero, if◌then◌else◌, inl, inr, refl, sym, ap, subst, ◌∙◌}
 use Rattle.std.specs.List.{All}
@@ -225,7 +225,7 @@ reset-ticks k steps old new leads resets =
     ticks-answered k k steps old.stations new.stations leads (accesses-counted k steps old new resets)
     (subst (λ (list : List AtomicStep). MeetsNoFault k list old.stations) (sym resets.split) faultless)
 
--- The counts of the host at the end follow from counts.
+-- The counts of the host at the end follow from the counts at the start.
 pub reset-counts : (k : ℕ) (steps : List AtomicStep) (old new : ConnectedHost) → LeadsTo k steps old.stations new.stations
     → ResetsInSteps k steps old new → counts_of (world_at new.stations k).adapter ≡ counts_at old.stations steps k
 reset-counts k steps old new leads resets =

@@ -35,7 +35,7 @@ pub tick-stands : (old new : NetworkState) (tick : Tick) (reply : Reply) → new
 tick-stands old new tick reply hosts stands played =
     hosts-as NetworkStands new old.hosts hosts (tick-event old new.stations (OfTick tick) tick reply refl stands played).go.stands
 
--- What holds of a result that is Ok.
+-- A weaker statement holds if the result is Ok.
 pub on-ok : {T E : Type 0} (result : Result T E) (P Q : Type 0) → (P → Q) → OnOk result P → OnOk result Q
 on-ok (Ok value) P Q then_holds holds = then_holds holds
 on-ok (Err error) P Q then_holds holds = holds

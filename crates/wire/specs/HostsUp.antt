@@ -1,4 +1,4 @@
--- A host after its initialization by `Lan::new` (our choice).
+-- Hosts after their initialization by `Lan::new`, and why a host can't be initialized (our choice).
 use Rattle.std.specs.Prelude.{⊤, ◌≡◌, ◌≢◌, ◌<◌, ◌*◌, ◌↔◌, ℕ, false, true, IsTrue, List, [], Some, String, length, replicate, slice_get}
 use Rattle.std.specs.Prelude.{string_eq}
 use Rattle.std.specs.List.{position_or_len}
@@ -146,6 +146,7 @@ IsDevices plan Checksum = ¬ (HasRightSum plan.image)
 IsDevices plan NoLink = HasRightSum plan.image × NeedsMoreThan most_link_ticks plan.link
 IsDevices plan error = ⊥
 
+-- The error is Memory, or is right for this plan (`IsDevices`).
 abbrev pub IsReason : HostPlan → InitError → Type 0
 IsReason plan Memory = ⊤
 IsReason plan error = IsDevices plan error

@@ -129,10 +129,10 @@ happenings (event ∷ events) (reply ∷ replies) = said event reply ++ happenin
 -- The outcome of each tick follows from counts. The counts contain the number of frames in the transmit packet buffer. For each frame in
 -- the receive packet buffer, they contain the number of bytes still to be moved. They contain the size of a receive buffer, and each
 -- ring's number of slots, head and tail. They also contain whether a piece is in progress, whether each side is enabled, and what is
--- pending at the EEPROM and the PHY. Outcomes also follow from the frames that wait at the ends of the wires. The frame of Put or
--- Delivered is the oldest frame there (`sent_is_accepted` and `reached_is_put` of specs/Equations), and its fate is right
--- (`fates_are_right`). `counts_of` are the counts of an adapter. `counts_at start steps k` are those of the k-th host after the steps,
--- computed from the counts at the start, each outcome and each register write.
+-- pending at the EEPROM and the PHY. Outcomes also follow from the frames that wait at the ends of the wires. The frame of Put is the
+-- oldest in the transmit packet buffer (`sent_is_accepted` of specs/Equations). The frame of Delivered is the oldest that waits
+-- (`reached_is_put`), and its fate is right (`fates_are_right`). `counts_of` are the counts of an adapter. `counts_at start steps k` are
+-- those of the k-th host after the steps, computed from the counts at the start, each outcome and each register write.
 pub record TicksAnswered (steps : List AtomicStep) (old new : NetworkState) : Type 0 where
   -- The outcome of each tick of a host follows from the counts at the start, changed by the outcomes and register
   -- writes before the tick (`AreAnswered`). The table of `AreAnswered` is in docs/DELIVERY, "Answers".
@@ -148,7 +148,8 @@ pub record TicksAnswered (steps : List AtomicStep) (old new : NetworkState) : Ty
 -- equations of delivery, and `HostStands` at the end.
 pub record HostsGo (caller : ℕ) (happened : List Happening) (steps : List AtomicStep) (old new : NetworkState) : Type 0 where
   -- Each atomic step can happen in the state before it, and changes the stations exactly as its access, adapter step
-  -- or delivery does (`LeadsTo`). Each access is made by host `caller`. No step is Go.
+  -- or delivery does (`LeadsTo`). Each access is made by host `caller`. No idle tick among
+  -- the steps is Go.
   pub leads : LeadsTo caller steps old.stations new.stations
   -- the number of hosts is the same
   pub hosts : length new.hosts ≡ length old.hosts

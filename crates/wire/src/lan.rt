@@ -68,8 +68,8 @@ impl Lan {
     }
 
     /// Runs events in order. Before each event, the observer is asked to make room for it. During the event, the
-    /// observer is told the outcome of each tick except each `Go` inside a call or a reset. At the event's end, it is
-    /// told the answer.
+    /// observer is told the outcome of each tick except each `Go` inside a call or a reset. At the event's end, the
+    /// observer is told the answer.
     ///
     /// # Errors
     ///

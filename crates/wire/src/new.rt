@@ -1,4 +1,4 @@
-// How a plan makes a network.
+// Networks that are made by a plan.
 
 ghost use Rattle.wire.specs.NewNetworks.{IsLanAnswer};
 

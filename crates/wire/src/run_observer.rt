@@ -38,8 +38,9 @@ pub trait RunObserver: Observer {
         ensures room { OnTrue result (HasRoomForEvent ready Self.room_left event.now self.new) }
         ensures refused { OnFalse result (refuses self.old event.now) };
 
-    /// Reports to the observer the answer of an event, and the number of accesses of its call. `frame` is the frame
-    /// that a socket returned, of at most 1,518 bytes. For other answers, `frame` has no meaning.
+    /// Reports to the observer the answer of an event, and the number of accesses of the event's call or reset (0 for a
+    /// tick outside a call). `frame` is the frame that a socket returned, of at most 1,518 bytes. For other answers,
+    /// `frame` has no meaning.
     fn answer(&mut self, event: &Event, accesses: u64, answer: Answer<()>, frame: &[u8])
         requires room { ready self.old event.now }
         requires fits { length frame.now ≤ longest_frame }

@@ -1,9 +1,11 @@
-use Rattle.std.proofs.Common.{◌≡◌, ℕ, List, eqb, ◌+◌, ◌-◌, ◌≤◌, length, take, drop, sym, ap, ◌∙◌, arith}
+use Rattle.std.proofs.Common.{◌≡◌, ℕ, List, eqb, ◌+◌, ◌-◌, ◌≤◌, length, take, drop, refl, sym, ap, inl, inr, ◌∙◌, arith}
 use Rattle.std.proofs.lemmas.List.{length-drop, length-append}
+use Rattle.std.proofs.lemmas.Result.{err_from_is_err_and}
 use Rattle.std.specs.Io.KnownBytes.{prepend_known}
 use Rattle.pcap_trace.specs.Format.{captured_length, original_length}
 use Rattle.pcap_trace.proofs.Going.{GoesOnKnown-read, GoesOnKnown-kept, GoesOnKnown-skipped, word-read, ends_short, ends_cut}
 use Rattle.pcap_trace.proofs.Going.{ends_oversized}
+use Rattle.pcap_trace.proofs.Answering.{silent_body}
 use Rattle.pcap_trace.proofs.Uses.{uses_joined}
 use Rattle.pcap_trace.proofs.reading.read_body.Goals as goal
 use Rattle.pcap_trace.proofs.reading.read_body.Goals.{then-lengths, else-lengths+in_ok-push, in_default}
@@ -48,7 +50,7 @@ packets-preserved g c =
         countable = c.in_ok-fill-2.ensures.failures ∙ c.in_ok-fill.ensures.failures ∙ c.packets.invariant.countable;
         room = omega (
           arith,
-          ap length c.skip.ensures,
+          ap length c.skip.ensures.rest,
           length-drop
               (16 + n) all,
           w.skipped-is,
@@ -58,7 +60,7 @@ packets-preserved g c =
           c.packets.invariant.room,
         );
         used = used;
-        so_far = rw (c.skip.ensures, w.frames-is, w.skipped-is)
+        so_far = rw (c.skip.ensures.rest, w.frames-is, w.skipped-is)
             (GoesOnKnown-skipped number first a next all c.packets.frames c.packets.skipped n told (omega arith)
             (omega (arith, ap length c.held-in-packets.ensures)) (omega (arith, w.if-lengths.true, origin)) so_far);
       }
@@ -66,7 +68,7 @@ packets-preserved g c =
         countable = c.in_ok-fill-2.ensures.failures ∙ c.in_ok-fill.ensures.failures ∙ c.packets.invariant.countable;
         room = omega (
           arith,
-          ap length c.skip.ensures,
+          ap length c.skip.ensures.rest,
           length-drop
               (16 + n) all,
           w.skipped-is,
@@ -77,7 +79,7 @@ packets-preserved g c =
         );
         used = used;
         so_far = rw (
-          c.skip.ensures,
+          c.skip.ensures.rest,
           w.frames-is,
           w.in_ok-push.ensures.ok,
           ap
@@ -145,3 +147,113 @@ returns-clause-used g c =
       | in-Some+else-lengths-gt-MOST_CAPTURED+in_ok-fill-2+then-held-whole w ↦
           rw w.source-is (uses_joined first w.in_ok-fill-2.ensures.used)
     ]
+
+-- errors, which depend on no byte
+
+pub returns-in_err-fill-clause-ok : goal.returns-in_err-fill-clause-ok
+returns-in_err-fill-clause-ok g c =
+    let p = err_from_is_err_and c.from_residual.result c.from_residual.ensures.1 in
+    rw p.1 tt
+
+pub returns-in_err-fill-clause-fault : goal.returns-in_err-fill-clause-fault
+returns-in_err-fill-clause-fault g c =
+    let p = err_from_is_err_and c.from_residual.result c.from_residual.ensures.1 in
+    rw p.1 (silent_body g.T.ByteOrder.number_of (prepend_known c.args.block.now (g.S.Source.left c.args.source.now)) p.0 (rw p.2 refl))
+
+pub returns-in_err-fill-clause-failure : goal.returns-in_err-fill-clause-failure
+returns-in_err-fill-clause-failure g c =
+    let p = err_from_is_err_and c.from_residual.result c.from_residual.ensures.1 in
+    rw (p.1, p.2) (rw c.packets.invariant.countable at c.in_err-fill.ensures.failures)
+
+pub returns-in_err-fill-clause-end : goal.returns-in_err-fill-clause-end
+returns-in_err-fill-clause-end g c =
+    let p = err_from_is_err_and c.from_residual.result c.from_residual.ensures.1 in
+    rw p.1 tt
+
+pub returns-in_err-fill-2-clause-ok : goal.returns-in_err-fill-2-clause-ok
+returns-in_err-fill-2-clause-ok g c =
+    let p = err_from_is_err_and c.from_residual-in_err-fill-2.result c.from_residual-in_err-fill-2.ensures.1 in
+    rw p.1 tt
+
+pub returns-in_err-fill-2-clause-fault : goal.returns-in_err-fill-2-clause-fault
+returns-in_err-fill-2-clause-fault g c =
+    let p = err_from_is_err_and c.from_residual-in_err-fill-2.result c.from_residual-in_err-fill-2.ensures.1 in
+    rw p.1 (silent_body g.T.ByteOrder.number_of (prepend_known c.args.block.now (g.S.Source.left c.args.source.now)) p.0 (rw p.2 refl))
+
+pub returns-in_err-fill-2-clause-failure : goal.returns-in_err-fill-2-clause-failure
+returns-in_err-fill-2-clause-failure g c =
+    let p = err_from_is_err_and c.from_residual-in_err-fill-2.result c.from_residual-in_err-fill-2.ensures.1 in
+    rw (p.1, p.2) (rw (c.in_ok-fill.ensures.failures, c.packets.invariant.countable) at c.in_err-fill-2.ensures.failures)
+
+pub returns-in_err-fill-2-clause-end : goal.returns-in_err-fill-2-clause-end
+returns-in_err-fill-2-clause-end g c =
+    let p = err_from_is_err_and c.from_residual-in_err-fill-2.result c.from_residual-in_err-fill-2.ensures.1 in
+    rw p.1 tt
+
+pub returns-in_err-push-clause-ok : goal.returns-in_err-push-clause-ok
+returns-in_err-push-clause-ok g c =
+    let p = err_from_is_err_and c.from_residual-in_err-push.result c.from_residual-in_err-push.ensures.1 in
+    rw p.1 tt
+
+pub returns-in_err-push-clause-fault : goal.returns-in_err-push-clause-fault
+returns-in_err-push-clause-fault g c =
+    let p = err_from_is_err_and c.from_residual-in_err-push.result c.from_residual-in_err-push.ensures.1 in
+    rw p.1 (silent_body g.T.ByteOrder.number_of (prepend_known c.args.block.now (g.S.Source.left c.args.source.now)) p.0 (rw p.2 refl))
+
+pub returns-in_err-push-clause-failure : goal.returns-in_err-push-clause-failure
+returns-in_err-push-clause-failure g c =
+    let p = err_from_is_err_and c.from_residual-in_err-push.result c.from_residual-in_err-push.ensures.1 in
+    rw (p.1, p.2) (c.in_ok-fill-2.ensures.failures ∙ c.in_ok-fill.ensures.failures ∙ c.packets.invariant.countable)
+
+pub returns-in_err-push-clause-end : goal.returns-in_err-push-clause-end
+returns-in_err-push-clause-end g c =
+    let p = err_from_is_err_and c.from_residual-in_err-push.result c.from_residual-in_err-push.ensures.1 in
+    rw p.1 tt
+
+-- the other results
+
+pub returns-then-lengths-gt-MOST_CAPTURED-clause-failure : goal.returns-then-lengths-gt-MOST_CAPTURED-clause-failure
+returns-then-lengths-gt-MOST_CAPTURED-clause-failure g c = c.in_ok-fill.ensures.failures ∙ c.packets.invariant.countable
+
+pub returns-clause-failure : goal.returns-clause-failure
+returns-clause-failure g c =
+    elim c.match-packet_lengths.branch [
+      | in_default w ↦ rw w.source-is (c.in_ok-fill.ensures.failures ∙ c.packets.invariant.countable)
+      | in-Some+else-lengths-gt-MOST_CAPTURED+in_ok-fill-2+then-held-whole w ↦
+          rw w.source-is (w.in_ok-fill-2.ensures.failures ∙ c.in_ok-fill.ensures.failures ∙ c.packets.invariant.countable)
+    ]
+
+pub returns-clause-end : goal.returns-clause-end
+returns-clause-end g c =
+    elim c.match-packet_lengths.branch [
+      | in_default w ↦ rw w.source-is (elim c.in_ok-fill.ensures.filled [
+        | inl long ↦ absurd (omega (arith, long, w.in_default.ensures.short, ap length c.held.ensures))
+        | inr ends ↦ ends
+      ])
+      | in-Some+else-lengths-gt-MOST_CAPTURED+in_ok-fill-2+then-held-whole w ↦ rw w.source-is (elim w.in_ok-fill-2.ensures.filled [
+        | inl long ↦ absurd (omega (arith, long, w.if-held-whole.true, ap length w.held-in-packets.ensures))
+        | inr ends ↦ ends
+      ])
+    ]
+
+pub packets-smaller : goal.packets-smaller
+packets-smaller g c = omega (
+  arith,
+  ap length c.skip.ensures.rest,
+  length-drop
+      (16 + c.in-Some.lengths.captured) c.fill-in-packets.new.self,
+  ap length c.held-in-packets.ensures,
+  c.in_ok-fill.ensures.limit,
+  c.in_ok-fill-2.ensures.limit,
+)
+
+pub overflow_add-skipped : goal.overflow_add-skipped
+overflow_add-skipped g c = omega (
+  arith,
+  ap length c.held-in-packets.ensures,
+  c.in_ok-fill.ensures.limit,
+  c.in_ok-fill-2.ensures.limit,
+  c.packets.invariant.room,
+  c.limit-limit.ensures,
+  c.requires.small,
+)

@@ -3,7 +3,7 @@ use Rattle.scenario.specs.HostOptions.{uses_in}
 use Rattle.scenario.specs.Words.{texts}
 use Rattle.scenario.proofs.host_use.uses_of.Given as goal
 
--- what is used so far, and what the words that are left use
+-- the uses so far, followed by those of the remaining words, are the uses of all words
 abbrev pub invariant-loop-place : goal.invariant-loop-place
 invariant-loop-place l = record {
   within : l.place ≤ length l.words;

@@ -1,25 +1,34 @@
-use Rattle.std.proofs.Common.{◌≡◌, ◌∙◌, ◌++◌, List, [], ◌∷◌, ap, rules, subst, sym}
-use Rattle.std.proofs.lemmas.List.{map-append}
+use Rattle.std.proofs.Common.{◌≡◌, ◌∙◌, ◌++◌, ℕ, List, [], ◌∷◌, ap, arith, subst, sym}
 use Rattle.std.proofs.lemmas.Result.{err_from_is_err_and}
 use Rattle.scenario.specs.Answers.{IsFaulty}
-use Rattle.scenario.specs.Meanings.{host_of_words, with_hosts}
-use Rattle.scenario.specs.SoFar.{Host, host_of_plan, hosts_of, so_far}
+use Rattle.scenario.specs.Meanings.{host_described, host_of_words, with_hosts}
+use Rattle.scenario.specs.SoFar.{Host, hosts_of, so_far}
+use Rattle.scenario.specs.Spellings.{address_in}
 use Rattle.scenario.specs.Stops.{IfFault}
-use Rattle.scenario.specs.Words.{texts}
+use Rattle.scenario.specs.Words.{Text, texts, word}
 use Rattle.scenario.specs.declared.line_kind.LineKind.TheVariants as line
 use Rattle.scenario.specs.declared.refusal.Stop.{Stop}
+use Rattle.scenario.proofs.LineFacts.{text-count}
 use Rattle.scenario.proofs.setup_line.read_host.Goals as goal
+
+pub word_at-name-requires : goal.word_at-name-requires
+word_at-name-requires c = omega (arith, text-count c.args.words.now, c.in_ok-address.ensures.ok.good.count.least)
+
+pub word_at-wire-requires : goal.word_at-wire-requires
+word_at-wire-requires c = omega (arith, text-count c.args.words.now, c.in_ok-address.ensures.ok.good.count.least)
 
 pub returns : goal.returns
 returns c =
-    let before = so_far c.args.scenario.now in
-    let plans = c.args.scenario.now.plan.hosts.items in
-    let pushed : c.push.new.self.items ≡ plans ++ c.in_ok-host.host ∷ [] = c.in_ok-push.ensures.items in
-    let host : host_of_plan c.in_ok-host.host ≡ host_of_words (texts c.args.words.now) = search rules in (
-      c.in_ok-address.ensures.ok.good,
-      ap (λ (hosts : List Host). with_hosts hosts before)
-          (ap hosts_of pushed ∙ map-append host_of_plan plans (c.in_ok-host.host ∷ [])
-          ∙ ap (λ (host : Host). hosts_of plans ++ host ∷ []) host),
+    let words = texts c.args.words.now in
+    let read = c.in_ok-address in
+    let host : host_described c.word_at-name.result.now read.address c.word_at-wire.result.now read.options ≡ host_of_words words =
+    ap (λ (name : Text). host_described name read.address c.word_at-wire.result.now read.options) c.word_at-name.ensures
+    ∙ ap (λ (wire : Text). host_described (word 1 words) read.address wire read.options) c.word_at-wire.ensures
+    ∙ ap (λ (address : List ℕ). host_described (word 1 words) address (word 3 words) read.options) read.ensures.ok.address
+    ∙ ap (host_described (word 1 words) (address_in (word 2 words)) (word 3 words)) read.ensures.ok.options in (
+      read.ensures.ok.good,
+      ap (λ (hosts : List Host). with_hosts hosts (so_far c.args.scenario.now))
+          (c.in_ok-add_host.ensures ∙ ap (λ (host : Host). hosts_of c.args.scenario.now.plan.hosts.items ++ host ∷ []) host),
     )
 
 pub returns-in_err-address : goal.returns-in_err-address
@@ -28,12 +37,7 @@ returns-in_err-address c =
     rw p.1 (subst (λ (stop : Stop). IfFault stop (IsFaulty line.Host (so_far c.args.scenario.now) (texts c.args.words.now))) (sym p.2)
     c.in_err-address.ensures.err)
 
-pub returns-in_err-host : goal.returns-in_err-host
-returns-in_err-host c =
-    let p = err_from_is_err_and c.from_residual-in_err-host.result c.from_residual-in_err-host.ensures.1 in
-    rw p.1 (subst (λ (stop : Stop). IfFault stop (IsFaulty line.Host (so_far c.args.scenario.now) (texts c.args.words.now))) (sym p.2) tt)
-
-pub returns-in_err-push : goal.returns-in_err-push
-returns-in_err-push c =
-    let p = err_from_is_err_and c.from_residual-in_err-push.result c.from_residual-in_err-push.ensures.1 in
+pub returns-in_err-add_host : goal.returns-in_err-add_host
+returns-in_err-add_host c =
+    let p = err_from_is_err_and c.from_residual-in_err-add_host.result c.from_residual-in_err-add_host.ensures.1 in
     rw p.1 (subst (λ (stop : Stop). IfFault stop (IsFaulty line.Host (so_far c.args.scenario.now) (texts c.args.words.now))) (sym p.2) tt)

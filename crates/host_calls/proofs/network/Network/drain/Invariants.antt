@@ -5,8 +5,7 @@ use Rattle.host_calls.specs.DrainSteps.{StepsInto, count_steps, frame_sink}
 use Rattle.host_calls.specs.Networks.{OnlyHostChanges, connected_at, nth_host}
 use Rattle.host_calls.proofs.network.Network.drain.Given as goal
 
--- So many steps were made, of which only this host has changed, and it can still be drained. What holds of every adapter held at the
--- beginning, too.
+-- In the steps so far, only this host has changed, and the host can still be drained. If `IsAdapter` holds now, it held at the beginning.
 abbrev pub invariant-loop-bytes : goal.invariant-loop-bytes
 invariant-loop-bytes g l = record {
   into : StepsInto l.steps l.number (frame_sink (g.S.FrameSink.frames l.fn.sink) (g.S.FrameSink.room_left l.fn.sink))

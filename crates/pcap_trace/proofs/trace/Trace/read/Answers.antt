@@ -1,46 +1,11 @@
-use Rattle.std.proofs.Common.{◌≡◌, List, ℕ, [], None, ap, refl, subst, sym, ◌∙◌}
+use Rattle.std.proofs.Common.{refl}
 use Rattle.std.proofs.lemmas.Result.{err_from_is_err_and}
-use Rattle.pcap_trace.specs.Devices.{Receives}
-use Rattle.pcap_trace.specs.Format.{number_in}
-use Rattle.pcap_trace.specs.Reading.{header_fault, IsHeaderFault}
-use Rattle.pcap_trace.proofs.Answering.{fits_fault, fits_body, only_from_fits, silent_fits}
-use Rattle.pcap_trace.proofs.Uses.{uses_joined, uses_none}
+use Rattle.pcap_trace.proofs.Answering.{only_from_fits, silent_fits}
+use Rattle.pcap_trace.proofs.Uses.{uses_none}
 use Rattle.pcap_trace.proofs.trace.Trace.read.Goals as goal
 
-pub returns-in_err-order-clause-fits : goal.returns-in_err-order-clause-fits
-returns-in_err-order-clause-fits g c =
-    let p = err_from_is_err_and c.from_residual-in_err-order.result c.from_residual-in_err-order.ensures.1 in
-    let before = g.S.Source.left c.args.source.now in
-    let left = g.S.Source.left c.fill.new.source in
-    let held = c.fill.new.self in
-    let received : Receives [] held before left = subst (λ (old : List ℕ). Receives old held before left) c.in_ok-block.ensures
-    c.in_ok-fill.ensures.received in
-    let fault : IsHeaderFault held c.in_err-order.field-0.0 = subst
-    (λ (xs : List ℕ). IsHeaderFault xs c.in_err-order.field-0.0) c.held.ensures c.in_err-order.ensures.fault in
-    rw (p.1, p.2) (fits_fault before left held c.in_err-order.field-0.0 received c.in_ok-fill.ensures.filled fault)
-
-pub returns-in_err-order-clause-only : goal.returns-in_err-order-clause-only
-returns-in_err-order-clause-only g c = only_from_fits (g.S.Source.left c.args.source.now) c.from_residual-in_err-order.result
-    (returns-in_err-order-clause-fits g c)
-
-pub returns-clause-fits : goal.returns-clause-fits
-returns-clause-fits g c =
-    let before = g.S.Source.left c.args.source.now in
-    let left = g.S.Source.left c.fill.new.source in
-    let held = c.fill.new.self in
-    let received : Receives [] held before left = subst (λ (old : List ℕ). Receives old held before left) c.in_ok-block.ensures
-    c.in_ok-fill.ensures.received in
-    let order = c.in_ok-order.order in
-    let passed : header_fault (number_in order) held ≡ None =
-    ap (header_fault (number_in order)) (sym c.held.ensures) ∙ c.in_ok-order.ensures.ok in
-    fits_body order before left held c.read_body_in.result received c.in_ok-fill.ensures.filled passed
-    (rw c.skip.ensures at c.read_body_in.ensures.ok) (rw c.skip.ensures at c.read_body_in.ensures.fault)
-
 pub returns-clause-only : goal.returns-clause-only
-returns-clause-only g c = only_from_fits (g.S.Source.left c.args.source.now) c.read_body_in.result (returns-clause-fits g c)
-
-pub returns-clause-used : goal.returns-clause-used
-returns-clause-used g c = uses_joined c.in_ok-fill.ensures.used c.read_body_in.ensures.used
+returns-clause-only g c = only_from_fits (g.S.Source.left c.args.source.now) c.read_through.result c.read_through.ensures.fits
 
 pub returns-in_err-block-clause-fits : goal.returns-in_err-block-clause-fits
 returns-in_err-block-clause-fits g c =
@@ -63,33 +28,3 @@ returns-in_err-block-clause-end g c =
 
 pub returns-in_err-block-clause-used : goal.returns-in_err-block-clause-used
 returns-in_err-block-clause-used g c = uses_none (g.S.Source.left c.args.source.now)
-
-pub returns-in_err-fill-clause-fits : goal.returns-in_err-fill-clause-fits
-returns-in_err-fill-clause-fits g c =
-    let p = err_from_is_err_and c.from_residual-in_err-fill.result c.from_residual-in_err-fill.ensures.1 in
-    silent_fits (g.S.Source.left c.args.source.now) c.from_residual-in_err-fill.result (rw (p.1, p.2) refl)
-
-pub returns-in_err-fill-clause-only : goal.returns-in_err-fill-clause-only
-returns-in_err-fill-clause-only g c = only_from_fits (g.S.Source.left c.args.source.now) c.from_residual-in_err-fill.result
-    (returns-in_err-fill-clause-fits g c)
-
-pub returns-in_err-fill-clause-failure : goal.returns-in_err-fill-clause-failure
-returns-in_err-fill-clause-failure g c =
-    let p = err_from_is_err_and c.from_residual-in_err-fill.result c.from_residual-in_err-fill.ensures.1 in
-    rw (p.1, p.2) c.in_err-fill.ensures.failures
-
-pub returns-in_err-fill-clause-end : goal.returns-in_err-fill-clause-end
-returns-in_err-fill-clause-end g c =
-    let p = err_from_is_err_and c.from_residual-in_err-fill.result c.from_residual-in_err-fill.ensures.1 in
-    rw p.1 tt
-
-pub returns-in_err-fill-clause-used : goal.returns-in_err-fill-clause-used
-returns-in_err-fill-clause-used g c = c.fill.ensures.used
-
-pub returns-in_err-order-clause-end : goal.returns-in_err-order-clause-end
-returns-in_err-order-clause-end g c =
-    let p = err_from_is_err_and c.from_residual-in_err-order.result c.from_residual-in_err-order.ensures.1 in
-    rw p.1 tt
-
-pub returns-clause-failure : goal.returns-clause-failure
-returns-clause-failure g c = rw c.in_ok-fill.ensures.failures at c.read_body_in.ensures.failure

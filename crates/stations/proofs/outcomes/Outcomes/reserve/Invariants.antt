@@ -1,7 +1,7 @@
 use Rattle.std.proofs.Common.{◌≡◌, ◌-◌, ◌+◌, ◌≤◌, length, vec_capacity}
 use Rattle.stations.proofs.outcomes.Outcomes.reserve.Given as goal
 
--- a frame more each time; the list has a place for each, and stays
+-- each iteration adds one spare frame; the list has a place for each spare frame, and doesn't change
 abbrev pub invariant-loop-alloc : goal.invariant-loop-alloc
 invariant-loop-alloc l =
     (l.self-inside.list.items ≡ l.fn.self.list)
