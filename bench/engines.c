@@ -1,5 +1,6 @@
-/* Measures only the copies: COUNT times, it copies a frame of LENGTH bytes into a packet buffer, and from there into memory, in pieces of at
-   most 256 bytes. For each piece it reads, writes back and offers a descriptor. It has no registers, no filter and no rules.
+/* Makes only the copies of the engines: COUNT times, it copies a frame of LENGTH bytes into a packet buffer, and from
+   there into memory, in pieces of at most 256 bytes. For each piece it reads, writes back and offers a descriptor. It
+   has no registers and no filter, and checks nothing.
 
    usage: engines LENGTH COUNT */
 #include <stdint.h>

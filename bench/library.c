@@ -1,4 +1,4 @@
-/* Times calls of libnic82540em.a, and accesses of an array as their floor. Prints a line for each row: the name, the
+/* Times calls of libnic82540em.a, and accesses of an array for comparison. Prints a line for each row: the name, the
  * number of calls, and the seconds. */
 #define _POSIX_C_SOURCE 199309L
 #include <nic82540em.h>
@@ -61,7 +61,7 @@ static void idle_step(uint32_t number)
     sum += nic82540em_step(&nic, number % 6);
 }
 
-/* A frame arrives, goes to memory, and its descriptor is given back. */
+/* A frame arrives and is written to memory. Then its descriptor is offered again. */
 static void receive(uint32_t number)
 {
     static const uint8_t frame[FRAME_BYTES] = { 0xFF, 0xFF, 0xFF, 0xFF, 0xFF, 0xFF };
