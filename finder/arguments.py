@@ -12,7 +12,7 @@ from finder.schedule import ScheduleError, place_of
 from finder.store import check
 
 TOP = os.path.dirname(os.path.dirname(os.path.abspath(__file__)))
-DEEPEST = 100  # of --pct
+DEEPEST = 100  # the greatest depth of --pct
 NUMBERS: Dict[str, Optional[int]] = {
     "runs": 1000, "seed": 1, "first": 800, "explore": None, "smaller": 1000, "seconds": 10, "jobs": processors(),
     "pct": None}
@@ -20,8 +20,8 @@ TEXTS: Dict[str, Optional[str]] = {
     "server": os.path.join(TOP, ".build", "nicbench"), "options": None, "out": None, "replay": None, "shrink": None,
     "shard": "1/1", "from": None, "to": None, "rows": "near"}
 FLAGS = ("holds", "any-access", "by-name", "reached", "json", "apart", "no-digest", "all")
-OF_SEARCH = ("explore", "pct", "all")  # those that a given schedule doesn't go with
-# The values of all options
+OF_SEARCH = ("explore", "pct", "all")  # options that --replay and --shrink refuse
+# The values of all options, and the window of --from and --to
 Options = TypedDict("Options", {
     "runs": int, "seed": int, "first": int, "explore": Optional[int], "smaller": int, "seconds": int, "jobs": int,
     "pct": Optional[int], "server": str, "options": Optional[str], "out": Optional[str], "replay": Optional[str],
@@ -31,11 +31,11 @@ Options = TypedDict("Options", {
 
 
 class UsageError(Exception):
-    """The arguments are invalid."""
+    """An argument is invalid, or a file that it names can't be used."""
 
 
 def arguments_of(words: Iterable[str]) -> tuple[Options, list[str]]:
-    """The values of all options, and the command."""
+    """The values of all options, and the words of COMMAND. Raises UsageError."""
     given: dict[str, Any] = {**NUMBERS, **TEXTS, **dict.fromkeys(FLAGS, False)}
     words = list(words)
     while words and words[0] != "--":
@@ -64,7 +64,9 @@ def arguments_of(words: Iterable[str]) -> tuple[Options, list[str]]:
 
 
 def check_values(given: dict[str, Any]) -> None:
-    """Checks values, and which options go together. Replaces the texts of the shard and the window."""
+    """Raises UsageError for values out of range, and for options that don't go together. Replaces the text of --shard
+    by a pair of numbers, and adds the window of --from and --to.
+    """
     if not 1 <= given["jobs"] <= MOST_JOBS:
         raise UsageError(f"--jobs: use a number from 1 to {MOST_JOBS}")
     if not given["seconds"]:
@@ -86,7 +88,10 @@ def check_values(given: dict[str, Any]) -> None:
 
 
 def window_of(*texts: Optional[str]) -> Window:
-    """The places from the one with the first text to that with the second one."""
+    """The window from the place in the first text to the place in the second one. A text that is None sets no bound.
+
+    Raises UsageError if a text isn't a place, or if the second place is before the first one.
+    """
     places = []
     for name, text in zip(("from", "to"), texts):
         try:
@@ -100,7 +105,7 @@ def window_of(*texts: Optional[str]) -> Window:
 
 
 def shard_of(text: str) -> tuple[int, int]:
-    """The pair (K, N) of a text K/N."""
+    """The pair (K, N) of a text K/N. Raises UsageError unless K is from 1 to N."""
     found = re.fullmatch("([0-9]{1,9})/([0-9]{1,9})", text)
     shard = (int(found[1]), int(found[2])) if found else (0, 0)
     if not 1 <= shard[0] <= shard[1]:
@@ -109,7 +114,7 @@ def shard_of(text: str) -> tuple[int, int]:
 
 
 def check_out(path: Optional[str]) -> None:
-    """Before a search: checks that its result can be stored."""
+    """Before the first run: raises UsageError if --out is given, and a run can't be stored there."""
     try:
         if path:
             check(path)

@@ -1,4 +1,4 @@
-"""A run as a chart: driver, registers, memory, adapter and wire as columns, time downwards.
+"""A run as a chart: driver, registers, memory, adapter, wire and interrupt line as columns, time downwards.
 
 `chart_of` returns the rows of a chart, from which `chart` here makes a text, and svg.py a picture.
 """
@@ -16,11 +16,11 @@ if TYPE_CHECKING:
     from finder.rings import Both
     from finder.run import Run
 
-# Rows that are shown: before and after a deviation, at the end, later ones of a slot, and of a run without a deviation.
+# How many rows are shown: before a deviation, from it on, at the end, of later uses of a slot, without a deviation.
 BEFORE, AFTER, LAST, LATER, ALONE = 4, 6, 6, 3, 20
 COLUMNS = ("", "place", "driver", "registers", "memory", "adapter", "wire", "line")
 STAR, BAR = "*", "|"
-SHORT = 24  # the digits of a value in memory that are shown
+SHORT = 24  # the most digits of a value in memory that is shown completely
 ROOM = 5  # between columns that an arrow may connect: the arrow has at least three characters
 NARROW = 2
 
@@ -32,20 +32,20 @@ class ChartRow(NamedTuple):
 
 
 def bytes_in(value: int, size: int) -> str:
-    """Some bytes, in the order of memory. A little of them is shown if there are many."""
+    """Bytes in hexadecimal, in the order of memory; of more than 12 bytes, the first 8."""
     text = value.to_bytes(size, "little").hex()
     return text if len(text) <= SHORT else text[:SHORT - 8] + ".."
 
 
 def memory_text(name: str, size: int, value: int | None) -> str:
-    """An access of memory: its place, and the fields of a descriptor, or bytes."""
+    """An access of memory: its name, and the fields of a descriptor, or the number of bytes and the bytes."""
     fields = fields_of(name, size, value) if value is not None else None
     shown = f" {bytes_in(value, size)}" if value is not None and size else ""
     return f"{name} {fields}" if fields else f"{name}, {size} bytes{':' if shown else ''}{shown}"
 
 
 def access_in(row: LogRow) -> tuple[Access, str, str]:
-    """The access of a row that has one, its kind, and the name of what it goes to."""
+    """The access of a row, its kind, and the name of its register or memory. The row must have an access."""
     access = access_of(row.line[2:])
     assert access and row.name, row.line
     kind, _, name = row.name.partition(" ")
@@ -66,7 +66,7 @@ def of_access(row: LogRow) -> ChartRow:
 
 
 def of_step(row: LogRow, head: str | None) -> ChartRow:
-    """The row of a step: its outcome, what it does to memory, and the head of a ring if the head has moved."""
+    """The row of a step: its outcome, what it does to memory or EERD, and the head of a ring if the head has moved."""
     _, _, kind, _, outcome = row.line.split(" ")
     cells = {"adapter": f"{kind} {outcome}", **({"registers": head} if head else {})}
     if kind == "eeprom":
@@ -99,7 +99,7 @@ def chart_row_of(row: Row, head: str | None) -> ChartRow | None:
 
 
 def of_event(row: Row, head: str | None) -> ChartRow | None:
-    """The row of what isn't an access, or None if there is nothing to show."""
+    """The row of what is neither an access nor a `choose`, or None if there is nothing to show."""
     words = row.line.split(" ")
     if words[0] == "IRQ":
         return ChartRow({"adapter": "raises the line" if words[1] == "raise" else "lowers the line"})
@@ -146,7 +146,9 @@ def slot_of(row: ChartRow) -> str | None:
 
 
 def later_rows(rows: list[ChartRow], star: int) -> list[int]:
-    """The first rows in which the slot that is accessed after a deviation is used otherwise than near the deviation."""
+    """The indices of at most LATER later rows in which a slot is used in another way than near a deviation. The slot is
+    that of the next access after the deviation.
+    """
     access = next((row for row in rows[star:] if "place" in row.cells), None)
     slot = access and slot_of(access)
     uses: dict[str, int] = {}  # the first row of each use
@@ -157,13 +159,17 @@ def later_rows(rows: list[ChartRow], star: int) -> list[int]:
 
 
 def last_rows(rows: list[ChartRow]) -> list[int]:
-    """The last rows; of rows that differ only in their places, only the last one."""
+    """The indices of the last rows. Of consecutive rows that differ only in their places, only the last one is among
+    them.
+    """
     texts = [{**row.cells, "place": ""} for row in rows]
     return [at for at in range(max(0, len(rows) - LAST), len(rows)) if texts[at:at + 1] != texts[at + 1:at + 2]]
 
 
 def cut(rows: list[ChartRow]) -> list[ChartRow]:
-    """From some rows before the first deviation to the end; of long parts without a deviation, only a few rows."""
+    """The rows from shortly before the first deviation to the end. Of a long part without a deviation, only a few rows
+    remain, and a row `..` has the number of the others. Without any deviation, only the last rows remain.
+    """
     stars = [at for at, row in enumerate(rows) if row.cells[""]]
     first = stars[0] - BEFORE if stars else len(rows) - ALONE
     near = {at for star in stars for at in (*range(star - BEFORE, star + AFTER), *later_rows(rows, star))}
@@ -194,7 +200,7 @@ def gap_after(column: str) -> int:
 
 
 def layout(rows: list[ChartRow], columns: Sequence[str] = COLUMNS) -> tuple[dict[str, int], int]:
-    """Where each column of some rows begins, and where the last one ends, in characters."""
+    """Where each column of some rows begins, and where the gap after the last one ends, in characters."""
     starts, at = {}, 0
     for column in columns:
         starts[column] = at

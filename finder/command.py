@@ -117,8 +117,8 @@ class Finder:
         return run if run.fault else None
 
     def try_first(self) -> int | None:
-        """Before drawing: tries the schedules of one deviation, and those in which the adapter does all its work at one
-        place, if they are few. Returns the exit status if one of them fails.
+        """Before drawing, tries the empty schedule. Then, if they are few, those of one deviation, and those with all
+        work of the adapter at one place. Returns the exit status if one of them fails, and otherwise None.
         """
         given = self.given
         whole: tuple[int, Optional[Run]] = (0, None)
@@ -144,7 +144,7 @@ class Finder:
         return None
 
     def draw(self) -> int:
-        """Draws schedules until one fails, or all."""
+        """Draws schedules up to the first one that fails, or all with --all. Returns the exit status."""
         failed = self.measure(self.given["pct"]) if self.given["pct"] is not None else None
         if failed:
             return self.report(failed)
@@ -217,7 +217,7 @@ class Finder:
         self.search.update(tried=search.counts, same=search.same)
 
     def searched(self, depth: int) -> str:
-        """All schedules that --explore tries, or the part of them."""
+        """A text for the schedules that --explore tries."""
         shard, window = self.given["shard"], self.given["window"]
         part = "part {}/{} of ".format(*shard) if shard != WHOLE else ""
         places = f"{window}, " if any(window) else ""
@@ -225,7 +225,7 @@ class Finder:
         return f"{part}all schedules of up to {deviations(depth)}, {places}{holds}"
 
     def note_failed(self, run: Run, kinds: Kinds) -> None:
-        """Prints a schedule that fails on one line."""
+        """Prints a line for a schedule that fails, and keeps the schedule."""
         schedule = self.shown(run)
         kinds.add(schedule)
         self.say(f"{'; '.join(map(str, schedule)) or 'no deviation'}: {run.fault}")
@@ -234,7 +234,7 @@ class Finder:
             self.search["failed"].append({"schedule": lines, "fault": run.fault})
 
     def report(self, run: Run, is_smallest: bool = False) -> int:
-        """Makes a schedule smaller, and prints what is left."""
+        """Shrinks the schedule of a run that failed, and prints the result. Returns the exit status."""
         shrinker, drawn = self.shrinker, len(run.met)
         small = shrinker.again(run.met)
         if small is None:
@@ -258,14 +258,14 @@ class Finder:
         return FOUND
 
     def passing(self, count: int, with_holds: bool) -> str:
-        """Which schedules with fewer deviations than this number were searched, and pass."""
+        """A text: no schedule with fewer deviations than this number fails, among those that were searched."""
         if count == 1:
-            return "no schedule with fewer deviations fails"  # only that without deviations has fewer
+            return "no schedule with fewer deviations fails"  # only the schedule without deviations has fewer
         window = f" {self.given['window']}" if any(self.given["window"]) else ""
         return f"no schedule with fewer deviations{window} fails" + ("" if with_holds else ", apart from holds")
 
     def shrink(self, shrinker: Shrinker, run: Run) -> Run:
-        """The run of a schedule from which no deviation can be left out."""
+        """Shrinks the schedule of a run, and prints how many deviations are left. Returns the run of the result."""
         runs = self.target.runs
         small = shrinker.shrink(run)
         if run.met:
@@ -275,10 +275,10 @@ class Finder:
     def smallest(self, shrinker: Shrinker, run: Run, with_holds: bool) -> tuple[Run, bool]:
         """Looks for a schedule with few deviations. Returns its run, and whether none with fewer fails.
 
-        Those with one deviation are tried first: this is less than it takes to shrink a long schedule.
+        Schedules with one deviation are tried first: this takes fewer runs than to shrink a long schedule.
         """
         search = self.first
-        small = self.shrink(shrinker, run) if search else None  # with `search`, they pass
+        small = self.shrink(shrinker, run) if search else None  # with `search`, those of one deviation pass
         if not search or small and len(small.met) > len(search.counts):
             search = Search(self.target, with_holds, self.given["smaller"], self.progress, shrinker.seen)
             search.up_to(1, is_last=False)
@@ -287,19 +287,19 @@ class Finder:
         self.note_tried(search)
         tried = f"{sum(search.counts)} smaller schedules were tried"
         if not search.found:
-            # One step more of the EEPROM or the PHY isn't searched.
+            # Deviations `eeprom` and `phy` aren't searched.
             is_smallest = search.is_complete and not any(deviation.action in TICKS for deviation in small.met)
             self.say(f"{tried}, and pass" + ("" if is_smallest else "; another one may fail"))
             return small, is_smallest
         self.say(f"{tried}: one with {deviations(len(search.found.met))} fails")
-        return shrinker.shrink(search.found), True  # only moves its deviations
+        return shrinker.shrink(search.found), True  # this moves or lowers deviations, but drops none
 
     def chart(self, run: Run) -> str:
         """The text of a run's chart."""
         return chart(run, self.given["rows"] == "all")
 
     def show(self, run: Run) -> None:
-        """Prints a run's schedule, the end of its log, and its chart."""
+        """Prints a run's schedule, the end of its log, and its chart; and stores the run if this is wanted."""
         text = self.text_of(run)
         lines = [row.line for row in run.rows][-LOG_LINES:]
         shown = "".join(f"{line if len(line) <= LONGEST_LINE else line[:LONGEST_LINE] + '..'}\n" for line in lines)
@@ -317,7 +317,7 @@ class Finder:
         return text_of(self.shown(run), self.target.options, [" ".join(self.target.command), end_of(run)])
 
     def store(self, run: Run, text: str) -> bool:
-        """Stores a run, if this is wanted. Returns whether this is possible."""
+        """Stores a run, if this is wanted. Returns False, after a message, if this isn't possible."""
         try:
             if self.given["out"]:
                 store(self.given["out"], run, text, self.given["rows"] == "all")
@@ -339,7 +339,7 @@ class Finder:
         return status
 
     def searched_status(self, status: int) -> int:
-        """The exit status of a search: another one if it passes, but in no run did a deviation do anything."""
+        """The exit status of a search: NOTHING if it passes, and no deviation did anything; or else `status`."""
         if status == PASSES and not has_played(self.target.reached):
             self.say("nothing was searched: in no run did a deviation do anything")
             self.result["result"] = "nothing"
@@ -347,7 +347,9 @@ class Finder:
         return status
 
     def tell_so_far(self) -> None:
-        """After a signal: what the runs so far showed."""
+        """After a signal: prints the smallest schedule so far that fails, or else what the runs so far showed. Then
+        prints what the runs reached.
+        """
         best = self.shrinker.best
         self.result["result"] = "ended"
         if best:
@@ -361,7 +363,7 @@ class Finder:
     def play(self, schedule: Sequence[Deviation]) -> Run | None:
         """Plays a schedule, and prints what did nothing and what the run didn't reach. Returns the run.
 
-        Returns None if the schedule meets another access.
+        Returns None if the schedule meets another access than it expects, and --any-access isn't given.
         """
         is_strict = not self.given["any-access"]
         self.note("passes", None, schedule)
@@ -391,7 +393,7 @@ class Finder:
         return FOUND if self.result["result"] != "passes" else PASSES if is_stored else USAGE
 
     def shrink_given(self, schedule: Sequence[Deviation]) -> int:
-        """Makes a schedule smaller if it fails."""
+        """Plays a schedule, and makes it smaller if it fails. Returns the exit status."""
         run = self.play(schedule)
         if run and run.fault:
             self.say(f"{deviations(len(run.met))}: {run.fault}")
@@ -434,7 +436,7 @@ def call(words: Sequence[str]) -> int:
 
 
 def run(finder: Finder, schedule: Sequence[Deviation]) -> int:
-    """Does what is asked for, with the schedule that is given."""
+    """Does what is asked for, with the schedule that is given. Returns the exit status."""
     given = finder.given
     if given["replay"]:
         return finder.end(finder.replay(schedule))

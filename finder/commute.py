@@ -1,8 +1,8 @@
 """Steps that commute with the access or the request after them: before it and after it, they do the same.
 
-So the test gets the same answers, except that a fault of the transmit engine is reported one access later. The rules
-use what the adapter's steps read and write: `docs/ADAPTER.md#steps`. If a step may change the interrupt line, or moves
-a frame that is reported, the test sees when it is played.
+So the test gets the same answers, except that the event of a fault is reported one access later. The rules use what
+the adapter's steps read and write: `docs/ADAPTER.md#steps`. The test can see where a step is played if the step may
+change the interrupt line, or puts a reported frame on the wire.
 """
 
 from __future__ import annotations
@@ -24,7 +24,10 @@ SIZE, START = 16, 8  # of a descriptor; of the part that a step writes back, its
 
 
 class Before:
-    """An access (or a request by its name), and what is known of the adapter before it."""
+    """An access (or a request by its name), and what is known of the adapter before it.
+
+    A method with the name of a step returns whether this step surely commutes with the access or the request.
+    """
 
     def __init__(self, rings: Rings, name: str, known: Known | None, is_raised: bool, tells_frames: bool) -> None:
         self.rings, self.name, self.is_raised, self.tells_frames = rings, name, is_raised, tells_frames
@@ -32,46 +35,54 @@ class Before:
         self.register = known.register.partition("[")[0] if known and known.register else None
 
     def misses_transmit(self) -> bool:
-        """Whether it has nothing to do with the transmit engine."""
+        """Whether the access or the request surely has nothing to do with the transmit engine."""
         return self.register in RECEIVE or self.name in (OFFER, ARRIVE)
 
     def misses_receive(self) -> bool:
-        """Whether it has nothing to do with the receive engine."""
+        """Whether the access or the request surely has nothing to do with the receive engine."""
         return self.register in TRANSMIT or self.name == OFFER
 
     def is_of_memory(self) -> bool:
         return self.access is not None and self.register is None
 
     def misses(self, descriptor: int) -> bool:
-        """Whether it is an access of memory that doesn't touch what is written back to this descriptor."""
+        """Whether this is an access of memory that doesn't touch the bytes which are written back to the descriptor at
+        this address.
+        """
         if not self.access or not self.is_of_memory():
             return False
         address, size = self.access.address, self.access.size
         return address + size <= descriptor + START or descriptor + SIZE <= address
 
     def txtake(self) -> bool:
-        """Reads the descriptor and the frame. The last frame that is offered may raise the line, by TXQE."""
+        """The step reads the descriptor and the frame. For the last offered frame, it may raise the line, by TXQE."""
         reads = self.access is not None and self.is_of_memory() and self.access.kind == "read"
         return (self.is_raised or self.rings.transmit.left() > 1) and (reads or self.misses_transmit())
 
     def txput(self) -> bool:
-        """Reports the frame, writes a descriptor back whose address isn't known here, and raises the line, by TXDW."""
+        """The step reports the frame. If RS was set, it writes back a descriptor whose address isn't known here. It may
+        also raise the line, by TXDW.
+        """
         return self.is_raised and not self.tells_frames and self.misses_transmit()
 
     def rxdata(self) -> bool:
-        """Writes to a buffer whose address isn't known here. If half of the ring is left then, it may raise it."""
+        """The step writes to a buffer whose address isn't known here. If half of the ring is left then, RXDMT0 may
+        raise the line.
+        """
         ring = self.rings.receive
         is_half = 2 * (ring.left() - 1) == ring.size()
         return (self.is_raised or not is_half) and self.misses_receive()
 
     def rxdone(self) -> bool:
-        """Writes the descriptor back. The end of a frame may raise the line, by RXT0."""
+        """The step writes the descriptor back. For the last piece of a frame, it may raise the line, by RXT0."""
         if not self.is_raised and self.rings.is_last:
             return False
         return self.name == ARRIVE or self.misses_receive() or self.misses(self.rings.piece_at)
 
     def pair(self, first: str, second: str) -> bool:
-        """Both steps. Whether the second one raises the line isn't known before the first one is played."""
+        """Whether both steps surely commute. If the line isn't raised yet, this isn't known: the second step may raise
+        it after the first one.
+        """
         if not self.is_raised or not getattr(self, first)():
             return False
         return self.misses_receive() if second == "rxdone" else self.txput()
@@ -79,9 +90,9 @@ class Before:
 
 def commuting(enabled: tuple[str, ...], rings: Rings, name: str, known: Known | None, is_raised: bool,
               tells_frames: bool) -> tuple[str, ...]:
-    """The actions that commute with an access or a request: of the enabled steps, and the pairs that begin with them.
+    """The enabled steps, and the pairs that begin with one of these, that surely commute with an access or a request.
 
-    The words are those of `Before`.
+    The other arguments are those of `Before`.
     """
     if not enabled:
         return ()

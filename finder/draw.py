@@ -1,8 +1,8 @@
-"""Draws schedules.
+"""Draws schedules, and answers to `choose`.
 
 `actions(name, enabled, has_frames)` returns what is played before the access or the request with this name: steps, and
-arrivals of offered frames, one by one. `enabled` returns those that would do something at this time, after those that
-were returned before. With `has_frames`, an offered frame waits.
+arrivals of offered frames, one by one. `enabled()` returns those that would do something after all that were returned
+so far. With `has_frames`, an offered frame waits.
 """
 
 from __future__ import annotations
@@ -15,24 +15,24 @@ from finder.schedule import ARRIVE, ENGINES, PAIRS, ROUNDS
 
 # Returns the actions that would do something now
 Enabled = Callable[[], Tuple[str, ...]]
-# One of the steps of a pair makes the other one possible; so does an arrival.
+# For each step of a pair, the other one, which this step may make possible. An arrival may make rxdata possible.
 PARTNERS = {step: other for one, two in PAIRS.values() for step, other in ((one, two), (two, one))}
 PARTNERS[ARRIVE] = "rxdata"
 DRIVER = "driver"
-# The actors of PCT, and their steps. Frames that arrive by requests of the test belong to the driver.
+# The actors of `Pct` and `Bursts`, and their steps. Frames that arrive by requests of the test belong to the driver.
 ACTORS = {DRIVER: (), "receive": PAIRS["rx"], "fetch": ("txtake",), "put": ("txput",)}
 WIRE = {"wire": (ARRIVE,)}  # one more actor if the test offers frames
 OFFERED = *ENGINES, ARRIVE
-PATIENCE = 4  # reads of one register in a row
+PATIENCE = 4  # reads of one register or address in a row
 # Before a request that begins a round, a step has this part of its probability before an access. With more steps there,
 # less work is left for the accesses after the request.
 ROUND = 1 / 8
-OTHER = 1 << 64  # from a seed to that of the generator for these requests
+OTHER = 1 << 64  # the seed of a second generator is greater by this number
 MOST_IN_BURST = 64  # steps and arrivals before one access
 
 
 def actors_of(offers_frames: object) -> dict[str, tuple[str, ...]]:
-    """The actors of PCT, and their steps."""
+    """The actors, and their steps. The wire is an actor if the test offers frames."""
     return {**ACTORS, **WIRE} if offers_frames else ACTORS
 
 
@@ -43,19 +43,21 @@ class Uniform:
     While an offered frame waits, its arrival is drawn like a step.
     """
 
-    is_rare = False  # whether it calls `enabled` only before few accesses
+    is_rare = False  # whether the drawing calls `enabled` only before few accesses
 
     def __init__(self, seed: int, chance: float = 0.5, draws_holds: bool = False) -> None:
         self.seed, self.chance, self.draws_holds = seed, chance, draws_holds
 
     @cached_property
     def random(self) -> Callable[[], float]:
-        """Of this generator, only the numbers of `random` are the same in all versions of Python."""
+        """The method `random` of a generator: only this method returns the same numbers in all versions of Python."""
         return Random(self.seed).random
 
     @cached_property
     def random_of_rounds(self) -> Callable[[], float]:
-        """A generator of its own, so that each access gets the same numbers as without these requests."""
+        """A second generator, for requests that begin a round. So each access gets the same numbers as without these
+        requests.
+        """
         return Random(self.seed + OTHER).random
 
     def words(self) -> tuple[str, int, float, bool]:
@@ -67,7 +69,7 @@ class Uniform:
         actions, possible = OFFERED if has_frames else ENGINES, enabled()
         order = [(draw(), action) for action in actions]
         if not possible:
-            for _ in actions:  # as many numbers as if an action is possible
+            for _ in actions:  # as many numbers are drawn as if an action were possible
                 draw()
             return ()
         order.sort()
@@ -75,7 +77,9 @@ class Uniform:
 
     @staticmethod
     def those_possible(drawn: list[str], possible: tuple[str, ...]) -> list[str]:
-        """Those of the drawn actions that would do something, each after those before it."""
+        """The drawn actions that do something if they are played one after the other. `possible` has those that would
+        do something at first.
+        """
         found = []
         for action in drawn:
             if action in possible:
@@ -93,7 +97,8 @@ class Uniform:
 
 
 class Bursts:
-    """Before few accesses, some of the actors do all their work, in a random order. The seed decides.
+    """Before few accesses, some of the actors do all their work (at most MOST_IN_BURST steps), in a random order. The
+    seed decides.
 
     So the adapter is often idle for long, and may finish several frames between two accesses. Before a request that
     begins a round, the probability is lower.
@@ -131,7 +136,7 @@ class Bursts:
 
 
 def drawing_of(seed: int, draws_holds: bool = False) -> Bursts | Uniform:
-    """What draws the schedule of this seed by default: bursts for odd seeds."""
+    """What draws the schedule of this seed by default: `Bursts` for odd seeds, and `Uniform` for even ones."""
     if seed % 2:
         return Bursts(seed, draws_holds=draws_holds)
     return Uniform(seed, draws_holds=draws_holds)
@@ -140,9 +145,9 @@ def drawing_of(seed: int, draws_holds: bool = False) -> Bursts | Uniform:
 class Pct:
     """Probabilistic concurrency testing: the actor with the highest priority goes first. The seed decides.
 
-    The priorities of the actors are random. After `depth` - 1 random ones of the events, the actor of the event gets a
-    priority below all others. A driver that polls isn't starved: before every fourth read of one register in a row,
-    another actor takes a step.
+    The priorities of the actors are random. At up to `depth` - 1 random events, the actor of the event gets a priority
+    below all those of the start. Before every fourth read of one register or address in a row, another actor goes first
+    if possible. Otherwise, a driver that polls could starve it.
     """
 
     draws_holds = is_rare = False
@@ -166,17 +171,17 @@ class Pct:
         return "pct", *self.given
 
     def count(self, actor: str) -> None:
-        """An event of an actor. At a change point, its priority becomes lower."""
+        """Counts an event of an actor. At a change point, the actor's priority becomes lower."""
         self.events += 1
         self.priorities[actor] = self.changes.get(self.events, self.priorities[actor])
 
     def waiting(self, enabled: Enabled) -> dict[str, str]:
-        """The actors that could take a step, each with its step."""
+        """The actors other than the driver that could take a step, each with a step that would do something."""
         possible = enabled()
         return {actor: step for actor, steps in self.actors.items() for step in steps if step in possible}
 
     def polls(self, name: str) -> bool:
-        """Whether a driver that polls must wait before this access."""
+        """Counts this access, and returns whether a driver that polls must wait before it."""
         is_again = name == self.last and name.startswith("read ")
         self.last, self.reads = name, self.reads + 1 if is_again else 1
         return self.reads % PATIENCE == 0

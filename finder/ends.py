@@ -1,4 +1,4 @@
-"""How the finder ends: by a signal, or because its output can't be written."""
+"""Signals that end the finder, and its output, which may be closed, unread or full."""
 
 from __future__ import annotations
 
@@ -13,12 +13,12 @@ from types import FrameType
 from typing import IO, Callable, Iterator, NoReturn, Optional
 
 SIGNALS = (signal.SIGINT, signal.SIGTERM, signal.SIGHUP)
-BY_SIGNAL = 128  # and the number of the signal: an exit status
-PATIENCE = 1  # seconds: a signal that comes later than this after the first one ends the finder at once
+BY_SIGNAL = 128  # plus the number of the signal: an exit status
+PATIENCE = 1  # seconds: a signal that comes later than this after `hold` ends the finder at once
 
 
 class Ended(BaseException):
-    """A signal ends the search."""
+    """A signal ends the finder."""
 
     def __init__(self, number: int) -> None:
         super().__init__(number)
@@ -36,14 +36,14 @@ class Unprinted(Exception):
 # Signals
 
 def handle(handler: Callable[[int, Optional[FrameType]], object]) -> None:
-    """Lets these signals call this, except for those that are ignored, such as SIGHUP below `nohup`."""
+    """Lets each of SIGNALS call this handler, except for signals that are ignored, such as SIGHUP below `nohup`."""
     for number in SIGNALS:
         if signal.getsignal(number) != signal.SIG_IGN:
             signal.signal(number, handler)
 
 
 def nothing(*_: object) -> None:
-    """Handles a signal that does nothing. Unlike one that is ignored, it isn't ignored by programs that are started."""
+    """Does nothing at a signal. If the signal were ignored instead, programs that are started would ignore it, too."""
 
 
 def end(number: int, _: object) -> NoReturn:
@@ -52,12 +52,14 @@ def end(number: int, _: object) -> NoReturn:
 
 
 def listen() -> None:
-    """From now on, the first of these signals raises Ended in the main thread."""
+    """From now on, the first of SIGNALS that comes raises Ended in the main thread."""
     handle(end)
 
 
 def hold() -> None:
-    """From now on, these signals don't interrupt, as processes are being ended. After some time they end the finder."""
+    """From now on, SIGNALS don't interrupt, because processes are being ended. A signal that comes later than PATIENCE
+    ends the finder at once.
+    """
     begun = time.monotonic()
 
     def again(number: int, _: object) -> None:
@@ -69,7 +71,7 @@ def hold() -> None:
 
 @contextmanager
 def holding() -> Iterator[None]:
-    """At its end, `hold`."""
+    """Calls `hold` when the block ends."""
     try:
         yield
     finally:
@@ -79,7 +81,9 @@ def holding() -> Iterator[None]:
 # Output
 
 def prepare_output() -> None:
-    """Prints what a stream can't show by its code. Without a standard error, messages are dropped."""
+    """Lets both streams print an escape in place of a character that they can't encode. Without a standard error,
+    messages are dropped; without a standard output, raises Unprinted.
+    """
     sys.stderr = sys.stderr or open(os.devnull, "w")
     for stream in filter(None, (sys.stdout, sys.stderr)):
         if isinstance(stream, io.TextIOWrapper):

@@ -30,7 +30,7 @@ couldn't be written, 141 if nobody reads it any more.
 
 
 class Parser(argparse.ArgumentParser):
-    """Raises UsageError in place of printing its usage."""
+    """Raises UsageError for invalid arguments, in place of printing its usage."""
 
     def error(self, message: str) -> NoReturn:
         raise UsageError(message)
@@ -55,7 +55,7 @@ def wires_in(path: str) -> dict[str, str]:
 
 
 def events_in(path: str, scenario: str, wires: dict[str, str]) -> list[str]:
-    """The lines of a log of these hosts."""
+    """The lines of a log. Raises UsageError if a line isn't an event of these hosts."""
     host = "(?:{})".format("|".join(map(re.escape, wires)))
     call = f"(?:send|recv|interrupt|reset|join|leave|drain) {host}"
     tick = rf"@\d+ (?:go|[a-z]+:{host}) [a-z]+(?: \d+)?"
@@ -68,7 +68,7 @@ def events_in(path: str, scenario: str, wires: dict[str, str]) -> list[str]:
 
 
 def columns_of(wires: dict[str, str]) -> list[str]:
-    """The columns: for each wire its first host, the wire, and its other hosts."""
+    """The columns: one without a name, the place, and for each wire its first host, the wire, and its other hosts."""
     columns = ["", "place"]
     for wire in dict.fromkeys(wires.values()):
         hosts = [f"host {host}" for host, its in wires.items() if its == wire]
@@ -114,7 +114,9 @@ def end_of(drawn: list[int], count: int) -> str:
 
 
 def chart_rows(log: list[str], wires: dict[str, str], first: int, last: int) -> tuple[list[ChartRow], str]:
-    """The rows of the events with these numbers, and the last line of the chart."""
+    """The rows of the events from `first` to `last`, and the last line of the chart. There are at most MOST_ROWS rows,
+    unless the first event has more.
+    """
     rows: list[ChartRow] = []
     drawn: list[int] = []
     for line in log:
@@ -130,7 +132,7 @@ def chart_rows(log: list[str], wires: dict[str, str], first: int, last: int) -> 
 
 
 def number_of(text: str) -> int:
-    """The number of an event."""
+    """The number of an event that a text spells. Raises ArgumentTypeError if it spells none."""
     if not (text.isascii() and text.isdigit() and len(text) < 20):
         raise argparse.ArgumentTypeError(f"{text!r} isn't the number of an event")
     return int(text)

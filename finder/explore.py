@@ -1,4 +1,4 @@
-"""Searches all schedules up to a number of deviations."""
+"""Searches all schedules up to a number of deviations, and those with all work of the adapter at one place."""
 
 from __future__ import annotations
 
@@ -24,7 +24,7 @@ Say = Callable[[str], None]
 # Takes the run of a schedule that fails
 OnFault = Callable[["Run"], None]
 Schedule = Sequence[Deviation]
-MANY = 40  # schedules that are worth a preparation
+MANY = 40  # from this number of schedules on, the runs are prepared
 WHOLE = (1, 1)  # the only shard
 
 
@@ -44,10 +44,10 @@ EVERYWHERE = Window()
 
 
 def children(run: Run, with_holds: bool, window: Window = EVERYWHERE) -> Iterator[tuple[int, Deviation, bool]]:
-    """The deviations that make schedules of a run's schedule, as their last one. Each does something.
+    """Yields three items for each deviation that would do something as a new last deviation of a run's schedule.
 
-    Each is returned with the number of accesses from the first deviation to it, and whether it does the same one place
-    later.
+    The first item is the number of places from the schedule's first deviation to the new one, or 0 without a first one.
+    The second item is the new deviation. The third is whether it leads to the same run one place later.
     """
     last, first = (run.met[-1], run.met[0].place) if run.met else (None, None)
     after = last.place if last else None
@@ -62,13 +62,13 @@ def children(run: Run, with_holds: bool, window: Window = EVERYWHERE) -> Iterato
 
 
 def actions_at(met: Met, with_holds: bool) -> list[str]:
-    """What can be played at a place."""
+    """The actions that would do something at a place, holds only if they are wanted."""
     pairs = (pair for pair, steps in PAIRS.items() if steps[0] in met.enabled)
     return [*met.enabled, *pairs, *(hold for hold in met.holds if with_holds and hold in HOLDS)]
 
 
 def whole_works(run: Run, window: Window = EVERYWHERE) -> list[list[Deviation]]:
-    """For each place at which a step would do something: the schedule in which the adapter does all its work there."""
+    """For each place in the window at which the engines have work: the schedule in which they do all of it there."""
     return [[Deviation(met.place, ALL, met.name)] for met in run.places
             if window.has(met.place) and any(step in ENGINES for step in met.enabled)]
 
@@ -82,26 +82,27 @@ def same_as_next(places: Sequence[Met], at: int, with_holds: bool, window: Windo
 
 
 def is_after(last: str, action: str) -> bool:
-    """Whether an action is tried after another one before the same access. Both steps of a pair are tried as a pair."""
+    """Whether `action` is tried after `last` at the same place. Both steps of a pair are tried as a pair."""
     if CHOOSE in (last[:len(CHOOSE)], action[:len(CHOOSE)]):
         return False  # there is one answer to a request
     return ACTORS[last] <= ACTORS[action] and (last, action) not in PAIRS.values()
 
 
 class Level:
-    """Schedules with the same number of deviations. They are tried in the order of the number of accesses from the
-    first deviation to the last one.
+    """Schedules with the same number of deviations. They are tried in the order of the number of places from the first
+    deviation to the last one.
 
-    There may be millions, so each takes 8 bytes: the number of the last deviation, and the number of its parent, which
-    doesn't have it. With `is_last`, longer schedules aren't tried, so one that is the same as another one is only
-    counted.
+    There may be millions, so each takes 8 bytes. These are the number of its last deviation, and that of its parent:
+    the schedule without this deviation. A schedule is "the same" as another one if both lead to the same run. With
+    `is_last`, longer schedules aren't tried, so a schedule that is the same as a later one is only counted.
     """
 
     def __init__(self, is_last: bool = False) -> None:
         self.is_last, self.same = is_last, 0
         self.parents: list[tuple[Deviation, ...]] = []
         self.ends: dict[Deviation, int] = {}  # a deviation has the same number in all schedules that end with it
-        # By distances: the parents, and twice the ends, and 1 more if it is the same as another one
+        # For each distance, two numbers for each schedule: that of its parent, and that of its last deviation. The
+        # second one is doubled, and 1 more if the schedule is the same as a later one.
         self.parts: dict[int, tuple[array[int], array[int]]] = {}
 
     def add(self, parent: tuple[Deviation, ...], found: Iterable[tuple[int, Deviation, bool]]) -> None:
@@ -120,11 +121,13 @@ class Level:
         ends.append(2 * self.ends.setdefault(deviation, len(self.ends)) + is_same)
 
     def count(self, is_last: bool) -> int:
-        """The number of schedules. If they are the last ones, without those that are the same as others."""
+        """The number of schedules to try. With `is_last`, those that are the same as later ones don't count."""
         return sum(len(ends) for _, ends in self.parts.values()) - (self.same if is_last and not self.is_last else 0)
 
     def schedules(self, is_last: bool) -> Iterator[list[Deviation]]:
-        """These schedules, in their order."""
+        """Yields the schedules to try, in their order. With `is_last`, those that are the same as later ones are left
+        out.
+        """
         deviations = list(self.ends)
         for distance in sorted(self.parts):
             for parent, end in zip(*self.parts[distance]):
@@ -147,8 +150,8 @@ class Search:
     """Tries all schedules by their number of deviations, up to the first one that fails, or until `most` were tried.
 
     Of those of one size, schedules with deviations close together are tried first: a race is a matter of few accesses.
-    With `on_fault`, goes on after one that fails, and calls this for each of them with its run. But if the empty one
-    fails, this is no race, and nothing else is tried.
+    With `on_fault`, goes on after one that fails, and calls `on_fault` with the run of each one that fails. But if
+    the empty schedule fails, this is no race, and nothing else is tried.
     """
 
     def __init__(self, target: Target, with_holds: bool = False, most: int | None = None,
@@ -157,30 +160,30 @@ class Search:
                  on_fault: OnFault | None = None) -> None:
         self.target, self.with_holds, self.most, self.progress = target, with_holds, most, progress
         self.window, self.on_fault = window, on_fault
-        self.seen = seen  # if it is given, gets the runs that fail, or None, by the keys of their schedules
+        self.seen = seen  # if given, gets by the keys of each schedule its run if it fails, and otherwise None
         self.counts: list[int] = []
         self.answers: set[bytes] = set()
         self.level: Union[Root, Level] = Root()
-        self.same = 0  # of the last size: how many aren't tried, as each is the same as another one
-        self.failed: list[int] = []  # for each size, the number of those that failed
+        self.same = 0  # how many schedules of the last size aren't tried, as each is the same as a later one (`Level`)
+        self.failed: list[int] = []  # for each size, the number of schedules that failed
         self.whole: list[list[Deviation]] = []  # the schedules in which the adapter does all its work at one place
-        # The run of the first schedule that fails, and its number in its size
+        # The run of the first schedule that fails, and its number among the tried ones of its size, from 1
         self.found: Optional[Run] = None
         self.number: Optional[int] = None
         self.is_complete = True  # whether all schedules of the sizes in `counts` were tried, up to the one that fails
 
     def is_over(self) -> bool:
-        """Whether a schedule was found, and no other one is looked for."""
+        """Whether a schedule that fails was found, and no other one is looked for."""
         return self.found is not None and (self.on_fault is None or self.failed[0] > 0)
 
     def left(self) -> int | None:
-        """How many schedules may still be tried."""
+        """How many schedules may still be tried; None if there is no limit."""
         return None if self.most is None else self.most - sum(self.counts)
 
     def next_size(self, last: int | None = None, shard: tuple[int, int] = WHOLE) -> None:
-        """Tries all schedules of the next size, or those of a shard.
+        """Tries all schedules of the next size, or those of a shard, until the search is over or `most` were tried.
 
-        Schedules that are longer than `last` aren't tried later; with None, they may be.
+        Schedules of more than `last` deviations aren't tried later; with None, they may be.
         """
         size, following = len(self.counts), Level(len(self.counts) + 1 == last)
         is_last = size == last
@@ -207,7 +210,7 @@ class Search:
     def try_whole(self) -> tuple[int, Optional[Run]]:
         """Tries the schedules in which the adapter does all its work at one place, up to one that fails.
 
-        Returns their number, and the run of the one that fails, or None.
+        Returns the number of tried schedules, and the run of the one that fails, or None.
         """
         count = 0
         with closing(self.played(self.whole, has_places=False)) as runs:
@@ -231,8 +234,7 @@ class Search:
                 self.on_fault(run)
 
     def played(self, schedules: Iterable[Schedule], has_places: bool) -> Generator[tuple[Schedule, Run], None, None]:
-        """Plays schedules in their order, each when its turn comes, until the search is over: yields a pair of each and
-        its run."""
+        """Plays schedules in their order, until the search is over. Yields each with its run, when its turn comes."""
         begun: deque[Schedule] = deque()
 
         def calls() -> Iterator[dict[str, object]]:
@@ -247,7 +249,10 @@ class Search:
                     break
 
     def up_to(self, depth: int, is_last: bool = True) -> None:
-        """Tries all schedules with up to this number of deviations. If `is_last`, longer ones aren't tried later."""
+        """Tries all schedules with up to this number of deviations, until the search is over or `most` were tried.
+
+        If `is_last`, longer ones aren't tried later.
+        """
         while len(self.counts) <= depth and not self.is_over() and self.is_complete:
             self.next_size(depth if is_last else None)
 

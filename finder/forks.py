@@ -33,12 +33,12 @@ TOP = os.path.dirname(os.path.dirname(os.path.abspath(__file__)))
 PYTHON = re.compile(r"python(3(\.[0-9]+)?)?")
 FLAGS = re.compile(r"-[bBEIOPqsSu]+")
 FIRST, ROUND_1 = Place(0, 0), Place(1, 0)
-SPACING, MOST_HOSTS = 16, 40  # the least number of accesses from one host to the next; hosts after round 1
-MOST_SERVERS = 256  # of all hosts
+SPACING, MOST_HOSTS = 16, 40  # the least number of places from one host to the next; the most hosts after ROUND_1
+MOST_SERVERS = 256  # of the hosts after ROUND_1 together
 MOST_MEMORY = 512 << 20  # bytes of all servers: there are no more hosts than this allows
 OTHER_MEMORY = 512 << 10  # bytes of a server besides its memory and the saved one
-END = 5  # seconds until a host that hasn't ended by itself is killed
-GRACE = 5  # seconds more than a run has: until a child must have told what its run showed, after it was asked
+END = 5  # seconds until the first host, or a player, that hasn't ended by itself is killed
+GRACE = 5  # seconds: a child that is asked what its run showed may take this much longer than a run
 BEGIN = """
 import sys
 before, sys.dont_write_bytecode = sys.dont_write_bytecode, True
@@ -59,7 +59,9 @@ class Lost(Exception):
 
 
 def script_of(command: list[str]) -> tuple[list[str], list[str]] | None:
-    """The interpreter with its flags, and a script in Python with its arguments; or None if the command isn't this."""
+    """The interpreter with its flags, and a script in Python with its arguments. None if the command has another form,
+    or if the system has no /proc.
+    """
     at = next((at for at, word in enumerate(command[1:], 1) if not FLAGS.fullmatch(word)), len(command))
     is_script = PYTHON.fullmatch(os.path.basename(command[0])) and at < len(command) and command[at].endswith(".py")
     return (command[:at], command[at:]) if is_script and os.path.exists("/proc/self/fd") else None
@@ -79,7 +81,7 @@ class Child:
             while len(self.data) < len(MARK) + SIZE:
                 self.read()
         except Late:
-            raise Lost from None  # it is the host that does nothing
+            raise Lost from None  # the host is late, and not a run
         mark, self.data = self.data[:len(MARK) + SIZE], self.data[len(MARK) + SIZE:]
         if not mark.startswith(MARK):
             raise Lost
@@ -109,7 +111,9 @@ class Child:
         return self.message()
 
     def result(self, trusts_late: bool | None) -> tuple[str, Any]:
-        """The kind and the value of the result. A child that has none in time is ended, or asked for it first."""
+        """The kind and the value of the result. A child that has no result in time is ended. If `trusts_late`, the
+        child is first asked what its run showed so far.
+        """
         is_ended = False
         try:
             try:
@@ -121,7 +125,7 @@ class Child:
             kind, value = marshal.loads(message)
             value, is_ended = unpacked(value) if kind in (RAN, LATE) else value, True
         except (ValueError, TypeError, EOFError, UnpicklingError):
-            raise Lost from None  # the test has written there by other means
+            raise Lost from None  # the test has written to the socket by other means
         finally:
             if not is_ended:
                 kill(self.number)
@@ -129,11 +133,11 @@ class Child:
 
 
 def kill(number: int) -> None:
-    """Ends a process that has a group of its own, and the processes that it has started."""
+    """Ends a process that has a group of its own, and all processes in this group."""
     try:
         os.killpg(number, signal.SIGKILL)
     except (ProcessLookupError, PermissionError):
-        pass  # all of them have ended
+        pass  # all of these processes have ended
 
 
 class Forks:
@@ -154,8 +158,8 @@ class Forks:
         self.life: Optional[socket.socket] = None
         self.hosts: list[tuple[Place, socket.socket]] = []  # pairs of a place and a socket, the last place first
         self.is_usable, self.is_warm, self.has_begun = True, False, False
-        # Whether children that are late are asked what their runs showed. It is None until a process of its own
-        # confirms that the test may take too long. Then it is true while children answer.
+        # Whether children that are late are asked what their runs showed. None until a run in a process of its own is
+        # late, too. Then True, until a child doesn't answer; after that, False.
         self.trusts_late: Optional[bool] = None
 
     def start(self) -> None:
@@ -171,7 +175,7 @@ class Forks:
                                             start_new_session=True)
             send(ours.fileno(), self.settings)
         except OSError:
-            self.is_usable = False  # a process of its own shows why
+            self.is_usable = False  # a run in a process of its own shows why
         finally:
             theirs.close()
             life.close()
@@ -186,12 +190,12 @@ class Forks:
             for place in places:
                 hosts.append((place, begin(parent, HOST, tuple(place))))
         except OSError:
-            pass  # the parent has ended: so have these
+            pass  # the parent has ended, and so have the new hosts
         self.hosts += [host for host in hosts if is_ready(host[1], self.seconds, self.wake)]
         self.hosts.sort(key=lambda host: host[0], reverse=True)
 
     def prepare(self, run: Run) -> None:
-        """Before many schedules are played: starts hosts all along the run without deviations."""
+        """Before many schedules are played: starts hosts all along `run`, the run without deviations."""
         places = [met.place for met in run.places if met.place.round]
         count = self.most_hosts()
         spacing = max(SPACING, -(-len(places) // (count + 1)))
@@ -200,12 +204,14 @@ class Forks:
                 self.add(places[spacing::spacing][:count])
 
     def most_hosts(self) -> int:
-        """How many hosts there may be after round 1. Both hosts before, and the players, have servers, too."""
+        """How many hosts there may be after ROUND_1. The two earlier hosts and the players have servers, too."""
         memory = 2 * self.settings[-1] + OTHER_MEMORY
         return max(0, min(MOST_HOSTS, MOST_SERVERS // self.jobs, MOST_MEMORY // memory // self.jobs - 3))
 
     def host_of(self, schedule: Sequence[Deviation], draw: Drawing | None) -> socket.socket:
-        """The last host before the first deviation."""
+        """The last host whose place isn't after the first deviation. Without a schedule, the host at ROUND_1, or at
+        FIRST if holds are drawn.
+        """
         first = min(one.place or FIRST for one in schedule) if schedule else \
             FIRST if draw and draw.draws_holds else ROUND_1
         return next(control for place, control in self.hosts if place <= first)
@@ -262,7 +268,9 @@ class Forks:
                 self.lost.add((host, slot))
 
     def warm(self, run: Run) -> None:
-        """Sends the requests of the first run to the last host: most of them are those of later runs, too."""
+        """Sends the accesses of the first run, from round 1 on until a ring gets another base or length, to the last
+        host. Most of these accesses are those of later runs, too.
+        """
         with self.lock:
             if not self.is_warm and run.rows:
                 self.is_warm = True
@@ -298,7 +306,7 @@ def begin(host: socket.socket, kind: int, message: object, slot: int = 0, is_los
 
 
 def is_ready(control: socket.socket, seconds: float, wake: int) -> bool:
-    """Waits until a host has reached its place. Ends it if it doesn't."""
+    """Waits until a host has reached its place, and returns whether it has. Ends a host that hasn't in time."""
     number, end = None, time.monotonic() + seconds
     try:
         while select.select([control, wake], [], [], max(0, end - time.monotonic()))[0] == [control]:

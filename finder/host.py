@@ -2,13 +2,14 @@
 
 `forks.py` starts `main` in the interpreter of the test. The test runs until it reads its first answer. Then this
 process is forked for each run. In the child, the test goes on: its standard streams lead to `Play` in the same process,
-which asks a server. Other hosts are children that go on until a later place of the run without deviations, and are
-forked there. A host has some servers in the state at its place, which are restored for each run (`Servers`). A child
+and `Play` asks a server. Other hosts are children that go on until a later place of the run without deviations, and are
+forked there. A host has some servers in the state at its place, and each run restores one of them (`Servers`). A child
 ends when the finder closes the socket for its result (`end_with`), also if the finder is killed.
 
-A test isn't forked if its runs could differ from those of a process of its own. This is so if it starts processes,
-opens files for writing, or uses its standard streams from other threads. It is also so if the test uses these streams
-by other means than `sys.stdin` and `sys.stdout`. Then the result is DOUBT, or none.
+A test isn't forked if its runs could differ from those of a process of its own. This is so if the test starts
+processes, or opens sockets or files for writing. It is also so if the test has other threads or open files when it is
+forked. The test may use its standard streams only by `sys.stdin` and `sys.stdout`, and in one thread. Otherwise, the
+result is DOUBT, or none.
 """
 
 from __future__ import annotations
@@ -50,9 +51,10 @@ RUN, HOST, WARM = range(3)
 RAN, MISMATCH, DOUBT, LATE = "ran", "mismatch", "doubt", "late"
 ASK = signal.SIGXCPU  # asks a child that is late for what its run showed so far
 READY = "ready"  # a host has reached its place
-# The most bytes of requests and answers that a test hasn't read. With more, it could wait for its pipes for ever.
+# The most bytes of requests that aren't played yet, and of answers that the test hasn't read. With more, a process of
+# its own could wait for its pipes for ever.
 MOST_UNREAD = 60_000
-# What a test that is forked doesn't do. A file that is opened for writing is seen apart.
+# What a forked test must not do, by audit events. `audit` also looks for files that are opened for writing.
 DOUBTFUL = ("os.fork", "os.forkpty", "os.posix_spawn", "os.exec", "os.spawn", "os.system", "pty.spawn",
             "subprocess.Popen", "socket.__new__")
 WRITES = os.O_WRONLY | os.O_RDWR
@@ -107,20 +109,20 @@ class Host:
         self.result: Optional[int] = None
         self.play: Optional[Play] = None
         self.asked: tuple[bool, ...] = ()  # whether places, rows and the script of the run are wanted
-        self.shared = 0  # how much of the script is that of the run without deviations
+        self.shared = 0  # how many batches of the script are those of the run without deviations
         self.requests = self.unread = b""
         self.is_doubtful = self.is_late = False
         self.is_watched = False  # whether the code of the test runs
         self.number, self.thread = 0, get_ident()
-        self.files = 0  # that were open before the test ran
+        self.files = 0  # how many files were open before the test ran
         self.servers = Servers(settings)
 
     # Streams
 
     def open_streams(self) -> None:
-        """Standard streams like those of a process of its own, but without anybody at their other ends."""
+        """Opens standard streams like those of a process of its own, but without anybody at their other ends."""
         pipe, self.unwritten = os.pipe(), os.pipe()
-        os.write(pipe[1], b"\n")  # is still there if the test reads only by `Answers`
+        os.write(pipe[1], b"\n")  # this line is still there if the test reads only by `Answers`
         errors = os.memfd_create("errors")
         for place, file in enumerate((pipe[0], self.unwritten[1], errors)):
             os.dup2(file, place)
@@ -161,7 +163,7 @@ class Host:
         except Mismatch as error:
             self.end(MISMATCH, str(error))
         except Exception:
-            self.doubt()  # such as a server that has ended: a process of its own shows what it is
+            self.doubt()  # for example, a server has ended: a process of its own shows the reason
 
     # Runs
 
@@ -171,7 +173,7 @@ class Host:
         return self.play
 
     def serve(self, begun: Sequence[bytes] = ()) -> None:
-        """Forks a child for each run and each host, and returns only in the child. `begun` has all requests so far."""
+        """Forks a child for each run and each host, and returns only in a child. `begun` has all requests so far."""
         gc.collect()
         gc.freeze()
         children: set[int] = set()
@@ -213,11 +215,11 @@ class Host:
             self.doubt()
 
     def prepare(self, slot: int, is_lost: int, begun: Sequence[bytes]) -> None:
-        """Before a run: it will have a server."""
+        """Before a run: prepares the server that the run will use."""
         try:
             self.servers.prepare(slot, is_lost, begun)
         except Exception:
-            os._exit(1)  # the test must not see this
+            os._exit(1)  # the test must not see this exception
 
     def become_run(self, result: int, begun: Sequence[bytes], slot: int, words: Sequence[Sequence[Any]],
                    drawing: Sequence[Any] | None, is_strict: bool, *asked: bool) -> None:
@@ -244,7 +246,9 @@ class Host:
 
     def begin(self, server: Server, schedule: Sequence[Deviation], draw: draw.Drawing | None, is_strict: bool,
               *asked: bool) -> Play:
-        """Starts a run, or lets it go on, with a server in the state after the requests so far."""
+        """Starts a run, or lets it go on, with a server in the state after the requests so far. Returns the `Play` of
+        the run.
+        """
         self.play = self.play or Play(self.settings[-1])
         self.play.begin(server, schedule, draw, is_strict, *asked)
         return self.play
@@ -253,7 +257,7 @@ class Host:
         self.check_host()
         play = self.playing()
         self.servers.keep(play.server)
-        play.digest()  # or each run would do this
+        play.digest()  # otherwise, each run would do this
         end_with(self.control.fileno(), False)  # from now on, `serve` notices the end
         send(self.control.fileno(), READY)
         self.serve(play.begun)
@@ -275,25 +279,25 @@ class Host:
             self.leave()
 
     def has_few(self, files: set[str]) -> bool:
-        """Whether no more files are open than before the test ran, and in a child those of its server."""
+        """Whether no more files are open than before the test ran. In a child, its server has two more."""
         return len(files) <= self.files + (2 if self.play else 0)
 
     def was_read(self) -> bool:
-        """Whether the test has read standard input by other means."""
+        """Whether the test has read standard input by other means than `sys.stdin`."""
         return not has_bytes(0)
 
     def doubt(self) -> NoReturn:
         self.end(DOUBT, None)
 
     def end(self, kind: str, value: object) -> NoReturn:
-        """Ends this process with a result."""
+        """Ends this process. If it plays a run, sends the result before."""
         if self.result is None or os.getpid() != self.number:
             os._exit(1)
         end_with(self.result, False)
         try:
             send(self.result, (kind, value))
         except OSError:
-            pass  # nobody reads it
+            pass  # nobody reads the result
         self.servers.leave_alone(self.play.server if self.play else None)
         self.leave()
 
@@ -304,7 +308,7 @@ class Host:
         os._exit(1)
 
     def end_late(self, *_: object) -> None:
-        """Ends a run that is late with what it showed so far, as soon as the code of the test runs."""
+        """Ends a late run, as soon as the code of the test runs. The result is what the run showed so far."""
         self.is_late = True
         if not self.is_watched:
             return
@@ -334,13 +338,13 @@ class Host:
         self.end(RAN, run.reduced(*self.asked).packed())
 
     def warm(self, requests: Iterable[tuple[str, str]]) -> None:
-        """Lets children find the accesses of these requests, each given with the name of its target."""
+        """Lets later children know the accesses of these requests, each given with the name of its target."""
         for request, target in requests:
             self.playing().learn(request.encode(errors="surrogateescape") + b"\n", target)
         gc.freeze()
 
     def audit(self, event: str, arguments: tuple[Any, ...]) -> None:
-        """Notes what a test that is forked doesn't do. Importing a module may write a file, which is no harm."""
+        """Notes if the test does what a forked one must not do. It may open a file to store the code of a module."""
         writes = (event == "open" and self.result is not None and arguments[2] & WRITES
                   and ".pyc." not in str(arguments[0]))
         if self.is_watched and (event in DOUBTFUL or writes):
@@ -348,7 +352,9 @@ class Host:
 
 
 def end_with(file: int, ends: bool = True) -> None:
-    """Lets the kernel end the group of this process when the other end of a socket, which writes nothing, is closed."""
+    """Lets the kernel end the group of this process when the other end of a socket, which writes nothing, is closed.
+    Without `ends`, undoes this.
+    """
     try:
         if ends:
             fcntl.fcntl(file, fcntl.F_SETOWN, -os.getpid())
@@ -359,7 +365,7 @@ def end_with(file: int, ends: bool = True) -> None:
 
 
 def reap(children: set[int], options: int) -> None:
-    """Removes the children that have ended."""
+    """Removes the children that have ended; with `options` 0, waits for all of them."""
     for child in [*children]:
         if os.waitpid(child, options)[0]:
             children.remove(child)
@@ -373,7 +379,7 @@ def join_threads(threading: Any) -> None:
 
 
 def written(file: int) -> bytes:
-    """All bytes of a file, whose place doesn't change."""
+    """All bytes of a file. The position in the file doesn't change."""
     return os.pread(file, os.fstat(file).st_size, 0)
 
 
@@ -417,7 +423,7 @@ def main(file: str, life: str, script: str, *arguments: str) -> NoReturn:
     control = socket.socket(fileno=int(file))
     control.set_inheritable(False)
     os.set_inheritable(int(life), False)
-    end_with(int(life))  # or the finder's end wouldn't be noticed while the test runs
+    end_with(int(life))  # otherwise, the finder's end wouldn't be noticed while the test runs
     sys.argv = [script, *arguments]
     if sys.path[:1] == [""]:
         sys.path[0] = os.path.dirname(os.path.realpath(script))

@@ -18,7 +18,7 @@ AHEAD = 2  # runs for each job that are begun, or wait, before the first of them
 
 
 def processors() -> int:
-    """The number of processors that this process may use."""
+    """The number of processors that this process may use, but at most MOST_JOBS."""
     count = len(os.sched_getaffinity(0)) if hasattr(os, "sched_getaffinity") else os.cpu_count() or 1
     return min(count, MOST_JOBS)
 
@@ -27,7 +27,7 @@ def in_order(target: Target, calls: Iterable[dict[str, Any]], jobs: int,
              ahead: int = AHEAD) -> Generator[Run, None, None]:
     """Yields the runs of these calls of `target.play`, each a dictionary of its arguments, in their order.
 
-    It doesn't matter which run ends first. The caller closes the generator, which ends the runs in progress.
+    It doesn't matter which run ends first. The caller must close the generator: this ends the runs in progress.
     """
     target.start()
     begun: deque[Future[Run]] = deque()
@@ -47,7 +47,7 @@ def in_order(target: Target, calls: Iterable[dict[str, Any]], jobs: int,
 
 def first_to_fail(target: Target, schedules: Iterable[Sequence[Deviation]], ahead: int = AHEAD,
                   **words: bool) -> Iterator[tuple[Sequence[Deviation], Run]]:
-    """Plays schedules up to the first one in their order that fails: yields a pair of each and its run."""
+    """Plays schedules up to the first one in their order that fails. Yields each of these schedules with its run."""
     schedules = list(schedules)
     calls = ({"schedule": schedule, "has_places": False, **words} for schedule in schedules)
     with closing(in_order(target, calls, target.jobs, ahead)) as runs:

@@ -1,4 +1,4 @@
-"""Frames on the wire and faults that a test isn't told about. It can request them later, by `frames` and `faults`."""
+"""Frames on the wire and faults that a test isn't told about, and can request later, by `frames` and `faults`."""
 
 from __future__ import annotations
 
@@ -25,13 +25,13 @@ class Kept:
             self.faults.append(b" " + rest)
 
     def fetch(self, request: Sequence[str]) -> bytes:
-        """The answer to a request, whose words these are. What it returns isn't kept any longer."""
+        """The answer to the request with these words. The frames or faults in the answer are no longer kept."""
         some = self.frames if request == FRAMES else self.faults
         answer = b"OK" + b"".join(some)
         some.clear()
         return answer
 
     def digest(self) -> bytes:
-        """Stands for all that is kept."""
+        """A hash of all that is kept, or no bytes if nothing is kept."""
         both = [*self.frames, b"/", *self.faults]
         return hashlib.sha1(b"".join(both)).digest() if len(both) > 1 else b""

@@ -1,6 +1,7 @@
-"""Kinds of schedules that fail: those with the same actions before the same accesses, in any rounds and slots.
+"""Kinds of schedules that fail. Schedules of one kind have the same actions before the same accesses, apart from
+rounds, indices (of slots and in tables) and addresses of memory.
 
-A kind that contains all actions of a smaller one belongs to it: what both have in common fails by itself.
+A kind that contains all deviations of a smaller kind belongs to the smaller one, which fails by itself.
 """
 
 from __future__ import annotations
@@ -18,7 +19,7 @@ SLOT, ADDRESS = re.compile(r"\[[0-9]+\]"), re.compile(r"\b0x[0-9a-f]+$")
 
 
 def kind_of(schedule: Iterable[Deviation]) -> Kind:
-    """What schedules of one kind have in common: a text for each deviation."""
+    """The kind of a schedule."""
     return tuple(f"{one.action} before {ADDRESS.sub('memory', SLOT.sub('[]', one.before))}" for one in schedule)
 
 
@@ -29,7 +30,9 @@ def contains(kind: Kind, part: Kind) -> bool:
 
 
 class Kinds:
-    """The kinds of the schedules of a search that fail, in the order in which they were found."""
+    """The kinds of a search's failing schedules, in the order in which they were found. For each kind, the number of
+    its schedules, and the first one.
+    """
 
     def __init__(self) -> None:
         self.counts: Counter[Kind] = Counter()
@@ -41,8 +44,8 @@ class Kinds:
         self.first.setdefault(kind, list(schedule))
 
     def grouped(self) -> dict[Kind, int]:
-        """For each kind that contains no smaller one, the smallest first: how many schedules of larger ones it stands
-        for.
+        """The kinds that contain no smaller one, the smallest first. For each, the number of schedules of larger kinds
+        that belong to it. A larger kind is counted only at the first kind that it contains.
         """
         larger: dict[Kind, int] = {}
         for kind in sorted(self.counts, key=lambda kind: (len(kind), -self.counts[kind])):
@@ -54,8 +57,9 @@ class Kinds:
         return larger
 
     def lines(self) -> Iterator[str]:
-        """What all kinds have, and a line for each of these kinds: the number of its schedules, the kind, and its first
-        one.
+        """Yields a line for each deviation that all kinds of `grouped` have, if there are several. Then yields a line
+        for each of these kinds: the number of its schedules, the kind, and its first schedule. If larger kinds belong
+        to it, the number of their schedules follows.
         """
         grouped = self.grouped()
         for one in dict.fromkeys(next(iter(grouped), ())):

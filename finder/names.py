@@ -1,4 +1,4 @@
-"""Names of registers, steps and fates, and accesses in requests."""
+"""Names of registers, bits, fields of descriptors, steps, outcomes and fates; and accesses in requests."""
 
 from __future__ import annotations
 
@@ -28,7 +28,7 @@ FATES = ("off", "illegal", "filtered", "missed", "stored")
 STEP_KINDS = tuple(OF_STEPS)
 ENGINES = tuple(kind for kind, outcomes in OF_STEPS.items() if outcomes != ("ticked",))
 OUTCOMES = tuple(dict.fromkeys(["nothing", *(outcome for outcomes in OF_STEPS.values() for outcome in outcomes)]))
-# Bits of other registers that have names here.
+# The named bits of registers: the number of each bit, and its name.
 BITS = {
     "CTRL": {0: "FD", 5: "ASDE", 6: "SLU", 26: "RST"}, "STATUS": {0: "FD", 1: "LU"}, "EERD": {0: "START", 4: "DONE"},
     "MDIC": {28: "R", 29: "I", 30: "E"}, "TCTL": {1: "EN", 3: "PSP"}, "RAH": {31: "AV"},
@@ -52,9 +52,9 @@ MOST_BYTES = 65536
 
 
 class Access(NamedTuple):
-    """An access: 'read' or 'write', its bytes, and what it writes, as a number (None if it reads).
+    """An access: 'read' or 'write', its address, its size in bytes, and what it writes, as a number (None if it reads).
 
-    Its answer may have bytes in the order of memory (`bytes_of` reads them), or a number.
+    The answer to a read has bytes in the order of memory, which `bytes_of` reads, or a number if `bytes_of` is None.
     """
     kind: str
     address: int
@@ -74,7 +74,7 @@ def words_of(request: str) -> list[str]:
 
 
 def number_of(word: str) -> int | None:
-    """The number that a word is, or None."""
+    """The number below 2^64 that a word of at most 64 characters spells, or None."""
     if not NUMBER.fullmatch(word) or len(word) > 64:
         return None
     value = int(word, 0) if word.startswith("0x") else int(word)
@@ -102,7 +102,7 @@ def in_hexadecimal(word: str) -> bytes | None:
 
 
 def in_base64(word: str) -> bytes | None:
-    """The bytes in base64 (RFC 4648), or None if a word has another form."""
+    """The bytes that a word encodes in base64 (RFC 4648), or None if it has another form."""
     return a2b_base64(word) if BASE64.fullmatch(word) else None
 
 
@@ -127,7 +127,7 @@ def access_of_bytes(name: str, words: list[str]) -> Access | None:
 
 
 def number_in(access: Access, text: str | None) -> int | None:
-    """The number that an access has read, by the text of its answer; or None."""
+    """The number that a read returned, by the text after OK in its answer; None for a write, or without a number."""
     if access.kind == "write" or not text:
         return None
     if access.bytes_of:
@@ -161,8 +161,8 @@ def fields_of(name: str, size: int, value: int) -> str | None:
     """The fields in some bytes of a descriptor, such as `length 60, status 0x3 DD EOP`.
 
     `name` is the name of the memory, such as `rx[1]+8`, and `value` has its bytes as a number. Fields with value 0 are
-    left out, except for the length and the status in a part of a descriptor. Returns None if the bytes aren't complete
-    fields of one descriptor.
+    left out, except for the length and the status in a part of a descriptor. If nothing would remain, all fields are
+    shown. Returns None if the bytes aren't complete fields of one descriptor.
     """
     found = SLOT.fullmatch(name)
     if not found:

@@ -26,16 +26,16 @@ if TYPE_CHECKING:
 
 # Requests that begin a round and have a line of the log
 LOGGED = ("arrive", "step")
-# Requests that only the finder sends: the state that is saved is that of a fork.
+# Requests that only the finder sends, to save and restore states for its runs. A test gets the answer `FAIL unknown`.
 OURS = ["save"], ["restore"]
 LOG, EVENTS = (["log", "on"], ["log", "off"]), (["events", "on"], ["events", "off"])
 PORTS = ["outb"], ["outw"], ["outl"]
 MADE = {name: bit_made(name) for name in ROUNDS}
 MADE_CHOICE = bit_made(CHOOSE)
-REGISTER, OFFSETS = 4, {name: offset for offset, name in REGISTERS.items()}  # bytes of one; offsets by names
+REGISTER, OFFSETS = 4, {name: offset for offset, name in REGISTERS.items()}  # bytes of a register; offsets by names
 # The greatest number that is explored as the answer to `choose`
 MOST_EXPLORED = 16
-# The pairs that begin with a step
+# The pairs of steps, by their first steps
 WITH_PARTNERS = {steps[0]: pair for pair, steps in PAIRS.items()}
 MOST_KNOWN = 65536  # requests whose accesses are kept
 
@@ -45,50 +45,50 @@ class Mismatch(Exception):
 
 
 class Play(Talk):
-    """Takes requests of the test, and returns what answers them, after what a schedule plays before them."""
+    """Takes requests of the test, plays what is due before them, and returns the lines that answer them."""
     __slots__ = ("memory", "access_number", "at_stop", "offered", "offers", "idle", "accesses", "script", "told",
                  "answers", "counts", "rest", "is_direct", "draw", "checkpoint", "is_strict", "has_places",
                  "has_script", "schedule", "left", "named")
 
     def __init__(self, memory: int = 0) -> None:
-        self.memory = memory  # of these bytes, the finder knows that they are there
+        self.memory = memory  # how many bytes from address 0 on are surely memory
         self.rings, self.steps, self.ticks = Rings(), (), ()
-        self.asks = RINGS  # what of this is asked after the next requests
+        self.asks = RINGS  # what is asked after the next requests (requests.py)
         self.known = {}  # accesses by requests
-        # By addresses and sizes: the names of accesses, or None for those that the server refuses
+        # By address and size: the name of what an access goes to, or None if the server refuses the access
         self.names: dict[tuple[int, int], Optional[str]] = {}
         self.base = None  # the address of the first register, if it is known
         self.rest = b""  # of the test's output, a line that isn't complete
-        self.waiting, self.size = [], 0  # requests that aren't sent yet, and their bytes
-        self.untold = 0  # how many of these the test must be told the answers to
+        self.waiting, self.size = [], 0  # requests that aren't sent yet, and the number of their bytes
+        self.untold = 0  # the number of these requests that aren't TOLD (talk.py)
         self.round = self.access_number = 0
         self.is_logged = False  # whether the test wants the log
         self.stop: Optional[tuple[int, int]] = None
-        self.at_stop: Optional[Callable[[], object]] = None  # a place, and what is called when the run reaches it
-        # what is called before accesses and rounds when no deviation is left
+        self.at_stop: Optional[Callable[[], object]] = None  # called when the run reaches the place `stop`
+        # called before each access, `choose` and request that begins a round, while no deviation is left
         self.checkpoint: Optional[Callable[[], object]] = None
-        self.begun = []  # the requests before this place
-        self.begins = None  # the place of a request on its way, if its row is marked
+        self.begun = []  # the requests sent before the place `stop`, except `log on` and `log off`
+        self.begins = None  # the place of a request on its way that begins a round, if its row shows this place
         self.out = []  # lines for the test
-        self.offered: list[bytes] = []
-        self.offers = 0  # frames that wait for their arrival, the oldest one first; how many
-        self.met = []
-        self.idle: list[Deviation] = []  # the deviations that did something, and those that did nothing
+        self.offered: list[bytes] = []  # frames that wait for their arrival, the oldest one first
+        self.offers = 0  # how many frames were offered
+        self.met = []  # the deviations that did something
+        self.idle: list[Deviation] = []  # the deviations that did nothing
         self.places, self.rows = [], []
         self.reached = 0  # a bit for each item of reached.py
-        self.others = 0  # steps of engines that did something, and arrivals of offered frames, from round 1 on
-        self.accesses = 0  # from round 1 on, in rounds before this one
+        self.others = 0  # how many steps of engines did something and offered frames arrived, from round 1 on
+        self.accesses = 0  # the number of accesses and `choose` in rounds that have ended, from round 1 on
         self.told: list[bytes] = []
-        self.answers = hashlib.sha1()  # what the test was told, and the hash of what it was told before
-        # For all requests that the test made at once: these, what it was told then, the round and the access after that
+        self.answers = hashlib.sha1()  # the hash of what the test was told before the texts in `told`
+        # For each batch: the requests, what the test was told, the round, and the number of accesses made in it so far
         self.script: Script = []
-        self.tells_events = None  # whether the test gets lines `frame`, `arrived` and `fault`
-        self.kept = Kept()  # what the lines for frames and faults had while the test didn't get them
+        self.tells_events = None  # whether the test gets lines `frame`, `arrived` and `fault`; None before `begin`
+        self.kept = Kept()  # the frames and faults of lines that the test didn't get, until it fetches them
         self.is_raised = False  # whether the interrupt line is asserted
-        self.counts: Counter[str] = Counter()  # of accesses, by their names, if the schedule needs them
+        self.counts: Counter[str] = Counter()  # of accesses and requests, by their names, while `named` has some
 
     def copy(self) -> Play:
-        """Another run in the same state."""
+        """Returns another run in the same state."""
         other = copy(self)
         other.rings, other.answers, other.counts = self.rings.copy(), self.answers.copy(), self.counts.copy()
         other.kept = self.kept.copy()
@@ -98,9 +98,9 @@ class Play(Talk):
 
     def begin(self, server: Server, schedule: Sequence[Deviation] = (), draw: Drawing | None = None,
               is_strict: bool = True, has_places: bool = True, has_rows: bool = True, has_script: bool = True) -> None:
-        """Plays this schedule. Nothing that it does is before the next request. The log of the server is off.
+        """Plays this schedule, or what `draw` draws, from the next request on. The log of the server must be off.
 
-        Places, rows and the script are recorded from now on if this is wanted.
+        From now on, places (also for rows), rows and the script are recorded if this is wanted.
         """
         self.server, self.draw, self.is_strict = server, draw, is_strict
         self.has_places, self.has_rows, self.has_script = has_places or has_rows, has_rows, has_script
@@ -109,8 +109,8 @@ class Play(Talk):
         if self.tells_events is None:
             self.tells_events = server.tells_events
         self.schedule = list(schedule)
-        self.left: dict[tuple[int, int], list[Deviation]] = {}
         # deviations whose access isn't reached yet: by places, and by names and numbers
+        self.left: dict[tuple[int, int], list[Deviation]] = {}
         self.named: dict[tuple[str, int], list[Deviation]] = {}
         for deviation in schedule:
             if deviation.number:
@@ -120,24 +120,24 @@ class Play(Talk):
         self.look_ahead()
 
     def look_ahead(self) -> None:
-        """Notes whether from now on only default steps are played, and nothing is recorded but what is reached."""
+        """Sets `is_direct`: from now on, nothing is due, drawn or awaited, and neither places nor a log are wanted."""
         has_more = self.left or self.named or self.draw or self.stop or self.checkpoint
         self.is_direct = not (has_more or self.has_places or self.is_logged)
-        # Whether it is needed only now and then which steps would do something
+        # Whether only few requests need to know which steps would do something
         self.is_lazy = self.is_direct or self.draw is not None and self.draw.is_rare
 
     def events(self) -> int:
-        """The number of events from the first request that begins a round on. Events are requests that begin a round,
-        accesses, steps of engines that did something, and arrivals of offered frames."""
+        """The number of events from round 1 on. Events are requests that begin a round, accesses, `choose`, steps of
+        engines that did something, and arrivals of offered frames."""
         return self.others + self.accesses + (self.access_number if self.round else 0) + self.round
 
     # The test
 
     def feed(self, data: bytes, is_last: bool = False) -> bytes:
-        """Returns the lines that answer these requests of the test. A line that isn't complete waits for its end."""
+        """Returns the lines that answer these requests. An incomplete line waits, or is a request if `is_last`."""
         known = self.known.get(data)
         if known and not self.rest:
-            self.access(data, known)  # a single request, which was made before
+            self.access(data, known)  # a single request whose access is known
         else:
             self.take_all(data, is_last)
         if self.untold or is_last:
@@ -158,7 +158,7 @@ class Play(Talk):
         return self.answers.digest()
 
     def take_all(self, data: bytes, is_last: bool) -> None:
-        """Takes the requests in the complete lines so far."""
+        """Takes the requests in the complete lines so far; if `is_last`, also that in an incomplete line."""
         *lines, self.rest = (self.rest + data).split(b"\n")
         if is_last and self.rest:
             lines.append(self.rest)
@@ -170,7 +170,7 @@ class Play(Talk):
                 self.take(request)
 
     def take(self, request: bytes) -> None:
-        """A request of the test that isn't an access."""
+        """Takes a request of the test that makes no access, or whose access is refused."""
         words = words_of(text_of(request[:-1]))
         if words[:1] == ["mark"]:
             self.mark_row(words)
@@ -204,7 +204,7 @@ class Play(Talk):
             self.queue(request, TEST)
             self.flush()
             self.forget_names()
-            self.base = None  # the registers may have moved
+            self.base = None  # the address of the registers may have changed
         elif words in REQUESTS and not self.server.tells_events:
             self.flush()
             self.out.append(self.kept.fetch(words))
@@ -214,7 +214,7 @@ class Play(Talk):
                 self.reached |= PACE
 
     def choose(self, limit: int) -> None:
-        """A number below this limit: 0, or that of the schedule. The server doesn't get this request."""
+        """Answers `choose` by the schedule's first number below the limit, by a drawn one from round 1 on, or by 0."""
         self.flush()
         self.access_number += 1
         place = Place(self.round, self.access_number)
@@ -249,23 +249,23 @@ class Play(Talk):
         self.out.append(b"OK 0x%016x" % number)
 
     def mark_row(self, words: list[str]) -> None:
-        """A row of the chart that the test asks for. The server doesn't get this request."""
+        """Answers `mark`, which the server doesn't get, and adds its row if rows are wanted."""
         self.flush()
         self.out.append(b"OK")
         if self.has_rows:
             self.rows.append(Row(f"# {' '.join(words)}", TEST, self.rings.both()))
 
     def cut(self) -> None:
-        """Before another request, which may change what a step does: none before the last access commutes with it."""
+        """Before a request that begins no round: it may change what steps do, so none commutes with the last place."""
         self.flush()
         self.places[-1] = self.places[-1]._replace(commuting=())
 
     def waits(self) -> tuple[int, bytes]:
-        """What waits for later requests of the test or for later deviations."""
+        """The number of offered frames that wait, and the digest of the frames and faults kept for the test."""
         return len(self.offered), self.kept.digest()
 
     def learn(self, request: bytes, name: str | None = None) -> Known | None:
-        """The access of a request, or None if it is none, or is refused. Without a name, asks the server for it."""
+        """Keeps and returns the access of a request. Returns None if it makes none or is refused."""
         access = access_of(text_of(request[:-1])) if len(request) <= LONGEST + 1 else None
         if not access:
             return None
@@ -278,8 +278,8 @@ class Play(Talk):
         return known
 
     def target(self, access: Access) -> str | None:
-        """The name of what an access goes to, or None if it is refused. The server is asked for the first register, and
-        then only for other places than registers and memory."""
+        """The name of what an access goes to, or None if it is refused. If neither the addresses of the registers nor
+        the size of memory decide this, the server is asked, once for each address and size."""
         if self.base is not None:
             if access.size == REGISTER and access.address - self.base in REGISTERS:
                 return REGISTERS[access.address - self.base]
@@ -293,7 +293,7 @@ class Play(Talk):
         return self.names[place]
 
     def reach(self, place: tuple[int, int]) -> None:
-        """The run is before this place, and all requests before it are answered if it stops here."""
+        """Before this place: if the run stops here, answers all requests so far, and calls `at_stop`."""
         if place == self.stop:
             self.flush()
             self.stop = None
@@ -307,7 +307,7 @@ class Play(Talk):
         if self.round:
             self.accesses += self.access_number
         else:
-            self.flush()  # these accesses are in round 0
+            self.flush()  # the waiting accesses are in round 0
         self.round, self.access_number = self.round + 1, 0
         self.reached |= MADE[words[0]]
         if not self.is_direct:
@@ -321,11 +321,11 @@ class Play(Talk):
             self.settle(request)
         else:
             self.queue(request, TEST, outcomes=None if self.has_log else OUTCOMES.get(words[1]))
-            self.flush()  # so the same steps follow, however many requests are sent at once
+            self.flush()  # so it doesn't matter how many requests are sent at once
         self.begins = None
 
     def settle(self, request: bytes) -> None:
-        """A request that delivers the offered frames and plays cycles of steps, which the log has."""
+        """Takes a request that plays cycles. The offered frames arrive first. The log is on, so the steps are heard."""
         self.flush()
         while self.offered:
             self.arrive(DEFAULT)
@@ -336,7 +336,7 @@ class Play(Talk):
         self.flush()
 
     def before_round(self, name: str) -> None:
-        """Plays what is due before the request with this name, which begins a round. No default step is played."""
+        """Plays what is due or drawn, but no default step, before the request with this name, which begins a round."""
         self.flush()
         place, count = Place(self.round, 0), len(self.met)
         for deviation in self.due(name) if self.left or self.named else ():
@@ -357,14 +357,14 @@ class Play(Talk):
             self.mark(place, name)
 
     def mark(self, place: Place, name: str) -> None:
-        """The request that begins a round here gets a row with its place: its own one, if it has one in the log."""
+        """Lets the row of the request that begins a round here show its place. Adds this row if the log has none."""
         if name in LOGGED:
             self.begins = place
         else:
             self.rows.append(Row(f"# {name}", TEST, self.rings.both(), begins=place))
 
     def access(self, request: bytes, known: Known) -> None:
-        """An access of the test, after what the schedule plays before it."""
+        """Makes an access of the test, after what is played before it. Quiet writes may be answered at once."""
         self.access_number += 1
         met = None if self.is_direct and not self.ticks else self.before(known.name, known)
         if known.is_quiet and not (self.untold or self.is_logged or self.has_rows):
@@ -376,7 +376,7 @@ class Play(Talk):
             self.flush()
 
     def before(self, name: str, known: Known) -> Met | None:
-        """Plays what is due before an access with this name. Returns what is recorded of the access, or None."""
+        """Plays steps and arrivals before an access with this name. Returns its Met, or None without `has_places`."""
         if self.stop:
             self.reach((self.round, self.access_number))
         due: Sequence[Deviation] = self.due(name) if self.left or self.named else ()
@@ -395,17 +395,17 @@ class Play(Talk):
             return None
         place = Place(self.round, self.access_number)
         if self.draw:
-            return Met(place, name, (), holds)  # no schedule gets longer than a drawn one
+            return Met(place, name, (), holds)  # no deviation is added to a drawn schedule
         enabled = self.enabled()
         return Met(place, name, enabled, holds, self.commuting(enabled, name, known))
 
     def commuting(self, enabled: tuple[str, ...], name: str, known: Known | None = None) -> tuple[str, ...]:
-        """The enabled steps that commute with this access or request: none if the test wants the log, which has all."""
+        """The steps and pairs that commute with this access or request: none if the test wants the log."""
         return () if self.is_logged else commuting(enabled, self.rings, name, known, self.is_raised,
                                                    bool(self.tells_events))
 
     def due(self, name: str) -> list[Deviation]:
-        """The deviations before this access or request, in the order in which the schedule has them."""
+        """Takes the deviations before this access or request, in the order of the schedule. May raise Mismatch."""
         due = self.left.pop((self.round, self.access_number), [])
         for deviation in due:
             if self.is_strict and deviation.before != name:
@@ -418,7 +418,7 @@ class Play(Talk):
         return due
 
     def possible(self) -> tuple[str, ...]:
-        """The steps of engines and the arrivals that would do something, after what is answered."""
+        """The steps of engines and the arrivals that would do something after the requests that are answered so far."""
         return (*self.steps, ARRIVE) if self.offered else self.steps
 
     def enabled(self) -> tuple[str, ...]:
@@ -428,7 +428,7 @@ class Play(Talk):
         return self.possible()
 
     def arrive(self, owner: str, drawn: Deviation | None = None) -> None:
-        """The oldest frame that the test has offered arrives."""
+        """The oldest offered frame that waits arrives."""
         frame = self.offered.pop(0)
         self.queue(b"arrive %b\n" % frame, owner, drawn=drawn, frame=frame)
 
@@ -437,7 +437,7 @@ class Play(Talk):
         self.queue(STEP[kind], owner, None, None, drawn, None, None if self.has_log else OUTCOMES[kind])
 
     def tick(self, name: str, due: Sequence[Deviation]) -> tuple[str, ...]:
-        """Plays the default steps. Returns the holds that would leave out one that does something."""
+        """Plays the default steps before an access, except held ones. Returns the holds of those that did something."""
         held = {deviation.action for deviation in due}
         found = []
         for hold, kind in HOLDS.items():
@@ -451,13 +451,13 @@ class Play(Talk):
                     self.rows.append(Row(f"# {hold}", DEVIATION, self.rings.both()))
             else:
                 self.step(kind, DEFAULT)
-                self.asks = TICKS  # this is asked after each of these steps
+                self.asks = TICKS  # what is asked after each of these steps
                 if self.flush()[-1] != NOTHING:
                     found.append(hold)
         return tuple(found)
 
     def play_drawn(self, action: str, name: str) -> None:
-        """Plays what is drawn before an access with this name."""
+        """Plays a drawn action before an access or a request with this name."""
         drawn = Deviation(Place(self.round, self.access_number), action, name)
         if action == ARRIVE:
             self.arrive(DEVIATION, drawn)
@@ -465,7 +465,7 @@ class Play(Talk):
             self.step(action, DEVIATION, drawn)
 
     def play(self, deviation: Deviation, name: str) -> None:
-        """Plays the steps of a deviation before an access with this name, or an arrival. Records what did something."""
+        """Plays a deviation before an access or a request with this name. Records what did something."""
         self.flush()
         if deviation.action == ALL:
             self.play_all(deviation.place, name)
@@ -486,7 +486,7 @@ class Play(Talk):
             self.idle.append(deviation)
 
     def play_all(self, place: Place | None, name: str) -> None:
-        """Plays steps of the engines until none would do something: each step, or pair, is recorded as a deviation."""
+        """Plays steps of the engines until none does anything. Records each step, or pair, as a deviation."""
         count = None
         self.flush(True)
         while self.steps and len(self.met) != count:
@@ -495,5 +495,5 @@ class Play(Talk):
             self.flush(True)
 
     def unreached(self) -> list[Deviation]:
-        """The deviations whose accesses the run didn't reach."""
+        """The deviations whose access or request the run didn't reach."""
         return [deviation for some in (*self.left.values(), *self.named.values()) for deviation in some]

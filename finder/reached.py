@@ -1,5 +1,5 @@
-"""What runs reached: registers, causes, outcomes of steps, fates of arrivals, rings, accesses after a deviation; and
-what they never reached.
+"""What runs reached: registers, causes, outcomes of steps, fates of arrivals, rings, and accesses and requests after a
+deviation; and what they never reached.
 
 What a run reached is a number, which has a bit for each item.
 """
@@ -17,8 +17,8 @@ OTHER = "other offsets"
 MEMORY = ("rx", "tx", "memory")
 # Accesses and requests before which deviations are played, by what they go to.
 PLAYED = *(f"{kind} {name}" for kind in ("read", "write") for name in (*NAMES, OTHER, *MEMORY)), *ROUNDS, CHOOSE
-# What a test may reach. Reads that always return 0, and writes that are always ignored, are left out. Of `played`, what
-# never came up has only accesses and requests that the runs made from round 1 on.
+# What a test may reach. Reads that always return 0, and writes that are always ignored, are left out. Items of `played`
+# count as never reached only if the runs made this access or request from round 1 on.
 ALL = {
     "read": tuple(name for name in NAMES if name not in ("ICS", "IMC")),
     "written": tuple(name for name in NAMES if name not in ("STATUS", "MPC", "GPRC", "GPTC", "RNBC")),
@@ -41,7 +41,7 @@ PACE_LINE = "The test sends `pace`: then the adapter works after each access, an
 
 
 def target_of(name: str) -> str:
-    """An access or a request by its name, without the numbers of slots, addresses and words of tables."""
+    """The item of `played` for an access or a request with this name: without slots, addresses and indices."""
     kind, _, target = name.partition(" ")
     if not target:
         return kind
@@ -58,13 +58,13 @@ def access_bit(kind: str, register: str | None) -> int:
 
 
 def bit_made(name: str) -> int:
-    """The bit of the access or the request with this name, which was made after round 0."""
+    """The bit that is set when an access or a request with this name is made after round 0."""
     return BITS["made", target_of(name)]
 
 
 @lru_cache(maxsize=4096)
 def bit_played(name: str) -> int:
-    """The bit of the access or the request with this name, before which a deviation did something."""
+    """The bit that is set when a deviation before an access or a request with this name does something."""
     return BITS["played", target_of(name)]
 
 
@@ -84,21 +84,26 @@ def bits_of_fates() -> dict[bytes, int]:
 
 
 def bits_of_steps() -> dict[bytes, tuple[int, str, str, bool]]:
-    """For each line of the log for a step: the bit, the kind, the outcome, and whether it changed nothing."""
+    """For each line of the log for a step: the bit, the kind, the outcome, and whether the step changed nothing.
+
+    The bit is 0 if the outcome isn't an item.
+    """
     return {f"# step {kind} -> {outcome}".encode():
             (BITS.get(("steps", f"{kind} {outcome}"), 0), kind, outcome, outcome in ("nothing", "wirefull"))
             for kind in STEP_KINDS for outcome in OUTCOMES}
 
 
 def tables_of(reached: int) -> tuple[dict[str, list[str]], dict[str, list[str]]]:
-    """What was reached, and what never was: the names for each key of ALL, in a fixed order."""
+    """Two dictionaries: what was reached, and what never was. Both have names by the keys of ALL, in a fixed order. For
+    `played`, the second one has only the accesses and requests that the test made from round 1 on.
+    """
     never = {key: [name for name in names if not reached & BITS[key, name]] for key, names in ALL.items()}
     never["played"] = [target for target in never["played"] if reached & BITS["made", target]]
     return {key: [name for one, name in ITEMS if one == key and reached & BITS[one, name]] for key in ALL}, never
 
 
 def lines_of(reached: int) -> list[str]:
-    """The lines that show this to a user."""
+    """The lines that show what was reached, and what never was; and a warning if the test sends `pace`."""
     lines = []
     for title, table in zip(("reached", "never"), tables_of(reached)):
         lines += [f"{title}:", *(f"  {TITLES[key]}: {', '.join(names) or 'none'}" for key, names in table.items())]

@@ -42,24 +42,24 @@ sys.path.insert(0, sys.argv[1])
 from finder.recall import main
 main(int(sys.argv[2]))
 """
-FAR = 16  # requests up to the next schedule that are worth that the state is saved again
+FAR = 16  # with this many batches of requests up to a schedule's first deviation, the state is saved again
 MOST = 400_000  # answers for which the requests are kept, by all players: each takes about 1 kB
 # A run that was played, and its rests by its states
 Ended = Tuple["Run", List[Tuple["State", "Rest"]]]
 
 
 def hash_of(state: int, told: bytes) -> int:
-    """The state after this one."""
+    """The state that follows `state` if the test is told `told` there."""
     return int.from_bytes(hashlib.sha1(b"%d " % state + told).digest()[:8], "little")
 
 
 class Requests:
-    """The requests that a test makes after which answers, by the scripts of its runs (`Play.script`)."""
+    """Which requests a test makes after which answers, by the scripts of its runs (`Play.script`)."""
 
     def __init__(self, most: int = MOST) -> None:
         self.most = most
         # By a state, and what the test is told there: the next state, the next requests, and whether the test ends
-        # then. A state is a hash of all that the test was told.
+        # then. A state is a hash of all that the test was told before.
         self.known: dict[tuple[int, bytes], tuple[int, bytes, bool]] = {}
         self.is_certain = True  # whether the same answers always lead to the same requests
 
@@ -88,7 +88,9 @@ class Player:
         self.run: Optional[Play] = None
 
     def learn(self, shared: int, script: Script) -> None:
-        """A run whose script begins with this part of that of the run without deviations. The first one is that run."""
+        """Learns a run. Its script is the first `shared` batches of the run without deviations, and then `script`. The
+        run without deviations must be learned first.
+        """
         self.base = self.base or script
         self.requests.learn([*self.base[:shared], *script])
 
@@ -116,7 +118,7 @@ class Player:
         return None
 
     def ended(self, play: Play, checks: Checks | None, has_places: bool, rest: Rest | None = None) -> Ended:
-        """The run that was played, and the rests of the run by its states."""
+        """The run that was played, and its rests, each with its state."""
         if not checks:
             return run_of(None, play).reduced(has_places, False), []
         ended, rests = checks.end(rest)
@@ -132,8 +134,8 @@ class Player:
     # The run without deviations
 
     def move(self, place: Place) -> tuple[Server, Play]:
-        """Saves a state shortly before this place, if that which is saved is another one. Returns the server, and the
-        run up to there.
+        """Saves the state before this place, unless a state shortly before it is saved. Returns the server, and the run
+        up to the saved state.
         """
         server, run, base = self.server, self.run, self.base
         if not server or not run or (run.round, run.access_number) >= place:
@@ -147,7 +149,7 @@ class Player:
         return server, run
 
     def start(self) -> tuple[Server, Play]:
-        """A new server, and the run from its start."""
+        """Starts a new server and a new run, and returns both."""
         self.end()
         server, run = Server(self.program, self.options), Play(self.memory)
         self.server = server
@@ -174,7 +176,7 @@ class Recall:
         self.free: queue.LifoQueue[Optional[socket.socket]] = queue.LifoQueue()
         self.seconds = seconds
         self.processes: list[subprocess.Popen[bytes]] = []
-        # By players, what they don't know yet
+        # For each player, the scripts and the rests that it doesn't know yet
         self.scripts: dict[socket.socket, list[tuple[int, Script]]] = {}
         self.rests: dict[socket.socket, list[tuple[State, Rest]]] = {}
         self.is_usable = True
@@ -203,7 +205,7 @@ class Recall:
         found: Any = None
         try:
             if control is None:
-                return None  # no player is free, as one didn't answer
+                return None  # this takes the place of a player that didn't answer
             scripts, self.scripts[control] = self.scripts[control], []
             rests, self.rests[control] = self.rests[control], []
             send(control.fileno(), (scripts, rests, [deviation.words() for deviation in schedule], has_places))
@@ -215,7 +217,7 @@ class Recall:
             # A player that didn't answer isn't used again: its next answer would be that for this schedule.
             self.free.put(control if found else None)
         if not found:
-            self.is_usable = False  # a process of the test shows what it is
+            self.is_usable = False  # a process of the test shows the reason
             return None
         run, rests = found
         for other in self.rests if rests else ():
@@ -235,7 +237,9 @@ class Recall:
 
 
 def main(control: int) -> None:
-    """Plays what is asked for until the finder ends. The answer has the run, or None, and its rests by its states."""
+    """Plays what is asked for until the finder or the server ends. An answer has the run, or None, and its rests by its
+    states.
+    """
     player = Player(*receive(control))
     try:
         while message := receive(control):

@@ -16,19 +16,24 @@ if TYPE_CHECKING:
 MOST_INTERLEAVED = 65535
 MOST_CHOICES = 2**32 - 1
 DIGITS = re.compile("[0-9a-fA-F]+")
-LONGEST = 131_200  # bytes of a request
-# What is asked after a request: which steps of engines would do something; which steps at all; and where the rings are.
+LONGEST = 131_200  # the most bytes of a request, without its newline
+# What a request may change, so that it is asked then. STEPS: which steps of engines would do something. TICKS: which
+# steps of all actors would. RINGS: the same, and where the rings are.
 STEPS, TICKS, RINGS = 1, 2, 3
-# A write of an index to one of these registers is valid, and never changes the interrupt line.
+# A write of an index up to MOST_INDEX to one of these registers is valid, and never changes the interrupt line.
 TAILS, MOST_INDEX = ("RDT", "TDT"), 65535
-# What is asked after a write of a register; nothing after others.
+# What is asked after a write of a register (after a tail above MOST_INDEX, RINGS). After other writes and after reads,
+# nothing is asked.
 ASKED = {**dict.fromkeys((*TAILS, "RCTL", "TCTL"), STEPS), **dict.fromkeys(("EERD", "MDIC"), TICKS), "CTRL": RINGS,
          **{f"{ring}D{name}": RINGS for ring in "RT" for name in ("BAL", "BAH", "LEN", "H")}}
 
 
 class Met(NamedTuple):
-    """An access of a run, or a request that began a round. It has its place, its name, the deviations before it that
-    would do something, and those that would do the same after it (`commuting`)."""
+    """An access or a `choose` of a run, or a request that began a round. It has its place and its name.
+
+    `enabled` has the steps, arrivals and answers to `choose` that would do something before it, and `holds` the holds.
+    `commuting` has the steps and pairs that would do the same after it.
+    """
     place: Place
     name: str
     enabled: tuple
@@ -37,18 +42,18 @@ class Met(NamedTuple):
 
 
 class LogRow(Protocol):
-    """A row from which a chart can be made."""
+    """What the row of an access or of a step in a chart is made from."""
     @property
     def line(self) -> str:
-        """The text of the log."""
+        """The line of the log."""
 
     @property
     def place(self) -> Optional[Place]:
-        """The place of an access."""
+        """The place of an access; None for other rows."""
 
     @property
     def name(self) -> Optional[str]:
-        """The name of an access, or of a slot."""
+        """The name of an access, or of the slot that a step used."""
 
     @property
     def answer(self) -> Optional[str]:
@@ -56,13 +61,14 @@ class LogRow(Protocol):
 
     @property
     def rings(self) -> Both:
-        """The rings after it."""
+        """The rings after this row."""
 
 
 class Row:
     """A line of the log: who caused it, its access (or the slot that a step used), the answer, and the rings after it.
 
-    `begins` is the place of a request that begins a round, if something was played before it.
+    `begins` is the place of a `choose`, or that of a request that begins a round, if a deviation before the request did
+    something.
     """
     __slots__ = ("line", "owner", "place", "name", "answer", "begins", "rings")
 
@@ -84,8 +90,8 @@ class Known:
     def __init__(self, access: Access, target: str) -> None:
         is_write, register = access.kind == "write", target if is_register(target) else None
         self.access, self.register, self.name = access, register, f"{access.kind} {target}"
-        self.bit = access_bit(access.kind, register)  # in round 0
-        self.bits = self.bit | bit_made(self.name)  # in later rounds
+        self.bit = access_bit(access.kind, register)  # what it reaches in round 0
+        self.bits = self.bit | bit_made(self.name)  # what it reaches in later rounds
         self.is_tail = is_write and register in TAILS and (access.value or 0) <= MOST_INDEX
         self.is_quiet = is_write and (register is None or self.is_tail)
         self.is_causes = register == "ICR" and not is_write
@@ -127,7 +133,7 @@ def limit_of(words: list[str]) -> int | None:
 
 
 def kind_of(name: str) -> str:
-    """What is called by this name."""
+    """The word `request` or `access`, by the name of a request or an access."""
     return "request" if name in (*ROUNDS, CHOOSE) else "access"
 
 

@@ -15,7 +15,7 @@ class Ring(NamedTuple):
     tail: int = 0
 
     def size(self) -> int:
-        """The number of descriptors, or 1."""
+        """The number of descriptors, or 1 if there is none."""
         return max(1, self.length // DESCRIPTOR)
 
     def left(self) -> int:
@@ -23,7 +23,7 @@ class Ring(NamedTuple):
         return (self.tail - self.head) % self.size()
 
     def is_full(self) -> bool:
-        """Whether no descriptor is free: one is never offered."""
+        """Whether no descriptor is free: all are offered, except the one that a driver never offers."""
         return self.left() == self.size() - 1 > 0
 
     def advanced(self) -> Ring:
@@ -45,7 +45,8 @@ def name_in(rings: Both, address: int) -> str:
 
 
 class Rings:
-    """Both rings, and the slots of steps in progress. After a report of the server, steps advance the heads."""
+    """Both rings, and the slots of frames in progress. After a report of the server, `step` and `set_tail` change them.
+    """
     __slots__ = ("receive", "transmit", "taken", "piece", "piece_at", "is_last")
 
     def __init__(self) -> None:
@@ -69,7 +70,7 @@ class Rings:
         return name_in(self.both(), address)
 
     def hear(self, line: bytes) -> bool:
-        """Takes the answer to `rings`. Returns whether a ring has moved."""
+        """Takes the answer to `rings`. Returns whether the base or the length of a ring has changed."""
         before = *self.receive[:2], *self.transmit[:2]
         numbers = [int(word, 16) for word in line.split()[1:]]
         self.receive, self.transmit = Ring(*numbers[:4]), Ring(*numbers[4:])

@@ -1,4 +1,4 @@
-"""What a run shows."""
+"""What a run shows, and the texts of faults."""
 
 from __future__ import annotations
 
@@ -11,14 +11,15 @@ if TYPE_CHECKING:
     from finder.requests import Met, Row
     from finder.schedule import Deviation
 
-# All requests of a test: those that it made at once, what it was told then, and the round and the access after that
+# For each batch of requests, as it was passed to `Play.feed`: the batch, what the test was told, and where the run was
+# then. This is the round, and the number of accesses (and `choose` requests) made in it so far.
 Script = List[Tuple[bytes, bytes, Tuple[int, int]]]
-# A run as a built-in value: pickled, or its answers, its events, its offers, and what it reached
+# A run as a built-in value: pickled, or a tuple of the arguments of `Run`
 Packed = Union[bytes, Tuple[bytes, int, int, int]]
 
 
 class Run:
-    """What a run showed: its fault (None if the test passed), and what was played."""
+    """What a run showed: its fault (None if the test passed), the arguments of `__init__`, and what `Play` recorded."""
 
     fault: Optional[str] = None
     met: Sequence[Deviation] = ()
@@ -26,15 +27,21 @@ class Run:
     unreached: Sequence[Deviation] = ()
     places: Sequence[Met] = ()
     rows: Sequence[Row] = ()
-    # How much of the script is that of the run without deviations, and the rest; see `Play.script`
+    # The number of batches that come from the run without deviations, and the batches after them; None if not kept
     script: Optional[tuple[int, Script]] = None
 
     def __init__(self, answers: bytes, events: int, offers: int, reached: int) -> None:
-        """A run that passes, and of which nothing else is known."""
+        """A run that passes, and of which nothing else is known.
+
+        `answers` is the hash of what the test was told, `events` and `offers` are numbers (`Play.events`,
+        `Play.offers`), and `reached` has the bits of reached.py.
+        """
         self.answers, self.events, self.offers, self.reached = answers, events, offers, reached
 
     def reduced(self, has_places: bool, has_rows: bool, has_script: bool = False) -> Run:
-        """Drops what this run isn't asked for. It is needed if the run failed, except for the script."""
+        """Drops what isn't asked for: the script, the rows, or the places with the deviations. If the run failed, drops
+        only the script. Returns this run.
+        """
         if not has_script:
             self.script = None
         if not (has_rows or self.fault):
@@ -44,7 +51,7 @@ class Run:
         return self
 
     def take(self, run: Run) -> None:
-        """Takes what was played from the same run."""
+        """Takes over the deviations and the places of `run`, which shows the same run."""
         self.met, self.idle, self.unreached, self.places = run.met, run.idle, run.unreached, run.places
 
     def packed(self) -> Packed:
@@ -55,7 +62,9 @@ class Run:
 
 
 def run_of(fault: str | None, play: Play, shared: int = 0) -> Run:
-    """The run that was played. This part of its script is shared with the run without deviations, and left out."""
+    """The run that was played. The first `shared` batches of its requests are those of the run without deviations, so
+    its script has only the later ones.
+    """
     run = Run(play.digest(), play.events(), play.offers, play.reached)
     run.fault, run.met, run.idle, run.unreached = fault, play.met, play.idle, play.unreached()
     run.script = shared, play.script[shared:]
@@ -73,7 +82,9 @@ def unpacked(value: Packed) -> Run:
 
 
 def fault_of(status: int, errors: bytes) -> str | None:
-    """Why a test failed, by its exit status (or minus a signal) and its standard error; or None if it passed."""
+    """Why a test failed, or None if it passed. `status` is its exit status, or minus the number of a signal. The last
+    line of its standard error, `errors`, is shown.
+    """
     if status == 0:
         return None
     lines = errors.decode(errors="replace").strip().splitlines()
@@ -82,7 +93,7 @@ def fault_of(status: int, errors: bytes) -> str | None:
 
 
 def signal_of(number: int) -> str:
-    """The name of a signal. Most real-time signals have none."""
+    """The name of a signal, or `signal N` if number N has no name, like most real-time signals."""
     try:
         return signal.Signals(number).name
     except ValueError:

@@ -1,7 +1,7 @@
-"""Schedules: what the adapter does otherwise than by default, and before which requests.
+"""Schedules: what happens otherwise than by default, and before which accesses and requests.
 
 By default, the EEPROM and the PHY each take one step before each access while they have work. Everything else happens
-at the test's own requests. A schedule is a list of deviations from this. It doesn't depend on who plays it.
+at the test's own requests. A schedule is a list of deviations from this. The finder and `nicbench serve` play it alike.
 """
 
 from __future__ import annotations
@@ -14,20 +14,20 @@ from finder.names import ENGINES
 
 # The whole way of a frame, or of a piece of it, counts as one deviation.
 PAIRS = {"tx": ("txtake", "txput"), "rx": ("rxdata", "rxdone")}
-# The oldest frame that the test has offered arrives.
+# The oldest offered frame that waits arrives.
 ARRIVE = "arrive"
-# The engines take steps until none would do something. A run has these steps as its deviations, so a text never has
-# this.
+# The engines take steps until none would do something. A run has these steps as its deviations, so this action is never
+# in the text of a schedule.
 ALL = "all"
 # The default step of an actor is left out.
 HOLDS = {"hold eeprom": "eeprom", "hold phy": "phy"}
-# One step more of such an actor, after its default step. These aren't drawn and not explored.
+# One step more of such an actor, after its default step. Such steps are neither drawn nor explored.
 TICKS = tuple(HOLDS.values())
 ACTIONS = (*ENGINES, *PAIRS, ARRIVE, *TICKS, *HOLDS)
 # A round of the test begins with each of these requests.
 ROUNDS = ("arrive", "offer", "step", "settle")
-# A request of the test for a number below a limit, with a place like an access. The answer is 0; with a deviation
-# `choose K` before it, K.
+# A request of the test for a number below a limit, with a place like an access. The answer is K if a deviation
+# `choose K` is before the request, and K is below the limit. Otherwise the answer is a drawn number, or 0.
 CHOOSE = "choose"
 CHOICE = re.compile(r"choose ([1-9][0-9]{0,9})")
 
@@ -37,7 +37,7 @@ COMMENT = re.compile(r"(^|\s)#.*")
 
 
 class Place(NamedTuple):
-    """Before an access: the number of the round, and the number of the access in it, from 1.
+    """Before an access or a `choose`: the number of the round, and its number among those of the round, from 1.
 
     With access 0, before the request that begins the round. Round 0 begins with the run, and has no such place.
     """
@@ -49,9 +49,10 @@ class Place(NamedTuple):
 
 
 class Deviation(NamedTuple):
-    """What happens, before which access or request that begins a round, and its name.
+    """An action, the access or the request before which it happens, and the name of this access or request.
 
-    It is given by its place; or by its number among those of the run with this name, from 1, and without a place.
+    The access or request is given by its place. Without a place, it is given by its number among those of the run with
+    this name, from 1.
     """
     place: Optional[Place]
     action: str
@@ -82,16 +83,16 @@ def chosen(action: str) -> int | None:
 
 
 def choice(number: object) -> str:
-    """The action that answers this number."""
+    """The action by which this number is the answer to `choose`."""
     return f"{CHOOSE} {number}"
 
 
 def keys_of(schedule: Iterable[Deviation]) -> Keys:
-    """What decides a run: places and actions. The names of accesses don't."""
+    """What decides the run of a schedule with places: the places and actions. The names of accesses don't."""
     return tuple(deviation.key() for deviation in schedule)
 
 
-# What decides a run
+# What decides the run of a schedule with places
 Keys = Tuple[Tuple[Optional[Place], str], ...]
 
 
@@ -100,14 +101,14 @@ class ScheduleError(Exception):
 
 
 def steps_of(action: str) -> tuple[str, ...]:
-    """The steps of a deviation; none for a hold or an arrival."""
+    """The steps of an action; none for a hold, an arrival or a choice."""
     if action in ENGINES or action in TICKS:
         return (action,)
     return PAIRS[action] if action in PAIRS else ()
 
 
 def place_of(word: str, others: Container[str] = ()) -> Place | None:
-    """The place in a word, or None for one of some other words."""
+    """The place in a word, or None if the word is one of `others`. Raises ScheduleError for any other word."""
     found = PLACE.fullmatch(word)
     place = Place(int(found[1]), int(found[2])) if found else None
     if place == (0, 0):
@@ -119,7 +120,8 @@ def place_of(word: str, others: Container[str] = ()) -> Place | None:
 
 
 def check_place(place: Place, name: str) -> None:
-    """ROUND.0 is before a request that begins a round, and every other place is before an access."""
+    """Checks that ROUND.0 is before a request that begins a round, and every other place before an access or a choice.
+    """
     if place.access and name in ROUNDS:
         raise ScheduleError(f"{place} is before an access: use ROUND.0 for the request that begins a round")
     if not place.access and name not in ROUNDS:
@@ -153,7 +155,9 @@ def deviation_of(line: str) -> Deviation:
 
 
 def parse(text: str) -> tuple[list[str] | None, list[Deviation]]:
-    """The options of the server, or None, and the deviations of a schedule."""
+    """The options of the server (None if there is no line `options`), and the deviations of a schedule. Raises
+    ScheduleError.
+    """
     options: Optional[list[str]] = None
     deviations: list[Deviation] = []
     last = Place(0, 0)
@@ -177,8 +181,8 @@ def parse(text: str) -> tuple[list[str] | None, list[Deviation]]:
 def by_name(schedule: Iterable[Deviation], accesses: Iterable[tuple[Place, str]]) -> list[Deviation]:
     """The same schedule without places: each access is given by its number among those with its name.
 
-    `accesses` has the place and the name of each access of its run, and of each request that began a round. A deviation
-    whose place the run didn't reach keeps its place.
+    `accesses` has the place and the name of each access and `choose` of its run, and of each request that began a
+    round. A deviation whose place the run didn't reach keeps its place.
     """
     counts: Counter[str] = Counter()
     numbers: dict[Optional[Place], tuple[str, int]] = {}

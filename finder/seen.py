@@ -1,7 +1,7 @@
 """States of runs that are known: from there on, a run is the same as an earlier one.
 
 A state is what the test was told so far, the place, what waits in the finder, and the digest of the server. If no
-deviation is left, it decides the rest of the run: the test has made the same requests, and makes the same ones.
+deviation is left, the state decides the rest of the run: the test has made the same requests, and makes the same ones.
 """
 
 from __future__ import annotations
@@ -15,19 +15,21 @@ if TYPE_CHECKING:
     from finder.play import Play
     from finder.server import Server
 
-# What the test was told, the round and the access, what waits in the finder, and the digest of the server
+# A hash of what the test was told, the round and the access, what waits in the finder, and the digest of the server
 State = Tuple[int, int, int, Any, bytes]
-# The hash of all answers of the run, its offers, the events of the rest, and what is reached in the rest
+# The hash of all answers of the run, the number of its offers, the number of events in the rest, and what it reaches
 Rest = Tuple[bytes, int, int, int]
 
 MOST = 400_000  # states that are kept, by all players: each takes about 400 bytes
 MOST_EACH = 100_000
-NEAR, CHECKS = 4, 5  # checks of a run: at its last deviation, before the next accesses, and where the next round begins
+# A run has at most CHECKS checks from its last deviation on. NEAR are before the next accesses and requests, and the
+# last one is before the next request that begins a round.
+NEAR, CHECKS = 4, 5
 SLOW = 0.001  # seconds: if a digest takes longer, a run is as fast without digests
 
 
 def is_fast(server: Server) -> bool:
-    """Whether a server knows the request `digest`, and answers it soon."""
+    """Whether a server knows the request `digest`, and answers it within SLOW."""
     times = []
     for _ in range(3):
         begun = time.perf_counter()
@@ -55,7 +57,7 @@ class States:
         self.rests: dict[State, Rest] = {}
 
     def learn(self, rests: Sequence[tuple[State, Rest]]) -> None:
-        """Learns rests, each as a pair of a state and a rest. If there are too many, forgets those before."""
+        """Learns rests, each as a pair of a state and a rest. If there would be too many, forgets all earlier ones."""
         if len(self.rests) + len(rests) > self.most:
             self.rests.clear()
         self.rests.update(rests)
@@ -67,12 +69,14 @@ class Checks:
     def __init__(self, states: States, play: Play, server: Server, ends: bool) -> None:
         self.states, self.play, self.server, self.ends = states, play, server, ends
         self.left, self.state = CHECKS, 0  # the state stands for all that the test was told
-        # The states so far, each with the events up to there, and what is reached since the last one
+        # The states so far, each with the number of events up to there, and what was reached since the state before it
         self.passed: list[tuple[State, int, int]] = []
         play.checkpoint = self.check
 
     def check(self) -> None:
-        """The run is before an access or a request, and no deviation is left. A state has all answers before that."""
+        """Before an access or a request, if no deviation is left: records the state, in which all requests so far are
+        answered. If the state is known, and `ends`, raises Known instead.
+        """
         play = self.play
         play.flush()
         if play.access_number and self.left <= CHECKS - NEAR or play.out:
@@ -88,9 +92,9 @@ class Checks:
         play.reached = 0
 
     def end(self, rest: Optional[Rest] = None) -> tuple[Run, list[tuple[State, Rest]]]:
-        """At the end of a run that passes: its result, and the rests of the run by its states.
+        """Returns the result of a run that passes, at its end, and its rests, each with its state.
 
-        With a rest, the run has ended at a state that has this rest.
+        If `rest` is given, the run has ended at a state that has this rest.
         """
         play = self.play
         answers, offers, events, reached = rest or (play.digest(), play.offers, 0, 0)

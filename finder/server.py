@@ -9,19 +9,21 @@ from typing import NoReturn, Optional, Sequence, Tuple
 
 # The answer to `endianness`, which no other request has.
 LAST = b"OK little\n"
-# The program and its options, and the size of memory
+# The program, its options, and the size of its memory in bytes
 Settings = Tuple[str, Tuple[str, ...], int]
 
 
 class ServerEnded(Exception):
-    """The server couldn't be started, or has ended."""
+    """The server couldn't be started, has ended, or doesn't know a request that is needed. Or a process of the finder
+    has ended.
+    """
 
 
 class Server:
-    """`nicbench serve`, which is asked many requests at once."""
+    """`nicbench serve`, which gets many requests at once."""
 
     def __init__(self, program: str, options: Sequence[str]) -> None:
-        self.status: Optional[int] = None  # after it has ended: its exit status, or minus a signal
+        self.status: Optional[int] = None  # after the end: the exit status, or minus a signal's number
         requests, answers = os.pipe(), os.pipe()
         self.sink, self.source = requests[1], answers[0]
         actions = [(os.POSIX_SPAWN_DUP2, requests[0], 0), (os.POSIX_SPAWN_DUP2, answers[1], 1)]
@@ -34,9 +36,9 @@ class Server:
         finally:
             os.close(requests[0])
             os.close(answers[1])
-        self.lines: list[bytes] = []  # that were read and aren't taken yet, the next one last
+        self.lines: list[bytes] = []  # lines that were read and aren't taken yet, the next one last
         self.rest = b""
-        # Until it is asked for events, the server prints none. One that doesn't know the request always prints them.
+        # The server prints events only after this request. A server that doesn't know the request always prints them.
         self.tells_events = self.ask(b"events on\n") != b"OK"
 
     def send(self, data: bytes) -> None:
@@ -91,12 +93,12 @@ class Server:
         return self.ask(b"save\n") == b"OK"
 
     def restore(self) -> None:
-        """Brings the server to the state that was saved. The interrupt line of a test doesn't change."""
+        """Brings the server to the state that was saved. The test isn't told of a change of the interrupt line."""
         if self.ask(b"restore\n") != b"OK":
             raise ServerEnded("the server can't restore its state")
 
     def leave(self) -> None:
-        """Closes the pipes of a server, which another process may use."""
+        """Closes this process's ends of the pipes. Another process may go on using the server."""
         os.close(self.sink)
         os.close(self.source)
 
@@ -118,9 +120,9 @@ class Server:
 
 
 class Servers:
-    """The servers of a host, in the state at its place. Each run of several at once has one, by its slot.
+    """The servers of a host, in the state at its place. Of several runs at once, each uses one of them, by its slot.
 
-    A server that can't save its state is a new one for each run, which repeats the requests so far.
+    If servers can't save their state, each run starts a new one, which repeats the requests so far.
     """
 
     def __init__(self, settings: Settings) -> None:
@@ -128,7 +130,7 @@ class Servers:
         self.saved: dict[int, Server] = {}  # by slots
         self.can_save = True
         self.spare: Optional[Server] = None  # a server in this state that has no slot yet
-        self.others: list[Server] = []  # of another host
+        self.others: list[Server] = []  # servers of another host
 
     def new(self, begun: Sequence[bytes]) -> Server:
         """A new server in the state after these requests. Its log is off."""
@@ -142,8 +144,8 @@ class Servers:
         self.spare = server
 
     def prepare(self, slot: int, is_lost: int, begun: Sequence[bytes]) -> None:
-        """Before a run: the slot has a server, if servers can save their state. That of a run that was ended is
-        lost.
+        """Before a run: if the slot has no server, and servers can save their state, it gets one with a saved state.
+        The slot's server is ended first if its run was ended.
         """
         if is_lost and slot in self.saved:
             self.saved.pop(slot).end()
@@ -158,7 +160,7 @@ class Servers:
             server.end()
 
     def of(self, slot: int, begun: Sequence[bytes]) -> Server:
-        """In a run: its server."""
+        """In a run: the slot's server in the state that was saved, or else a new server."""
         server = self.saved.get(slot)
         if not server:
             return self.new(begun)
@@ -170,19 +172,19 @@ class Servers:
         return [*self.saved.values(), *([self.spare] if self.spare else [])]
 
     def end(self) -> None:
-        """At the end of a host."""
+        """At the end of a host: ends its servers."""
         for server in self.all():
             server.end()
 
     def leave(self) -> None:
-        """In a child that is another host: has none of these servers."""
+        """In a child that is another host: closes the pipes of all these servers, which it doesn't use."""
         others = self.all()
         for server in others:
             server.leave()
         self.saved, self.spare, self.others = {}, None, self.others + others
 
     def leave_alone(self, server: Optional[Server]) -> None:
-        """At the end of a run: ends its server if no other run uses it."""
+        """At the end of a run: ends its server, unless this is the server of a slot, which later runs use."""
         if server and server not in self.saved.values():
             server.end()
 

@@ -1,4 +1,4 @@
-"""Makes a schedule that fails smaller."""
+"""Shrinks schedules that fail."""
 
 from __future__ import annotations
 
@@ -11,15 +11,17 @@ if TYPE_CHECKING:
     from finder.run import Run
     from finder.target import Target
 
-LONGEST_MOVE = 16  # in accesses
+LONGEST_MOVE = 16  # in places
 
 
 class Shrinker:
-    """A schedule is given to each method with its run, which failed; smaller ones are returned in the same way."""
+    """Shrinks the schedule of a run that failed. A method that takes such a run returns a run that fails, too. Its
+    schedule has fewer or later deviations, has lower numbers, or is the same.
+    """
 
     def __init__(self, target: Target) -> None:
         self.target = target
-        self.seen: dict[Keys, Optional[Run]] = {}  # by the keys of schedules
+        self.seen: dict[Keys, Optional[Run]] = {}  # by the keys of schedules: the run if it fails, otherwise None
         self.best: Optional[Run] = None  # the run that fails with the fewest deviations so far
 
     def fails(self, schedule: Sequence[Deviation]) -> Run | None:
@@ -40,14 +42,14 @@ class Shrinker:
     def again(self, schedule: Sequence[Deviation]) -> Run | None:
         """The run of the empty schedule if it fails; or else that of the given one, or None if it passes.
 
-        Both are played, also if they were played before: a test may not be the same twice.
+        A schedule is played here also if it was played before, because the test may behave otherwise this time.
         """
         for known in (), schedule:
             self.seen.pop(keys_of(known), None)
         return self.fails(()) or self.fails(schedule)
 
     def shrink(self, run: Run) -> Run:
-        """The run of a schedule from which no deviation can be left out."""
+        """The run of a schedule that fails, but passes if any of its deviations is left out."""
         run = self.halve(run)
         while True:
             before = run.met
@@ -79,9 +81,7 @@ class Shrinker:
         return run
 
     def lower(self, run: Run) -> Run:
-        """Makes the number of each `choose` as small as possible: of a half, a quarter and so on less, and of 1
-        less.
-        """
+        """Lowers the number of each `choose`, to 1, to a half or by 1, as often as the run still fails."""
         for at in range(len(run.met)):
             number = chosen(run.met[at].action)
             while number and number > 1:
@@ -93,7 +93,10 @@ class Shrinker:
         return run
 
     def later(self, run: Run) -> Run:
-        """Plays each deviation, from the last one on, as late as possible before the next one."""
+        """Moves each deviation, the last one first, to later places, but not after the next deviation.
+
+        It is moved by 16 places as often as the run still fails, then by 8, and so on.
+        """
         for at in reversed(range(len(run.met))):
             distance = LONGEST_MOVE
             while distance and at < len(run.met):
@@ -105,7 +108,7 @@ class Shrinker:
         return run
 
     def moved(self, run: Run, at: int, distance: int) -> Run | None:
-        """The run with one deviation played some accesses later, or None if this isn't possible, or doesn't fail."""
+        """The run with one deviation played `distance` places later, or None if this isn't possible or doesn't fail."""
         places, place = [met.place for met in run.places], run.met[at].place
         if place is None or place not in places:
             return None
@@ -116,8 +119,8 @@ class Shrinker:
         return moved if moved and len(moved.met) == len(run.met) else None
 
     def join(self, run: Run) -> Run:
-        """Joins two steps to a pair, before the access of the first one or else of the second one, if this fails,
-        too.
+        """Joins two steps to a pair, before the access of the first one or else of the second one, if the run still
+        fails.
         """
         at = 0
         while at < len(run.met):
@@ -126,7 +129,7 @@ class Shrinker:
         return run
 
     def joined(self, run: Run, at: int) -> Run | None:
-        """The run in which a step and the next one that completes a pair are joined, or None."""
+        """The run that fails with the step `at` and the next one that completes its pair joined, or None."""
         first = run.met[at]
         for pair, steps in PAIRS.items():
             other = next((n for n in range(at + 1, len(run.met)) if run.met[n].action == steps[1]), None)

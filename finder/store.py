@@ -1,4 +1,4 @@
-"""Stores a run: its schedule, its log, and its charts."""
+"""Stores a run: its schedule, its log, its charts, and its value change dump."""
 
 from __future__ import annotations
 
@@ -15,7 +15,8 @@ if TYPE_CHECKING:
 
 
 def log_of(run: Run) -> str:
-    """The complete log of a run. After `->`, an access or an arrival has its answer, and a step its outcome."""
+    """The complete log of a run. After `->`, a read, an arrival or a `choose` has its answer, and a step its outcome.
+    """
     return "".join(f"{row.line} -> {row.answer}\n" if row.answer else f"{row.line}\n" for row in run.rows)
 
 
@@ -25,13 +26,13 @@ def is_folder(path: str) -> bool:
 
 
 def check(path: str) -> None:
-    """Checks that something can be stored there, and makes nothing. Raises OSError."""
+    """Checks that a run can be stored at this path, and makes nothing. Raises OSError if it can't."""
     if os.path.exists(path) and not path.endswith("/"):
         check_access(path)
         return
     folder = os.path.dirname(path) or "."
     while path.endswith("/") and not os.path.lexists(folder):
-        folder = os.path.dirname(folder) or "."  # the ones after it are made
+        folder = os.path.dirname(folder) or "."  # the folders below it are made
     os.stat(folder)
     if not os.path.isdir(folder):
         raise OSError(errno.ENOTDIR, os.strerror(errno.ENOTDIR), folder)
@@ -44,14 +45,14 @@ def check_access(path: str) -> None:
 
 
 def texts_of(run: Run, schedule: str, is_whole: bool) -> dict[str, str]:
-    """The files of a folder."""
+    """The texts of the files in the folder of a run, by their names."""
     return {"schedule.txt": schedule, "log.txt": log_of(run), "chart.txt": chart(run, is_whole),
             "chart.svg": svg(run, is_whole), "run.vcd": vcd(run)}
 
 
 def store(path: str, run: Run, schedule: str, is_whole: bool) -> None:
-    """Stores a schedule in a file, or in a folder with the log and the charts of its run, which may have all rows.
-    Raises OSError.
+    """Stores a schedule in a file, or in a folder with the log, the charts and the dump of its run. If `is_whole`, the
+    charts have all rows. Raises OSError.
     """
     if is_folder(path):
         os.makedirs(path, exist_ok=True)

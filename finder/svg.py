@@ -14,7 +14,7 @@ if TYPE_CHECKING:
 # Sizes in pixels: a character of a monospace font of this size is at most CHAR wide.
 FONT, CHAR, HEIGHT, MARGIN, TIP, BAR_WIDTH = 13, 8, 20, 12, 5, 4
 UP = 4  # the middle of a line of text is this far above its base
-LONGEST = 160  # the characters of the last line that are shown
+LONGEST = 160  # the most characters of the last line that are shown
 NOT_XML = re.compile("[^\t\n\r\x20-\ud7ff\ue000-\ufffd\U00010000-\U0010ffff]")
 STYLE = """
 .page { fill: #ffffff } .mark { fill: #fff0b3 } .bar { fill: #b35900 }
@@ -27,7 +27,7 @@ text { fill: #f0f0f0 } path { stroke: #f0f0f0 }
 
 
 def xml_text(text: str) -> str:
-    """A text that is valid inside of an element."""
+    """The text as it may be written inside an element, with U+FFFD for characters that XML doesn't allow."""
     return escape(NOT_XML.sub("\ufffd", text))
 
 
@@ -41,7 +41,7 @@ def y_of(row: int) -> int:
 
 
 def texts_of(row: ChartRow, number: int, starts: dict[str, int]) -> Iterator[str]:
-    """The texts of a row; the bar isn't a text."""
+    """Yields the texts of a row as elements of SVG, without its bar."""
     for column in starts:
         text = row.cells.get(column, "")
         if text and text != BAR:
@@ -70,7 +70,7 @@ def row_of(row: ChartRow, number: int, starts: dict[str, int], width: int) -> st
 
 
 def bars_of(rows: list[ChartRow], starts: dict[str, int]) -> Iterator[str]:
-    """The bar of the interrupt line: a rectangle for each group of rows in which the line is asserted."""
+    """Yields the bar of the interrupt line: a rectangle for each group of consecutive rows with the asserted line."""
     is_up = [bool(row.cells.get("line")) for row in rows] + [False]
     for at, up in enumerate(is_up):
         if not up or at and is_up[at - 1]:

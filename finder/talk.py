@@ -26,7 +26,8 @@ Outcomes = Dict[bytes, Step]
 Waiting = Tuple[bytes, str, "Optional[Known]", "Optional[Met]", "Optional[Deviation]", Optional[bytes],
                 Optional[Outcomes]]
 
-# The most bytes of requests that are sent before answers are read: every pipe holds at least this many.
+# The most bytes of requests that are sent before answers are read, without what ASK adds: every pipe holds at least
+# this many. A longer request is sent by itself.
 MOST_AT_ONCE = 4096
 # Who made a request. The test was told the answer to a request that is TOLD before it was sent.
 TEST, TOLD, DEFAULT, DEVIATION = "test", "told", "default", "deviation"
@@ -46,7 +47,9 @@ OUTCOMES = {kind: {b"OK " + step[2].encode(): step for step in LOGGED_STEPS.valu
 
 @lru_cache(maxsize=None)
 def steps_in(line: bytes) -> tuple[tuple[str, ...], tuple[str, ...]]:
-    """The steps in an answer to `enabled`: those of engines, and those of the EEPROM and the PHY."""
+    """The steps in an answer to `enabled`: those of engines, and those of the EEPROM and the PHY. Raises ServerEnded if
+    the answer isn't OK.
+    """
     word, *kinds = text_of(line).split()
     if word != "OK":
         raise ServerEnded("the server doesn't know the request `enabled`")
@@ -58,12 +61,13 @@ class Talk:
 
     Requests and answers are bytes, as they come from the test and from the server. A request ends with its newline. A
     request on its way to the server is a tuple. It begins with its text, who made it, its access if it is one
-    (`Known`), and what is recorded of the access (`Met`). Then follow the deviation that it was drawn for, and the
-    digits of an offered frame. The last item has the outcomes of a step by its answer if the server doesn't log it.
-    Rows need the log. Without them, the server logs only the steps of `settle`. `Play` sets all attributes.
+    (`Known`), and what is recorded of the access (`Met`). Then follow the drawn deviation that it plays, and the digits
+    of an offered frame. The last item has the outcomes of a step by its answer if the server doesn't log the step. The
+    log is on while rows or the test need it, and during requests that play cycles. `Play` sets all attributes.
 
     What the server reported last: the rings, and the steps that would do something, of engines (`steps`), the EEPROM
-    and the PHY (`ticks`). A new report follows each batch of requests that may change it.
+    and the PHY (`ticks`). A new report follows each batch of requests that may change it. If `is_lazy`, no report
+    follows while only `steps` may have changed, and aren't needed.
     """
     # Python finds attributes faster in slots, if there are many.
     __slots__ = ("rings", "steps", "ticks", "asks", "is_lazy", "known", "names", "waiting", "size", "untold", "round",
@@ -119,7 +123,9 @@ class Talk:
             self.untold += 1
 
     def flush(self, needs_steps: bool = False) -> list[bytes]:
-        """Sends all requests that wait, and returns their answers. Then asks what may have changed."""
+        """Sends all requests that wait, asks what may have changed, and returns the answers to the requests. With
+        `needs_steps`, asks also if `is_lazy`.
+        """
         waiting, asks = self.waiting, self.asks
         if asks == STEPS and self.is_lazy and not needs_steps:
             asks = 0
@@ -139,7 +145,9 @@ class Talk:
         return answers
 
     def look(self, asks: int) -> None:
-        """Hears what was asked of the adapter."""
+        """Reads what the server answers to the question: the steps that would do something, and the rings if these were
+        asked for.
+        """
         self.asks = 0
         self.steps, self.ticks = steps_in(self.server.line())
         if asks == RINGS:
@@ -148,7 +156,7 @@ class Talk:
             self.note_rings()
 
     def note_rings(self) -> None:
-        """The last request has changed the rings, but hasn't advanced them."""
+        """After a write that may have changed the rings: notes a full transmit ring, and updates the last rows."""
         if self.rings.transmit.is_full():
             self.reached |= FULL
         if self.has_rows:
@@ -162,12 +170,12 @@ class Talk:
                 return
 
     def forget_names(self) -> None:
-        """From now on, accesses have other names."""
+        """From now on, accesses may have other names."""
         self.known, self.names = {}, {}
 
     def answer(self, _: bytes, owner: str, known: Known | None, met: Met | None, drawn: Deviation | None,
                frame: bytes | None, outcomes: Outcomes | None) -> bytes:
-        """Returns the answer to a request, after the lines before it."""
+        """Hears the lines up to the answer to a request, and returns the answer."""
         line, at = self.server.line(), len(self.out) + self.is_logged
         if line[0] not in ANSWERS:
             line = self.hear_all(line, owner, met)
@@ -207,7 +215,7 @@ class Talk:
         return line
 
     def hear_access(self, known: Known, line: bytes) -> None:
-        """A valid access of a register after which something is known."""
+        """Takes over what a valid access shows: the causes in a read of ICR, or a tail that was written."""
         if known.is_causes:
             self.reached |= bits_of_causes(causes_of(number_in(known.access, text_of(line[3:])) or 0))
         else:
@@ -225,7 +233,7 @@ class Talk:
         return slot
 
     def hear_step(self, line: bytes, owner: str) -> None:
-        """A line of the log for a step."""
+        """Hears a line of the log for a step."""
         step = LOGGED_STEPS[line]
         slot = self.take_step(*step)
         if not (self.has_rows or self.is_logged) or step[2] == "nothing" and owner is not TEST:
@@ -236,7 +244,9 @@ class Talk:
             self.out.append(line)
 
     def hear(self, line: bytes, owner: str, met: Met | None) -> Row | None:
-        """Another line before the answer to a request. Returns the row of an access or an arrival."""
+        """Hears a line before the answer to a request. Returns its row if it is that of an access or an arrival, and
+        rows are wanted; otherwise None.
+        """
         is_request = line.startswith(b"#")
         if self.is_logged if is_request else self.tells_events or line.startswith(b"IRQ"):
             self.out.append(line)
@@ -250,14 +260,14 @@ class Talk:
         return self.rows[-1] if is_request else None
 
     def hear_event(self, line: bytes) -> None:
-        """A line that isn't one of the log."""
+        """Hears a line that isn't one of the log."""
         if line.startswith(b"IRQ"):
             self.is_raised = line == b"IRQ raise 0"
         elif not self.tells_events:
             self.kept.hear(line)
 
     def marked(self, owner: str) -> Place | None:
-        """The place of the request that begins a round, for its row, which is the next one that the test causes."""
+        """The place for the first row that the test causes after `begins` was set; None for other rows."""
         begins = self.begins if owner is TEST else None
         if begins:
             self.begins = None

@@ -27,7 +27,7 @@ DEFAULT_MEMORY = 1 << 20  # bytes of the server's memory
 
 
 class CannotRun(Exception):
-    """The command couldn't be run."""
+    """The command couldn't be run, or the server isn't built."""
 
 
 class TooLong(Exception):
@@ -35,20 +35,20 @@ class TooLong(Exception):
 
 
 def memory_of(options: tuple[str, ...]) -> int:
-    """The size of the server's memory, by its options."""
+    """The size of the server's memory in bytes, by its options."""
     words = " ".join(options).replace("=", " ").split()
     number = number_of(words[words.index("--memory") + 1]) if "--memory" in words[:-1] else None
     return DEFAULT_MEMORY if number is None else number
 
 
 class Target:
-    """The command that is tested. Its runs are forked if it is a script in Python and `is_forked`."""
+    """The command that is tested. Its runs are forked if `is_forked`, and it is a script in Python that can be."""
 
     def __init__(self, server: str, command: list[str], options: Sequence[str] = (), seconds: float = 10.0,
                  jobs: int = 1, is_forked: bool = True, has_digest: bool = True) -> None:
         self.server, self.command, self.options = server, command, tuple(options)
         self.seconds, self.jobs, self.has_digest = seconds, jobs, has_digest
-        self.runs, self.reached = 0, 0  # of the runs that are counted
+        self.runs, self.reached = 0, 0  # how many runs are counted, and what they reached
         self.wake = os.pipe()  # holds a byte while runs must end
         script = script_of(command) if is_forked else None
         settings = server, self.options, memory_of(self.options)
@@ -62,9 +62,9 @@ class Target:
             self.workers = Workers(self.play_reduced, self.jobs, self.wake[1])
 
     def close(self) -> None:
-        """Ends what was started for the runs, and those that are still in progress after a signal."""
+        """Ends the runs that are still in progress after a signal, and the processes that were started for runs."""
         self.stop()
-        if self.workers:  # they have files of the others, too
+        if self.workers:  # the workers have files of the other processes, too
             self.workers.end()
         if self.recall:
             self.recall.end()
@@ -72,7 +72,9 @@ class Target:
             self.forks.end()
 
     def prepare(self, run: Run) -> None:
-        """Before many schedules are played, by the run without deviations."""
+        """Before many schedules are played, if runs are forked: starts hosts along `run`, the run without deviations,
+        and players that know this run.
+        """
         if self.forks:
             self.forks.prepare(run)
             if self.forks.is_usable and run.script and not run.fault and not self.recall:
@@ -80,7 +82,7 @@ class Target:
                 self.recall.learn(run.script)
 
     def run(self, schedule: Sequence[Deviation] = (), draw: Drawing | None = None, is_strict: bool = False) -> Run:
-        """Runs the command once, and counts the run. Raises CannotRun, ServerEnded or Mismatch."""
+        """Runs the command once, and counts the run. Returns the run. Raises CannotRun, ServerEnded or Mismatch."""
         return self.count(self.play(schedule, draw, is_strict))
 
     def count(self, run: Run) -> Run:
@@ -89,7 +91,7 @@ class Target:
         return run
 
     def stop(self) -> None:
-        """Ends all runs in progress, which raise Stopped."""
+        """Ends the runs that wait for a process of the test. They raise Stopped, as do later ones until `resume`."""
         os.write(self.wake[1], b"x")
 
     def resume(self) -> None:
@@ -98,9 +100,10 @@ class Target:
 
     def play(self, schedule: Sequence[Deviation] = (), draw: Drawing | None = None, is_strict: bool = False,
              has_places: bool = True, has_rows: bool = False) -> Run:
-        """Runs the command once, perhaps at the same time as others.
+        """Plays a schedule or a drawing once, perhaps at the same time as others. Returns the run.
 
-        A run that passes may have no rows without `has_rows`, and without `has_places` nothing of its schedule.
+        Without `has_rows`, a run that passes may have no rows. Without `has_places`, it may have neither deviations nor
+        places.
         """
         run = None
         if self.recall and self.recalls(schedule, draw, is_strict, has_rows):
@@ -117,7 +120,9 @@ class Target:
         return run
 
     def confirm(self, forks: Forks, run: Run) -> None:
-        """After a forked run had no result: a process of its own had none in time either, or forks can't be used."""
+        """After a forked run had no result, and `run` was played in a process of its own. If `run` is late, too, late
+        children may be trusted. Otherwise, runs aren't forked any more.
+        """
         if run.fault == late(self.seconds):
             forks.trusts_late = forks.trusts_late is not False
         else:
@@ -131,7 +136,9 @@ class Target:
 
     def play_forked(self, forks: Forks, schedule: Sequence[Deviation], draw: Drawing | None, is_strict: bool,
                     has_places: bool, has_rows: bool) -> Run | None:
-        """A forked run, or None. If it fails, the same is played again and recorded."""
+        """A forked run, or None if it had no result. If a run without rows fails, its schedule is played again, to
+        record rows.
+        """
         has_script = not draw and (not schedule or self.recalls(schedule, draw, is_strict, has_rows))
         run = forks.play(schedule, draw, is_strict, has_places, has_rows, has_script)
         if run and run.fault and not run.rows:
@@ -147,7 +154,7 @@ class Target:
         return self.play_apart(schedule, draw, is_strict).reduced(has_places, has_rows=False)
 
     def play_apart(self, schedule: Sequence[Deviation], draw: Drawing | None, is_strict: bool) -> Run:
-        """Runs the command in a process of its own."""
+        """Runs the command in a process of its own. Returns the run."""
         server = Server(self.server, self.options)
         try:
             play = Play(memory_of(self.options))
@@ -184,7 +191,8 @@ def streams_of(test: subprocess.Popen[bytes]) -> tuple[IO[bytes], IO[bytes]]:
 
 
 def wait(reads: list[int], writes: list[int], end: float, wake: int) -> None:
-    """Waits until one of these files is ready."""
+    """Waits until one of these files is ready. Raises Stopped if all runs must end, and TooLong after the time `end`.
+    """
     found = select.select([*reads, wake], writes, [], max(0, end - time.monotonic()))
     if wake in found[0]:
         raise Stopped
@@ -193,7 +201,7 @@ def wait(reads: list[int], writes: list[int], end: float, wake: int) -> None:
 
 
 def serve(test: subprocess.Popen[bytes], play: Play, end: float, wake: int) -> None:
-    """Answers the requests of a test until its standard output ends."""
+    """Answers the requests of a test until its output ends, or it no longer reads. Raises TooLong or Stopped."""
     given, told = streams_of(test)
     source, sink = told.fileno(), given.fileno()
     os.set_blocking(sink, False)
@@ -207,7 +215,7 @@ def serve(test: subprocess.Popen[bytes], play: Play, end: float, wake: int) -> N
 
 
 def write(sink: int, data: bytes, end: float, wake: int) -> bool:
-    """Writes to the test. Returns False if the test no longer reads."""
+    """Writes to the test. Returns whether all was written: False if the test no longer reads."""
     try:
         while data:
             try:
@@ -220,7 +228,7 @@ def write(sink: int, data: bytes, end: float, wake: int) -> bool:
 
 
 def stop(test: subprocess.Popen[bytes]) -> None:
-    """Ends a test and the processes that it has started."""
+    """Ends a test and the processes of its group."""
     kill(test.pid)
     test.wait()
     for stream in streams_of(test):

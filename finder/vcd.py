@@ -1,8 +1,8 @@
 """A run as a value change dump (IEEE 1364, section 18), for programs that show waves.
 
-The dump has no date, so the same run leads to the same dump. The time of an access is the next multiple of 16. A step,
-a hold or an arrival takes one unit. A change of the interrupt line, and a frame on the wire, have the time of the step
-or the access that causes them.
+The dump has no date, so the same run leads to the same dump. The time of an access is the next multiple of 16. A hold,
+an arrival, or a step with another outcome than `nothing` takes one unit. A change of the interrupt line, and a frame on
+the wire, have the time of the step or the access that causes them.
 """
 
 from __future__ import annotations
@@ -46,7 +46,9 @@ def identifier(name: str) -> str:
 
 
 def registers_of(rows: Sequence[Row]) -> list[str]:
-    """The registers that a run accesses, except for heads and tails, in the order of their offsets."""
+    """The registers that a run accesses, except for heads and tails: named ones in the order of their offsets, then
+    others.
+    """
     found = {name for row in rows if row.place and is_register(name := access_in(row)[2])}
     return sorted(found - {*HEADS}, key=lambda name: (ORDER.get(name, len(ORDER)), name))
 
@@ -57,7 +59,7 @@ def scope_of(name: str) -> str:
 
 
 def event_of(row: Row) -> str | None:
-    """The event of a step that did something, of a hold or of an arrival; None for other rows of the log."""
+    """The event of a step with another outcome than `nothing`, of a hold or of an arrival; None for other rows."""
     words = row.line.split(" ")
     if words[:2] == ["#", "step"]:
         return None if words[4] == "nothing" else identifier(f"{words[2]} {words[4]}")
@@ -107,7 +109,7 @@ class Dump:
         self.lines.append("$upscope $end")
 
     def begin(self) -> None:
-        """The first values. An event has none, and a register isn't known before its first access."""
+        """The first values are 0. An event has none, and a register isn't known before its first access."""
         for name, kind in self.kinds.items():
             if kind != "event":
                 self.change(name, None if kind == "register" else 0)
@@ -130,7 +132,7 @@ class Dump:
 
 
 def dump_access(dump: Dump, row: Row) -> None:
-    """An access, and the value of its register."""
+    """An access, and the value of its register, unless this is a head or a tail: `dump_row` writes these."""
     dump.now = (dump.now // UNITS + 1) * UNITS
     access, kind, name = access_in(row)
     dump.happen(f"{kind}_{'register' if is_register(name) else 'memory'}")
@@ -145,7 +147,7 @@ def dump_access(dump: Dump, row: Row) -> None:
 
 
 def dump_row(dump: Dump, row: Row) -> None:
-    """A row of the log. A step that did nothing takes no time."""
+    """A row of the log. A step with the outcome `nothing` takes no time."""
     words, event = row.line.split(" "), event_of(row)
     if row.place:
         dump_access(dump, row)

@@ -22,7 +22,7 @@ class Workers:
     def __init__(self, play: Callable[..., Run], count: int, wake: int) -> None:
         """`play` is called in a worker, with what `Workers.play` is called with.
 
-        `wake` is the end of a pipe that only the finder keeps open: so its runs also end if the finder is killed.
+        Only the finder keeps `wake` open, an end of a pipe: so the runs also end if the finder is killed.
         """
         self.free: queue.SimpleQueue[socket.socket] = queue.SimpleQueue()
         self.children: list[int] = []
@@ -38,7 +38,7 @@ class Workers:
             self.free.put(ours)
 
     def play(self, *words: object) -> Run:
-        """What `play` returns in a worker that is free. Raises what it raises."""
+        """What `play` returns in a free worker. Raises what `play` raises, or ServerEnded if the worker has ended."""
         control = self.free.get()
         try:
             send(control.fileno(), pickle.dumps(words))
@@ -62,13 +62,13 @@ class Workers:
 
 
 def work(play: Callable[..., Run], control: socket.socket, others: list[socket.socket], wake: int) -> None:
-    """Plays what is asked for until the finder ends, and ends this process."""
+    """Plays what is asked for until the finder closes the socket, and then ends this process."""
     try:
         handle(nothing)  # the finder decides when its runs end
         os.setsid()
         os.close(wake)
         for other in others:
-            other.close()  # or this process would keep the finder's end open
+            other.close()  # otherwise, this process would keep the finder's end open
         while (words := receive(control.fileno())) is not None:
             result: Union[Run, Exception]
             try:

@@ -29,15 +29,15 @@ FILES = {
     "uboot": {UBOOT: "u-boot-qemu"},
 }
 PROMPT = "=> "
-BY_TFTP, BY_HTTP = 100_000, 1_000_000  # bytes
+BY_TFTP, BY_HTTP = 100_000, 1_000_000  # bytes of the files
 FETCH = "dhcp && chain tftp://10.0.0.2/boot.ipxe"
 END = "echo > end\nsleep 1\nreboot"  # the serial port needs some time
-LOAD_AT, SUM_AT = 0x1000000, 0x2000000  # in U-Boot
+LOAD_AT, SUM_AT = 0x1000000, 0x2000000  # addresses in U-Boot
 WIRE_END = os.path.join(os.path.dirname(os.path.abspath(__file__)), "wire_end")
 
 
 def check_files(name: str, with_network: bool = True) -> None:
-    """Whether what a guest needs is there."""
+    """Raises needs.Missing unless what a guest needs is there."""
     programs = {**needs.QEMU, **({"dnsmasq": "dnsmasq-base"} if with_network else {})}
     packages = {package for path, package in FILES[name].items() if not os.path.exists(path)}
     wanted = sorted(packages | set(needs.missing_packages(programs)))
@@ -48,8 +48,9 @@ def check_files(name: str, with_network: bool = True) -> None:
 
 
 def script(name: str, size: int, seed: int, then: str) -> str:
-    """A script for iPXE of some size. Each line compares a drawn word with its copy and counts, so that no byte can be
-    wrong and no line can be missing."""
+    """A script for iPXE. It has lines of at least `size` bytes together, each of which counts if a drawn word equals
+    its copy. Then it compares the count, so it finds a wrong byte or a missing line. It ends with `then`.
+    """
     draw, lines, used = random.Random(seed), [], 0
     while used < size:
         word = draw.randbytes(450).hex()
@@ -60,7 +61,8 @@ def script(name: str, size: int, seed: int, then: str) -> str:
 
 
 def write_scripts(folder: str) -> None:
-    """What iPXE fetches: by TFTP a script that fetches a larger one by HTTP, which then ends the guest."""
+    """Writes what iPXE fetches: by TFTP a script, which fetches a larger one by HTTP. The larger script ends the guest.
+    """
     second = f"chain http://10.0.0.2/large.ipxe || echo > failed http\n{END}"
     first = script("tftp", BY_TFTP, 1, second).replace("#!ipxe\n", "#!ipxe\necho > passed dhcp\n", 1)
     for name, text in (("boot.ipxe", first), ("large.ipxe", script("http", BY_HTTP, 2, END))):
@@ -85,7 +87,7 @@ def ipxe(board: list[str], way: str, folder: str, log: str, command: str = FETCH
 
 
 def run_ipxe(words: Namespace, board: list[str], tell: Callable[[str], None]) -> bool:
-    """Boots iPXE each way. Returns whether it fetched all bytes each time."""
+    """Boots iPXE in the given ways, or in all. Returns whether it had an address, and fetched all bytes, each time."""
     passed = 0
     ways = words.stages or WAYS
     for way in ways:
@@ -113,7 +115,7 @@ def run_uboot(words: Namespace, board: list[str], tell: Callable[[str], None]) -
     """Boots U-Boot. Returns whether DHCP, pings and a file by TFTP were right."""
     check_files("uboot")
     data = random.Random(3).randbytes(BY_HTTP)
-    stored = int.from_bytes(zlib.crc32(data).to_bytes(4, "big"), "little")  # U-Boot stores it in the other byte order
+    stored = int.from_bytes(zlib.crc32(data).to_bytes(4, "big"), "little")  # as U-Boot stores the checksum
     checksum = f"crc32 {LOAD_AT:#x} $filesize {SUM_AT:#x} && itest.l *{SUM_AT:#x} == {stored:#x}"
     tests = {"dhcp": "dhcp", "ping": "ping 10.0.0.2", "tftp": f"tftpboot {LOAD_AT:#x} 10.0.0.2:file && {checksum}"}
     commands = ["setenv autoload no", *(

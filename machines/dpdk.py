@@ -39,7 +39,7 @@ def get_headers(cache: str) -> str:
 
 
 def check(cache: str) -> None:
-    """Whether the libraries and the headers of DPDK are there."""
+    """Raises needs.Missing unless QEMU, and the libraries and the headers of DPDK, are there."""
     needs.check_programs(needs.QEMU)
     if not all(glob.glob(f"{LIBRARIES}/librte_{name}.so.{VERSION}") for name in NEEDED):
         raise needs.Missing(f"packages are missing: apt-get install --no-install-recommends {' '.join(PACKAGES)}")
@@ -60,7 +60,7 @@ def libraries(names: Iterable[str]) -> list[str]:
 
 
 def host(cache: str) -> str:
-    """The program of the host."""
+    """Compiles the program of the host. Returns its path."""
     target, sources = os.path.join(cache, "bin", "dpdk_host"), programs.sources_in("dpdk_guest")
     return programs.compile_program(target, sources, *includes(cache), *libraries(NEEDED))
 

@@ -18,7 +18,7 @@ if TYPE_CHECKING:
 
 MOST = {"ipxe": 6, "uboot": 6, "dpdk": 40}
 IPXE = "ifopen net0 && set net0/ip 10.0.0.1 && set net0/netmask 255.255.255.0 && sleep 1000000"
-# U-Boot answers pings while it waits for the reply of one that nobody sends
+# U-Boot answers pings while it waits for a reply to its own ping. Nobody sends that reply.
 UBOOT = ["setenv ipaddr 10.0.0.1; setenv netmask 255.255.255.0", "while true; do ping 10.0.0.9; done"]
 
 
@@ -30,7 +30,7 @@ def machine_of(words: Namespace, board: list[str], folder: str) -> Machine:
     if words.guest == "uboot":
         return boot_loaders.uboot(words, board, UBOOT)
     machine = boot_loaders.ipxe(board, "kernel", folder, os.path.join(words.cache, "console"), IPXE)
-    machine.clock = "host"  # with the other one, iPXE hangs while it collects entropy
+    machine.clock = "host"  # with `vm`, iPXE hangs while it collects entropy
     return machine
 
 

@@ -23,7 +23,8 @@ KERNEL_WORDS = "console=ttyS0 panic=-1 quiet loglevel=1 nokaslr iomem=relaxed"
 
 
 def clock_words(repeatable: bool) -> str:
-    """Words of the kernel's command line: time counted by instructions, or time of a machine that may be busy."""
+    """Words of the kernel's command line: for a guest that counts time by instructions, or for a host that may be busy.
+    """
     return "init_on_free=1 tsc=reliable" if repeatable else "no_timer_check"
 
 

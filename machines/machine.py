@@ -16,7 +16,8 @@ if TYPE_CHECKING:
 
 QUIET = 300  # seconds without a line after which a run is ended
 MARK = "> "
-# The guest of a sweep counts time by instructions, so that its run depends only on the seed.
+# The guest of a sweep counts time by instructions, and QEMU's own seed is fixed. So with the same kernel and
+# programs, a run of this guest depends only on the options of the sweep, such as `--seed`.
 REPEATABLE = ["-icount", "shift=2,sleep=off", "-seed", "1"]
 COLOUR = re.compile(rb"\x1b\[[0-9;?]*[A-Za-z]")
 
@@ -26,7 +27,7 @@ class Ended(Exception):
 
 
 def output_of(process: Popen[bytes]) -> int:
-    """The file of the guest's output."""
+    """The descriptor of the output of the board and the guest."""
     assert process.stdout
     return process.stdout.fileno()
 
@@ -65,7 +66,7 @@ class Machine:
         return [*NAMESPACE, "sh", "-c", other, "sh", *command] if server else command
 
     def lines(self, plugin: str | None = None, server: str | None = None) -> Iterator[str]:
-        """Runs the guest. Yields the lines for the user, those with a mark.
+        """Runs the guest. Yields the lines for the user: those that begin with MARK, without it, up to `end`.
 
         `server` is the command of the wire's other end. It runs in a network namespace of its own with a TAP device.
         """
@@ -82,7 +83,7 @@ class Machine:
                         stream.close()
 
     def read(self, process: Popen[bytes], log: IO[str]) -> Iterator[str]:
-        """The lines for the user, up to the last one; the log gets all lines."""
+        """Yields the lines for the user. Writes all lines to the log. Raises Ended if the guest ends before `end`."""
         for line in self.console(process):
             log.write(f"{line}\n")
             log.flush()
@@ -101,7 +102,9 @@ class Machine:
         process.wait(QUIET)
 
     def type(self, process: Popen[bytes], text: bytes) -> bool:
-        """Types what belongs to the end of the console's text. Returns whether something was typed."""
+        """If the console's text ends with the next text that is waited for, types the answer to it. Returns whether
+        something was typed.
+        """
         if not self.typed or not text.endswith(self.typed[0][0].encode()):
             return False
         if process.stdin:
@@ -109,7 +112,7 @@ class Machine:
         return True
 
     def console(self, process: Popen[bytes]) -> Iterator[str]:
-        """The lines of the guest's console."""
+        """Yields the lines of the guest's console."""
         left, output = b"", output_of(process)
         while select.select([output], [], [], QUIET)[0]:
             data = os.read(output, 1 << 16)

@@ -13,7 +13,7 @@ from typing import IO, Iterable, Iterator, Optional
 
 TOP = os.path.dirname(os.path.dirname(os.path.abspath(__file__)))
 CACHE = os.path.join(TOP, ".build", "machines")
-# Programs, and the packages of Debian that have them: those of a guest with busybox, and those of Linux with ethtool
+# Programs, each with its package of Debian: those of a guest with busybox, and those of Linux with ethtool
 QEMU = {"qemu-system-x86_64": "qemu-system-x86", "gcc": "gcc", "ldd": "libc-bin"}
 PROGRAMS = {**QEMU, "ethtool": "ethtool"}
 BUSYBOX, HEADER = "/bin/busybox", "/usr/include/stdio.h"
@@ -27,7 +27,7 @@ KERNEL = ("vmlinuz", "e1000.ko", "release")
 
 
 class Missing(Exception):
-    """Something isn't there; the text names the command that brings it."""
+    """Something isn't there, or can't be used. The text has the reason, or the command that helps."""
 
 
 def is_static(path: str) -> bool:
@@ -43,14 +43,17 @@ def missing_packages(programs: dict[str, str] | None = None) -> list[str]:
 
 
 def check_programs(programs: dict[str, str] | None = None) -> None:
-    """Whether the packages of some programs are installed, by default of those that Linux needs."""
+    """Raises Missing if a package isn't installed. The packages are those of the programs (by default, the programs
+    for Linux), of the C library's headers, and of a static busybox.
+    """
     packages = missing_packages(programs)
     if packages:
         raise Missing(f"packages are missing: apt-get install --no-install-recommends {' '.join(packages)}")
 
 
 def check_tap(what: str) -> None:
-    """Whether a TAP device in a network namespace can be made; `what` needs it."""
+    """Raises Missing if no TAP device can be made in a network namespace. `what` names the part of a run that needs it.
+    """
     if subprocess.run([*NAMESPACE, "true"], capture_output=True).returncode != 0:
         raise Missing(f"`{' '.join(NAMESPACE)}` fails, so {what} can't run: run boot as root")
     if not os.access(TUN, os.R_OK | os.W_OK):
@@ -58,7 +61,7 @@ def check_tap(what: str) -> None:
 
 
 def kernel_of(cache: str) -> str:
-    """The folder with the kernel and its modules."""
+    """Returns the path of the folder with the kernel and its modules. Raises Missing if it lacks a file of KERNEL."""
     folder = os.path.join(cache, "kernel")
     if not all(os.path.exists(os.path.join(folder, name)) for name in KERNEL):
         raise Missing("there is no kernel: run `machines/boot --get-kernel`, which downloads it")
@@ -66,13 +69,13 @@ def kernel_of(cache: str) -> str:
 
 
 def modules_of(cache: str, names: Iterable[str]) -> list[str]:
-    """The files of those of some modules that the kernel has."""
+    """Returns the paths of these modules, without those that the kernel doesn't have."""
     paths = [os.path.join(kernel_of(cache), f"{name}.ko") for name in names]
     return [path for path in paths if os.path.exists(path)]
 
 
 def newest_kernel() -> str:
-    """The package with the newest kernel of this Debian."""
+    """Returns the name of the package with the newest kernel of this Debian."""
     ran = subprocess.run(["apt-cache", "depends", "linux-image-amd64"], capture_output=True, text=True)
     names = [line.split()[-1] for line in ran.stdout.splitlines() if "Depends:" in line]
     if not names:
@@ -91,7 +94,7 @@ def download(name: str, folder: str) -> str:
 
 
 def files_of(package: str) -> Iterator[tuple[str, IO[bytes]]]:
-    """The files in a package: for each its path and what reads it."""
+    """Yields each file in a package: its path, and a file object that reads it."""
     archive = subprocess.Popen(["dpkg-deb", "--fsys-tarfile", package], stdout=subprocess.PIPE, stderr=subprocess.PIPE)
     assert archive.stdout and archive.stderr
     try:
@@ -108,7 +111,9 @@ def files_of(package: str) -> Iterator[tuple[str, IO[bytes]]]:
 
 
 def unpack_kernel(package: str, folder: str) -> Optional[str]:
-    """Stores the kernel and the modules that are needed. Returns its release, or None if there is no kernel."""
+    """Stores the kernel and the modules that guests need in a folder. Returns the kernel's release, or None if the
+    package has no kernel.
+    """
     wanted = {f"{name}.ko" for name in ("e1000", *VFIO, *UIO)}
     release = None
     for path, file in files_of(package):
@@ -124,7 +129,9 @@ def unpack_kernel(package: str, folder: str) -> Optional[str]:
 
 
 def get_kernel(cache: str, wanted: Optional[str] = None) -> str:
-    """Unpacks a kernel package, which is downloaded if it isn't a file. Returns the kernel's release."""
+    """Unpacks a kernel package into the cache. `wanted` is the path of a package, or the name of one to download; by
+    default, the newest is downloaded. Returns the kernel's release.
+    """
     folder = os.path.join(cache, "kernel")
     with tempfile.TemporaryDirectory() as work:
         new = os.path.join(work, "kernel")

@@ -1,4 +1,4 @@
-"""Compiles the board, the plugin and the test program into a folder, if a source is newer."""
+"""Compiles programs, such as the board, the plugin and the test program, unless they are newer than their sources."""
 
 from __future__ import annotations
 
@@ -44,7 +44,9 @@ def compile_program(target: str, sources: list[str], *words: str) -> str:
 
 
 def board(cache: str, library: Optional[str], *flags: str) -> str:
-    """The board with the adapter of a library (what `tools/library` wrote), or of `nicbench serve` (None)."""
+    """Compiles the board with the adapter of a library (the folder that `tools/library` wrote), or of `nicbench serve`
+    (None). Returns the path of the program.
+    """
     wanted, other = ("adapter_library.c", "adapter_serve.c") if library else ("adapter_serve.c", "adapter_library.c")
     sources = [source for source in sources_in("board") if os.path.basename(source) != other]
     words = ["-I", os.path.join(library, "include"), os.path.join(library, "lib", LIBRARY)] if library else []

@@ -1,4 +1,4 @@
-"""The trace of a round, as rows for the chart of the finder of races, and as a schedule in its form."""
+"""The trace of a round, as rows for a chart and as a schedule, both in the form of the finder of races."""
 
 from __future__ import annotations
 
@@ -15,7 +15,7 @@ from finder.rings import Both, Ring, name_in  # noqa: E402
 from finder.schedule import Deviation, Place, text_of  # noqa: E402
 
 PAGE = 0x1000
-PREFIX = "e1000_"  # of most functions of the driver; charts don't show it
+PREFIX = "e1000_"  # most functions of the driver begin with it; charts don't show it
 ALL_BITS = "0xffffffff"
 
 
@@ -29,7 +29,7 @@ class Symbols:
         self.names = sorted([*self.names, (int(address, 16), name)])
 
     def name_of(self, address: int) -> str:
-        """The function that an instruction is in, and its place there."""
+        """The function that an instruction is in, and its place there; its address if it is in none."""
         below = [one for one in self.names if one[0] <= address]
         if not below or address - below[-1][0] >= 16 * PAGE:
             return f"{address:#x}"
@@ -44,7 +44,7 @@ class Row(NamedTuple):
     answer: Optional[str] = None
     drawn: bool = False
     function: str = ""
-    rings: Both = (Ring(), Ring())  # after it
+    rings: Both = (Ring(), Ring())  # after the row
 
 
 class Trace:
@@ -64,7 +64,7 @@ class Trace:
             getattr(self, f"line_{word}")(*rest)
 
     def line_ring(self, name: str, base: str, *numbers: str) -> None:
-        """A ring after the last row, or when the round began."""
+        """Takes over a ring: its registers after the last row, or when the round began."""
         ring = Ring(int(base, 16), *map(int, numbers))
         self.rings = (ring, self.rings[1]) if name == "rx" else (self.rings[0], ring)
         if self.rows:
@@ -91,7 +91,7 @@ class Trace:
         self.add(Row(f"IRQ {'raise' if int(level) else 'lower'} 0"))
 
     def add_access(self, line: str, name: str, answer: str | None = None, function: str = "") -> None:
-        """An access of the driver: the deviations that wait were before it."""
+        """Adds an access of the driver. The drawn actions that wait were before it, and become its deviations."""
         self.place = Place(self.place.round, self.place.access + 1)
         self.add(Row(line, self.place, name, answer, function=function))
         self.deviations += [Deviation(self.place, action, name) for action in self.waiting]
@@ -150,7 +150,7 @@ def access_row(row: Row) -> ChartRow:
 
 
 def chart_row(row: Row, before: Both) -> ChartRow:
-    """The row of a chart for a row of a trace. The rings before it are given."""
+    """The row of a chart for a row of a trace. `before` has the rings before the row."""
     if row.place:
         return access_row(row)
     if row.line.startswith("IRQ"):

@@ -1,7 +1,7 @@
 """Looks for a small part of a failed round's drawn steps with which the round still fails.
 
 Each try boots the guest again, plays the rounds before, and then, in the failed round, only some of its drawn steps. So
-rings and queues are as they were when the round failed.
+rings and queues are as they were when the failed round began.
 """
 
 from __future__ import annotations
@@ -20,7 +20,7 @@ BOOT = os.path.join(os.path.dirname(os.path.abspath(__file__)), "boot")
 NUMBERS = "numbers.txt"
 OWN_FILES = ("console", "image")  # a guest writes them into the cache
 FAILED = 1
-# The first of some parts of the steps with which the round fails, or None
+# Takes parts of the steps' numbers. Returns the first part with which the round fails, or None
 FirstFailing = Callable[["list[list[int]]"], "Optional[list[int]]"]
 # The options of `boot` that a try repeats
 REPEATED = ("seed", "first", "most", "module", "host", "rom", "adapter", "library", "nicbench")
@@ -34,13 +34,15 @@ def failed_round(path: str) -> tuple[int, list[int]]:
 
 
 def pieces_of(numbers: list[int], count: int) -> list[list[int]]:
-    """The list in `count` pieces of nearly the same length."""
+    """The list in `count` pieces of nearly the same length, without empty ones."""
     ends = [len(numbers) * piece // count for piece in range(count + 1)]
     return [numbers[begin:end] for begin, end in zip(ends, ends[1:]) if begin < end]
 
 
 def beginning(numbers: list[int], first_failing: FirstFailing, probes: int) -> list[int]:
-    """The shortest beginning of the numbers with which the round fails; `probes` of them are tried at a time."""
+    """Returns a beginning of the numbers with which the round fails: the shortest one, if the round also fails with all
+    longer ones. `probes` lengths are tried at a time.
+    """
     passing, failing = 0, len(numbers)
     while failing - passing > 1:
         step = max(1, (failing - passing) // (probes + 1))
@@ -55,7 +57,8 @@ def beginning(numbers: list[int], first_failing: FirstFailing, probes: int) -> l
 
 
 def shrunk(numbers: list[int], first_failing: FirstFailing) -> list[int]:
-    """A part of the numbers with which the round fails, and fails no more without any one of them.
+    """Returns a part of the numbers with which the round fails. If the part has several numbers, the round doesn't fail
+    without any single one of them.
 
     `first_failing` takes parts, and returns the first one with which the round fails, or None.
     """
@@ -84,7 +87,7 @@ class Tries:
         self.pool = ThreadPoolExecutor(jobs)
 
     def cache(self, name: str) -> str:
-        """A folder for a guest of its own: links to what the cache has."""
+        """Makes a folder for a guest of its own, with links to what the cache has. Returns its path."""
         path = os.path.join(self.folder, name)
         os.makedirs(path)
         for entry in os.listdir(self.words.cache):
@@ -110,7 +113,7 @@ class Tries:
         return ran.returncode == FAILED and os.path.exists(trace) and failed_round(trace)[0] == self.number
 
     def first_failing(self, parts: list[list[int]]) -> Optional[list[int]]:
-        """The first of some parts with which the round fails; `jobs` parts are tried at a time."""
+        """Tries parts, `jobs` at a time. Returns the first one with which the round fails, or None."""
         for begin in range(0, len(parts), self.jobs):
             tried = parts[begin:begin + self.jobs]
             failing = [part for part, fails in zip(tried, self.pool.map(self.fails, tried)) if fails]
@@ -122,7 +125,7 @@ class Tries:
 def smallest(words: Namespace, tell: Callable[[str], None]) -> Optional[tuple[int, str]]:
     """Stores the numbers of a small part of the drawn steps in the folder of the round that failed.
 
-    Returns the number of the round and the path of the file; or None if the round can't be played again.
+    Returns the number of the round and the path of the file. Returns None if the round doesn't fail again.
     """
     number, numbers = failed_round(os.path.join(words.out, "failed.trace"))
     with tempfile.TemporaryDirectory() as folder:

@@ -20,7 +20,7 @@ if TYPE_CHECKING:
     from round_trace import Row
 
 FILES = ("failed.trace", "schedule.txt", "chart.txt", "reached", "reached.txt")
-LAST = 8  # drawn steps that are marked if no reply is lost
+LAST = 8  # the most drawn steps, from the end, that are marked if no frame is wrong and no reply is lost
 WRITE = 1 << 32  # in a site: a register is written (board/reached.h)
 MODULES = 1 << 63
 
@@ -30,12 +30,12 @@ def tell(text: str) -> None:
 
 
 def first_line(text: str) -> str:
-    """The first line of a message of the kernel, which has its other lines in the form \\x0a."""
+    """The first line of a message of the kernel, in which the text \\x0a stands for the end of a line."""
     return text.split("\\x0a")[0]
 
 
 def around(places: list[int], at: int) -> list[int]:
-    """The last of some places before `at`, and the first one after it."""
+    """The last of some places before `at`, and the first one after `at`, if there are such places."""
     return [*[place for place in places if place < at][-1:], *[place for place in places if place > at][:1]]
 
 
@@ -85,7 +85,7 @@ class Report:
 
     def __init__(self, words: Namespace) -> None:
         self.words, self.symbols = words, Symbols()
-        self.fault: Optional[str] = None  # of the first round that failed
+        self.fault: Optional[str] = None  # the fault of the first round that failed
         for name in FILES:
             if os.path.exists(self.path(name)):
                 os.remove(self.path(name))
@@ -135,7 +135,7 @@ class Report:
         return self.site_name(site).partition("+")[0]
 
     def show_reached(self) -> None:
-        """Prints between which accesses steps were played, by functions of the driver."""
+        """Stores as reached.txt between which accesses steps were played. Prints this by functions of the driver."""
         with open(self.path("reached")) as file:
             pairs = [[int(word, base) for word, base in zip(line.split(), (16, 16, 10, 10))] for line in file]
         seen: Counter[str] = Counter()

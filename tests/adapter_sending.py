@@ -1,4 +1,4 @@
-"""Frames that the adapter sends, in sessions of `nicbench serve`."""
+"""Frames that the adapter sends, and transmit descriptors that it rejects, in sessions of `nicbench serve`."""
 
 from adapter_sessions import CTRL, EVENTS, GPTC, ICR, RESET, RING, TCTL, TDBAH, TDBAL, TDH, TDLEN, TDT, loads, reads
 from adapter_sessions import slot, steps, stores, writes

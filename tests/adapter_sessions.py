@@ -1,6 +1,8 @@
-"""Sessions of `nicbench serve` that test the adapter: registers, causes, EEPROM, PHY, filter, and both engines.
+"""Sessions of `nicbench serve` that test the adapter: registers, causes, EEPROM, PHY, filter, receive engine and packet
+buffer.
 
-The tables are written by hand, from the manual. A row has a request and its answer, with the IRQ lines before it.
+The expected values are written by hand, from the manual. A row has a request, and all lines that the server prints for
+it. The last of these lines is the answer.
 """
 
 import random
@@ -13,7 +15,8 @@ TDBAL, TDBAH, TDLEN, TDH, TDT = 0x3800, 0x3804, 0x3808, 0x3810, 0x3818
 MPC, GPRC, GPTC, RNBC, MTA, RAL, RAH, VFTA = 0x4010, 0x4074, 0x4080, 0x40A0, 0x5200, 0x5400, 0x5404, 0x5600
 RESET, RECEIVE, TRANSMIT = 0x04000000, 0x8002, 0x000A
 EN, UPE, MPE, BAM, VFE = 1 << 1, 1 << 3, 1 << 4, 1 << 15, 1 << 18
-# The registers with only kept bits: the kept bits, and the value after a reset.
+# The registers that read as the kept bits of the last write (of CTRL: without RST). For each of them, the kept bits,
+# and the value at power-on and after a reset.
 PLAIN = {
     CTRL: (0x40000061, 0), VET: (0x0000FFFF, 0x8100), RCTL: (0x0607B33A, 0), TCTL: (0x003FFFFA, 0),
     RDBAL: (0xFFFFFFF0, 0), RDBAH: (0xFFFFFFFF, 0), RDLEN: (0x000FFF80, 0), RDH: (0x0000FFFF, 0), RDT: (0x0000FFFF, 0),
@@ -23,7 +26,7 @@ PLAIN = {
     **{place: (0x8000FFFF, 0) for place in range(0x540C, 0x5480, 8)},
     RAL: (0xFFFFFFFF, 0x00000002), RAH: (0x8000FFFF, 0x80000100),
 }
-# The registers with rules of their own: the value after a reset.
+# All other registers, each with its value at power-on.
 RULED = {place: 0 for place in [STATUS, EERD, MDIC, ICR, ICS, IMS, IMC, MPC, GPRC, GPTC, RNBC]} | {PBA: 0x00100030}
 BROADCAST = "ff" * 60
 
@@ -53,7 +56,9 @@ def loads(address, data):
 
 
 def registers(server):
-    """Every register after power-on, after writes and after a reset; no register at other offsets."""
+    """All registers at power-on, and some after writes and after a reset. An offset without a register reads 0, also
+    after a write.
+    """
     places = range(0, 0x5810, 4)
     server.talks("adapter: registers at power-on",
                  [reads(place, PLAIN[place][1] if place in PLAIN else RULED.get(place, 0)) for place in places])
@@ -83,7 +88,9 @@ def registers(server):
 
 
 def causes(server):
-    """Written ones set and clear causes and the mask, and the interrupt line follows both."""
+    """Ones written to ICS and IMS set causes and bits of the mask. Ones written to ICR and IMC clear them. The
+    interrupt line is asserted while a recorded cause is in the mask.
+    """
     server.talks("adapter: mask and causes", [
         writes(IMS, 0xFFFFFFFF), reads(IMS, 0x2D7), writes(IMC, 0x40), reads(IMS, 0x297), reads(IMC, 0),
         writes(ICS, 0x84, "IRQ raise 0\n"), reads(ICS, 0),
@@ -96,8 +103,8 @@ def causes(server):
 
 
 def eeprom(server):
-    """Reads of the EEPROM: the sum of 64 words is 0xBABA; a later request replaces a pending one; a write without START
-    requests no read.
+    """Reads of the EEPROM. The sum of its 64 words is 0xBABA modulo 2^16; words from 64 on read 0xFFFF. A request
+    replaces a pending request, and a write without START doesn't.
     """
     ticked, nothing = steps(("eeprom", "ticked"), ("eeprom", "nothing"))
     rows = [nothing]
@@ -119,7 +126,9 @@ def eeprom(server):
 
 
 def command(written, answered, causes_after=0):
-    """An MDIC command, which a tick ends."""
+    """The rows of an MDIC command: the write, a read before the PHY's step, this step, and reads of the answer and of
+    ICR.
+    """
     return [writes(MDIC, written), reads(MDIC, written & ~0x10000000), *steps(("phy", "ticked")), reads(MDIC, answered),
             reads(ICR, causes_after)]
 
@@ -150,7 +159,7 @@ def phy(server):
 
 
 def to(destination, behind="08000000"):
-    """A frame of 60 bytes with this destination, and with these bytes at offset 12."""
+    """The digits of a frame of 60 bytes: this destination, the bytes `behind` at offset 12, and otherwise zeros."""
     return f"{destination}{'00' * 6}{behind}".ljust(120, "0")
 
 
@@ -159,7 +168,7 @@ def fate(passes, destination, behind="08000000"):
 
 
 def filters(server):
-    """The receive filter: exact addresses, the group table by each of its offsets, modes, and VLANs."""
+    """The receive filter: exact addresses, the group table with each value of RCTL.MO, modes, and VLANs."""
     groups = {0x341: 0, 0x682: 1, 0xD04: 2, 0x412: 3}
     for bit in groups:
         server.talks(f"adapter: number {bit:#x} of the group table", [
@@ -194,14 +203,15 @@ def filters(server):
         writes(RCTL, EN | UPE), fate(True, "020000000002", "91000006")])
 
 
-# Eight receive descriptors at 0, whose buffers begin at 0x4800, and the registers of a ring of which seven are offered.
+# Eight receive descriptors at address 0, with buffers of 2,048 bytes from 0x4800 on. OFFERED: the registers of their
+# ring, of which seven slots are offered. RECEIVED: a frame arrives, and is written to memory.
 SLOTS = [stores(16 * slot, f"00{0x48 + 8 * slot:02x}") for slot in range(8)]
 OFFERED = [writes(RDLEN, 128), writes(RDT, 7), writes(RCTL, RECEIVE)]
 RECEIVED = [arrives("stored"), *steps(("rxdata", "moved"), ("rxdone", "done"))]
 
 
 def arrivals(server):
-    """The fate of an arriving frame, and the counters."""
+    """The fates of arriving frames, and the counters MPC and RNBC."""
     server.talks("adapter: misses are counted", [
         writes(PBA, 2), writes(RCTL, RECEIVE), *(arrives(fate, LONG) for fate in ("stored", "missed", "missed")),
         reads(MPC, 2), reads(MPC, 0),
@@ -268,26 +278,30 @@ NOTHING_LEFT = steps(("rxdata", "nothing"), ("rxdone", "nothing"))
 
 
 def awaited(size, *changed, frame=LONG):
-    """Seven buffers of this size are offered, and a frame is stored."""
+    """The rows that offer seven buffers of this size, the rows `changed`, and the arrival of a frame with the fate
+    Stored.
+    """
     return [*SLOTS, *OFFERED, writes(RCTL, SIZES[size]), *changed, arrives("stored", frame)]
 
 
 def written_back(slot, length, status):
-    """A descriptor after its write-back (3.2.3): its buffer, the length, checksum 0, the status, errors 0, special
-    0.
+    """The row that loads a descriptor after its write-back (3.2.3): its buffer, the length, checksum 0, the status,
+    errors 0, special 0.
     """
     return loads(16 * slot,
                  f"00{0x48 + 8 * slot:02x}{'00' * 6}{length.to_bytes(2, 'little').hex()}0000{status:02x}000000")
 
 
 def holds(slot, first, length, frame=LONG):
-    """The buffer of a slot has the frame's bytes from `first` on. The four bytes after them were not written."""
+    """The row that loads a slot's buffer: `length` bytes of the frame, from its byte `first` on, and four bytes that
+    were not written.
+    """
     return loads(0x4800 + 0x800 * slot, frame[2 * first:2 * (first + length)] + "00" * 4)
 
 
 def comes(*lengths, slot=0, first=0, left=False, frame=LONG):
-    """Pieces of these lengths are moved and finished, one for each slot. The last piece ends the frame, unless some of
-    the frame is left.
+    """The rows that move and finish pieces of these lengths, and load their descriptors and buffers. The pieces use
+    one slot each, from `slot` on. The last piece ends the frame, unless `left` is set.
     """
     rows = []
     for number, length in enumerate(lengths):
@@ -300,7 +314,7 @@ def comes(*lengths, slot=0, first=0, left=False, frame=LONG):
 
 
 def pieces(server):
-    """A frame that is longer than a receive buffer goes into several, one piece for each descriptor."""
+    """A frame that is longer than a receive buffer goes into several buffers, one piece for each descriptor."""
     server.check("adapter: the longest frame has 1,518 bytes", len(LONG), 2 * 1518)
     part = [*steps(("rxdata", "part"), ("rxdata", "nothing")), reads(GPRC, 0),
             *steps(("rxdone", "done"), ("rxdone", "nothing"))]
@@ -345,7 +359,9 @@ def pieces(server):
 
 
 def pieces_later(server):
-    """What happens while some of a frame is left."""
+    """In mid-frame, buffers change their size, reception is off, descriptors run out, or the ring changes. Faults,
+    resets and missed frames come in mid-frame, too.
+    """
     for size, rest in [(2048, [1262]), (1024, [1024, 238]), (512, [512, 512, 238])]:
         server.talks(f"adapter: buffers of 256 bytes become buffers of {size} in mid-frame", [
             *awaited(256), *steps(("rxdata", "part")), writes(RCTL, SIZES[size]), *steps(("rxdone", "done")),
@@ -423,13 +439,13 @@ def pieces_later(server):
 
 
 def came(fate, *lengths):
-    """Frames of these lengths arrive, and each has this fate."""
+    """The rows in which frames of these lengths arrive, each with this fate."""
     return [arrives(fate, "ff" * length) for length in lengths]
 
 
 def packet_buffer(server):
-    """A frame takes up its length in the receive packet buffer, rounded up to a multiple of 16 bytes, and 16 bytes
-    more.
+    """The room of the receive packet buffer. A frame takes up its length, rounded up to a multiple of 16 bytes, and 16
+    bytes more.
     """
     for kilobytes, stored, missed in [
         (2, [60] * 25, 60), (2, [1518, *[60] * 6], 60), (2, [1518], 497), (2, [1518, 496], 60), (2, [1008, 1008], 60),
@@ -459,7 +475,9 @@ def packet_buffer(server):
 
 
 def slot(length, told, number=0):
-    """A transmit descriptor whose buffer is at 0x800 or 2,048 bytes later."""
+    """The row that stores transmit descriptor `number`, whose buffer is at 0x800 + 2,048 * number. `told` is its
+    command byte.
+    """
     return stores(0x80 + 16 * number,
                   f"00{8 + 8 * number:02x}{'00' * 6}{length.to_bytes(2, 'little').hex()}00{told:02x}00000000")
 
@@ -468,7 +486,7 @@ def slot(length, told, number=0):
 RING = [("memset 0x800 16384 7", "OK"), writes(TDBAL, 0x80), writes(TDLEN, 128), writes(TCTL, TRANSMIT)]
 
 
-# From now on frames and faults are reported as they happen.
+# A request after which frames, arrivals of offered frames, and faults are reported as they happen.
 EVENTS = ("events on", "OK")
 
 

@@ -50,13 +50,13 @@ tick go
 drain e""".encode()
 # Bytes that separate, end or form words, or aren't text.
 SPECIAL = b"\0\t\n\x0b\x0c\r  ##//::09afFgG+-._x\x7f\x80\x85\xa0\xbf\xc0\xc3\xe2\xed\xef\xf0\xf4\xf8\xff"
-# Bytes that aren't UTF-8: single ones, the start of a character, a long form, a surrogate, and a number above 10FFFF.
+# Bytes that aren't UTF-8: single bytes, cut characters, overlong forms, a surrogate, and numbers above 10FFFF.
 NOT_TEXT = [b"\xff", b"\x80", b"\xc3", b"\xe2\x82", b"\xf0\x9f\x98", b"\xc0\xaf",
             b"\xe0\x80\xaf", b"\xed\xa0\x80", b"\xf4\x90\x80\x80", b"\xf8\x88\x80\x80\x80"]
-# Characters that are no ASCII; some of them separate words elsewhere.
+# Characters that aren't ASCII. Some of them are white space, but don't separate the words of a scenario.
 CHARACTERS = ["\u00e9", "\u0085", "\u00a0", "\u0661", "\u2028", "\u3000", "\ufeff", "\uffff", "\U0010ffff"]
 LINE_FAULTS = {"E50 Word", "E51 Count", "E52 Value", "E53 Name", "E54 Order", "E55 Long", "E56 Text"}
-# What the words of a random line are taken from, first the valid words and how many of these there are.
+# The words of random lines: a number N, and a list whose first N words are valid. NAMES and BAD_TICKS are only lists.
 NAMES = ["A", "a.b", "x" * 16, "x" * 17, "/", "a/b", "#", "..", "\u00e9", "\0", "n" * 249, "n" * 248]
 ADDRESSES = 5, ["02:00:00:00:00:05", "02:00:00:00:00:06", "02:00:00:00:00:07", "02:00:00:00:00:08", "fE:fF:fF:fF:fF:fF",
                 "02:00:00:00:00:01", "01:00:5e:00:00:01", "02-00-00-00-00-01", "02:00:00:00:00:1", "020000000001"]
@@ -84,7 +84,7 @@ COUNTS = (re.compile(rb" accepted \d+ put \d+ reached \d+ stored \d+ missed \d+ 
 
 
 def fed_fault(bench, path, given):
-    """The status and the fault of a trace that a scenario feeds, or None."""
+    """The exit status and the fault of a trace that a scenario feeds, or None if the trace is valid."""
     if path == "-":
         fault = TraceRead(given).fault
         return fault and (1, fault)
@@ -101,7 +101,9 @@ def fed_fault(bench, path, given):
 
 
 def answer(bench, text, given=b"", options=()):
-    """The status, the fault or None, the files in OUTDIR, and the names of the hosts, or of the refused trace."""
+    """The status, the fault or None, the files in OUTDIR, and a list. Without a fault, the list has the names of the
+    hosts. It has the path of a refused trace, and is empty after other faults.
+    """
     scenario = Scenario(text)
     if scenario.fault:
         line, fault = scenario.fault
@@ -127,7 +129,9 @@ def held_bytes(path):
 
 
 def runs(bench, met, name, text, given=b"", options=()):
-    """Runs a scenario, and compares the answer with the computed one."""
+    """Runs a scenario, compares the answer with the computed one, and adds a fault to `met`. Of each file, only the
+    header is compared.
+    """
     path = folder(bench)
     bench.put("s.scenario", text)
     status, fault, files, hosts = answer(bench, text, given, options)
@@ -144,7 +148,7 @@ def runs(bench, met, name, text, given=b"", options=()):
 
 
 def cut_texts(bench, met):
-    """The text is cut at each byte of each line."""
+    """The text BASE is cut after each of its bytes, and before the first one."""
     for size in range(len(BASE) + 1):
         runs(bench, met, f"cut after {size} bytes", BASE[:size])
     bench.check("cut: the whole text is valid", answer(bench, BASE)[:2], (0, None))
@@ -181,7 +185,7 @@ def moved_lines(bench, met):
 
 
 def random_bytes(bench, met):
-    """Texts of random bytes, of several alphabets."""
+    """Texts of random bytes from several alphabets, also after the valid text."""
     drawn = random.Random(3)
     for alphabet in [bytes(range(256)), bytes(range(128)), SPECIAL, b"\n\r #/", b"host ab\n\t:/01"]:
         for number in range(120):
@@ -190,7 +194,7 @@ def random_bytes(bench, met):
 
 
 def pick(drawn, words):
-    """A word of a list: mostly one of the valid words, which are its first."""
+    """A word of a list, mostly one of its first `valid` words."""
     valid, words = words
     return drawn.choice(words[:valid] if drawn.random() < 0.95 else words)
 
@@ -209,7 +213,7 @@ def random_ticks(drawn, hosts):
 
 
 def random_line(drawn, kind, hosts):
-    """A line of this kind, nearly always of its form."""
+    """A line of this kind. Mostly its words are valid, and have the number and the order that the kind needs."""
     host = pick(drawn, (len(hosts), hosts + NAMES))
     tables = {"group": GROUPS, "vlan": VLANS, "socket": ETHER_TYPES, "send": FRAMES, "recv": NUMBERS, "join": GROUPS,
               "leave": GROUPS, "feed": PATHS,
@@ -234,7 +238,7 @@ def random_line(drawn, kind, hosts):
 
 
 def random_lines(bench, met):
-    """Lines of words that are drawn from those of scenarios."""
+    """Scenarios of random lines, whose words are mostly drawn from the tables."""
     drawn = random.Random(4)
     setup, events = sorted(SETUP), sorted(set(WORDS) - SETUP)
     begin = [line.decode() for line in BASE.split(b"\n")[1:5]]
@@ -250,7 +254,9 @@ def random_lines(bench, met):
 
 
 def each_word(bench, met):
-    """Each of these words in a line that is valid without it."""
+    """Each word of the tables, in a line whose other words are valid; and calls with too few or too many words or
+    ticks.
+    """
     begin = [line.decode() for line in BASE.split(b"\n")[1:3]]
     host = "host f 02:00:00:00:00:06 w"
     lines = [f"host {name} 02:00:00:00:00:06 w\nsocket {name} all\nsocket {name} 0800" for name in NAMES]
@@ -278,7 +284,7 @@ def each_word(bench, met):
 
 
 def full_hosts(bench, met):
-    """Hosts with all their sockets, groups and VLANs, and plans of many hosts."""
+    """Hosts with the most sockets, groups and VLANs, and one less or more; and plans of 0 to 19 hosts."""
     for kind, value, most in [("socket", "all", 8), ("group", "01:00:5e:00:00:01", 32), ("vlan", "5", 32)]:
         for host in "ab":
             lines = BASE.split(b"\n")[1:3] + [f"{kind} {host} {value}".encode()] * (most + 1)
@@ -291,7 +297,7 @@ def full_hosts(bench, met):
 
 
 def long_lines(bench, met):
-    """Lines of about 8,192 bytes, with each end."""
+    """Lines of about 8,192 bytes, and of 2 and 20 times this length, with different ends of the line."""
     begin = b"\n".join(BASE.split(b"\n")[1:3]) + b"\n"
     for first, fill in LONG_LINES:
         for size in [*range(MOST_BYTES - 3, MOST_BYTES + 4), 2 * MOST_BYTES, 20 * MOST_BYTES]:
@@ -300,7 +306,7 @@ def long_lines(bench, met):
 
 
 def other_texts(bench, met):
-    """Bytes that aren't UTF-8, and characters that are no ASCII, at each place of a line of each kind."""
+    """Bytes that aren't UTF-8, and characters that aren't ASCII, at each place of a line of each kind."""
     drawn = random.Random(5)
     lines = BASE.split(b"\n")
     for number, line in enumerate(lines):
@@ -315,7 +321,7 @@ def other_texts(bench, met):
 
 
 def passes(bench, name, data):
-    """Passes a trace, and compares the answer with the computed one."""
+    """Passes a trace, and compares the answer with the computed one. Returns the fault of the trace, or None."""
     bench.remove("out.pcap")
     bench.put("in.pcap", data)
     read = TraceRead(data)
@@ -327,7 +333,9 @@ def passes(bench, name, data):
 
 
 def traces(bench):
-    """Each byte of a trace of two frames is replaced; and traces of random bytes."""
+    """Traces with a frame of about the least or most bytes; a trace of which each byte is replaced in turn; and random
+    traces.
+    """
     drawn = random.Random(6)
     data = trace(packet(bytes.fromhex(FRAME)), packet(bytes(range(70)), time=1))
     met = {passes(bench, "a trace", data)}

@@ -20,7 +20,9 @@ def code_of(fault: str) -> Code:
 
 
 def failure(fault: str, path: Optional[str] = None) -> bytes:
-    """What the program prints for a fault; of an input with a path also the second line."""
+    """What the program prints on standard error for a fault. If the fault is one of an input, and its path is given, a
+    second line names the path.
+    """
     row, text = code_of(fault), f"nicbench: {fault}\n"
     if path is not None and row.code in OF_INPUT:
         text += f"nicbench: {row.text.replace('IN', path)}\n"
@@ -28,7 +30,9 @@ def failure(fault: str, path: Optional[str] = None) -> bytes:
 
 
 def second_lines(bench: Program) -> None:
-    """The second line names the input that is refused, of several feeds too, and has a command that can be copied."""
+    """The second line names the refused input, also if a run feeds several, and has a command that can be copied. The
+    helps list exactly the codes of the table.
+    """
     bench.put("old.pcapng", b"\x0a\x0d\x0d\x0a" + bytes(100))
     told = (b"nicbench: E61 Magic\n"
             b"nicbench: old.pcapng isn't a pcap file. Convert a pcapng file: editcap -F pcap old.pcapng OUT\n")
@@ -43,7 +47,7 @@ def second_lines(bench: Program) -> None:
 
 
 def faults_of_helps() -> Iterator[str]:
-    """The codes with names in the rows of the helps of the program and of `run`."""
+    """Yields the codes with names that the helps of the program and of `run` list."""
     from helps import HELP, RUN_HELP
     for line in (HELP + RUN_HELP).decode().splitlines():
         words = line.split()

@@ -20,7 +20,7 @@ VLAN_FORM = b"a VLAN is a decimal number from 0 to 4095, such as 5"
 
 
 def words(bench):
-    """Invalid arguments: status 2, and the text on standard error. No file is created."""
+    """Helps, versions and invalid arguments: status 2, and the text on standard error. No file is created."""
     texts = [
         ([], HELP),
         (["--help"], HELP),
@@ -120,7 +120,7 @@ def words(bench):
             texts.append((["pass", option, value, "a", "b"],
                           b"error: invalid value '" + value.encode() + b"' for '" + name + b"': " + form + b"\n"
                           + FOR_MORE))
-    # Of several bad values the first in the order of the help is told.
+    # Of several invalid values, the first in the order of the help is reported.
     bad_address = b"error: invalid value 'x' for '--address <A>': " + ADDRESS_FORM + b"\n" + FOR_MORE
     bad_group = b"error: invalid value 'y' for '--group <G>': " + GROUP_FORM + b"\n" + FOR_MORE
     texts.append((["pass", "--vlan", "4096", "--group", "y", "--address", "x", "a", "b"], bad_address))

@@ -7,7 +7,7 @@ DEVICE = 4
 # Offsets in configuration space (PCI 2.2, 6.1), and bits of the command and the status in the double word at COMMAND
 COMMAND, BAR0 = 0x04, 0x10
 MEMORY_SPACE, INTERRUPT_STATUS = 1 << 1, 1 << 19
-# The double words at a new adapter, and the bits of each that can be written; all others are 0
+# The double words of a new adapter that aren't 0, except BAR0; and the bits of each double word that can be written
 FIRST = {0x00: 0x100E8086, COMMAND: 0x02200006, 0x08: 0x02000002, 0x2C: 0x001E8086, 0x3C: 0x00FF0100}
 WRITABLE = {COMMAND: 0x0157, BAR0: 0xFFFE0000, 0x3C: 0xFF}
 
@@ -21,11 +21,13 @@ class Configuration:
         self.base = registers
 
     def registers(self):
-        """The address of the first register, or None if no address is a register."""
+        """The address of the first register, or None if the command word disables memory space."""
         return self.base if self.words[COMMAND] & MEMORY_SPACE else None
 
     def place(self, port, width):
-        """The offset in configuration space that an access of the data port goes to, or None."""
+        """The offset in configuration space that an access of the data port goes to, or None if it goes to no byte of
+        this device.
+        """
         lane, address = port - DATA_PORT, self.address
         is_ours = address & ENABLE and address >> 8 & 0xFFFF == DEVICE << 3  # bus 0, this device, function 0
         return (address & 0xFC) + lane if is_ours and 0 <= lane <= 4 - width else None

@@ -1,8 +1,9 @@
-"""A model of `nicbench drive`: each access of its driver, in order, by the answers of the device.
+"""A model of `nicbench drive`: each access of its driver, in order, depending on the answers of the device.
 
-The model is a generator. It yields an access, and is sent the device's answer: the value of a register, the bytes of a
-load, or the stored bytes. An access is a tuple of a kind, a place and a value or a size. The bytes of a stored
-descriptor of a receive slot aren't predicted. The driver may offer any buffer that is free.
+The model is a generator. It yields an access, and is then sent the value that was read, the bytes that were loaded or
+stored, or None after a write. An access is a tuple: its kind, its place, and its value, size or bytes. The last item is
+None for a read of a register. It is also None for the store of a descriptor with a receive buffer, because the driver
+may choose any buffer that is free.
 """
 
 CTRL, EERD, MDIC, ICR, IMS = 0x0000, 0x0014, 0x0020, 0x00C0, 0x00D0
@@ -10,7 +11,7 @@ IMC, RCTL, TCTL, PBA = 0x00D8, 0x0100, 0x0400, 0x1000
 RDBAL, RDT, TDBAL, TDT, MPC, MTA, RAL, VFTA = 0x2800, 0x2818, 0x3800, 0x3818, 0x4010, 0x5200, 0x5400, 0x5600
 # TXDW, RXDMT0, RXO and RXT0, which the driver handles
 HANDLED = 1 << 0 | 1 << 4 | 1 << 6 | 1 << 7
-# The most reads of a register that the driver waits for
+# How many times the driver reads a register that it waits for, before it gives up
 MOST_READS = 1000
 MOST_PARTS, PIECE, DESCRIPTOR, TRANSMIT_BUFFER = 6, 256, 16, 2048
 DD, EOP = 1, 2
@@ -46,7 +47,8 @@ class Driver:
         start = -(-DESCRIPTOR * (rx + tx) // TRANSMIT_BUFFER) * TRANSMIT_BUFFER
         self.transmit_buffers, self.receive_buffers = start, start + TRANSMIT_BUFFER * tx
         self.memory = self.receive_buffers + PIECE * buffers
-        # the ring's buffers, the oldest first, and those of the frames in the queue; the others are free
+        # the oldest outstanding receive slot; the buffers of the outstanding slots; for each frame in the queue, its
+        # buffers, each with its piece's length. All other buffers are free.
         self.oldest, self.ring, self.queue = 0, [], []
         self.oldest_sent = self.sending = 0
         self.missed, self.is_exact = 0, True
@@ -112,7 +114,9 @@ class Driver:
         return set(range(self.buffers)) - set(self.ring) - {number for frame in self.queue for number, _ in frame}
 
     def stage(self, count):
-        """Stores the descriptors of the next slots. Each has the address of a free buffer, and otherwise zeros."""
+        """Stores the descriptors of the next `count` slots. Raises AssertionError unless each has the address of a free
+        buffer, and otherwise zeros.
+        """
         for _ in range(count):
             stored = yield store(DESCRIPTOR * ((self.oldest + len(self.ring)) % self.rx))
             number = (int.from_bytes(stored[:8], "little") - self.receive_buffers) // PIECE
@@ -129,8 +133,8 @@ class Driver:
             yield write(RDT, (self.oldest + len(self.ring)) % self.rx)
 
     def look(self):
-        """The lengths of the oldest finished slots up to one with EOP, or of six, and whether they are a frame. None
-        without such slots.
+        """Returns the lengths of the oldest slots, up to the first with EOP or to six, and whether they are a frame.
+        Returns None if one of these slots isn't finished, or if there are fewer than six, and none has EOP.
         """
         lengths, sound = [], True
         while len(lengths) < min(MOST_PARTS, len(self.ring)):
@@ -164,7 +168,7 @@ class Driver:
         yield from self.refill()
 
     def recv(self):
-        """The bytes of the oldest frame in the queue."""
+        """Takes the oldest frame from the queue, and refills the ring. Returns the bytes of the frame."""
         data = b""
         for number, length in self.queue[0]:
             data += yield load(self.receive_buffers + PIECE * number, length)
@@ -178,7 +182,9 @@ class Driver:
         return DESCRIPTOR * (self.rx + slot)
 
     def transmit(self, frame):
-        """Whether the frame is accepted or refused; otherwise the ring is full."""
+        """Sends a frame. Returns True if it is accepted, or refused for its length, and False if the transmit ring is
+        full.
+        """
         if not SHORTEST_SENDABLE <= len(frame) <= MOST:
             return True
         while self.sending and (yield load(self.transmit_slot(self.oldest_sent), DESCRIPTOR))[12] & DD:
@@ -197,7 +203,9 @@ class Driver:
 
 
 class Drive:
-    """A run of `drive`. Afterwards `error` is why the adapter wasn't initialized, or `received` has the frames."""
+    """A run of `drive`. At its end, `error` is the reason why the adapter wasn't initialized, or None; and `received`
+    has the frames.
+    """
 
     def __init__(self, frames, expect, idle, rings):
         self.driver, self.frames, self.expect, self.idle = Driver(**rings), frames, expect, idle

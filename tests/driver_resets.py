@@ -20,7 +20,9 @@ ORDER = [*(("register", register) for register in (RCTL, MPC, CTRL, IMC, ICR, PB
 
 
 def accesses(log):
-    """The accesses in a log, each a place and a value; None for the value of a read."""
+    """Yields the accesses in a log: the place, and the value. The value is None for a read of a register, and a text
+    for an access of memory.
+    """
     for words in map(str.split, log):
         if words[1] in ("readl", "writel"):
             yield ("register", int(words[2], 0) - REGISTERS), int(words[3], 0) if words[1] == "writel" else None
@@ -29,7 +31,9 @@ def accesses(log):
 
 
 def reset_with(server, name, held):
-    """Resets a driver that has taken this many frames of one slot. Returns the accesses, with their values."""
+    """Resets a driver that has received this many frames of one slot each. Returns the accesses of the reset, with
+    their values.
+    """
     with Adapter(server.program) as adapter:
         driver = driver_of(name, adapter)
         adapter.interleave(STEPS)
@@ -45,7 +49,9 @@ def reset_with(server, name, held):
 
 
 def all_accesses(server):
-    """Each driver makes the accesses of a reset in their order. RDT is the number of slots that are offered."""
+    """Each driver without a bug makes the accesses of ORDER. The last write of RDT is the number of slots that are
+    offered. `queue` clears the descriptors of the other slots.
+    """
     for name, held, offered in [*((name, 3, SLOTS - 1) for name in RIGHT),
                                 *(("queue", held, min(SLOTS - 1, BUFFERS - held))
                                   for held in (0, 3, 5, 6, BUFFERS - 1, BUFFERS))]:
@@ -60,7 +66,7 @@ def all_accesses(server):
 
 
 def random_steps(server):
-    """With random steps before each access, the drivers without a bug pass, and both bugs are found."""
+    """With random steps before each access, the drivers without a bug pass, and both bugs in resets are found."""
     for name, wanted in [*((name, None) for name in (*RIGHT, *QUEUE)), ("mpc", 9), ("offers-queued", 1)]:
         failed = sweep.first_to_fail(server.program, SEEDS, name, resets.resets, False)
         server.check(f"resets: random steps, {name}", failed and failed[0], wanted)

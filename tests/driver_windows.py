@@ -1,8 +1,9 @@
 """The tests with windows of examples/drivers: which seed finds which bug, and whether the tests have the windows that
-the page describes.
+its README describes.
 
-The tables of examples/drivers/README.md state the first seed that fails, for each bug and test. The runs are
-deterministic, so the seeds must be exactly these. `Seen` computes from the log of a run which windows the run had.
+The tables of examples/drivers/README.md state the first seed that fails: for each bug and test, and for each bug and
+window that is left out. The runs are deterministic, so the seeds must be exactly these. `Seen` computes from the log of
+a run which windows the run had.
 """
 
 import os
@@ -21,11 +22,12 @@ import sweep
 from driver import CAUSES, ICR, IMS, RDT, RECEIVE_BUFFER, RIGHT, SLOTS, TDT, TRANSMIT_BUFFERS, TRANSMIT_RING
 from adapter import REGISTERS
 
-# The seeds that a table with "none" promises
+# How many seeds are tried for a cell with `none`
 SEEDS = 200
-# The seeds with which a driver without a bug passes each test
+# With how many seeds a driver without a bug must pass each test
 RIGHT_SEEDS = 20
-# The frames that arrive in the stage `work`; in the stage `dry`, too, work is left when the handler is called
+# How many frames arrive in the stage `work`. After later frames, the window `work` isn't noted: in the stage `dry`,
+# too, work is left when the handler is called.
 FRAMES_OF_WORK = 12
 # The headings of the two tables
 TESTS_HEADING = f"| Name | Bug | {' | '.join(f'`{test}`' for test in sweep.TESTS)} |"
@@ -42,7 +44,9 @@ def cells_of(heading):
 
 
 def first_seed(server, name, test, wanted):
-    """The first seed that fails, as a cell has it. Stops at the seed that the cell promises, or after all seeds."""
+    """The first seed with which the test fails, as text, or `none`. Seeds are tried up to the one in the cell, or up to
+    SEEDS if the cell has no seed.
+    """
     seeds = int(wanted) if wanted.isdecimal() else SEEDS
     failed = sweep.first_to_fail(server.program, seeds, name, test, False)
     return str(failed[0]) if failed else "none"
@@ -74,8 +78,8 @@ def table_of_windows(server):
 
 
 def right_drivers(server):
-    """The drivers without a bug pass all tests, also without windows. To save time, these are the first of the seeds in
-    the table.
+    """The drivers without a bug pass all tests, and the test `stages` without each of its windows. To save time, only
+    the first of the table's seeds are played.
     """
     for name in RIGHT:
         for test, play in sweep.TESTS.items():
@@ -90,11 +94,11 @@ class Seen:
     """What happened in a run, computed from its log after initialization."""
 
     def __init__(self, log):
-        # frames in the packet buffer, frames without DD and EOP, the piece in progress
+        # frames in the packet buffer; frames that arrived and aren't finished with DD and EOP; the piece in progress
         self.waiting, self.unfinished, self.piece = 0, 0, None
-        # descriptors that the adapter used and that the driver offered, from the start
+        # how many descriptors the adapter has used, and how many the driver has offered
         self.rx_used, self.rx_tail = 0, 0
-        # frames that the adapter took, that the driver offered, and on the wire
+        # how many frames the adapter has taken, the driver has offered, and the adapter has put on the wire
         self.taken, self.tx_tail, self.put = 0, 0, 0
         self.arrived = 0
         self.sending = None  # the newest store of a frame to be sent, until TDT is written
@@ -159,7 +163,7 @@ class Seen:
 
 
 def seen_in(server, test, name="right", seed=1):
-    """The windows of a run: their names, and the numbers of slots that received frames take."""
+    """The fault of a run or None, the names of its windows, and the numbers of slots that received frames take."""
     fault, log = sweep.run(server.program, seed, name, test)
     begin = next(place for place, line in enumerate(log) if line == f"# writel {REGISTERS + IMS:#x} {CAUSES:#x}")
     seen = Seen([f"# writel {REGISTERS + RDT:#x} {SLOTS - 1:#x}", *log[begin + 1:]])
@@ -180,14 +184,16 @@ EXPECTED = {
 
 
 def windows_seen(server):
-    """Each test has the windows that the page describes, and no other. Only the bug `cuts` lets the handler cut in."""
+    """Each test has the windows that the page describes, and no other. The handler runs inside a send only for the
+    driver `cuts` in the test `cuts`.
+    """
     for name, (windows, slots) in EXPECTED.items():
         test, _, window = name.partition(" without ")
         for seed in (1, 2, 3):
             got = seen_in(server, sweep.test_of(test, window), "right", seed)
             server.check(f"windows: of {name}, seed {seed}", got, (None, windows, slots))
     for seed in (1, 2, 3):
-        # The adapter may put an answer on the wire before the next frame arrives or after it.
+        # The adapter may put an answer on the wire before or after the next frame arrives, so `both` isn't compared.
         fault, had, slots = seen_in(server, stages.cuts, "right", seed)
         server.check(f"windows: of cuts, seed {seed}", (fault, had - {"both"}, slots),
                      (None, RINGS_WRAP | {"work"}, {1, 2, 3, 4, 5, 6}))
@@ -200,8 +206,8 @@ def windows_seen(server):
 
 
 def offered(server):
-    """The random steps of the server let offered frames arrive, too. A race that needs this isn't found if they arrive
-    by request.
+    """The random steps of the server let offered frames arrive, too. The race of `rxo` needs this: if frames arrive by
+    request, none of 100 seeds finds it.
     """
     by_request = partial(arrivals.offers, is_offered=False)
     for name, test, seeds, wanted in [("rxo", arrivals.offers, 2, 2),
@@ -227,8 +233,8 @@ def swept(server, *words):
 
 
 def sweeps(server):
-    """The options of sweep.py: a test for all drivers, one run, a window that is left out, the tables, and invalid
-    words.
+    """The options of sweep.py: a test for all drivers, one run, and a window that is left out. Invalid words are
+    refused.
     """
     for test, missed in [("exchange", {"late", "length", "rdt", "masks-late", "cuts"}), ("stages", {"cuts"})]:
         status, out, errors = swept(server, "1", "--test", test)

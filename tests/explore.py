@@ -22,12 +22,15 @@ LIMIT = 3600
 PASSES, FOUND, USAGE, NOT_RUN, NOTHING = range(5)
 ZEROED = ["-O0", "-ftrivial-auto-var-init=zero"]
 WARNINGS = ["-std=gnu11", "-Wall", "-Wextra", "-Werror"]
-# The schedules of just each depth, by tools/races (depths 1 and 2) and by a search that plays each schedule (3 and 4).
+# For tests of stages.c, how many schedules have exactly 1, 2, .. deviations. tools/races counted depths 1 and 2; a
+# search that plays each schedule counted 3 and 4.
 STAGES = 518, 139_447, 25_630_662, 3_583_586_963
 OFFERS, EXCHANGE, CUTS, HELD = (108, 6_306), 286, 210, 586
-# Of all schedules of up to one and two deviations: how many fail, by a search that plays each
+# For each bug, how many schedules with up to one and with up to two deviations fail. A search that plays each schedule
+# counted them.
 FAILING = ("late", 3, 130), ("freed", 112, 39_220)
-# Each bug: the test, options, and its smallest schedule, whose place is the earliest one
+# For each bug: the test and the driver, options, and of the failing schedules with one deviation, that at the earliest
+# place
 BUGS = [("late", "", "4.6 rxdone before read ICR"), ("length", "", "4.8 rxdone before read rx[1]+12"),
         ("freed", "", "63.4 txtake before read TDH"), ("rdt", "", "58.5 rxdata before write rx[2]"),
         ("tdt", "", "63.3 txtake before write tx[0]"), ("masks-late", "", "4.7 rxdone before read ICR"),
@@ -59,7 +62,7 @@ static const char *test(void *word)
 }
 int main(int count, char **words) { return nic82540em_explore(count, words, test, 0); }
 """
-# A test that ends by a signal if a frame was finished before the second read of its status
+# A test that ends by a signal if a frame is finished between the two reads of its status
 ENDS = """
 #include <nic82540em_explore.h>
 #include <stdlib.h>
@@ -83,7 +86,7 @@ static const char *test(void *word)
 int main(int count, char **words) { return nic82540em_explore(count, words, test, 0); }
 """
 # Tests that use what remains of an earlier frame: its bytes in a buffer, the length in its descriptor, and the counter
-# of received frames. If a frame was finished before the first look
+# of received frames. `early` is above 2 if a frame was finished before the first look at its status.
 LEFT_BEHIND = """
 #include <nic82540em_explore.h>
 static uint8_t is_done(uint64_t descriptor)
@@ -168,7 +171,7 @@ int main(int count, char **words) { return nic82540em_explore(count, words, test
 
 
 class Explorer(Program):
-    """The programs that are built here."""
+    """Builds tests with the explorer, and runs them."""
 
     def __init__(self, program, library, folder):
         super().__init__(program, folder)
@@ -176,7 +179,7 @@ class Explorer(Program):
         self.compiler = shutil.which(os.environ.get("CC", "cc"))
 
     def build(self, name, *sources, words=(), objects=()):
-        """Compiles a test, and links it with the explorer."""
+        """Compiles a test, and links it with the explorer. Returns the path of the program."""
         out = os.path.join(self.folder, name)
         line = [self.compiler, *(words or ZEROED), *WARNINGS, "-I", os.path.join(self.library, "include"), "-o", out,
                 *sources, *objects,
@@ -189,18 +192,20 @@ class Explorer(Program):
         return self.put(name, text.encode())
 
     def run(self, *words, env=None, data=None):
-        """The exit status of a program, its output and its errors."""
+        """Runs a program. Returns its exit status, its output and its errors."""
         return self.execute(*words, env=env, given=data, limit=LIMIT)
 
     def none_of(self, *words):
-        """How many schedules a search that passes stands for, or its output."""
+        """How many schedules a search covers that finds no failure; otherwise the status, the output and the errors of
+        the search.
+        """
         status, out, errors = self.run(*words)
         found = re.search(r": none of (\S+) fails\n", out)
         return int(found[1]) if found and status == PASSES and not errors else (status, out, errors)
 
 
 def counts(bench):
-    """The exact numbers of schedules."""
+    """Searches report the exact numbers of schedules."""
     total = 1
     for depth, count in enumerate(STAGES, 1):
         total += count
@@ -222,7 +227,9 @@ def sources(*names):
 
 
 def bugs(bench):
-    """Each bug is found, by one deviation; its schedule is stored and played again, and the right driver passes it."""
+    """Each bug is found, with one deviation or with none. The schedule of one deviation is stored and played again,
+    also by `serve`, and the right driver passes it.
+    """
     for name, words, deviation in BUGS:
         found = os.path.join(bench.folder, "found.txt")
         status, out, errors = bench.run(bench.stages, name, *words.split(), "--out", found, "--serve", bench.program)
@@ -244,12 +251,12 @@ def bugs(bench):
 
 
 def all_that_fail(bench):
-    """With --all, each schedule that fails is found, and each seed."""
+    """With --all, a search reports each schedule that fails, or each seed that fails."""
     for name, *wanted in FAILING:
         for depth, count in enumerate(wanted, 1):
             out = bench.run(bench.stages, name, "--explore", str(depth), "--all")[1]
             bench.check(f"all: {name}, depth {depth}", int(re.search(r"holds: (\d+) of \d+ fail\n", out)[1]), count)
-    # With --all, a search skips no state.
+    # If no schedule fails, a search with --all covers the same number of schedules.
     for name, depth in ("cuts:right", "3"), ("offers:masks", "5"):
         numbers = [bench.none_of(bench.stages, name, "--explore", depth, *words) for words in ([], ["--all"])]
         bench.check(f"all: {name}, the same schedules", numbers[0], numbers[1])
@@ -261,7 +268,9 @@ def all_that_fail(bench):
 
 
 def by_priorities(bench):
-    """PCT finds races of depth 2, and no fault of the right driver. The probability is that of the finder's formula."""
+    """PCT finds races of depth 2, and no fault of the right driver. The printed bound of the probability is 1 divided
+    by the product of actors (4) and events.
+    """
     for name in ("late", "freed"):
         status, out, _ = bench.run(bench.stages, name, "--pct", "2")
         events, bound = map(int, re.search(r"^PCT, depth 2: (\d+) events, .* at least 1/(\d+)$", out, re.M).groups())
@@ -271,7 +280,9 @@ def by_priorities(bench):
 
 
 def races(bench):
-    """By --pipe, tools/races plays the same test: it fails with the same schedule, and has a chart."""
+    """With --pipe, tools/races plays tests of the explorer: `late` fails with the same schedule, and is shown in a
+    chart. The right driver passes.
+    """
     schedule = bench.source("late.txt", "4.6 rxdone before read ICR\n")
     finder = [sys.executable, "-S", os.path.join(TOP, "tools", "races"), "--server", bench.program]
     status, out, errors = bench.run(*finder, "--replay", schedule, "--", bench.stages, "late", "--pipe")
@@ -284,7 +295,9 @@ def races(bench):
 
 
 def drawn(bench):
-    """Drawn runs, from saved states and from nothing, have the same answers. What isn't saved is found."""
+    """Runs of drawn schedules have the same answers from saved states and from nothing. State that isn't saved is
+    reported. Too many states end a search.
+    """
     status, out, errors = bench.run(bench.stages, "right", "--check", "--runs", "100")
     bench.check("drawn: check", (status, out.splitlines()[-1:], errors),
                 (PASSES, ["each has the answers of a run from nothing"], ""))
@@ -303,7 +316,9 @@ def drawn(bench):
 
 
 def left_behind(bench):
-    """What nobody reads parts no states; what a run reads is as it was left."""
+    """Bytes that no run reads make no difference between states. A run that reads what an earlier frame left finds it
+    unchanged. A static variable that isn't saved is reported.
+    """
     for name, (use, wanted) in USES.items():
         test = bench.build("left", bench.source("left.c",
                                                 LEFT_BEHIND.replace("USE", f"(void)early, (void)last, (void)length; "
@@ -337,8 +352,8 @@ def logs(bench):
 
 
 def ends(bench):
-    """A test that ends by a signal fails; one that makes no access isn't searched; and each run from nothing shows the
-    same.
+    """A test that ends by a signal fails, also if each run begins from nothing. A test that makes no access isn't
+    searched. Returns the program of such a test.
     """
     for name, code in [("SIGABRT", "abort()"), ("SIGSEGV", "*(volatile int *)0 = 0"),
                        ("SIGFPE", "status[1] /= status[0]")]:
@@ -358,7 +373,7 @@ def ends(bench):
 
 
 def arguments(bench):
-    """Wrong words and wrong schedules; variables in place of words."""
+    """Wrong words and wrong schedules; environment variables in place of words."""
     for words, wanted in [(["--fly"], "--fly: there is no such option"), (["--runs"], "--runs: it has no value"),
                           (["--explore", "x"], "--explore: its value isn't a number, or is too great"),
                           (["--explore", "17"], "--explore: its value isn't a number, or is too great")]:
@@ -368,6 +383,8 @@ def arguments(bench):
     bad = bench.source("bad.txt", "4.6 rz before read ICR\n")
     bench.check("arguments: a schedule", bench.run(bench.stages, "right", "--replay", bad),
                 (USAGE, "", f"explore: {bad}: line 1: it has no deviation, such as rx\n"))
+    bench.check("arguments: a folder in place of a schedule", bench.run(bench.stages, "right", "--replay", "/"),
+                (USAGE, "", "explore: /: it can't be read\n"))
     served = bench.run(bench.stages, "right", "--replay", "/dev/null", "--serve", "nonesuch")
     bench.check("arguments: no program", served,
                 (PASSES, "The test passes.\nnonesuch serve can't play it: it can't be started\n", ""))
@@ -390,7 +407,7 @@ def arguments(bench):
 
 
 def pointers(bench):
-    """A driver with pointers is explored as it is."""
+    """A driver with pointers is explored without a change."""
     driver = os.path.join(bench.folder, "pointers.o")
     words = [bench.compiler, "-c", "-O1", "-ftrivial-auto-var-init=zero", "-fsanitize=thread",
              "--param=tsan-distinguish-volatile=1"]
@@ -409,7 +426,7 @@ def pointers(bench):
 
 
 def lab(bench):
-    """The right solution of the lab passes, and each of the ten wrong ones fails: by itself, or by one deviation."""
+    """The right solution of the lab passes, and each of the ten wrong ones fails, with at most one deviation."""
     folder = os.path.join(TOP, "examples", "lab")
     for number in range(11):
         words = [os.path.join(folder, "grade"), bench.library, os.path.join(folder, "solution.c"), "--explore", "1"]
@@ -442,7 +459,7 @@ def rust(bench):
 
 
 def every(bench):
-    """Every schedule of drivers without a bug."""
+    """The drivers without a bug pass every schedule, and the numbers of schedules are those of EVERY."""
     for name, number in EVERY.items():
         status, out, errors = bench.run(bench.stages, name, "--explore", "every")
         found = re.search(r": none of (\S+) fails\n", out)

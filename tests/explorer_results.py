@@ -1,5 +1,5 @@
 """What the explorer prints: results and JSON, ends by signals, progress, and where a handler cuts in. tests/explore.py
-runs this.
+runs these tests.
 """
 
 import json
@@ -20,7 +20,7 @@ SIGNALS = signal.SIGINT, signal.SIGTERM, signal.SIGHUP
 WITHOUT_TOUCH = "the handler cut in only after accesses and requests: between two variables, it does so with x_touch"
 KEYS = {"result", "seed", "fault", "schedule", "runs", "search", "served"}
 SEARCH_KEYS = {"complete", "tried", "smallest", "holds", "first", "schedules", "states", "depth"}
-# Where the handler of my_test.c reads ICR, and where it loops
+# The line in which the handler of my_test.c reads ICR, and the end of this handler
 READS_ICR, LOOPS = ("    x_read(NIC_ICR); /* first: a frame that is finished later raises the line again */\n",
                     "    }\n}\n\nstatic void send(")
 # A counter in a static variable that no run sets back, and a fault of two lines that needs escapes in JSON
@@ -52,8 +52,9 @@ static const char *test(void *word)
 }
 int main(int count, char **words) { return nic82540em_explore(count, words, test, count > 1 && words[1][0] == 'f' ? words : 0); }
 """
-# A queue that is stopped when it is full, and started by the handler. If the handler cuts in between the look and the
-# stop, after all frames were sent, nobody starts the queue again. AGAIN: the driver looks once more.
+# A transmit queue that the driver stops when it is full, and that the handler starts. If the handler cuts in between
+# the driver's look at `free` and the stop, after all frames were sent, nothing starts the queue again. AGAIN: the
+# driver looks at `free` once more.
 STOPPED = """
 #include <nic82540em_explore.h>
 enum { RING = 0x2000, BUFFERS = 0x20000, SLOTS = 8, FRAMES = MOST + 3 };
@@ -115,7 +116,7 @@ int main(int count, char **words) { return nic82540em_explore(count, words, test
 
 
 def result_of(bench, *words):
-    """The exit status and the JSON object of a call, whose keys are checked."""
+    """The exit status and the JSON object of a command. The keys of the object are checked."""
     status, out, errors = bench.run(*words, "--json")
     result = json.loads(out)
     search = SEARCH_KEYS | ({"failed"} if "--all" in words else set())
@@ -125,7 +126,9 @@ def result_of(bench, *words):
 
 
 def build_all(bench):
-    """A driver with a static counter, and one whose queue is stopped: wrong, with a longer queue, and right."""
+    """Builds the test with a static counter, and three tests of a queue that is stopped: wrong, with a longer ring, and
+    right. Returns the paths of all four.
+    """
     counter = bench.build("counter", bench.source("counter.c", COUNTER), words=["-O0", "-ftrivial-auto-var-init=zero"])
     text = [("stopped", 5, 0), ("longer", 7, 0), ("looks", 5, 1)]
     paths = [bench.source(f"{name}.c", STOPPED.replace("AGAIN", str(again)).replace("MOST", str(most)))
@@ -134,7 +137,7 @@ def build_all(bench):
 
 
 def unsaved(bench, counter):
-    """A static counter that is never set back is no race."""
+    """A static counter that no run sets back is reported as state that isn't saved, and not as a race."""
     for words in ([], ["--explore", "every"], ["--explore", "1", "--again"], ["--check"], ["--pct", "2"], ["--all"]):
         status, out, errors = bench.run(counter, *words)
         got = status, "isn't saved, such as a counter." in out, "fails" in out, errors
@@ -145,7 +148,9 @@ def unsaved(bench, counter):
 
 
 def faults(bench, counter):
-    """A fault of two lines: its schedule is stored and played again, and its JSON is valid. So is a long command."""
+    """A fault of two lines: its schedule is stored and played again, and its JSON is valid. The stored command has a
+    long word and a word of two lines.
+    """
     found = os.path.join(bench.folder, "two lines.txt")
     words = ["f", "x" * 400, "two\nlines"]
     status, _, errors = bench.run(counter, *words, "--out", found)
@@ -161,8 +166,8 @@ def faults(bench, counter):
 
 
 def template(bench):
-    """my_test.c passes every schedule. Its race on the page, if ICR is read last, is the one that is printed. Returns
-    the program.
+    """my_test.c passes every schedule. If its handler reads ICR last, the explorer prints the race that docs/RACES.md
+    shows. Returns the program.
     """
     path = os.path.join(EXAMPLES, "my_test.c")
     text, page, readme = (text_of(file) for file in (path, os.path.join(TOP, "docs", "RACES.md"),
@@ -188,7 +193,9 @@ def template(bench):
 
 
 def lengths(bench, stages):
-    """A test that is twice as long has twice the states, if both rings come to the same slots in between."""
+    """A test that is twice as long has 2 to 2.1 times the states, if its halves begin with both rings at the same
+    slots.
+    """
     for name in "exchange:right", "cuts:right", "offers:right", "right":
         states = [int(re.search(r"^(\d+) states", bench.run(stages, f"{times}{name}", "--explore", "every")[1],
                                 re.M)[1]) for times in ("", "2.")]
@@ -196,8 +203,8 @@ def lengths(bench, stages):
 
 
 def handlers(bench, stopped, looks):
-    """The template passes every schedule; what a pass with a handler doesn't show is said. A race of two variables is
-    found quickly.
+    """The template passes every schedule. With `x_touch`, no line reports that the handler cut in only after accesses
+    and requests. A race of two variables is found in less than 3 processor seconds.
     """
     mine = template(bench)
     status, out, _ = bench.run(looks, "--explore", "every")
@@ -223,7 +230,7 @@ def handlers(bench, stopped, looks):
 
 
 def as_json(bench, stages, longer):
-    """Each kind of search has the same keys, with the numbers of the text."""
+    """The JSON object of each kind of search has the same keys, and the expected results."""
     status, result = result_of(bench, stages, "right")
     search = result["search"]
     got = status, search["tried"], search["first"], search["complete"], search["depth"], result["runs"]
@@ -255,7 +262,7 @@ def as_json(bench, stages, longer):
 
 
 def nothing(bench, empty):
-    """A test that makes no access isn't searched, whatever is asked for, and only this is said."""
+    """A test that makes no access isn't searched, with any options. The only line of output reports this."""
     for words in ([], ["--check"], ["--pct", "2"], ["--all"], ["--explore", "every"], ["--explore", "2", "--all"]):
         wanted = NOTHING, "nothing was searched: in no run did a deviation do anything\n", ""
         bench.check(f"nothing: {words}", bench.run(empty, *words), wanted)
@@ -264,7 +271,7 @@ def nothing(bench, empty):
 
 
 def listen():
-    """In a new process: no signal is ignored."""
+    """Lets a new process end by each of the signals, also if its parent ignores them."""
     for number in SIGNALS:
         signal.signal(number, signal.SIG_DFL)
 
@@ -279,7 +286,7 @@ def ended_by(number, after, *words):
 
 
 def signals(bench, stages):
-    """Each signal ends each search, which prints what it has tried."""
+    """A signal ends any search, which then prints what it has tried."""
     long = [stages, "2right", "--explore", "every"]
     for number, status in (signal.SIGINT, 130), (signal.SIGTERM, 143), (signal.SIGHUP, 129):
         got, out = ended_by(number, 1, *long)
@@ -323,7 +330,7 @@ def progress(stages):
 
 
 def words(bench, stages):
-    """The help, and the groups of schedules that fail."""
+    """The help, the groups of schedules that fail, and the progress on a terminal."""
     helps = bench.run(stages, "-h")
     bench.check("words: -h", (helps[0], helps[1].startswith("Searches the schedules")), (PASSES, True))
     out = bench.run(stages, "late", "--explore", "2", "--all")[1]

@@ -1,10 +1,15 @@
-/* A library that is loaded before the C library. It makes calls of functions for input and output fail, or transfer one byte.
-
-   Of the calls of the function in FAIL, the one whose number, counted from 1, is in FAIL_AT fails, with the error EIO, or with EINTR if
-   FAIL_INTERRUPTED is set. If FAIL_ON is set, all later calls on the same file fail, too. If a call failed, the library creates a file
-   with the name in FAILED. If SHORT_READ is set, each read transfers at most one byte; if SHORT_WRITE is set, each write. From the read
-   on whose number is in END_AT, all reads report the end of the file, as if it had been cut after it was opened. The program calls no
-   other functions for input and output than those below, close, lseek, isatty, unlink and fchmod; failing_devices.py checks that. */
+/* A library that is loaded before the C library. It makes calls of functions for input and output fail, or transfer one
+   byte. Environment variables decide:
+   - FAIL names a function. Of its calls, the one whose number, from 1, is in FAIL_AT fails. The error is EIO, or EINTR
+     if FAIL_INTERRUPTED is set.
+   - If FAIL_ON is set, all later calls of this function on the same file descriptor fail, too. Calls of open and rename
+     count as calls on one descriptor.
+   - If a call fails, the library creates a file with the name in FAILED.
+   - If SHORT_READ is set, each read transfers at most one byte. If SHORT_WRITE is set, each write does.
+   - END_AT has the number of a read, from 1. From this read on, all reads report the end of the file, as if the file
+     had been cut after it was opened.
+   The program calls no other functions for input and output than those below, close, lseek, isatty, unlink and fchmod:
+   failing_devices.py checks this. */
 #define _GNU_SOURCE
 #include <dlfcn.h>
 #include <errno.h>
@@ -15,13 +20,13 @@
 #include <sys/stat.h>
 #include <unistd.h>
 
-/* Defines `next`, the function of the C library with the name of the one that it is used in. */
+/* Defines `next`: the function of the C library that has the name of the function here. */
 #define NEXT(type, ...) \
     static type (*next)(__VA_ARGS__); \
     if (!next) \
         next = dlsym(RTLD_NEXT, __func__)
 
-/* Whether this call of a function fails. `file` is the number of its open file, or -1. */
+/* Whether this call of a function fails. If so, sets errno. `file` is the descriptor that the call is for, or -1. */
 static int fails(const char *function, int file)
 {
     static long left = -1;
@@ -44,7 +49,7 @@ static int fails(const char *function, int file)
     return 1;
 }
 
-/* How many bytes a call transfers at most. */
+/* How many of `size` bytes a call transfers at most: one if this environment variable is set. */
 static size_t most(const char *variable, size_t size)
 {
     return size && getenv(variable) ? 1 : size;

@@ -21,12 +21,12 @@ FAILING = {b"open", b"read", b"write", b"statx", b"ftruncate", b"rename"}
 OTHERS = {b"close", b"lseek", b"isatty", b"unlink", b"fchmod"}
 # Functions that the standard library's part for files names, and that the program never calls.
 UNUSED = {b"fsync", b"fdatasync"}
-# What a run may take, in seconds.
+# How many seconds a run may take.
 LIMIT = 60
 
 
 def functions_of(program):
-    """The functions for input and output that the program names."""
+    """The functions of FUNCTIONS that the program names, except those of UNUSED."""
     with open(program, "rb") as file:
         return set(file.read().split(b"\0")) & FUNCTIONS - UNUSED
 

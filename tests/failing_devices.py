@@ -1,4 +1,6 @@
-"""Files, standard input and standard output that fail, or that transfer one byte at a time."""
+"""Files and standard streams that fail, that transfer one byte at a time, or that end earlier than when they were
+opened.
+"""
 
 import os
 
@@ -9,25 +11,25 @@ from scenario_reader import TraceRead
 from scenarios import EXAMPLE_FRAME, OF_D, TRAFFIC, TWO_WIRES, UNCHANGED
 
 READ, WRITE, OPEN = "E66 Read", "E67 Write", "E68 Open: "
-# The contents of output files that existed before.
+# What an output file contains if it exists before a run.
 OLD = b"old" * 1000
-# The most calls of a function in a run.
+# A run makes fewer calls of each function than this.
 MOST_CALLS = 10_000
-# The files that the scenario of `run` writes in OUTDIR, in order.
+# The files that `run` writes in OUTDIR, in order: those of sockets, and with --wires those of wires.
 SOCKET_FILES = ["outdir/b.0.pcap", "outdir/b.1.pcap", "outdir/d.0.pcap"]
 WIRE_FILES = ["outdir/w.pcap", "outdir/v.pcap"]
 SCENARIO = TWO_WIRES.replace(b"socket d",
                              b"socket b 88b5\nsocket d") + TRAFFIC + b"feed a %s\nauto 60 9\ndrain b\ndrain d\n"
 SHORT = [{"SHORT_READ": "1"}, {"SHORT_WRITE": "1"}, {"SHORT_READ": "1", "SHORT_WRITE": "1"}]
-# What happens when a read is interrupted: a trace file fails, other inputs are read again. SOME: the first input is
-# read again, the last one fails.
+# What happens if a read is interrupted. FAILS: the command ends, as it does for a trace file. GOES_ON: the command
+# reads again. SOME: the command reads the first input again, and ends at the last one.
 FAILS, GOES_ON, SOME = range(3)
 
 
 class Job:
     """A command, the files that it reads and those that it writes, in order, and the bytes of its standard input.
-
-    Before each run all files that it writes have the contents `old`, one of `olds`; None: there are no such files.
+    Before each run, all files that it writes have the contents `old`, one of `olds`. If `old` is None, there are no
+    such files.
     """
 
     def __init__(self, name, words, inputs, outputs=(), given=b"", interrupted=FAILS, olds=(None, OLD)):
@@ -44,11 +46,13 @@ class Job:
         return f"{self.name}, {'new' if old is None else 'existing'} files"
 
     def refusal(self, fault):
-        """What standard error reports. If nothing was written, `run` reports that, too."""
+        """What the command prints on standard error for a fault. Unless a write failed, `run` adds that existing files
+        are unchanged.
+        """
         return failure(fault) + (UNCHANGED if self.folders and fault != WRITE else b"")
 
     def without_name(self, errors):
-        """What standard error reports, without the second line about one of the inputs."""
+        """These bytes of standard error, without a second line that names one of the inputs or `-`."""
         fault = errors.partition(b"\n")[0].decode(errors="replace").removeprefix("nicbench: ")
         for path in [*self.inputs, "-"] if fault in TABLE else ():
             if errors.startswith(failure(fault, path)):
@@ -56,7 +60,9 @@ class Job:
         return errors
 
     def play(self, failing, old, **environment):
-        """Runs the command: the status, both outputs and the files; and whether a call failed."""
+        """Runs the command. Returns its answer (the status, both outputs, and the contents of its files), and whether a
+        call failed.
+        """
         for file in self.outputs:
             failing.bench.remove(file)
             if old is not None:
@@ -65,8 +71,8 @@ class Job:
         return (status, out, self.without_name(errors), [failing.bench.get(file) for file in self.outputs]), is_failed
 
     def cut(self, old, count):
-        """The answer after this number of bytes was written, if then a write failed. The next file has lost its old
-        contents, unless it has a part.
+        """The answer if a write fails after this number of bytes. The file in progress has lost its old contents. Later
+        files have their old contents, or are empty if they are new. With a part, an unfinished output is as before.
         """
         texts, files = self.whole[3], []
         for text in texts:
@@ -77,12 +83,13 @@ class Job:
         return 3, self.whole[1][:max(count, 0)], self.refusal(WRITE), files
 
     def size(self):
-        """How many bytes it writes."""
+        """The number of bytes that a run writes to its files and to standard output."""
         return sum(map(len, self.whole[3])) + len(self.whole[1])
 
     def in_turn(self, failing, function, old, **environment):
-        """Makes each call of a function fail in turn: pairs of a number, from 1, and the answer. At last a run without
-        a failure is checked.
+        """Makes each call of a function fail in turn. Yields the number of the failing call, from 1, and the run's
+        answer. Ends with the first run in which no call fails, and checks that its answer is that of a run without a
+        failure.
         """
         for number in range(1, MOST_CALLS):
             got, is_failed = self.play(failing, old, FAIL=function, FAIL_AT=str(number), **environment)
@@ -99,11 +106,11 @@ def long_trace(lengths):
 
 
 def jobs(bench):
-    """The commands, with files for them."""
+    """Writes the input files. Returns two lists of jobs: those with short inputs, and those with long traces."""
     small = trace(packet(EXAMPLE_FRAME), packet(OF_D), packet(bytes(13)), packet(EXAMPLE_FRAME, 100),
                   packet(EXAMPLE_FRAME + bytes(range(200)))) + b"x"
     big, wide = long_trace([1518, 1517] * 250), long_trace([60_000] * 12)
-    # No send is refused in a run, which would be warned of.
+    # The driver accepts each of these frames: `run` would warn of a refused send.
     fed = trace(packet(EXAMPLE_FRAME), packet(OF_D), packet(EXAMPLE_FRAME, 100),
                 packet(EXAMPLE_FRAME + bytes(range(200)))) + b"x"
     scenario, from_input = SCENARIO % b"fed.pcap", SCENARIO % b"-"
@@ -131,7 +138,9 @@ def jobs(bench):
 
 
 def plays(failing, job):
-    """Runs the command without a failure. Other tests check the contents of the files of `run`."""
+    """Runs the command without a failure: it succeeds, and each file begins as a pcap file. For `pass`, the line and
+    all frames are checked. Other tests check the contents of the files of `run`.
+    """
     read = job.given + b"".join(failing.bench.get(name) for name in job.inputs)
     job.read_bytes = len(read)
     job.whole, _ = job.play(failing, job.olds[0])
@@ -145,7 +154,9 @@ def plays(failing, job):
 
 
 def reads(failing, job):
-    """Each read fails in turn: no byte is written."""
+    """Each read fails in turn: the command writes no byte to its outputs, and ends. Then each read is interrupted in
+    turn: the command also writes nothing and ends, or reads again, as the job states.
+    """
     for old in job.olds:
         number = 0
         for number, got in job.in_turn(failing, "read", old):
@@ -162,7 +173,9 @@ def reads(failing, job):
 
 
 def opens(failing, job):
-    """Each call of open, statx and ftruncate fails in turn."""
+    """For a command that writes no part, each call of open, statx and ftruncate fails in turn. The fault, and what each
+    output contains then, are as computed here.
+    """
     count, texts = len(job.outputs), job.whole[3]
     for old in job.olds if not job.part else ():
         untouched = [old or b""] * count
@@ -179,8 +192,9 @@ def opens(failing, job):
 
 
 def parts(failing, job):
-    """Calls fail of a command that writes a part. If no part can be made, the output is written in place. After any
-    other failure the output is as it was.
+    """For a command that writes a part, each call of open, statx, ftruncate, rename and write fails in turn. If no part
+    can be made, the output is written in place. If only the line on standard output can't be written, the output is
+    complete. After each other failure that ends the command, the output is as it was.
     """
     for old in job.olds if job.part else ():
         given, kept = ([(3, b"", job.refusal(OPEN + path), [old]) for path in paths]
@@ -204,7 +218,9 @@ def parts(failing, job):
 
 
 def writes(failing, job):
-    """Each write fails in turn: the bytes before it were written, and no other ones."""
+    """For a command that writes no part, each write fails in turn. The bytes of the writes before the failing one are
+    written, and no others.
+    """
     for environment in ({}, {"FAIL_ON": "1"}, {"FAIL_INTERRUPTED": "1"}):
         for old in job.olds if not job.part else ():
             counts = [-1]
@@ -222,15 +238,18 @@ def writes(failing, job):
 
 
 def places(texts, last):
-    """Numbers of bytes: before and after each boundary of these texts, and some others up to the last."""
+    """Numbers of bytes, in order: each boundary of these texts, one byte before it and after it, and ten numbers from 0
+    to `last`.
+    """
     ends = [sum(map(len, texts[:place])) for place in range(len(texts) + 1)]
     return sorted({place for end in ends for place in (end - 1, end, end + 1)}
                   | {last * part // 9 for part in range(10)})
 
 
 def bytes_apart(failing, job):
-    """One byte at a time: the answer is the same. If a read or a write fails then, exactly the bytes before it went
-    out.
+    """If each read or write transfers one byte, the answer is the same. If the write of a byte then fails, exactly the
+    bytes before it are written, except that an unfinished part is dropped. If the read of a byte fails, nothing is
+    written.
     """
     for short in SHORT:
         for old in job.olds:
@@ -250,7 +269,7 @@ def bytes_apart(failing, job):
 
 
 def cut_inputs(failing, job, data):
-    """The input of `pass` ends earlier than when it was opened: the answer is that to the trace of these bytes."""
+    """IN of `pass` ends earlier than when it was opened. The answer is that to a trace of the bytes that were read."""
     for size in [*places([data[:24], data[24:40]], len(data)), *range(25, len(data), 5)]:
         if 0 <= size < len(data):
             read = TraceRead(data[:size])
@@ -263,7 +282,9 @@ def cut_inputs(failing, job, data):
 
 
 def errors(failing):
-    """A write to standard error fails: the status is the same, and standard output is empty."""
+    """Commands that print only on standard error. If their writes transfer one byte, the answer is the same. If a write
+    fails, the status is the same, and standard output is empty.
+    """
     failing.bench.put("bad.pcap", b"x" * 24)
     failing.bench.put("bad.scenario", b"fly\n")
     failing.bench.put("plan.scenario", b"host a 02:00:00:00:00:01 w\n")
@@ -281,7 +302,9 @@ def errors(failing):
 
 
 def errors_in_turn(failing, words, status, lines, short):
-    """A write to standard error fails: each line but one is whole, and of that one the beginning may be there."""
+    """Writes to standard error fail in turn. One line is then missing or cut, and all other lines are complete. With
+    `short`, only the writes near the ends of lines and some others fail.
+    """
     size = sum(map(len, lines))
     for number in [place + 1 for place in places(lines, size) if place >= 0] if short else range(1, MOST_CALLS):
         got, out, text, is_failed = failing.run(words, FAIL="write", FAIL_AT=str(number), **short)
@@ -297,7 +320,7 @@ def errors_in_turn(failing, words, status, lines, short):
 SENT = "020000000009020000000001080001020304"
 STEPS = ["txtake", "txput", "rxdata", "rxdone", "eeprom", "phy"]
 ZERO = "OK 0x" + 16 * "0"
-# Requests of each kind, each with the lines up to its answer.
+# Requests of each kind, each with all lines that the server prints for it; the last one is the answer.
 TALK = [
     ("events on", "OK"), ("writel 0xFEB000D0 0x80", "OK"), ("writel 0xFEB000C8 0x80", "IRQ raise 0\nOK"),
     ("line", "OK 0x0000000000000001"), ("readl 0xFEB000C0", "IRQ lower 0\nOK 0x0000000000000080"),
@@ -319,18 +342,18 @@ REQUESTS = "\n".join(request for request, _ in TALK).encode()
 
 
 def answers(count):
-    """The lines up to the answers to the first requests."""
+    """All lines that the server prints for this number of first requests."""
     return "".join(f"{told}\n" for _, told in TALK[:count]).encode()
 
 
 def answered(size):
-    """The answers to the lines that end in the first bytes of the input."""
+    """All lines that the server prints for the requests whose LF is in the first `size` bytes of the input."""
     return answers(REQUESTS[:size].count(b"\n"))
 
 
 def server_reads(failing):
-    """Each read of standard input fails in turn: requests whose lines were read are answered. An interrupted read is
-    tried again.
+    """Each read of standard input fails in turn: the server answers the requests whose lines it has read, and ends. It
+    repeats an interrupted read.
     """
     bench, error, possible = failing.bench, b"nicbench: E66 Read\n", [answers(count) for count in range(len(TALK) + 1)]
     counts = []
@@ -344,7 +367,7 @@ def server_reads(failing):
                     failing.run(["serve"], REQUESTS, FAIL="read", FAIL_AT=str(number), FAIL_INTERRUPTED="1"),
                     (0, possible[-1], b"", True))
     bench.check("serve: reads failed", (len(counts) > 3, counts[:1], counts), (True, [0], sorted(counts)))
-    # the last line ends with the input; a read after that fails, too
+    # the last line ends at the end of the input; a read after this end fails, too
     size = len(REQUESTS)
     for place in places([request.encode() + b"\n" for request, _ in TALK], size):
         if 0 <= place <= size + 1:
@@ -355,7 +378,9 @@ def server_reads(failing):
 
 
 def server_writes(failing):
-    """Each write of an answer fails in turn, also if the server writes again when it ends."""
+    """Each write of an answer fails in turn: only this write, or this and all later writes. The server reports E67, and
+    its output is a beginning of the answers. It repeats an interrupted write.
+    """
     bench, error, whole = failing.bench, b"nicbench: E67 Write\n", answers(len(TALK))
     lengths = []
     for number in range(1, MOST_CALLS):

@@ -11,7 +11,7 @@ GROUP, SAME_NUMBER, SAME_WORD, OTHER_WORD = ("01:00:5e:00:00:01", "01:00:5f:00:0
                                              "01:00:5e:00:00:02")
 INDIVIDUAL, BROADCAST = "02:00:00:00:00:01", "ff:ff:ff:ff:ff:ff"
 MOST_GROUPS = 32
-# Random runs
+# Random runs: their seeds, and the number of events in each
 SEEDS, EVENTS = range(1, 11), 40
 
 
@@ -27,7 +27,7 @@ def number(group):
 
 
 def waiting(*frames):
-    """Puts each frame on the wire. None is delivered."""
+    """The lines that put each of these frames on the wire. No frame is delivered."""
     return [line for data in frames for line in send(data) + ["tick txtake:a", "tick txput:a"]]
 
 
@@ -53,8 +53,8 @@ class Groups(Schedule):
         return self.gets(*frames) if stored else self
 
     def cuts(self, line, *pairs):
-        """Frames are delivered to b inside a call, with a `go` between any two: pairs of a frame, and whether b stores
-        it.
+        """Frames are delivered to b inside the call of this line, with a `go` between two deliveries. Each pair is a
+        frame, and whether b stores it.
         """
         self.reached += len(pairs)
         self.does(waiting(*(data for data, _ in pairs)), [f"{line} / {' go '.join(['deliver:b'] * len(pairs))}"])
@@ -94,8 +94,8 @@ def changes(bench):
 
 
 def between_accesses(bench):
-    """Before the write of MTA, the groups before the call decide about a delivery, and after it those after the
-    call.
+    """A frame that is delivered before a call's write of MTA is filtered by the groups before the call. A later frame
+    is filtered by the groups after the call.
     """
     one, two, three = (to(GROUP, mark) for mark in (1, 2, 3))
     joined, shared = f"group b {GROUP}", f"group b {SAME_NUMBER}"
@@ -124,7 +124,7 @@ def rejected(bench):
     Groups().cuts(f"join b {GROUP}", (one, True),
                   (two, True)).does([f"leave b {GROUP}"]).delivers(one, stored=False).plays(
         bench, "a join of a joined group", setup=(joined,))
-    # the groups with these numbers
+    # 32 groups, with the numbers 40 to 71
     most = [f"01:00:5e:01:{n % 16:x}0:{n // 16:02x}" for n in range(40, 40 + MOST_GROUPS)]
     full = Groups().cuts(f"join b {OTHER_WORD}", (last, False), (last, False)).cuts(f"join b {most[0]}", (last, False),
                                                                                     (to(most[0]), True))
@@ -147,8 +147,8 @@ def changed(line, joined):
 
 
 def drawn(bench):
-    """Random joins and leaves. A frame is delivered before the first access of each call, and another after it, or
-    after the call.
+    """Random joins and leaves. A frame is delivered before the access of each call, and another after the access, or
+    after a call without access.
     """
     addresses = [GROUP, SAME_NUMBER, SAME_WORD, OTHER_WORD, INDIVIDUAL, BROADCAST]
     for seed in SEEDS:

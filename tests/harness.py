@@ -2,12 +2,12 @@
 
 A part is a function that gets an object of Checks, or of a class derived from it, and makes named comparisons. A
 comparison that fails is printed at once, and the next one follows. A part that ends by an exception counts as one
-failure, and the next part follows. The last line of a script is 'N passed, M failed', the numbers of comparisons. Its
+failure, and the next part follows. The last line of a script is 'N passed, M failed', the numbers of comparisons. The
 exit status is 1 if anything failed, or if nothing was compared.
 
 Each script has these options besides its own words:
 
-  -k TEXT   runs only the parts with TEXT in their names, MODULE.FUNCTION
+  -k TEXT   runs only the parts with TEXT in their names, [MODULE.]FUNCTION
   --times   prints each part with its number of comparisons and its processor seconds
 
 This module also adds the folders with the repository's modules to the path.
@@ -28,7 +28,7 @@ DRIVERS = os.path.join(TOP, "examples", "drivers")
 EMULATORS = os.path.join(TOP, "examples", "emulators")
 MACHINES = os.path.join(TOP, "machines")
 PYTHON = os.path.join(TOP, "bindings", "python")
-# The tests of a product are in its folder. `finder` is a package.
+# The folders of tests that are next to what they test. The path also has TOP, because `finder` is a package.
 TESTS = [os.path.join(TOP, "finder", "tests"), os.path.join(MACHINES, "tests", "guests")]
 sys.path += [folder for folder in (*TESTS, TOOLS, DRIVERS, EMULATORS, MACHINES, os.path.join(MACHINES, "bugs"), PYTHON,
                                    TOP)
@@ -67,7 +67,7 @@ class Checks:
         return False
 
     def holds(self, name: str, is_right: bool, why: str = "") -> bool:
-        """Counts a condition, and prints the name and the reason if it doesn't hold."""
+        """Counts a condition, and returns it. Prints the name and the reason if it doesn't hold."""
         if is_right:
             self.passed += 1
             return True
@@ -76,7 +76,7 @@ class Checks:
         return False
 
     def is_there(self, tool: str, what: str) -> bool:
-        """Whether there is such a tool. Prints a line if there is none."""
+        """Whether this tool is on the PATH. If it isn't, prints that `what` isn't run."""
         if any(os.access(os.path.join(folder, tool), os.X_OK) for folder in os.get_exec_path()):
             return True
         not_run(what, f"there is no {tool}")
@@ -134,14 +134,15 @@ class Program(Checks):
         self.program = program
 
     def run(self, *words: str, env: Env = None, folder: Optional[str] = None, given: bytes = b"") -> Any:
-        """Runs the program on these words, with these bytes as its standard input, a pipe."""
+        """Runs the program on these words, with these bytes as its standard input, a pipe. Returns the ended process.
+        """
         return subprocess.run([self.program, *words], cwd=folder or self.folder, input=given, capture_output=True,
                               timeout=LIMIT, env=more_env(env), check=False)
 
     def ends(self, name: str, words: Iterable[str], status: int, out: bytes = b"", err: bytes = b"",
              folder: Optional[str] = None, given: bytes = b"") -> None:
-        """Runs the program with these words and this standard input, in this folder or in its own; checks its status
-        and output.
+        """Runs the program with these words and this standard input, in this folder or in that of the object. Checks
+        its status, its output and its errors.
         """
         ran = self.run(*words, folder=folder, given=given)
         self.check(name, (ran.returncode, ran.stdout, ran.stderr), (status, out, err))
@@ -157,7 +158,7 @@ class Part(unittest.TestCase):
     def __init__(self, checks: C, function: Callable[[C], object]) -> None:
         super().__init__("play")
         self.checks, self.play_all = checks, lambda: function(checks)
-        target = getattr(function, "func", function)  # of functools.partial
+        target = getattr(function, "func", function)  # the function of a functools.partial
         module = "" if target.__module__ == "__main__" else f"{target.__module__}."
         self.name = f"{module}{target.__name__}"
 
@@ -169,8 +170,8 @@ class Part(unittest.TestCase):
 
 
 class Results(unittest.TestResult):
-    """Counts a part that ends by an exception. With `times`, prints what each part has compared, and how long it
-    took.
+    """Counts a failure for each part that ends by an exception. With `times`, prints how many comparisons each part
+    made, and how many processor seconds it took.
     """
 
     def __init__(self, times: bool) -> None:
@@ -224,7 +225,7 @@ def processor_seconds() -> float:
 
 
 def more_env(env: Env) -> Optional[Mapping[str, str]]:
-    """The environment with these variables, too."""
+    """The environment with these variables, too. None, which stands for the unchanged environment, if `env` is None."""
     return None if env is None else {**os.environ, **env}
 
 
@@ -240,8 +241,8 @@ def text_of(*path: str) -> str:
 
 
 def sources(pattern: str, crates: Optional[Iterable[str]] = None) -> Iterator[str]:
-    """The paths of the files of crates, of all or of these, whose path below the crate matches this regular
-    expression.
+    """Yields the paths of the files whose path below their crate matches this regular expression: of all crates, or of
+    these.
     """
     root = os.path.join(TOP, "crates")
     for crate in sorted(os.listdir(root)) if crates is None else crates:
@@ -258,7 +259,7 @@ def words_of_script() -> list[str]:
 
 
 def options() -> tuple[list[str], str, bool]:
-    """The script's own words, the text that names of parts must have, and whether their times are printed."""
+    """The script's own words, the text that names of parts must contain, and whether times are printed."""
     words, pattern = sys.argv[1:], ""
     if "-k" in words[:-1]:
         at = words.index("-k")
@@ -268,7 +269,7 @@ def options() -> tuple[list[str], str, bool]:
 
 
 def play(checks: C, parts: Iterable[Callable[[C], object]], times: bool = False) -> None:
-    """Runs parts as test cases, in their order."""
+    """Runs the parts whose names contain the text of -k, or all parts, as test cases in their order."""
     _, pattern, with_times = options()
     cases = [part for part in (Part(checks, function) for function in parts) if pattern in part.id()]
     unittest.TestSuite(cases).run(Results(times or with_times))
@@ -301,7 +302,7 @@ def test_all(make: Callable[[str], C], parts: Sequence[Callable[[C], object]], t
 
 
 def program_of(words: Sequence[str]) -> str:
-    """The program that the first word names."""
+    """The absolute path of the program that the first word names. Raises Ended if there is no such file."""
     if not words or not os.path.exists(words[0]):
         raise Ended(f"there is no program {words[0] if words else ''}".rstrip())
     return os.path.abspath(words[0])

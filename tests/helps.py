@@ -378,7 +378,7 @@ Options:
       --tx <N>               Descriptors in the transmit ring, a multiple of 8 from 8 to 4096 [64]
       --buffers <N>          Receive buffers, from --rx to 8192 [512]
       --expect <N>           Stop after N frames were received; status 1 if fewer were
-      --idle <N>             Stop after N calls of the handler in a row that received no frame
+      --idle <N>             Most calls in a row without a frame received or passed to the driver
       --send <IN>            The trace whose frames are sent, a pcap file
       --receive <OUT>        The trace to write received frames into, a pcap file
   -h, --help                 Print help
@@ -390,9 +390,11 @@ your own. This script joins drive with QEMU:
 
   $ examples/emulators/qemu.py
 
-drive ends after N frames were received (--expect), or after N calls of the handler in a row in
-which no frame was received and none was accepted for sending (--idle, 1000 by default). At the end
-it prints its counts on standard error:
+When all frames of IN were passed to the driver, drive ends after N frames were received in all
+(--expect), or after N calls of the handler in a row that received no frame (--idle, 1000 by
+default). While the transmit ring is full, drive calls the handler, too: after N such calls in a row
+(--idle), it sends no more frames, and ends as above. At the end it prints its counts on standard
+error:
 
   sent 10000 illegal 0 received 10000 missed 0 exact
 

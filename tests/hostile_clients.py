@@ -16,11 +16,11 @@ import hostile_lines
 
 WRITE_FAILED = (3, b"nicbench: E67 Write\n")
 ENDED = (0, b"")
-# More answers than a pipe holds: they follow the session, so that the server never writes its last answer before its
-# client is gone.
+# Requests whose answers are more bytes than a pipe holds. They follow the session, so that the server never writes its
+# last answer before its client is gone.
 MANY = [b"read 0x10000 4096"] * 40
 MANY_TOLD = (b"OK 0x" + b"00" * 4096 + b"\n") * 40
-# Numbers of bytes around a page and around the room of a pipe.
+# Numbers of bytes around the sizes of a page and of a pipe, and around twice these sizes.
 AROUND = [place + more for place in (4096, 8192, 65_536, 131_072) for more in (-1, 0, 1)]
 
 
@@ -45,12 +45,13 @@ def end_of(process):
 
 
 def read_some(end, most):
-    """The next bytes of a pipe; none at its end, or if none come."""
+    """The next bytes of a pipe, at most `most`. No bytes at the end of the pipe, or if no byte comes in LIMIT seconds.
+    """
     return os.read(end, most) if select.select([end], [], [], LIMIT)[0] else b""
 
 
 def read_exactly(end, size):
-    """This number of bytes of a pipe, or fewer at its end."""
+    """This number of bytes of a pipe, or fewer if the pipe ends or no byte comes in LIMIT seconds."""
     got = b""
     while len(got) < size:
         more = read_some(end, size - len(got))
@@ -80,14 +81,15 @@ def closes_answers(server):
                      (True, *WRITE_FAILED))
 
 
-# What the client still sends after it closed the end of answers, and how the server ends.
+# Each row: which ends the client closes, what it still sends after it closed the end of answers, and how the server
+# ends.
 CLOSINGS = [("both ends", b"", ENDED), ("the end of answers", b"line\n", WRITE_FAILED),
             ("the end of answers, in a line", b"lin", WRITE_FAILED),
             ("the end of answers, before a rejected line", b"\xff\n", WRITE_FAILED)]
 
 
 class Talk:
-    """A server and both ends of its client."""
+    """A server, and the client's ends of its two pipes."""
 
     def __init__(self, server):
         asked, answers = os.pipe(), os.pipe()
@@ -97,7 +99,7 @@ class Talk:
         self.asks, self.answers = asked[1], answers[0]
 
     def ask(self, line, told):
-        """Whether a request is answered with these bytes."""
+        """Sends a request. Returns whether the next bytes of the server are these."""
         os.write(self.asks, line + b"\n")
         return read_exactly(self.answers, len(told)) == told
 
@@ -137,8 +139,8 @@ def closes_between(server):
 
 
 def killed(server, client):
-    """How a server ends whose client is a process that is killed at the end of `client`. Nobody else has the client's
-    ends.
+    """How a server ends if its client, a process, plays `client` and is then killed. No other process has the client's
+    ends of the pipes.
     """
     asked, answers = os.pipe(), os.pipe()
     process = started(server, stdin=asked[0], stdout=answers[1])
@@ -187,8 +189,8 @@ def kills(server):
         server.check(f"killed: in answers after {count} requests", killed(server, in_answers), WRITE_FAILED)
 
 
-# Requests that leave the adapter as it was: a frame is received, a frame is sent, random steps are played, and lines
-# are rejected.
+# OPEN is requested once. In ROUND, a frame is received, a frame is sent, random steps are played, and lines are
+# rejected. After ROUND, the adapter is as it was before.
 DESCRIPTOR = "00080000000000000000000000000000"
 SENT = "00080000000000003c00000900000000"
 OPEN = ["events on", "writel 0xFEB02808 128", "writel 0xFEB03808 128", "writel 0xFEB03800 0x80",
@@ -218,12 +220,12 @@ LARGE = [("x" * (LONGEST + 1), "ERR long"), ("read 0x10000 65536", "OK 0x" + "00
 BLOCK = 100_000
 BLOCKS = 100
 # Kilobytes by which the most resident memory may grow: pages of the program's file that are read late count, too. A
-# server that kept one byte of each request would need 9,668 more.
+# server that kept one byte of each request would need 9,668 kilobytes more.
 ROOM = 2048
 
 
 def block():
-    """The requests of a block, their number, and the bytes of their answers."""
+    """The requests of a block, the bytes of their answers, and the number of requests."""
     rounds = (BLOCK - len(LARGE)) // len(ROUND)
     idle = BLOCK - len(LARGE) - rounds * len(ROUND)
     rows = [*LARGE, *[("line", ZERO)] * idle]
@@ -249,7 +251,9 @@ def write_blocks(end, data, count):
 
 
 def is_answered(talk, asked, told, count):
-    """Whether blocks of requests are answered with exactly this block of bytes, again and again."""
+    """Sends a block of requests `count` times. Returns whether each block is answered with exactly these bytes; kills
+    the server if it isn't.
+    """
     writer = threading.Thread(target=write_blocks, args=(talk.asks, asked, count))
     writer.start()
     twice, place, left = told + told, 0, count * len(told)
@@ -264,8 +268,8 @@ def is_answered(talk, asked, told, count):
 
 
 def many_requests(server):
-    """Ten million requests: each has its answer, and the memory of the server doesn't grow after the first hundred
-    thousand.
+    """Ten million requests: each has its answer. After the first hundred thousand, the most memory that the server has
+    had grows by at most ROOM kilobytes.
     """
     asked, told, count = block()
     server.check("many requests: their number", (count, asked.count(b"\n"), count * BLOCKS), (BLOCK, BLOCK, 10_000_000))
@@ -283,8 +287,8 @@ def many_requests(server):
 
 
 def plays_shown(server, shown):
-    """Plays a session of a page. It is a command that prints requests into the server, with the output below, or
-    requests with the answers next to them.
+    """Plays a session of a page. If its first line prints requests into the server, the lines below are the output.
+    Otherwise, they are requests with the answers next to them.
     """
     begun = re.match(r"\$ ((?:printf .*? \| )?)\./nicbench serve([^\n]*)\n", shown, re.S)
     server.check(f"page: a session begins with a command: {shown[:60]!r}", begun is not None, True)
@@ -305,8 +309,8 @@ def plays_shown(server, shown):
 
 
 def page(server):
-    """The sessions of tests/published_faults.txt have the output in this file; docs/FAULTS.md has the session that it
-    shows from there.
+    """The sessions of tests/published_faults.txt have the output that this file shows. Each session in docs/FAULTS.md
+    is one of them.
     """
     text = read_page("tests", "published_faults.txt")
     sessions = re.findall(r"^```\n(.*?)^```$", text, re.M | re.S)

@@ -1,5 +1,5 @@
-"""Request lines of any bytes and lengths. An independent reader knows the answer to each line, and what each line
-changes.
+"""Request lines of any bytes and lengths. A model of the server (request_model.py) has the answer to each line, and
+what the line changes.
 """
 
 import base64
@@ -13,10 +13,10 @@ from server import LONGEST, ZERO
 
 SEEDS = range(20)
 LINES = 1_000
-# The size of memory in the sessions of short lines: a request can read all of it.
+# The bytes of memory in the sessions of short lines: one request can read all of them.
 MEMORY = 256
 WHOLE = b"read 0 256"
-# The memory in the sessions of long lines: as much as one request can write, and one byte more.
+# The bytes of memory in the sessions of long lines: one more than a request can write.
 LARGE = 65_537
 EDGES = [0, 1, 2, 4, 7, 8, 9, 10, 16, 127, 128, 254, 255, 256, 257, 4095, 65_535, 65_536, 65_537, 1 << 31,
          (1 << 32) - 1, 1 << 32,
@@ -25,8 +25,8 @@ ODD_WORDS = ["on", "off", "ON", "rx", "OK", "ERR", "IRQ", "0x", "0X10", "-1", "+
              "'", '"', "#",
              "\u0660", "\u00b2", "\uff11", "\u00e9", "\u2028", "\u00a0", "\ufeff", "\0", "\r", "\v", "\f", "\x85",
              "\x7f"]
-# Texts that aren't UTF-8: parts of characters, bytes that begin no character, long forms, halves of a pair, numbers
-# above the last.
+# Texts that aren't UTF-8: cut characters, bytes that begin no character, overlong forms, surrogates, and numbers above
+# 10FFFF.
 NOT_TEXT = [b"\x80", b"\xbf", b"\xc3", b"\xe2\x82", b"\xf0\x9f\x98", b"\xff", b"\xfe", b"\xc0\x80", b"\xc1\xbf",
             b"\xe0\x80\x80", b"\xed\xa0\x80",
             b"\xed\xbf\xbf", b"\xf0\x80\x80\x80", b"\xf4\x90\x80\x80", b"\xf5\x80\x80\x80"]
@@ -39,7 +39,9 @@ def some_bytes(draw, most):
 
 
 def some_number(draw):
-    """A number: a limit of a form, an address of a register, a place in memory, or one of many digits."""
+    """A number as text, decimal or hexadecimal: a limit, an address near a register, a place in memory, or a number of
+    many digits.
+    """
     value = draw.choice([draw.choice(EDGES), BASE + draw.choice(REGISTERS) + draw.choice([0, 0, 0, 1, 2]),
                          draw.randrange(MEMORY + 4),
                          draw.getrandbits(draw.randrange(1, 70)), draw.getrandbits(draw.randrange(1, 400))])
@@ -70,7 +72,7 @@ def of_vocabulary(draw):
 
 
 def some_base64(draw, size):
-    """A word in base64, of this number of bytes in most cases, or nearly in base64."""
+    """This number of random bytes in base64, or a word that is nearly base64."""
     text = base64.b64encode(draw.randbytes(size)).decode()
     return draw.choice([text, text, text, text.rstrip("="), text + "=", text[:-2] + "B=", text[1:], "A\u00e9==",
                         "-_8="])
@@ -92,7 +94,7 @@ def some_frame(draw):
     return draw.choice([some_digits(draw), "ff" * 60, "0x00", "f" * 121])
 
 
-# The word after the name of a request that has one word, unless it is a number
+# For each request with one word that isn't always a number: how this word is drawn
 ONE_WORD = {
     "step": lambda draw: draw.choice(KINDS), "log": lambda draw: draw.choice(["on", "off"]),
     "events": lambda draw: draw.choice(["on", "off"]), "wire": lambda draw: draw.choice(["full", "free"]),
@@ -105,7 +107,7 @@ ONE_WORD = {
 
 
 def of_an_access(draw, name):
-    """The words of an access of bytes."""
+    """The words after the name of a request that reads or writes bytes, in hexadecimal or in base64, or sets them."""
     if name in ("write", "b64write"):
         size = draw.choice([0, 1, 2, 3, 4, 5, 8, 255, 256, 257])
         payload = draw.choice([some_digits(draw), "a5" * size, "5A" * size, "3c" * size + "3"])
@@ -117,7 +119,7 @@ def of_an_access(draw, name):
 
 
 def of_a_form(draw):
-    """A request with the right number of words; most of them have the right form."""
+    """A request with a number of words that it may have. Most words have the right form."""
     name = draw.choice(list(FORMS))
     if name in ONE_WORD:
         return joined(draw, [name, ONE_WORD[name](draw)])
@@ -129,7 +131,9 @@ def of_a_form(draw):
 
 
 def of_a_port(draw):
-    """An access of configuration space: the address, a register that can be written, or any other."""
+    """A read or a write of an I/O port for configuration space. A written value selects a double word that can be
+    written, is a value for such a double word, or is any port value.
+    """
     value = draw.choice([hex(0x80002000 + draw.choice([4, 0x10, 0x10, 0x12, 0x3C])), hex(BASE), "2",
                          some_port_value(draw)])
     letter = draw.choice("bwlll")
@@ -166,7 +170,7 @@ def told(model, request):
 
 
 def begun(draw, model):
-    """Requests that fill memory and registers, and assert the interrupt line."""
+    """Requests that fill memory and registers and assert the interrupt line, with their answers."""
     rows = [(b"write 0 256 0x" + bytes(draw.randrange(256) for _ in range(MEMORY)).hex().encode())]
     rows += [b"writel %d %d" % (BASE + offset, draw.getrandbits(32) & (0xFBFFFFFD if offset < 0x1000 else 0xFFFFFFFF))
              for offset in PLAIN]
@@ -175,13 +179,17 @@ def begun(draw, model):
 
 
 def probes(draw, model):
-    """Good requests that show whether anything has changed: all of memory, two registers, the interrupt line."""
+    """Valid requests, with their answers, that show whether something has changed: they read all of memory, two
+    registers and the interrupt line.
+    """
     rows = [WHOLE, *(b"readl %d" % (BASE + offset) for offset in draw.sample(list(PLAIN), 2)), b"line"]
     return [(row, told(model, row)) for row in rows]
 
 
 def plays(server, name, talk, *words):
-    """Checks pairs of the bytes of a line and the bytes that it is answered with; counts each line."""
+    """Sends the line of each pair of a line and an answer, and compares the answers. If all are right, each line counts
+    as a comparison.
+    """
     got = server.serve(b"".join(line + b"\n" for line, _ in talk), *words)
     if got == (0, b"".join(answer for _, answer in talk), b""):
         server.passed += len(talk)
@@ -196,8 +204,8 @@ def plays(server, name, talk, *words):
 
 
 def short_lines(server):
-    """Random lines. After each line that is rejected, memory, registers and the interrupt line are as before; at the
-    end, all registers.
+    """Random lines. After each line that is rejected, memory, two registers and the interrupt line are as before. At
+    the end, all registers are compared.
     """
     counts = {}
     for seed in SEEDS:
@@ -224,7 +232,7 @@ def short_lines(server):
 
 
 def long_forms(size):
-    """Lines of this number of bytes, of many kinds."""
+    """Lines of this number of bytes, or one byte less, of many kinds."""
     fill = lambda start, byte, end=b"": start + byte * (size - len(start) - len(end)) + end  # noqa: E731
     digits = b"5a" * ((size - 16) // 2)
     return [fill(b"", b" "), fill(b"", b"\t"), fill(b"", b"\0"), fill(b"", b"\xff"), fill(b"", b"a"),
@@ -238,8 +246,8 @@ def long_forms(size):
 
 
 def long_lines(server):
-    """Lines of about the most bytes, and of a megabyte. After each line, good requests are answered, and the rejected
-    ones have changed nothing.
+    """Lines of about LONGEST bytes, and of a million bytes, also as the last line without LF. The valid requests after
+    each line are answered, and show that no rejected line has changed anything.
     """
     probe = [b"read 0 256", b"read 65281 256", b"readl 0xFEB05400"]
     for size in [*range(LONGEST - 2, LONGEST + 3), 1_000_000]:

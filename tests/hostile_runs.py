@@ -1,7 +1,7 @@
 """Runs of examples/drivers/hostile.py: ten seeds find nothing, and each fault of an adapter is found.
 
-An adapter with a fault is a script between hostile.py and the server. It passes all lines on in both directions, and
-changes one answer.
+An adapter with a fault is a script between hostile.py and the server. The script passes lines on in both directions. At
+one answer, or at each of a kind, the script changes the answer or the adapter, or ends, or waits.
 """
 
 import os
@@ -15,7 +15,7 @@ from harness import DRIVERS
 from scenario_auto import words_from
 
 HOSTILE = os.path.join(DRIVERS, "hostile.py")
-# What a run may take, in seconds. A run without a fault takes a few seconds.
+# How many seconds a run may take. A run without a fault takes a few.
 LIMIT = 600
 # Enough steps for 10,000 register writes.
 SEEDS, STEPS, WRITES = range(1, 11), 11_500, 10_000
@@ -26,8 +26,8 @@ RST, EN = 1 << 26, 1 << 1
 
 
 def hostile(bench, program, *words):
-    """Runs hostile.py: the status, the lines of output, and the errors. An answer may take a minute unless words say
-    otherwise.
+    """Runs hostile.py. Returns the status, the lines of output, and the errors. An answer may take a minute, unless the
+    words have another --limit.
     """
     ran = subprocess.run([sys.executable, HOSTILE, program, "--limit", "60", *words], cwd=bench.folder,
                          capture_output=True, timeout=LIMIT)
@@ -64,8 +64,7 @@ LEAST = {
 
 
 def ten_seeds(bench):
-    """Ten seeds with 10,000 register writes each, and more steps than writes: nothing is found, and everything is
-    reached.
+    """Ten seeds with at least 10,000 register writes each: nothing is found, and each count reaches its least number.
     """
     total = Counter()
     for seed in SEEDS:
@@ -132,8 +131,8 @@ sys.exit(ended if status is None else status)
 
 
 def proxy(bench, request, answer, which, action, always=False):
-    """Creates the script that does this action at one of the answers of this form to requests of this form, or at all:
-    its path.
+    """Creates the script, and returns its path. Of the answers of this form to requests of this form, the script does
+    the action at number `which`, from 1; with `always`, at each.
     """
     text = PROXY.format(python=sys.executable, program=bench.program, request=request.encode(),
                         answer=b"OK " + answer.encode() if answer else b"",
@@ -144,7 +143,9 @@ def proxy(bench, request, answer, which, action, always=False):
 
 
 def finds(bench, name, error, *rule, words=()):
-    """Checks that the fault of this rule is found, with its seed, its error and its log: the log."""
+    """Checks that hostile.py finds the fault of the script with this rule, and that it prints the seed, the error and a
+    log. Returns the lines of the log.
+    """
     status, lines, errors = hostile(bench, proxy(bench, *rule), "--seed", "1", "--steps", "5000", *words)
     bench.check(f"hostile: {name}: the status", (status, errors), (1, b""))
     begin = "\n".join(lines[:1])
@@ -233,7 +234,7 @@ def steps(bench):
 
 
 def told_faults(bench):
-    """Wrong reasons and indices of faults are found, and lines that are missing or too many."""
+    """Wrong engines, indices and reasons in lines of faults are found, and lines that are missing or too many."""
     for engine, kind in ("rx", "rxdata"), ("tx", "txtake"):
         told = r"step {}: the faults are \[{}\] instead of \['{} \d+ [a-z]+'\]"
         for name, action, seen in [
@@ -252,8 +253,8 @@ def told_faults(bench):
           action)
 
 
-# A fault of an adapter that uses the registers of the receive ring for a write-back. It also writes to the place where
-# the descriptor would be now.
+# The action of an adapter with a fault: it also writes a finished descriptor to a second place. It computes this place
+# from the present registers of the receive ring.
 PRESENT_RING = """low, high, length, head = [int(ask(b"readl %d" % register)[-1].split()[1], 16) for register in {registers}]
     global slot, fetched
     if request == b"step rxdata":
@@ -280,7 +281,9 @@ def moved_rings(bench):
 
 
 def answers(bench):
-    """A server that is late, ends, rejects a request or answers otherwise is found."""
+    """hostile.py finds a server that doesn't answer, rejects a request, doesn't end, or ends too early or with another
+    status. It also finds answers that are invalid or too many.
+    """
     short = ["--limit", "4"]
     for kind in ["step rxdata", READ]:
         log = finds(bench, f"no answer to {kind}", f"{kind}: no answer in 4 s", kind, "", 40, "signal.pause()",
@@ -310,7 +313,7 @@ def answers(bench):
 
 
 def fates(bench):
-    """A wrong fate of a frame is found, at once or when the frame is or isn't moved."""
+    """A wrong fate of a frame is found, at once, or at a later step or arrival that shows it."""
     for fate, other, wanted in [("illegal", "stored", "illegal"), ("illegal", "off", "illegal"),
                                 ("off", "stored", "off"), ("off", "filtered", "off"),
                                 ("missed", "stored", "filtered or missed"), ("stored", "missed", "filtered or stored"),
@@ -326,7 +329,9 @@ def fates(bench):
 
 
 def recorded(bench, seed, count):
-    """Runs a seed over a script that records: pairs of a request and its answer, and the counts of hostile.py."""
+    """Runs a seed over a script that records. Returns each request with its answer, except for reads at address 0, and
+    the counts of hostile.py.
+    """
     path = proxy(bench, "(?!read 0).*", "", 0, "record.write(request + b' => ' + lines[-1])", True)
     status, lines, errors = hostile(bench, path, "--seed", str(seed), "--steps", str(count), "--counts")
     bench.check(f"hostile: seed {seed}, recorded", (status, errors), (0, b""))
@@ -335,7 +340,7 @@ def recorded(bench, seed, count):
 
 
 def recounted(rows):
-    """The counts of a run, from its requests and answers only."""
+    """The counts of a run, computed from its requests and answers only."""
     counts, piece, rebased, taken = Counter(), False, False, 0
     for request, answer in rows:
         word, *rest = request.split()

@@ -11,8 +11,9 @@ import scenarios
 
 
 def cases():
-    """Words that read one input, whose path is None here, with bytes for it: name, words, bytes, status, both outputs,
-    and out.pcap. The output for errors may be a fault of the input.
+    """Returns commands that read one input. Each has a name, its words, the input's bytes, the status, both outputs,
+    and the bytes of out.pcap or None. In the words, None is in place of the input's path. If the output on standard
+    error is a `str`, it is a fault of the input.
     """
     frames = [bytes([number]) * (14 + number) for number in range(100)]
     data, passed = trace(*map(packet, frames)), written(list(enumerate(frames)))
@@ -42,7 +43,7 @@ def write_slowly(path, data):
 
 
 def all_cases(bench):
-    """Standard input and named pipes are read to their ends."""
+    """Standard input and named pipes are read to their ends, and standard input only once. Devices are refused."""
     scenarios.folder(bench)
     os.mkfifo(bench.path("pipe"))
     for name, words_of, data, status, out, err, file in cases():
@@ -75,7 +76,7 @@ def all_cases(bench):
 
 
 def ends_of_input(bench):
-    """Standard input that isn't a pipe, fails, or is too long."""
+    """Standard input that isn't a pipe, that can't be read, or that has about 1 GiB or more."""
     bench.put("good.pcap", trace(packet(b"")))
     for name, line, out, err in [
         ("a file", "{} show - <good.pcap", b"0 0 short\nframes 1 skipped 0 cut no\n", (0, b"")),

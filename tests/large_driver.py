@@ -15,20 +15,24 @@ LENGTHS = 60, 257, 1518, 60, 256, 512
 
 
 def handle(adapter, driver):
-    """Calls the handler while the interrupt line is asserted."""
+    """Calls the handler while the interrupt line is asserted. Then empties the driver's queue."""
     while adapter.line:
         driver.interrupt()
     driver.empty_queue()
 
 
 def settle(adapter):
-    """Lets the adapter do all its work. In process, a wire that is full ends a call; its frames are taken after it."""
+    """Lets the adapter do all its work: calls `settle` until it does nothing. In process, one call ends when the wire
+    is full.
+    """
     while adapter.settle():
         pass
 
 
 def fill_transmit_ring(adapter, driver):
-    """Sends until the ring is full. Returns the frames that were sent."""
+    """Sends frames until the ring is full, and then lets the adapter send them. Returns the frames that the driver
+    accepted.
+    """
     sent = [frame for frame in (frame_of(number % 251, OTHER, SELF, 60) for number in range(SLOTS))
             if driver.send(frame)]
     settle(adapter)
@@ -36,8 +40,8 @@ def fill_transmit_ring(adapter, driver):
 
 
 def fill_receive_ring(adapter):
-    """Lets frames arrive until each offered slot is finished, and one more. The driver doesn't run. Returns the frames,
-    and their fates.
+    """Lets frames arrive until each offered slot is finished, and one more frame. The driver doesn't run. Returns the
+    frames, and the set of their fates.
     """
     came = [frame_of(number % 251, SELF, OTHER, 60) for number in range(SLOTS)]
     fates = set()
@@ -50,7 +54,9 @@ def fill_receive_ring(adapter):
 
 
 def exchange(adapter, driver):
-    """Fills both rings, twice, then plays frames of all lengths with steps between accesses. Returns what was found."""
+    """Fills both rings, twice, then plays frames of the lengths LENGTHS with steps between accesses. Returns the values
+    that are compared, by their names.
+    """
     found, came, sent = {}, [], []
     adapter.interleave(STEPS)
     driver.bring_up()
@@ -85,7 +91,7 @@ def exchange(adapter, driver):
 
 
 def wanted():
-    """What `exchange` finds."""
+    """What `exchange` must return."""
     turns = {name: value for turn in range(2)
              for name, value in ((f"sent, turn {turn}", OFFERED), (f"dry, turn {turn}", ({"stored"}, 0, 0)))}
     heads = 2 * SLOTS % SLOTS, 2 * OFFERED % SLOTS
@@ -94,7 +100,7 @@ def wanted():
 
 
 def all_cases(check, place, adapter_of, *names):
-    """Plays each of these drivers on an adapter of its own, which `adapter_of` makes of options of `serve`."""
+    """Plays each of these drivers on an adapter of its own, which `adapter_of` makes with these options of `serve`."""
     for name in names:
         with adapter_of(*OPTIONS) as adapter:
             check(f"{place}: the driver {name} with rings of {SLOTS}",

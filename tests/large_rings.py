@@ -17,14 +17,14 @@ from scenario_auto import Drawing
 from scenarios import folder, held, told, warning
 
 SLOTS, BUFFERS = 4096, 8192
-# What 16 hosts with such rings may take of memory: 10,616,832 bytes each for rings and buffers, and some more
+# How many bytes of memory 16 hosts with such rings may take: 10,616,832 each for rings and buffers, and some more
 ALLOWED_BYTES = 200_000_000
 OFFERED = SLOTS - 1  # the most slots that are offered, or frames in a transmit ring
 GREATEST = {"rx": SLOTS, "tx": SLOTS, "buffers": BUFFERS}
 ADDRESSES = {"a": "020000000001", "b": B_ADDRESS}
-# The access of a reset that enables the receiver again
+# The number, from 1, of the access of a reset that enables the receiver again
 ENABLED = BEFORE_STORES + SLOTS + 2
-# A host whose resets have many accesses: a line of 8,192 bytes has just room for ticks before the last one
+# A host whose resets have many accesses: a line of 8,192 bytes has just room for ticks before the last access
 MANY = {"rx": 2384, "tx": 8, "buffers": 2384}
 MANY_ENABLED, MANY_ACCESSES = BEFORE_STORES + MANY["rx"] + 2, OTHER_ACCESSES + MANY["rx"] + MANY["tx"]
 SMALL_SOAK = 200_000
@@ -56,8 +56,8 @@ def lines_of(wire):
 
 
 def play(bench, name, lines, answers, of_b=GREATEST):
-    """Plays lines on the program and in the model. `answers` are parts of lines of events, by the numbers of their
-    events.
+    """Plays lines on the program and in the model, and compares what both write. `answers` has parts of lines of
+    events, by the numbers of the events; negative numbers count from the end.
     """
     wire = wire_of(of_b=of_b)
     for line in lines:
@@ -92,8 +92,8 @@ def sends(bench):
 
 
 def receives(bench):
-    """A receive ring has room for one frame less than it has slots. The next frame waits, and is none that is
-    missed.
+    """A receive ring has room for one piece less than it has slots. The next piece waits, and its frame isn't missed. A
+    piece for which there is no free buffer waits, too.
     """
     full = receive(*frames(OFFERED))
     more = bring(*frames(1, first=OFFERED))
@@ -117,7 +117,9 @@ def receives(bench):
 
 
 def gives_up(bench):
-    """A drain returns all that a host holds, and a reset drops all of it."""
+    """A drain returns all frames that a host holds. A reset drops all frames that are held or to be sent, except those
+    in queues.
+    """
     held_by_b = receive(*frames(OFFERED)) + bring(*frames(MOST_BUFFERED, first=OFFERED))
     play(bench, "a drain", held_by_b + ["drain b", "drain b"], {-2: f" ok {OFFERED + MOST_BUFFERED}", -1: " ok 0"})
     to_send = [send(data)[0] for data in frames(OFFERED)]
@@ -138,9 +140,7 @@ def gives_up(bench):
 
 
 def greatest_plan(bench):
-    """Sixteen hosts with the greatest rings and eight sockets each: a run takes little more memory than that of the
-    hosts.
-    """
+    """Sixteen hosts with the greatest rings and eight sockets each: a run takes at most ALLOWED_BYTES of memory."""
     lines = [f"host h{n} 02:00:00:00:00:{n:02x} w{n // 8} rx {SLOTS} tx {SLOTS} buffers {BUFFERS}" for n in range(16)]
     lines += [f"socket h{n} {kind:04x}" for n in range(16) for kind in range(8)]
     bench.put("s.scenario", "".join(f"{line}\n" for line in lines).encode())
@@ -162,7 +162,7 @@ class Soak:
 
     def __init__(self, seed, events):
         self.drawing, self.events, self.rounds = random.Random(seed), events, max(20, events // 250_000)
-        # Random events have the EtherType of b's socket 0, from which they receive.
+        # Random events send frames of the EtherType of b's socket 0, and receive from socket 0.
         self.wire = wire_of((None,), (bytes.fromhex("88b5"), bytes.fromhex("0806")))
         self.lines = setup(self.wire.hosts)
 
@@ -172,7 +172,7 @@ class Soak:
             self.wire.play(line)
 
     def auto(self, count, start):
-        """Plays random events, as the line `auto` has them."""
+        """Adds a line `auto`, and plays its random events in the model."""
         self.lines.append(f"auto {count} {start}")
         next_word, wire = Drawing(start).next, self.wire
         hosts = [(name, host, [other for other in wire.hosts.values() if other is not host],
@@ -195,7 +195,9 @@ class Soak:
             wire.number += 1
 
     def burst(self, sender, receiver):
-        """Many frames are sent, and some of them come to the other host's ring. Its driver doesn't run meanwhile."""
+        """Many frames are sent. Most of them are delivered, and some steps of the receive engine follow. The receiver's
+        driver doesn't run meanwhile.
+        """
         count = self.drawing.randrange(min(SLOTS + 4, self.events // self.rounds // 16))
         finished = self.drawing.random()
         for number in range(count):
@@ -209,7 +211,7 @@ class Soak:
                             for kind in ("rxdata", "rxdone")))
 
     def end(self, host):
-        """What the host does after a burst."""
+        """What the receiver of a burst does after it."""
         kinds = {"interrupt": 3, "drain": 3, "recv": 2, "reset": 1}
         kind = self.drawing.choices(list(kinds), kinds.values())[0]
         if kind == "recv":
@@ -232,7 +234,9 @@ class Soak:
         self.play(*(f"drain {name}" for name in self.wire.hosts))
 
     def draw(self):
-        """Draws all lines. In each round random events come first, then a burst."""
+        """Draws all lines: again and again a burst, what its receiver does then, and random events; at last, all frames
+        are drained. Returns itself.
+        """
         for _ in range(self.rounds):
             sender, receiver = self.drawing.choice(("ab", "ba"))
             before = self.wire.number
@@ -261,8 +265,8 @@ def counts_of(printed):
 
 
 def equations(printed):
-    """Which equations of delivery the counts of two hosts don't meet, if nothing is left to be sent, waiting or
-    held.
+    """The equations of delivery that the counts of two hosts don't meet, each as a text. No frame may be left that is
+    to be sent, waits, or is held.
     """
     counts = counts_of(printed)
     faults = []
@@ -281,7 +285,7 @@ def equations(printed):
 
 
 def soak(bench, seed=1, events=SMALL_SOAK):
-    """A small soak: the counts meet the equations, and are those of the model, and so are the frames of each socket."""
+    """A small soak: the counts meet the equations. The counts and the frames of each socket are those of the model."""
     drawn = Soak(seed, events).draw()
     bench.put("s.scenario", drawn.text())
     path = folder(bench)

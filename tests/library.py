@@ -5,9 +5,9 @@ usage: tests/library.py PROGRAM [FOLDER | --quick]
 
 PROGRAM is `nicbench`, and FOLDER is what `tools/library FOLDER` wrote. Without FOLDER, the script lets `tools/library`
 write .build/library, or with --quick `tools/library --quick` write .build/quick-library. Examples in C, C++ and Rust
-are compiled and run if there is a compiler, also with AddressSanitizer and valgrind. They are built through pkg-config,
-CMake and pip, too. For a compiler or tool that isn't there, the script prints a line. The last line is 'N passed, M
-failed', and the exit status is 1 if anything failed.
+are compiled and run if there is a compiler, those in C also with AddressSanitizer and valgrind. An example in C is also
+built through pkg-config and CMake, and the Python package is installed by pip. For a compiler or tool that isn't there,
+the script prints a line. The last line is 'N passed, M failed', and the exit status is 1 if anything failed.
 """
 
 import os
@@ -44,7 +44,7 @@ class Library(Program):
         self.flags = ["-I", os.path.join(library, "include"), os.path.join(library, "lib", "libnic82540em.a")]
 
     def compiles(self, name, *words, env=None):
-        """Compiles something, and returns whether it did. There are no warnings."""
+        """Runs a compiler, and checks that it succeeds without a warning. Returns whether it succeeds."""
         ran = subprocess.run(words, cwd=self.folder, capture_output=True, text=True, env=env and {**os.environ, **env})
         self.check(f"{name}: compiles", (ran.returncode, ran.stderr[-2000:]), (0, ""))
         return ran.returncode == 0
@@ -60,7 +60,7 @@ class Library(Program):
         self.check(name, (ran.returncode, ran.stdout, errors), (0, wanted, []))
 
 
-# The header and the bindings have the names and numbers of the crates.
+# The header and the bindings have the names and numbers of the crates, and the finder has the names of the bindings.
 
 def names(library):
     offsets = text_of("crates", "adapter", "src", "offsets.rt")
@@ -91,7 +91,7 @@ def names(library):
 
 
 def events_that_wait(library):
-    """At most 4,096 events wait; a copy has them; and none is kept unless it is asked for."""
+    """At most 4,096 events wait, and a copy of the adapter has them, too. No event is kept while events are off."""
     with nic82540em.Nic(library.shared) as nic:
         nic.arrive(bytes(60))
         nic.events(True)
@@ -121,7 +121,7 @@ def image_and_missed(library):
     library.check("the words that were read", [int(got, 16) >> 16 for got, _ in answers[6::3]], words)
 
 
-# The calls that `serve` hasn't.
+# Calls of the library that no request of `serve` does in the same way
 
 def steps_by_schedule(library):
     """A step before an access, requested of `serve` and scheduled in process, has the same effect."""
@@ -144,7 +144,7 @@ def steps_by_schedule(library):
 
 
 def state_without_accesses(library):
-    """A register without a read, and memory by its pointer, are what accesses return."""
+    """Registers that are peeked, and memory through its pointer, have the values that accesses return."""
     inside = InProcess(library.shared, MEMORY)
     for request in requests_of(6):
         inside.reply(request, 0)
@@ -196,7 +196,8 @@ def copies(library):
 
 
 def states_by_contents(library):
-    """The same registers and frames have one digest, wherever the frames are in the packet buffer; others have another.
+    """Adapters with the same registers and frames have the same state digest, wherever the frames are in the packet
+    buffer. With another frame, the digest differs.
     """
     nics = [nic82540em.Nic(library.shared, memory=MEMORY) for _ in range(3)]
     first, frame, other = ([255] * 6 + [n] * 54 for n in (1, 2, 3))
@@ -214,7 +215,7 @@ def states_by_contents(library):
 
 
 def steps_by_ticks(library):
-    """With ticks, an access has the effect of two steps and the access."""
+    """With ticks on, an access has the effect of a step eeprom, a step phy, and then the access."""
     ticked, stepped = InProcess(library.shared, MEMORY), InProcess(library.shared, MEMORY)
     ticked.nic.ticks(True)
     differ = None
@@ -232,7 +233,7 @@ def steps_by_ticks(library):
 
 
 def frames_that_wait(library):
-    """The packet buffer's number of frames, up to the most: 614 of 60 bytes in 48 KB."""
+    """The number of frames in the receive packet buffer, up to the most: 614 frames of 60 bytes in 48 KB."""
     with nic82540em.Nic(library.shared) as nic:
         nic.write(RCTL, EN | BAM)
         fates = [nic.arrive(b"\xff" * 60) for _ in range(616)]
@@ -241,7 +242,7 @@ def frames_that_wait(library):
         library.check("no frame waits after a reset", nic.waiting(), (0, 0))
 
 
-# A driver in Python, over the pipe and in process.
+# Drivers in Python, over the pipe and in process.
 
 def drivers(library):
     for name in ("right", "late", "head", "length", "part", "freed"):
@@ -257,7 +258,7 @@ def drivers(library):
 
 
 def is_built(library, words):
-    """Builds the library. Returns whether it is there."""
+    """Builds the library. Returns whether this succeeds. Without a compiler or an archiver, prints a line."""
     if not all([library.is_there(tool, "everything that needs the built library") for tool in ("cc", "ar")]):
         return False
     ran = subprocess.run([os.path.join(TOP, "tools", "library"), *words, library.root], stdout=subprocess.PIPE,
@@ -285,7 +286,7 @@ def main():
         return library
 
     def built(library):
-        """The library is built, unless it was given. Without it, no other part is run."""
+        """The library is built, unless it was given. If this fails, no part that follows is run."""
         if not (given or is_built(library, ["--quick"] if is_quick else [])):
             library.stop()
 

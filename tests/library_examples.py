@@ -1,4 +1,4 @@
-"""The examples of the C library, compiled and run, and the library as other build systems find it."""
+"""The examples of the C library, compiled and run; the library as other build systems find it; and refused memory."""
 
 import os
 import re
@@ -10,7 +10,8 @@ from harness import TOP, text_of
 EXAMPLES = os.path.join(TOP, "examples", "library")
 WARNINGS = ["-Wall", "-Wextra", "-Werror"]
 SANITIZERS = "-fsanitize=address,undefined"
-# The runs in which libFuzzer must find a race of the driver in fuzz_driver.c, and the races with their faults
+# How many runs libFuzzer may make until it finds a race of the driver in fuzz_driver.c; and the races, with their
+# faults
 FUZZ_RUNS = 20000
 RACES = (("LATE", "was never received"), ("PREFETCH", "has other bytes"))
 
@@ -54,7 +55,9 @@ def fails(library, name, words, fault):
 
 
 def fuzzers(library):
-    """The harnesses find nothing in the adapter and in the right driver, and both races, also by libFuzzer."""
+    """The driver's harness finds both races, also by libFuzzer. By libFuzzer, the harnesses find nothing in the adapter
+    and in the right driver.
+    """
     source = os.path.join(EXAMPLES, "fuzz_driver.c")
     for race, fault in RACES if library.is_there("cc", "the harness of a driver") else ():
         target = library.path(f"alone_{race}")
@@ -110,7 +113,9 @@ endforeach()
 
 
 def by_cmake(library):
-    """CMake's find_package finds the library and its version."""
+    """CMake's find_package finds the library for its version, and not for a newer one. Programs that are linked with it
+    run.
+    """
     if not (library.is_there("cc", "find_package") and library.is_there("cmake", "find_package")):
         return
     pc = text_of(library.root, "lib", "pkgconfig", "nic82540em.pc")
@@ -157,7 +162,7 @@ def by_pip(library):
 
 
 def refused_memory(library):
-    """Each allocation fails in turn, with a heap that counts."""
+    """Each allocation fails in turn, with a heap that counts its blocks."""
     if library.is_there("cc", "refused memory"):
         target = library.path("refused")
         source = os.path.join(TOP, "tests", "library_refused.c")

@@ -1,5 +1,5 @@
-/* Makes each allocation of the C library fail in turn, with a heap in place of heap.c. A refused call must change
- * nothing, and no block may be left. */
+/* Makes each call of rattle_alloc fail in turn, with a heap in place of heap.c. A call of libnic82540em that is then
+ * refused must change nothing. At the end, no block may be left. */
 #include <nic82540em.h>
 #include <stdio.h>
 #include <stdlib.h>

@@ -1,4 +1,4 @@
-"""One list of requests in process and by `serve`: the answers, frames and events are the same, also by a schedule."""
+"""The same requests in process and by `serve` have the same answers, frames and events, also with a schedule."""
 
 import base64
 
@@ -12,7 +12,7 @@ MEMORY = 8192
 SEEDS, REQUESTS = 10, 1000
 # The numbers of requests before a state is saved and before it is restored
 SAVED, RESTORED = 400, 700
-# The steps before an access, of every other seed
+# The COUNT of `interleave`: the most random steps before an access
 STEPS = 3
 # The size of the area of all registers in bytes, and the bytes of a register
 AREA, REGISTER_BYTES = 0x20000, 4
@@ -92,7 +92,7 @@ class InProcess:
 
 
 class Served(adapter.Adapter):
-    """The same by `serve`."""
+    """Answers requests by `nicbench serve`, in the same form."""
 
     def reply(self, request):
         self.wire.clear()
@@ -104,14 +104,14 @@ class Served(adapter.Adapter):
 
 
 class Size:
-    """What the requests of a hostile driver have to know of memory."""
+    """What RandomRequests has to know of an adapter: the size of its memory, and that no registers were read."""
 
     def __init__(self, size):
         self.memory, self.registers = bytes(size), {}
 
 
 def requests_of(seed):
-    """Requests of a hostile driver, with some that are refused, and with steps before accesses for every other seed."""
+    """Requests of a hostile driver, with some that are refused. For odd seeds, steps are played before accesses."""
     drawn = RandomRequests(Words(seed), Size(MEMORY))
     # The answers are compared with those of `serve`, so no registers have to be read before steps and arrivals.
     drawn.before_steps, drawn.before_frames = [], []
@@ -133,7 +133,9 @@ def same_answers(library):
 
 
 def events_in(told, request, answer):
-    """The events in what `serve` reported of a request, with the log and events on."""
+    """The events of a request, computed from its answer and the lines that `serve` printed for it with log and events
+    on.
+    """
     found, fault = [], ""
     if request.startswith("arrive") and answer != "refused":
         found.append(("arrived", answer))
@@ -153,7 +155,9 @@ def events_in(told, request, answer):
 
 
 def with_offers(seed):
-    """Requests of a hostile driver, with choices and offered frames, and with a wire that is full now and then."""
+    """Yields requests of a hostile driver, with choices, offered frames and `pace`, and with a wire that is full now
+    and then.
+    """
     for place, request in enumerate(requests_of(seed)):
         if place % 13 == 5:
             yield f"choose {place % 7 and 1 << place % 30}"
@@ -187,7 +191,8 @@ def events_as_served(library):
 def schedules_as_served(library):
     """A recorded schedule has the same answers, frames and events by `serve` and in process, and the same digest.
 
-    A copy in process is used as a state that was saved: from it on, the same requests are made again.
+    In process, a copy of the adapter is the saved state. After it is restored, the requests since the save are made
+    again.
     """
     path, options, found = library.path("recorded.txt"), ("--memory", str(MEMORY)), set()
     for seed in range(1, SEEDS + 1):
@@ -220,7 +225,9 @@ def schedules_as_served(library):
 
 
 def schedules(library):
-    """A schedule by names; one in the place of another; a copy; and texts that aren't schedules."""
+    """A schedule by names of accesses; a copy of an adapter that plays one; a second schedule, with a choice; and texts
+    that aren't schedules.
+    """
     with nic82540em.Nic(library.shared) as nic:
         nic.write(RDBAL, 0x1000), nic.write(RDLEN, 128), nic.write(RCTL, EN | BAM), nic.write(RDT, 7)
         nic.play(b"rx before read RDH#2\n1.0 rx before settle\n")

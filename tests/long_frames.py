@@ -34,7 +34,8 @@ def handled_early(bench, one):
             taken.does(RECV, INTERRUPT).gives(one).does(RECV)
         row(bench, f"the last of six pieces is finished after {accesses} accesses by the handler", taken, *counts(1))
     for done in range(1, 6):
-        # The third piece records RXDMT0. Before it the handler finds no cause, and loads no descriptor.
+        # The third piece records RXDMT0. If it wasn't moved before the handler reads ICR, the handler finds no cause,
+        # and loads no descriptor.
         late = ["interrupt b / " + "go rxdata:b rxdone:b " * (6 - done)]
         taken = Schedule().does(bring(one), FINISH * done, late, *([] if done >= 3 else [RECV, INTERRUPT]))
         row(bench, f"after {done} of six pieces, the others are finished between the handler's accesses",
@@ -42,7 +43,7 @@ def handled_early(bench, one):
 
 
 def around_the_ring(bench, one, two):
-    """Frames of several pieces go around the ring of eight slots, and wait for slots and buffers."""
+    """Frames of several pieces wrap around the ring of eight slots, and wait for slots and buffers."""
     frames = [long_frame(mark, length) for mark, length in enumerate([1518, 257, 60, 1281, 512, 1518, 300, 1024, 1518,
                                                                       513, 1518, 1518])]
     whole = Schedule()
@@ -68,8 +69,8 @@ def around_the_ring(bench, one, two):
 
 
 def packet_buffer(bench, one, two):
-    """A frame occupies its room in the packet buffer until its last piece is moved. What is left has room for short
-    frames.
+    """A frame occupies its room in the packet buffer until its last piece is moved. The rest of the packet buffer has
+    room for short frames.
     """
     a = {"accepted": 2, "put": 2}
     short = [frame(mark) for mark in range(3, 10)]
@@ -89,7 +90,7 @@ def packet_buffer(bench, one, two):
 
 
 def drained(bench, one, two):
-    """A drain begins after some of the pieces."""
+    """A drain begins after none, some or all pieces of a frame, or with more frames than the buffers hold."""
     for done in range(7):
         row(bench, f"a drain after {done} of six pieces",
             Schedule().does(bring(one), FINISH * done).drains((0, one)).drains(), *counts(1))

@@ -19,23 +19,23 @@ GREATEST = 2**32 - 1
 # Causes that the driver handles: TXDW, RXDMT0, RXO and RXT0
 CAUSES = (0, 4, 6, 7)
 RXT0 = 1 << 7
-# The accesses of initialization up to the last word of the EEPROM, and from there up to the first command that reads
-# the PHY
+# How many accesses initialization makes up to the last word of the EEPROM. NEGOTIATION: how many it makes between this
+# word and the first command that reads the PHY.
 IMAGE, NEGOTIATION = 3 + 2 * 64, 2 + 2
 FULL = 256, 1, 0
 
 
 class Device:
-    """A device that initializes well, has no cause recorded, and finishes no slot. Its memory keeps nothing: all its
-    bytes are drawn by their address. A method answers each kind of access.
+    """A device that can be initialized, has no cause recorded, and finishes no slot. Its memory keeps nothing: each
+    byte depends only on its address. A method answers each kind of access.
     """
 
     # The words of an EEPROM with the address 02:00:00:00:00:01, whose sum is 0xBABA
     words = [0x0002, 0x0000, 0x0100, *[0] * 60, 0xB9B8]
-    # The answers to commands of MDIC: to a write, and to reads of the PHY's status. The last one is the answer to all
-    # later ones.
+    # The answers to commands of MDIC: to a write, and to reads of the PHY's status, in order. The last status is the
+    # answer to all later reads.
     negotiated, statuses = 0x18201200, [0x18210024]
-    # ICR and MPC, in order. The last one is the answer to all later reads.
+    # The values of ICR and MPC, in order. The last value is the answer to all later reads.
     causes, misses = [0], [0]
 
     def __init__(self, **others):
@@ -88,7 +88,7 @@ class Constant(Device):
 
 
 class Alike(Device):
-    """A device whose receive descriptors are all alike, always, and so are its transmit descriptors."""
+    """A device whose receive descriptors are always all the same. Its transmit descriptors are, too."""
 
     receive = transmit = bytes(DESCRIPTOR)
 
@@ -105,7 +105,9 @@ def slot(length, status, errors):
 
 
 def parsed(request):
-    """A request as an access of the model, without the bytes of a store; and these bytes."""
+    """A request as an access of the model, and the bytes that it stores, or None. The access of a store has its bytes
+    only if their number is wrong.
+    """
     word, *numbers = request.split()
     first, *rest = (int(number, 0) for number in numbers[:2])
     if word in ("readl", "writel"):
@@ -131,8 +133,8 @@ def answered(device, access, data):
 
 
 def drives(bench, device, frames, drive, words):
-    """Runs `drive` with this device. Returns the accesses that it made, those that the model predicts, and what it
-    wrote at its end.
+    """Runs `drive` with this device. Returns the accesses that it made, those that the model predicts, and a pair: its
+    text on standard error, and its exit status.
     """
     bench.put("send.pcap", trace(*map(packet, frames)))
     bench.remove("receive.pcap")
@@ -168,7 +170,9 @@ def drives(bench, device, frames, drive, words):
 
 
 def play(bench, name, device, frames=(), expect=None, idle=1, **rings):
-    """Runs `drive` with this device and checks all that it does. Returns the accesses and the frames received."""
+    """Runs `drive` with this device and checks all that it does. Returns the accesses, and the model of the run, which
+    has the received frames.
+    """
     drive = Drive(list(frames), expect, idle, rings)
     device.rx, device.tx = drive.driver.rx, drive.driver.tx
     words = ["--idle", str(idle), *(["--expect", str(expect)] if expect is not None else []), "--memory",
@@ -185,13 +189,13 @@ def play(bench, name, device, frames=(), expect=None, idle=1, **rings):
 
 
 def numbers_of(made):
-    """How many registers were read and written, and how many accesses of memory there were."""
+    """The numbers of reads and of writes of registers, and of accesses of memory."""
     kinds = [kind for kind, _, _ in made]
     return kinds.count("read"), kinds.count("write"), kinds.count("load") + kinds.count("store")
 
 
 def refused(bench, name, device, error, reads, writes):
-    """An initialization that is refused: its error, and how many registers it read and wrote. It doesn't access
+    """An initialization that fails: its error, and the numbers of its reads and writes of registers. It doesn't access
     memory.
     """
     made, drive = play(bench, name, device)
@@ -199,8 +203,8 @@ def refused(bench, name, device, error, reads, writes):
 
 
 def no_adapters(bench):
-    """Registers that all read the same are no adapter. ICR is read, and EERD for one word in vain, or once for each of
-    64 words.
+    """Initialization fails if all registers read 0 or ones, a word of the EEPROM isn't read, or the words have a wrong
+    sum (modulo 2^16).
     """
     refused(bench, "registers that read zeros", Constant(), "E11 EepromTimeout", 1 + MOST_READS, 2 + 1)
     refused(bench, "registers that read ones", Constant(value=GREATEST), "E12 Checksum", 1 + 64, 2 + 64)
@@ -218,8 +222,8 @@ def no_adapters(bench):
 
 
 def phys(bench):
-    """A command of MDIC that doesn't end, or that ends in an error, is given up; and both bits of the status are asked
-    for.
+    """The driver gives up a command of MDIC that doesn't end, or that ends in an error. The link is up only if the
+    PHY's status has both bits: negotiation is complete, and the link is up.
     """
     image, timeout = (1 + 64, 2 + 64), "E13 PhyTimeout"
     for answer, reads in [(0, MOST_READS), (0x48210024, MOST_READS), (0x58210024, 1)]:
@@ -242,9 +246,9 @@ def phys(bench):
 
 
 def causes(bench):
-    """For a cause that the driver doesn't handle, ICR is read, and nothing else. For one that it handles, it also reads
-    MPC, and loads the descriptor of the oldest slot. If this slot is finished, the call loads the frame's EtherType and
-    the next descriptor, stores a descriptor and writes RDT.
+    """If the driver doesn't handle a cause, it only reads ICR. If it handles the cause, it also reads MPC, and loads
+    the descriptor of the oldest slot. If this slot is finished, the call loads the frame's EtherType and the next
+    descriptor, stores a descriptor and writes RDT.
     """
     for place in range(32):
         is_mine = place in CAUSES
@@ -285,7 +289,7 @@ RUNS = [
 
 def runs(bench):
     """A frame's pieces fill their buffers, except the last, which has 1 to 256 bytes. A frame has 60 to 1,518 bytes,
-    and no slot of it has errors. A run that is no frame is received by nobody. Slots that aren't followed by one with
+    and no slot of it has errors. A run of slots that isn't a frame is dropped. Slots that aren't followed by one with
     EOP stay in the ring.
     """
     for slots, lengths in RUNS:
@@ -294,8 +298,8 @@ def runs(bench):
 
 
 def always_finished(bench):
-    """Every descriptor is finished, always: a call takes each slot once, and the transmit ring never runs full. Or none
-    ever is: it runs full.
+    """If every descriptor is always finished, a call takes each slot once, and the transmit ring never runs full. If no
+    descriptor ever is, the transmit ring runs full.
     """
     frames = [frame(mark) for mark in range(9)]
     for name, descriptor, count in [("ones", bytes([0xFF] * DESCRIPTOR), 0), ("no bytes", slot(0, 3, 0), 0),
@@ -318,13 +322,13 @@ def always_finished(bench):
 
 
 def iter_of(first, later):
-    """A function that returns these values first, and then always the other."""
+    """Returns a function that returns the values of `first` one after the other, and then always `later`."""
     left = list(first)
     return lambda: left.pop(0) if left else later
 
 
 def missed(bench):
-    """Values of MPC are added up, and the sum is exact unless one was the greatest."""
+    """Values of MPC are added up, and the sum is exact unless a value was the greatest, 2^32 - 1."""
     for values, line in [([1, 2, 3], "missed 6 exact"), ([GREATEST - 1] * 3, f"missed {3 * (GREATEST - 1)} exact"),
                          ([1, GREATEST, 1], f"missed {GREATEST + 2} atleast")]:
         device = Device(causes=[RXT0], misses=values)
@@ -345,7 +349,7 @@ class Drawn(Device):
         return self.drawing.choice([0, 0, 1, GREATEST]) if name == "misses" else super().next(name)
 
     def received_slot(self):
-        """Finished more often than not, mostly as a frame's slots are."""
+        """A receive descriptor: mostly with DD, and mostly without errors."""
         draw = self.drawing
         length = draw.choice([PIECE, PIECE, PIECE, 1, 59, 60, 238, 239, draw.randrange(2**16)])
         return slot(length, draw.choice([0, 1, 1, 1, 3, 3, draw.randrange(256)]),
@@ -369,7 +373,9 @@ def drawn(bench):
 
 
 def links(bench):
-    """A link of the adapter's model that is up after 2,000 ticks is in time if a tick precedes each access."""
+    """With a tick before each access, a link of the adapter's model that is up after 2,000 ticks is in time. A link
+    that is up later, or never, isn't.
+    """
     folder(bench)
     for ticks, error in [("2000", None), ("2001", "E14 NoLink"), ("never", "E14 NoLink")]:
         bench.put("s.scenario",

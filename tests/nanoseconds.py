@@ -1,4 +1,4 @@
-"""`--nanos` of `nicbench pass` and `nicbench run`: the same numbers as times, in traces with nanoseconds."""
+"""`--nanos` of `nicbench pass` and `nicbench run`: traces of nanoseconds, with the times that traces otherwise have."""
 
 from pcap_files import packet, trace, trace_in, written
 from scenarios import EXAMPLE, EXAMPLE_FRAME, EXAMPLE_LINES, TO_SOCKET, folder, held, plays
@@ -8,7 +8,9 @@ MICROSECONDS = 1_000_000
 
 
 def nanoseconds(frames):
-    """The trace of pairs of a number of microseconds and a frame, padded."""
+    """Returns a trace with times in nanoseconds. A frame is a pair: its time in microseconds, and its bytes, which are
+    padded to 60.
+    """
     packets = [(number // MICROSECONDS, number % MICROSECONDS * 1000, max(len(frame), 60), max(len(frame), 60),
                 frame.ljust(60, b"\0"))
                for number, frame in frames]
@@ -16,7 +18,9 @@ def nanoseconds(frames):
 
 
 def passes(bench):
-    """OUT of `pass` has the numbers of frames; its line of counts is the same."""
+    """With --nanos, OUT of `pass` is a trace of nanoseconds. The time of frame n in IN, from 0, is n microseconds. The
+    line of counts is that without the option.
+    """
     frames = [bytes([number]) * length for number, length in enumerate((14, 13, 1518, 60))]
     bench.put("in.pcap", trace(*map(packet, frames)))
     line = b"read 4 skipped 0 illegal 1 filtered 0 written 3 cut no\n"
@@ -37,7 +41,9 @@ def passes(bench):
 
 
 def runs(bench):
-    """The files of sockets and of wires have the same unit. The lines of hosts are the same."""
+    """With --nanos, the files of sockets and of wires are traces of nanoseconds. The lines of hosts are those without
+    the option.
+    """
     given, put = [(7, EXAMPLE_FRAME)], [(2, EXAMPLE_FRAME)]
     whole = nanoseconds(given)
     bench.check("nanoseconds: the file header", whole[:24].hex(), "4d3cb2a1020004000000000000000000ffff000001000000")
@@ -56,12 +62,14 @@ def runs(bench):
           {"b.0.pcap": whole}, ["--nanos"])
 
 
-# All frames of a and b are put, delivered and taken off b's ring, so that the next frame to b comes next.
+# All frames of a are put, delivered to b and drained, so that the next frame that b receives is the next one of a.
 EMPTIED = b"tick txtake:a\ntick txput:a\ntick deliver:b\n" * 12 + b"tick deliver:b\n" * 64 + b"drain b\n"
 
 
 def late(bench):
-    """Numbers beyond a second. b's socket takes only the last frame, as random frames have another EtherType."""
+    """Events about one and two seconds after the start. b's socket takes only the last frame, as random frames have
+    another EtherType.
+    """
     end = EMPTIED + EXAMPLE.partition(b"b all\n")[2].partition(b"tick rxdata")[0] + b"drain b\n"
     after = end.count(b"\n") - 1
     for number, header in [(999_999, "0000000018c69a3b"), (1_000_000, "0100000000000000"),

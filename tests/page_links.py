@@ -15,7 +15,7 @@ PAGES = ["README.md", "docs/*.md", "examples/*.md", "examples/*/README.md", "ben
 # Markdown pages
 
 def pages():
-    """The paths of all Markdown pages, from the top of the repository."""
+    """Yields the paths of the Markdown pages of PAGES, from the top of the repository."""
     for pattern in PAGES:
         yield from sorted(os.path.relpath(path, TOP) for path in glob.glob(os.path.join(TOP, pattern)))
 
@@ -27,7 +27,7 @@ def anchors(text):
 
 
 def dead_links(page):
-    """The links of a page that lead to no file, or to no heading of a page."""
+    """Yields the links of a page that lead to no file, or to no heading of a page."""
     text = re.sub(r"^```.*?^```$", "", text_of(page), flags=re.M | re.S)
     for link in re.findall(r"\]\(([^)\s]+)\)", text):
         if "://" in link:
@@ -41,8 +41,8 @@ def dead_links(page):
 
 
 def edits_named(page):
-    """The names in the columns of a page's tables whose heading begins with "Edit", and those in parentheses of
-    RACES.
+    """Yields the names of edits on a page: in the columns of tables whose heading begins with `Edit`, and in
+    parentheses below `The races` of RACES.md.
     """
     column = None
     if os.path.basename(page) == "RACES.md":
@@ -59,7 +59,7 @@ def edits_named(page):
 
 
 def misplaced(crate, edit):
-    """The texts that an edit replaces, if they aren't in its file exactly once."""
+    """Yields the texts that an edit replaces and that aren't in its file exactly once."""
     lines = text_of(os.path.join("crates", crate, "must-fail", edit)).splitlines()
     words = [line.partition(": ")[::2] for line in lines]
     texts = {path: text_of(os.path.join("crates", crate, path)) for word, path in words if word == "file"}
@@ -91,13 +91,13 @@ class Site:
             self.places[path] = {html.unescape(place) for place in re.findall(r'\sid="([^"]*)"', text)}
 
     def target(self, page, link):
-        """The page and the place of a link."""
+        """The page that a link leads to, and the place on it, an id."""
         path, _, place = html.unescape(link).partition("#")
         path = os.path.normpath(os.path.join(os.path.dirname(page), unquote(path))) if path else page
         return path, unquote(place)
 
     def links(self, page, text=None):
-        """The targets of the links of a page, or of a part of it."""
+        """Yields each link of a page, or of a part of it, with its target. Links to other sites are left out."""
         for link in set(re.findall(r'\s(?:href|src)="([^"]*)"', self.texts[page] if text is None else text)):
             if not re.match(r"\w+://", link):
                 yield link, self.target(page, link)
@@ -113,7 +113,9 @@ class Site:
         return count, dead
 
     def sections(self, page):
-        """The definitions of a page: the place of each, its kind, and the links in its code, without its comments."""
+        """Yields the definitions of a page: the place of each, its kind, and the links in its code, without its
+        comments.
+        """
         parts = re.split(r'<section class="def (\w+)" id="([^"]*)">', self.texts[page])
         for kind, place, text in zip(parts[1::3], parts[2::3], parts[3::3]):
             text = text.partition("</section>")[0]
@@ -121,7 +123,9 @@ class Site:
             yield html.unescape(place), kind, [target for _, target in self.links(page, code)]
 
     def words_below(self, start):
-        """The words and types that a definition leads to, through words."""
+        """The words and types to which links in the code of a definition lead, directly or through words of specs. The
+        kit's are left out.
+        """
         known, found, waiting = {}, set(), [start]
         while waiting:
             page, place = waiting.pop()

@@ -15,8 +15,8 @@ SPAN = re.compile(r"`[^`\n]*`")
 MADE = re.compile(r"^<!-- (?:generated|words quoted|code quoted) by .*?^<!-- end of [a-z]+ -->$", re.M | re.S)
 CODE = re.compile(r"^```.*?^```$", re.M | re.S)
 
-# For each rule, a sentence that states it, and patterns of which one is in a place that states it. Words of a place are
-# separated by single spaces.
+# For each rule, a sentence that states it, and patterns. A place that one of these patterns matches states the rule.
+# The words of a place are separated by single spaces.
 RULES = {
     "receive buffers have 256 bytes": ("A receive buffer has 256 bytes, so a frame has one to six pieces.", [
         r"buffers?\b[^.|]{0,60}\b256 bytes", r"256 bytes each", r"buffers of 256 bytes",
@@ -78,13 +78,13 @@ WORDS = {
     "beside, alone": r"beside|alone",
     "outlet, retelling": r"outlets?|retellings?|stret(?:ch|ches)|borders?",
 }
-# How many of them comments may have, and how many all pages.
+# How many words of the list comments may have, for each word; and how many all pages may have.
 LEFT_IN_COMMENTS = {}
 LEFT_IN_PAGES = 0
 
 
 def places(text):
-    """The paragraphs, items and rows of a page, without what is made from sources, and without code."""
+    """Yields the paragraphs, items and rows of a page, without what is made from sources, and without code."""
     text = CODE.sub("", MADE.sub("", text))
     for block in re.split(r"\n\s*\n|\n(?=\||\s*[-*] |\s*\d+\. )", text):
         block = " ".join(block.split())
@@ -98,7 +98,9 @@ def stated(rule, text):
 
 
 def check_rules(check, texts):
-    """Counts the places of each rule in pages, path to text; `check(name, got, want)` counts one comparison."""
+    """Checks that at most MOST_PLACES places of pages state each rule. `texts` has the pages' texts by their paths;
+    `check(name, got, want)` counts one comparison.
+    """
     for rule, (sentence, _) in RULES.items():
         found = [f"{page}: {place[:90]}" for page, text in texts.items() for place in stated(rule, text)]
         check(f"at most {MOST_PLACES} places on pages: {rule}", found if len(found) > MOST_PLACES else [], [])
@@ -106,7 +108,7 @@ def check_rules(check, texts):
 
 
 def words_in(text):
-    """The words of the list that a text has outside of backticks, each with its line."""
+    """Yields the words of the list that a text has outside of backticks, each with its line."""
     for line in SPAN.sub("", text).split("\n"):
         for word, pattern in WORDS.items():
             for _ in re.finditer(rf"\b(?:{pattern})\b", line, re.I):
@@ -114,7 +116,9 @@ def words_in(text):
 
 
 def check_words(check, top, texts):
-    """Counts the words of the list in pages, path to text, and in the comments of all crates."""
+    """Checks how many words of the list are in pages and in the comments of all crates. `texts` has the pages' texts by
+    their paths.
+    """
     with open(os.path.join(top, "docs", "STYLE.md"), encoding="utf-8") as file:
         style = file.read()
     listed = [re.sub(r" \([^)]*\)$", "", row) for row in re.findall(r"^\| ([^|]*) \| [^|]* \|$", style, re.M)]

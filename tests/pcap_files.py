@@ -20,8 +20,8 @@ def trace(*packets):
 
 
 def trace_in(order, magic, *packets):
-    """A trace in a byte order, '<' or '>'. Each packet has four numbers and a frame: seconds, fraction, captured and
-    original length.
+    """A trace in a byte order, '<' or '>', with this magic number. Each packet is a tuple of four numbers (seconds,
+    fraction, captured length, original length) and a frame.
     """
     header = struct.pack(order + "IHHIIII", magic, 2, 4, 0, 0, 65535, 1)
     return header + b"".join(struct.pack(order + "IIII", *numbers) + frame for *numbers, frame in packets)

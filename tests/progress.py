@@ -1,4 +1,4 @@
-"""What long jobs report on standard error: something on a terminal, and nothing elsewhere."""
+"""Long jobs report their progress on standard error if it is a terminal, and nothing otherwise."""
 
 import os
 import pty
@@ -9,7 +9,7 @@ from pcap_files import FILE_HEADER, packet, trace
 import scenarios
 
 MIB = 1 << 20
-# A truncated packet: its header, and how many bytes follow.
+# The header of a packet that was truncated by one byte: MIB // 4 bytes follow.
 PART = struct.pack("<IIII", 0, 0, MIB // 4, MIB // 4 + 1)
 
 

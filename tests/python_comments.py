@@ -11,7 +11,7 @@ SENTENCE = re.compile(r"(?<=[.!?])\)?\s+")
 
 
 def comments(text):
-    """The comments of a file and its docstrings, each as a text of several lines."""
+    """Yields the comments of a file and its docstrings, each as a text of one or several lines."""
     lines, last, before = [], 0, tokenize.NEWLINE
     for token in tokenize.generate_tokens(io.StringIO(text).readline):
         if token.type == tokenize.NL:
@@ -31,7 +31,8 @@ def comments(text):
 
 
 def sentences(comment):
-    """The sentences of a comment, without indented lines, words of a command line and headings."""
+    """Yields the sentences of a comment, without lines indented by four spaces and paragraphs that begin with `usage:`.
+    """
     indents = [len(line) - len(line.lstrip()) for line in comment.split("\n")[1:] if line.strip()]
     margin = " " * min(indents, default=0)
     lines = [line.removeprefix(margin) for line in comment.split("\n")]
@@ -42,7 +43,7 @@ def sentences(comment):
 
 
 def faults_in(text):
-    """The sentences with too many words, and those with a word of the list."""
+    """Yields each sentence with too many words; and for each word of the list, the word and its sentence."""
     for sentence in (one for comment in comments(text) for one in sentences(comment)):
         if len(SPAN.sub("x", sentence).split()) > MOST_WORDS:
             yield sentence

@@ -1,7 +1,7 @@
 """`nicbench run` from outside: schedules of hosts, step by step, with races between the accesses of their drivers.
 
-A schedule is a list of lines. A row states which line returns which frame. So it also shows whether an interrupt took a
-frame: a line that receives after the interrupt returns a frame, or none.
+A schedule is a list of lines. A row states which line returns which frame. The line `recv` after an interrupt shows
+whether the interrupt took a frame: it returns this frame, or none.
 """
 
 from pcap_files import FILE_HEADER, written
@@ -13,12 +13,12 @@ BRING = ["tick txtake:a", "tick txput:a", "tick deliver:b"]
 FINISH = ["tick rxdata:b", "tick rxdone:b"]
 INTERRUPT, RECV = ["interrupt b"], ["recv b 0"]
 SOCKET = "socket b all"
-# The most frames in a packet buffer of 48 KB: of 60 bytes, each of which takes up 80
+# The most frames of 60 bytes in a packet buffer of 48 KB. Each frame takes up 80 bytes.
 MOST_BUFFERED = 614
 
 
 def frame(mark, to=B_ADDRESS, kind="88b5", length=60):
-    """A frame of `length` bytes, with this mark after its header."""
+    """A frame of `length` bytes: a header, and this mark in each byte after it."""
     return bytes.fromhex(f"{to}020000000001{kind}{mark:02x}").ljust(length, bytes([mark]))[:length]
 
 
@@ -27,22 +27,22 @@ def send(data, ticks="", host="a"):
 
 
 def bring(*frames):
-    """Sends each frame from a, and delivers it to b's adapter."""
+    """The lines that send each frame from a, and deliver it to b's adapter."""
     return [line for data in frames for line in send(data) + BRING]
 
 
 def finish(data):
-    """Moves and finishes the pieces of a frame: one for each receive buffer of 256 bytes."""
+    """The lines that move and finish the pieces of a frame: one piece for each receive buffer of 256 bytes."""
     return FINISH * -(-max(len(data), 60) // 256)
 
 
 def receive(*frames):
-    """Delivers each frame to b, and finishes it in b's memory."""
+    """The lines that deliver each frame to b, and finish it in b's memory."""
     return [line for data in frames for line in bring(data) + finish(data)]
 
 
 class Schedule:
-    """Lines of events, with the frame that each of them returns."""
+    """Lines of events, and the frames that they return. Each method that adds lines returns the schedule."""
 
     def __init__(self):
         self.lines, self.given = [], {}
@@ -60,7 +60,7 @@ class Schedule:
         return self
 
     def drains(self, *frames, host="b"):
-        """Adds a line that drains a host and returns these pairs of a socket and a frame."""
+        """Adds a line that drains a host. It returns these pairs of a socket and a frame."""
         for socket, data in frames:
             self.given.setdefault(f"{host}.{socket}.pcap", []).append((len(self.lines), data))
         self.lines.append(f"drain {host}")
@@ -68,8 +68,8 @@ class Schedule:
 
 
 def row(bench, name, schedule, numbers_of_a, numbers_of_b, options="", setup=(SOCKET,), others=b""):
-    """Plays a schedule, and checks the frames and the counts of a and b. Options follow b's host line; the lines of
-    set-up follow the host lines.
+    """Plays a schedule, and checks the frames and the counts of a and b. Options end b's host line; the host lines of
+    `others` and the lines of `setup` follow.
     """
     hosts = TWO_HOSTS.replace(b"02 w\n", f"02 w {options}\n".encode()) + others
     text = hosts + "".join(f"{line}\n" for line in [*setup, *schedule.lines]).encode()
@@ -88,7 +88,7 @@ def counts(sent, given=None, **others):
 
 
 def receiving(bench):
-    """A frame is finished before and after each access of an interrupt handler."""
+    """A frame is finished before and after each access of an interrupt handler, and at other moments."""
     one, two = frame(1), frame(2)
     for accesses in range(8):
         # The handler accesses ICR, MPC, the first frame's descriptor, its EtherType, the second frame's descriptor, the
@@ -214,14 +214,14 @@ def sending(bench):
 
 
 def lengths(bench):
-    """The shortest and the longest frame, and frames that are rejected."""
+    """Frames of the shortest, the longest and other lengths; frames whose lengths are rejected; and padding."""
     for length in (14, 15, 59, 60, 61, 255, 256, 257, 511, 512, 513, 1280, 1281, 1517, 1518):
         data = frame(7, length=length)
         row(bench, f"a frame of {length} bytes",
             Schedule().does(receive(data), INTERRUPT).gives(data).does(RECV, ["recv b 1"]), *counts(1))
     refused = send(frame(1, length=13)) + send(frame(1, length=1519))
     row(bench, "frames of 13 and 1,519 bytes", Schedule().does(refused, BRING, FINISH, INTERRUPT, RECV), {}, {})
-    # Three frames of six pieces occupy each of the 16 receive buffers once.
+    # Three frames of six pieces occupy each of the 16 receive buffers.
     long, short = frame(0xEE, length=1518), frame(1, length=14)
     padded = Schedule()
     for _ in range(3):
@@ -317,7 +317,7 @@ def wires(bench):
 
 
 def inside(bench):
-    """Ticks inside calls that make no access are still played."""
+    """All ticks inside a call are played, even if there are more `go` among them than the call makes accesses."""
     data = frame(1)
     ticks = "txtake:a go txput:a go deliver:b txtake:a"
     for name, line, refused in [("of an empty queue", "recv b 0", []), ("of a missing socket", "recv b 1", []),

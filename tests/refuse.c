@@ -1,8 +1,8 @@
-/* A library that is loaded before the C library. It makes one allocation of a program fail: the one whose number, counted from 1,
-   is in the environment variable REFUSE. If REFUSE_ALL is set, each allocation after that one fails, too. If REFUSE_AFTER_WRITE is
-   set, each allocation after the first call of write fails. If the library made an allocation fail, it creates a file with the name
-   in REFUSED. The program's allocator calls only malloc and realloc; the callers check that the program names no other function
-   that allocates. */
+/* A library that is loaded before the C library. It makes one allocation of a program fail: the one whose number, from
+   1, is in the environment variable REFUSE. If REFUSE_ALL is set, each allocation after that one fails, too. If
+   REFUSE_AFTER_WRITE is set, each allocation after the first call of write fails. If an allocation fails, the library
+   creates a file with the name in REFUSED. The program's allocator calls only malloc and realloc; the callers check
+   that the program names no other function that allocates. */
 #define _GNU_SOURCE
 #include <dlfcn.h>
 #include <fcntl.h>

@@ -8,7 +8,7 @@ from pcap_files import packet, trace, written
 
 
 def all_cases(bench):
-    """Makes each allocation of each command fail in turn, until no allocation fails in a run."""
+    """Makes each allocation of runs of `pass`, `show` and `run` fail in turn, until no allocation fails in a run."""
     library = refusing.build(bench.folder)
     bench.check("memory: a C compiler is here", library is not None, True)
     if library is None:
@@ -35,7 +35,7 @@ def all_cases(bench):
 
 
 def no_memory_for_output(bench, line):
-    """A command requests no memory after its first write: its output is the same if each allocation after that
+    """A command requests no memory after its first write: its output is the same if each allocation after this write
     fails.
     """
     made = []
@@ -52,7 +52,9 @@ def no_memory_for_output(bench, line):
 
 
 def memory_of_words(bench, line):
-    """The same for invalid arguments: the answer is the same, or it is E57."""
+    """Makes each allocation of a help, a version or invalid arguments fail in turn: the answer is the same, or it is
+    E57.
+    """
     whole = bench.run(*line)
     for number in range(1, 10000):
         bench.remove("refused")
@@ -67,8 +69,8 @@ def memory_of_words(bench, line):
 
 
 def memory_of_run(bench, options, wire_files):
-    """The same for `run`. Some failures change nothing, because a library then requests less memory. Files don't
-    change.
+    """Makes each allocation of a `run` fail in turn. Some failures change nothing, because a library then requests less
+    memory. After the others, files that existed are unchanged, and new ones are empty.
     """
     name = " ".join(["memory: run", *options])
     bench.put("fed.pcap", trace(packet(scenarios.EXAMPLE_FRAME)))
@@ -107,7 +109,9 @@ def memory_of_run(bench, options, wire_files):
 
 
 def memory_of(bench, line, out, file, given=b""):
-    """Makes each allocation with these words fail in turn; at last the run succeeds, with this output and this file."""
+    """Makes each allocation of a command fail in turn: the command is refused, or succeeds with this output and this
+    file. In the last run, no allocation fails, and the command succeeds.
+    """
     name = f"memory: {line[0]} {line[1]}"
     codes = set()
     for number in range(1, 1000):

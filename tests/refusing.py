@@ -1,4 +1,5 @@
-"""Makes allocations of a program fail; used by tests/run, tests/refused_allocations and tests/failing.py."""
+"""Makes allocations of a program fail; used by tests/run, tests/serve, tests/refused_allocations and tests/failing.py.
+"""
 
 import os
 import shutil
@@ -8,7 +9,7 @@ SOURCE = os.path.join(os.path.dirname(os.path.abspath(__file__)), "refuse.c")
 # The functions of the C library that allocate.
 ALLOCATORS = {b"malloc", b"realloc", b"calloc", b"reallocarray", b"aligned_alloc", b"posix_memalign", b"memalign",
               b"valloc", b"pvalloc", b"mmap"}
-# The functions whose calls fail.
+# The functions whose calls refuse.c can make fail.
 REFUSED = {b"malloc", b"realloc"}
 
 
@@ -19,8 +20,8 @@ def allocators_of(program):
 
 
 def build(folder, source=SOURCE):
-    """Compiles refuse.c, or another library, into the folder: the path of the library to load, or None if there is no C
-    compiler.
+    """Compiles refuse.c, or another library, into the folder. Returns the path of the library to load, or None if there
+    is no C compiler.
     """
     cc = next((path for path in map(shutil.which, ["cc", "clang", "gcc"]) if path), None)
     if cc is None:

@@ -9,6 +9,7 @@ and `Adapter::write` use. This module reads them by itself, and compares them wi
 - the offsets that clients and tests in other languages type by hand.
 
 It also compares the places of bits in contracts, and the bits of MDIC that a write keeps, with the code's constants.
+Places of bits that the C header and the finder type by hand are compared with those in contracts.
 """
 
 import glob
@@ -19,7 +20,7 @@ import sys
 ADAPTER = os.path.join(os.path.dirname(os.path.dirname(os.path.abspath(__file__))), "crates", "adapter")
 RING = {"BAL": "BaseLow", "BAH": "BaseHigh", "LEN": "Length", "H": "Head", "T": "Tail"}
 HEX = r"0x[0-9A-F]+"
-# The files whose authors typed offsets: clients have no other files, and tests must not take offsets from the tables.
+# The files in which offsets are typed: clients don't use the crates, and tests must not take offsets from the tables.
 CLIENTS = ("examples/drivers/*", "examples/emulators/*", "machines/board/*", "tests/*.py", "tests/*/*.py",
            "bindings/*/*", "bindings/rust/src/*")
 # NAME = 0x1234, NIC_NAME = .., "NAME": 0x1234, const NAME: u32 = ..; or names and as many numbers, in a line of Python.
@@ -85,7 +86,9 @@ def counts():
 
 
 def eeprom_words():
-    """The numbers of the EEPROM's words that RAL(0) and RAH(0) read after a reset, and the additional bit, or None."""
+    """For RAL and RAH: the numbers of the EEPROM's words that entry 0 has after a reset. Also the place of the bit that
+    is set then, or None.
+    """
     table = with_numbers(text_of("specs", "Table.antt"))
     found = {}
     for name, which in [("RAL", "low"), ("RAH", "high")]:
@@ -98,7 +101,9 @@ def eeprom_words():
 
 
 def rules():
-    """The numbers in rules other than kept bits: for each register's name, a pattern of the line and its result."""
+    """The numbers in rules other than kept bits. For each register's name: a pattern for its rule in a table, and what
+    the pattern's groups must be.
+    """
     registers = with_numbers(text_of("specs", "Registers.antt"))
     buffer = text_of(os.pardir, "registers", "specs", "PacketBuffer.antt")
     kept = text_of(os.pardir, "registers", "specs", "Kept.antt")
@@ -118,7 +123,9 @@ def rules():
 
 
 def bit_places():
-    """For each name of a place, the place and the place of the lowest bit of the code's constant."""
+    """Yields the name of each bit in contracts, the bit's place there, and the place of the lowest bit of the code's
+    constant.
+    """
     registers = {"ctrl": "device_control", "status": "device_control", "rctl": "receive_control",
                  "tctl": "transmit_control", "": "interrupts"}
     others = {
@@ -155,7 +162,8 @@ def bit_places():
 
 
 def kept_of_mdic():
-    """The bits of MDIC that a write keeps: by the specification all but the places that it names; and the constant."""
+    """The bits of MDIC that a write keeps: by the specification, all except those that it names; and by the constant.
+    """
     specification = text_of(os.pardir, "mdic_phy", "specs", "Mdic.antt")
     code = text_of(os.pardir, "mdic_phy", "src", "mdic.rt")
     places = dict(re.findall(r"^(\w+) = (\d+)$", text_of(os.pardir, "mdic_phy", "specs", "Places.antt"), re.M))
@@ -165,7 +173,7 @@ def kept_of_mdic():
 
 
 def typed_offsets(text):
-    """The names of registers and their offsets that a text of a program states."""
+    """Yields the names of registers and their offsets that a text of a program states."""
     yield from ((name, number(value)) for name, value in ONE.findall(text))
     for names, values in MANY.findall(text):
         if names.count(",") == values.count(","):
@@ -173,8 +181,9 @@ def typed_offsets(text):
 
 
 def lines(text):
-    """The lines of a table in a text, a tuple for each register. It has the name, the first offset, and the texts of
-    the offsets, the registers, the kept bits or rule, and the reset value."""
+    """Yields the registers of a table in a text. A register has a name, a first offset and texts: the offsets, the
+    registers, the kept bits or rule, and the reset value.
+    """
     for line in re.findall(r"^(?://! )?\| (0x.*) \|$", text, re.M):
         places, registers, kept, reset = line.split(" | ")
         names = [re.match(r"[A-Z]+", name).group() for name in registers.split(", ") if re.match(r"[A-Z]", name)]
@@ -192,7 +201,9 @@ def numbers_of(pattern, text):
 
 
 def check_array(check, name, row, count, places, registers):
-    """A line of an array has its last offset and its count, or the bytes from one to the next and the indices."""
+    """Checks the line of an array. It has the last offset and the number of registers, or the bytes from one register
+    to the next and the range of indices.
+    """
     offset, _, _, step = row
     if " to " in places:
         check(f"{name}: last offset", numbers_of(rf" to ({HEX})$", places), (offset + step * (count - 1),))
@@ -239,13 +250,15 @@ def check_clients(check):
 
 
 def is_of(row, offset):
-    """Whether an offset is that of a register, or of one of an array."""
+    """Whether an offset is that of this register, or of a register in this array."""
     first, _, _, step = row
     return offset == first if step is None else first <= offset < first + 0x200 and (offset - first) % step == 0
 
 
 def typed_bits():
-    """The places of bits that the C header and the finder of races type by hand, by names such as ctrl_slu."""
+    """Yields the places of bits that the C header and the finder of races type by hand. Each has the file, a name such
+    as ctrl_slu, and the place.
+    """
     top = os.path.join(os.pardir, os.pardir)
     macro = r"^#define NIC_(\w+?)(?:\(\w+\))? \((?:1u|\(uint32_t\)\(\w+\)) << (\d+)\)$"
     for name, place in re.findall(macro, text_of(top, "bindings", "c", "nic82540em.h"), re.M):
@@ -257,7 +270,7 @@ def typed_bits():
 
 
 def check_bits(check):
-    """Compares these places with those in contracts, for all bits that contracts name."""
+    """Compares the typed places of bits with those in contracts, for all bits that contracts name."""
     places = {name: place for name, place, _ in bit_places()}
     seen = set()
     for file, name, place in typed_bits():

@@ -10,7 +10,7 @@ WIDTHS = {"b": 1, "w": 2, "l": 4, "q": 8}
 # The widths of accesses to I/O ports
 PORT_WIDTHS = {letter: WIDTHS[letter] for letter in "bwl"}
 MOST_BYTES = 65_536
-# The most steps before an access, and the most rounds after it
+# The most steps before an access, and the most cycles after it
 MOST_STEPS = MOST_ROUNDS = 65_535
 LAST_PORT = 65_535
 # The requests that access bytes, besides those that access a number
@@ -22,7 +22,7 @@ class Refused(Exception):
 
 
 def number_in(word, most):
-    """The number that a word spells, at most `most`."""
+    """The number that a word spells. Raises Refused if it spells none, or one above `most`."""
     if re.fullmatch("[0-9]+", word):
         digits = word.lstrip("0") or "0"
         value = int(digits) if len(digits) <= 20 else 1 << 64
@@ -43,7 +43,7 @@ def size_in(word):
 
 
 def hex_in(digits):
-    """The bytes of an even number of hexadecimal digits."""
+    """The bytes of an even number of hexadecimal digits. Raises Refused for other texts."""
     if not re.fullmatch("([0-9a-fA-F]{2})*", digits):
         raise Refused("ERR value")
     return bytes.fromhex(digits)
@@ -81,7 +81,7 @@ ADDRESS = NANOSECONDS = at_most((1 << 64) - 1)
 
 
 def limit_in(word):
-    """The limit of a number that is chosen below it."""
+    """The limit of `choose` that a word spells, from 1 to 10^9. Raises Refused for other words."""
     limit = number_in(word, 10 ** 9)
     if limit == 0:
         raise Refused("ERR value")

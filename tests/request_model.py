@@ -12,7 +12,7 @@ from configuration_model import Configuration
 from request_forms import KINDS, PORT_WIDTHS, Refused, access_in, answer_of, request_in
 from server import ZERO, number
 
-# The last offset of a register, and the bytes of all registers
+# The last offset of a register, and the size of the area of all registers in bytes
 LAST, AREA = 131_068, 131_072
 CAUSES = 0x2D7
 # The names of registers (13.4 "Main Register Descriptions")
@@ -30,7 +30,7 @@ PBA_RESET = 0x00100030
 MOST_RXA = 48
 # The sum of the two halves of PBA, in kilobytes.
 ALL_KILOBYTES = 64
-# The lines of a round of an idle adapter
+# The lines of a cycle of an idle adapter
 ROUND = [f"# step {kind} -> nothing" for kind in KINDS]
 
 
@@ -52,7 +52,7 @@ class Model:
         self.packet_buffer = PBA_RESET
 
     def power_on(self):
-        """The registers after a reset, except PBA."""
+        """Sets all registers except PBA to their values after a reset."""
         self.plain = {offset: reset for offset, (_, reset) in PLAIN.items()}
         self.causes = self.mask = 0
 
@@ -68,14 +68,14 @@ class Model:
         return bool(self.causes & self.mask)
 
     def read(self, offset):
-        """The value of a register."""
+        """Reads a register, and returns its value. A read of ICR clears the causes."""
         value = {ICR: self.causes, IMS: self.mask, PBA: self.packet_buffer}.get(offset, self.plain.get(offset, 0))
         if offset == ICR:
             self.causes = 0
         return value
 
     def write(self, offset, value):
-        """A write of a register, if it starts nothing."""
+        """Writes a register. Raises Unknown if the write starts something in the adapter."""
         if offset in (EERD, MDIC) or offset in (RCTL, TCTL) and value & EN:
             raise Unknown
         if offset == CTRL and value & RESET:
@@ -90,7 +90,9 @@ class Model:
         self.mask = {IMS: self.mask | value & CAUSES, IMC: self.mask & ~value}.get(offset, self.mask)
 
     def register_at(self, address, size):
-        """The offset of the register that an access goes to, or None if it goes to memory."""
+        """The offset of the register that an access goes to, or None if the access goes to memory. Raises Refused if it
+        goes to neither.
+        """
         first = self.configuration.registers()
         offset = AREA if first is None else address - first
         if size == 4 and 0 <= offset <= LAST and offset % 4 == 0:
@@ -111,7 +113,7 @@ class Model:
         return f"{address:#x}"
 
     def access(self, address, size, data):
-        """The bytes that an access reads, or none if it writes."""
+        """Makes an access. Returns the bytes that it reads, or no bytes if it writes."""
         offset = self.register_at(address, size)
         if offset is not None:
             if data is None:
@@ -139,7 +141,9 @@ class Model:
         return told
 
     def paced(self):
-        """The lines of the rounds after an access or an arrival: an idle adapter has one, which does nothing."""
+        """The lines of the cycles after an access or an arrival: with `pace`, an idle adapter has one, which does
+        nothing.
+        """
         return ROUND if self.rounds else []
 
     # Requests: each returns the lines before the answer, and the answer.
@@ -158,7 +162,7 @@ class Model:
         return [], "OK"
 
     def does_clock(self, name, values):
-        """Offered frames arrive, and a round does nothing; then the clock moves."""
+        """Offered frames arrive, and a cycle does nothing; then the clock moves."""
         clock = self.clock + values[0] if name == "clock_step" else max(self.clock, values[0])
         if clock >= 1 << 64:
             raise Refused("ERR value")
@@ -174,7 +178,7 @@ class Model:
             self.rounds = values[0]
         elif name == "interleave" and values[0]:
             raise Unknown
-        return [], "OK"  # no frame waits for the wire, and `IRQ` lines always come
+        return [], "OK"  # `wire`: no frame waits for it; `irq_intercept_in`: `IRQ` lines always come
 
     def does_state(self, name, _):
         before = self.is_asserted()
@@ -187,7 +191,7 @@ class Model:
         return self.line_changes(before), "OK"
 
     def does_adapter(self, name, values):
-        """A step, an arrival or rounds, at an adapter that is off."""
+        """A step, an arrival, an offered frame, or `settle`, at an adapter that is off."""
         if name == "offer":
             self.offered.append(values[0])
             return [], "OK"
@@ -204,7 +208,9 @@ class Model:
         return [], " ".join(["OK", *(f"0x{value:016x}" for value in values)])
 
     def does_question(self, name, _):
-        """What changes nothing. No frame was put on the wire, no engine had a fault, and no step would do something."""
+        """A request that changes nothing. No frame was put on the wire, no engine had a fault, and no step would do
+        something.
+        """
         return [], {"endianness": "OK little", "line": number(int(self.is_asserted())), "frames": "OK",
             "faults": "OK", "enabled": "OK", "choose": ZERO}[name]
 
@@ -223,7 +229,9 @@ class Model:
         return self.does_port(name, values) if name.startswith(("in", "out")) else self.does_access(name, values)
 
     def answer(self, line):
-        """The bytes of the lines up to the answer, and whether the line is refused; the model is then unchanged."""
+        """The bytes of the lines up to the answer, and whether the line is refused. A refused line doesn't change the
+        model.
+        """
         try:
             told, answer = self.does(*request_in(line))
         except Refused as refused:

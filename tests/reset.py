@@ -13,10 +13,11 @@ from reset_model import BEFORE_STORES, OTHER_ACCESSES, Host, Wire
 from scenarios import plays, told, warning
 
 SLOTS = 8
-# The access that enables the receiver again, and all accesses, with rings of 8 slots
+# The number, from 1, of the access of a reset that enables the receiver again, and the number of the last access. Both
+# are for rings of 8 slots.
 ENABLED, ACCESSES = BEFORE_STORES + SLOTS + 2, OTHER_ACCESSES + 2 * SLOTS
 LONG = frame(9, length=1518)
-# Random runs
+# Random runs: their seeds, and the number of events in each; then what hosts and frames are drawn from
 SEEDS, EVENTS = range(1, 11), 4000
 OPTIONS = {"rx": (8, 16), "tx": (8, 16), "buffers": (16, 17, 24, 40), "rxa": (2, 4, 48)}
 LENGTHS = 14, 60, 61, 255, 256, 257, 600, 1280, 1281, 1518
@@ -24,12 +25,14 @@ KINDS = "88b5", "0806", "0800"
 
 
 def waiting(*frames):
-    """Puts each frame on the wire. None is delivered."""
+    """The lines that put each of these frames on the wire. No frame is delivered."""
     return [line for data in frames for line in send(data) + ["tick txtake:a", "tick txput:a"]]
 
 
 def reset(host, *ticks):
-    """A reset with ticks: each an access, counted from 1, and a tick just before it."""
+    """The line of a reset with these ticks. Each is a pair: the number of an access, from 1, and the tick that is
+    played just before this access.
+    """
     words, made = [], 0
     for access, tick in ticks:
         words += ["go"] * (access - 1 - made) + [tick]
@@ -68,7 +71,7 @@ def play(bench, name, lines, options, sockets, given_up):
 
 
 def row(bench, name, lines, a=None, b=None, options=None, kind=None):
-    """Plays lines with one socket of b. The words a and b state what the resets of the hosts give up, or None without a
+    """Plays lines with one socket of b. `a` and `b` state what the resets of each host give up, or None without a
     reset.
     """
     play(bench, f"resets: {name}", lines, {"b": options or {}}, {"b": (kind,)},
@@ -123,7 +126,9 @@ def held(bench):
 
 
 def arrivals(bench):
-    """Frames that arrive in a reset are dropped from the first access to the one that enables the receiver."""
+    """A frame that arrives after the first access of a reset, but before the one that enables the receiver, has the
+    fate Off.
+    """
     one, two, three = (frame(mark) for mark in (1, 2, 3))
     after = FINISH * 2 + INTERRUPT + RECV * 3
     row(bench, "a delivery before and after the first access",
@@ -146,7 +151,7 @@ def arrivals(bench):
 
 
 def misses(bench):
-    """Missed frames are counted before the reset clears MPC. None is missed while the receiver is off."""
+    """Missed frames are counted before the reset clears MPC. No frame is missed while the receiver is off."""
     one, two, three = (frame(mark, length=1518) for mark in (1, 2, 3))
     small, after = {"rxa": 2}, receive(frame(4)) + INTERRUPT + RECV * 2
     row(bench, "a miss before the reset", bring(one, two) + ["reset b"] + after, b=(0, 1, 0), options=small)
@@ -161,7 +166,9 @@ def misses(bench):
 
 
 def queues(bench):
-    """Frames in queues stay, in their buffers. As many slots are offered as buffers are free."""
+    """Frames in queues remain in their buffers. A reset offers one slot for each free buffer, but at most all slots
+    except one.
+    """
     frames = [frame(mark) for mark in range(20)]
     for count in (6, 7, 8):
         lines = [line for data in frames[:count] for line in receive(data) + INTERRUPT]

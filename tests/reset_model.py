@@ -7,14 +7,15 @@ reset have no ticks. Filters aren't modelled: all frames pass.
 RECEIVE_BUFFER, SMALLEST, TRANSMIT_ROOM, WIRE_ROOM = 256, 60, 4, 64
 TXDW, RXDMT0, RXO, RXT0 = 1, 1 << 4, 1 << 6, 1 << 7
 HANDLED = TXDW | RXDMT0 | RXO | RXT0
-# The accesses of a reset: those after which something changes, counted from 1. The last three come after the stores of
-# receive descriptors.
+# The numbers of accesses of a reset, from 1, after which something changes. Three more such accesses come after the
+# stores of receive descriptors. OTHER_ACCESSES: how many accesses a reset has besides one for each descriptor.
+# BEFORE_STORES: how many of them come before the stores of receive descriptors.
 STOPPED, COUNTED, RESET = 1, 2, 3
 OTHER_ACCESSES, BEFORE_STORES = 309, 300
 
 
 def cost(frame):
-    """What a frame takes of the receive packet buffer."""
+    """How many bytes of the receive packet buffer a frame occupies."""
     return -(-len(frame) // 16) * 16 + 16
 
 
@@ -28,7 +29,7 @@ class Host:
         self.pool = buffers  # the number of free buffers
         self.waiting = []  # frames at this end of the wire
         self.counts = dict.fromkeys(["accepted", "put", "reached", "stored", "given", "unclaimed"], 0)
-        self.missed = 0  # by reads of MPC
+        self.missed = 0  # the sum of what reads of MPC returned
         self.refused = self.absent = 0  # sends that were refused, and receives from sockets that don't exist
         self.given_up = None  # frames to be sent, frames held, and fates Off; None before the first reset
         self.reset_adapter()
@@ -39,17 +40,18 @@ class Host:
         """What RST does, and what the driver forgets then."""
         self.is_on = self.sends = False
         self.causes = self.mpc = 0
-        # the receive packet buffer, and the bytes of its oldest frame that were moved
+        # the frames in the receive packet buffer, and how many bytes of the oldest one were moved
         self.buffered, self.moved = [], 0
         self.used = 0  # the bytes of the receive packet buffer that its frames take
-        # receive slots; a piece is its size, and its frame if it is the last
+        # the number of offered slots, the piece in progress, and the finished pieces. A piece is its size, and its
+        # frame if it is the last piece of this frame.
         self.offered, self.piece, self.finished = 0, None, []
         self.ring, self.taken = [], []  # frames that are offered for sending, and those in the transmit packet buffer
 
     # The driver
 
     def offer(self):
-        """Offers as many receive slots as there are buffers and room."""
+        """Offers receive slots until no buffer is free, or only one slot isn't used."""
         count = min(self.pool, self.rx - 1 - self.offered - len(self.finished) - (self.piece is not None))
         self.pool -= count
         self.offered += count
@@ -90,7 +92,7 @@ class Host:
             self.queues[socket].append((frame, pieces))
 
     def recv(self, socket):
-        """Returns the oldest frame in a queue, or None."""
+        """Returns the oldest frame in a queue; None if the queue is empty, or if the socket doesn't exist."""
         self.absent += socket >= len(self.queues)
         if socket >= len(self.queues) or not self.queues[socket]:
             return None
@@ -164,7 +166,7 @@ class Host:
     # A reset
 
     def reset_access(self, number):
-        """What an access of a reset changes, with its number from 1 on."""
+        """What the access with this number, from 1, changes in a reset."""
         enabled = BEFORE_STORES + self.rx + 2
         if number == STOPPED:
             self.is_on = False
@@ -204,7 +206,7 @@ class Wire:
         self.hosts = hosts
         self.given = {f"{name}.{socket}.pcap": [] for name, host in hosts.items()
                       for socket in range(len(host.sockets))}
-        self.number = 0  # of the next event
+        self.number = 0  # the number of the next event
 
     def tick(self, text):
         if text == "go":
@@ -236,7 +238,7 @@ class Wire:
             host.reset_access(number)
 
     def play(self, line):
-        """Plays the line of an event."""
+        """Plays the line of an event. Returns this model."""
         words = line.split()
         kind, name, *rest = words
         if kind == "tick":

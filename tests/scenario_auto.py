@@ -1,4 +1,4 @@
-"""Random events of scenarios: the words of `auto`, and runs that are the same as those of their lines."""
+"""Random events of scenarios: the words of `auto`, and runs that are the same as runs of the lines of these events."""
 
 import re
 
@@ -63,7 +63,9 @@ def all_fit(bench, hosts, summary):
 
 
 def all_cases(bench):
-    """Random events: the same in two runs, and the same as their lines."""
+    """Two runs of the same random events have the same results, and so has a run of the lines of these events. If
+    `auto` plays no event, the numbers of later events begin at 0.
+    """
     bench.check("auto: the first words from 0", words_from(0, 4), [298703107, 4236525527, 336081875, 1056616254])
     hosts = [(b"a", b"02:00:00:00:00:01"), (b"b", b"02:00:00:00:00:02"), (b"c", b"02:00:00:00:00:03")]
     setup = b"".join(b"host %s %s w rxa 2\n" % host for host in hosts) + b"socket a all\nsocket b 88b5\nsocket c 0800\n"

@@ -23,7 +23,7 @@ EXAMPLE_EVENTS = b"""0 line 4 send a 14 ok accesses 7
 6 line 10 interrupt b handled 1 accesses 8
 7 line 11 recv b 0 ok 60 accesses 8
 """
-# Accesses depend on the driver; all else is known.
+# The number of accesses in a line depends on the driver; all else is known.
 ACCESSES = re.compile(rb" accesses \d+(?= @|$)", re.M)
 EXAMPLE_CHART = """  place  host a          wire w       host b
   0      send 14 ok
@@ -64,7 +64,8 @@ ENDED = "\nFor more information, try '--help'.\n"
 
 
 def events_of(bench, name, text, options=(), warned=b""):
-    """Runs a scenario; returns its lines of events, without the numbers of accesses of calls, and those of hosts."""
+    """Runs a scenario. Returns its lines of events, without the numbers of accesses of calls, and its lines of hosts.
+    """
     bench.put("s.scenario", text)
     folder(bench)
     bench.remove("events.txt")
@@ -112,7 +113,7 @@ def lines(bench):
 
 
 def mistakes(bench):
-    """Calls that do nothing are seen, and refused ones are warned of."""
+    """The log of events shows calls and ticks that do nothing, and a warning counts the calls that are refused."""
     text = (TO_SOCKET
             + b"send a ff\nsend a %s\n" % (b"ff" * 1519)
             + b"recv b 0\nrecv b 1\nrecv a 0\ninterrupt b\ntick rxdata:b\ntick deliver:b\n")
@@ -134,7 +135,7 @@ def mistakes(bench):
 
 
 def counts(bench):
-    """Over random events the lines tell what the lines of hosts count."""
+    """Over random events, the lines of events add up to the counts in the lines of hosts."""
     hosts = b"".join(b"host %s 02:00:00:00:00:0%d w\nsocket %s all\n" % (name, at, name)
                      for at, name in enumerate([b"a", b"b", b"c"], 1))
     bench.put("s.scenario", hosts + b"auto 20000 7\ndrain a\ndrain b\ndrain c\n")
@@ -162,7 +163,7 @@ def counts(bench):
 
 
 def faults(bench):
-    """A file of events that can't be made or written."""
+    """A file of events that can't be made or written. If the plan is refused, the file is empty."""
     bench.put("s.scenario", EXAMPLE)
     folder(bench)
     ran = bench.run("run", "--events", "none/events.txt", "s.scenario", "outdir")
@@ -179,7 +180,9 @@ def faults(bench):
 
 
 def same_files(bench):
-    """FILE mustn't be a file that the run also reads, or one that it writes in OUTDIR. Nothing is written then."""
+    """FILE may be neither a file that the run reads nor one that it writes in OUTDIR. Such a run fails, and writes no
+    byte.
+    """
     scenario, fed = TO_SOCKET + b"feed a fed.pcap\n", trace(packet(EXAMPLE_FRAME))
     bench.put("s.scenario", scenario)
     bench.put("fed.pcap", fed)
@@ -235,14 +238,16 @@ def charts(bench):
 
 
 def chart(bench, *words, given=b""):
-    """Runs tools/run_chart in the folder of the bench: its status, its output and its errors."""
+    """Runs tools/run_chart in the folder of the bench. Returns its status, its output and its errors."""
     ran = subprocess.run([sys.executable, "-S", "-E", CHART, *words], cwd=bench.folder, input=given,
                          capture_output=True, check=False)
     return ran.returncode, ran.stdout.decode(), ran.stderr.decode()
 
 
 def places(bench):
-    """Ticks inside of calls have their places. The last line states which events were drawn."""
+    """The place of a tick inside a call is the event's number, and the number of accesses before the tick. The last
+    line states which events were drawn.
+    """
     told, _ = events_of(bench, "places", PLACES)
     told = re.sub(rb"givenup 0 1 on \d+", b"givenup 0 1 on 9", told)
     bench.check("chart: places", chart(bench, "s.scenario", given=told), (0, PLACES_CHART, ""))

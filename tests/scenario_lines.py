@@ -68,7 +68,7 @@ LINES = [
     ("drain a\nhost c 02:00:00:00:00:03 w", "E54 Order"),
 ]
 COMMENT = b"#" + b"x" * 8191
-# Whole texts without hosts, each with its fault: a plan of no hosts where all lines are read.
+# Whole texts without hosts, each with its fault. If all lines are valid, it is that of a plan without hosts.
 TEXTS = [
     *((text, "E42 Hosts") for text in [b"", b"\n", b"\r\n", b"auto 0 0\r\n", b"auto 0 0", b"#\r\r\n\n", COMMENT,
                                        COMMENT + b"\n", COMMENT + b"\r\n"]),
@@ -81,7 +81,7 @@ TEXTS = [
 
 
 def all_cases(bench):
-    # After lines that are read, another is refused.
+    # After valid lines comes an unknown word, which is refused.
     most = ["socket a all\n" * 8, "group a 01:00:5e:00:00:01\n" * 32, "vlan a 5\n" * 32, f"send a {'00' * 4000}\n"]
     for lines, fault in [*LINES, *((lines[:-1], None) for lines in most)]:
         text = TWO_HOSTS.decode() + lines + ("" if fault else "\nfly")

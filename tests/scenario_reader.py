@@ -14,7 +14,7 @@ WORD, COUNT, VALUE, NAME, ORDER, LONG, TEXT = ("E50 Word", "E51 Count", "E52 Val
 HEADER, MAGIC, VERSION, LINK_TYPE, RECORD, READ, OPEN = ("E60 Header", "E61 Magic", "E62 Version", "E63 LinkType",
                                                          "E64 Record", "E66 Read",
                                                          "E68 Open")
-# The words of each line, without ticks and options.
+# How many words each kind of line has, without ticks and options.
 WORDS = {"host": 4, "group": 3, "vlan": 3, "socket": 3, "send": 3, "recv": 3, "interrupt": 2, "join": 3, "leave": 3,
          "reset": 2, "tick": 2,
          "feed": 3, "auto": 3, "drain": 2}
@@ -32,7 +32,7 @@ SHORTEST_FRAME, LONGEST_FRAME = 14, 1518
 
 
 class Fault(Exception):
-    """A line is invalid; its argument is the code and the name."""
+    """A line is invalid. The exception's argument is the code and the name of the fault."""
 
 
 class Host:
@@ -64,7 +64,7 @@ def number(word, most):
 
 
 def options_of(words):
-    """The options of a host: pairs of a word and its value, or None if the word isn't an option."""
+    """The options of a host: pairs of a word and its value, which is None unless the word is one of OPTIONS."""
     found, rest = [], list(words)
     while rest:
         word = rest.pop(0)
@@ -230,7 +230,7 @@ class TraceRead:
         return None if struct.unpack(self.order + "I", data[20:24]) == (1,) else LINK_TYPE
 
     def packet_fault(self, data):
-        """Reads packets until the data ends, or a packet is too long."""
+        """Reads packets until the data ends, or a packet is too long. Returns the fault, or None."""
         place = FILE_HEADER_BYTES
         while place < len(data) and not self.is_cut:
             begin = place + PACKET_HEADER_BYTES

@@ -26,9 +26,9 @@ EXAMPLE_LINES = (b"a accepted 1 put 1 reached 0 stored 0 missed 0 exact given 0 
                  b"b accepted 0 put 0 reached 1 stored 1 missed 0 exact given 1 unclaimed 0\n")
 TWO_HOSTS = b"host a 02:00:00:00:00:01 w\nhost b 02:00:00:00:00:02 w\n"
 TO_SOCKET = TWO_HOSTS + b"socket b all\n"
-# The steps by which a frame that b was sent comes to b's socket.
+# The lines by which a frame on the wire comes to b's socket and is returned.
 ARRIVAL = b"tick deliver:b\ntick rxdata:b\ntick rxdone:b\ninterrupt b\nrecv b 0\n"
-# The second line on standard error if no byte was written.
+# The last line on standard error if `run` fails before it writes a byte.
 UNCHANGED = b"nicbench: existing files in OUTDIR are unchanged\n"
 NOTHING = {"accepted": 0, "put": 0, "reached": 0, "stored": 0, "missed": 0, "given": 0, "unclaimed": 0}
 
@@ -42,7 +42,7 @@ def told(name, exact="exact", **numbers):
 
 
 def folder(bench, name="outdir"):
-    """An empty folder of this name."""
+    """Makes or empties a folder of this name. Returns its path."""
     path = bench.path(name)
     os.makedirs(path, exist_ok=True)
     for file in os.listdir(path):
@@ -66,7 +66,7 @@ def warning(sends, recvs=0, groups=0):
     return b"nicbench: refused: sends %d, joins and leaves %d, recvs %d; --events lists them\n" % (sends, groups, recvs)
 
 
-# Each warning of this kind.
+# A warning of this kind with any numbers.
 ANY_WARNING = re.compile(rb"nicbench: refused: sends \d+, joins and leaves \d+, recvs \d+; --events lists them\n")
 
 
@@ -436,8 +436,8 @@ def drawn_wires(bench):
 
 
 def wire_places(bench):
-    """Files of wires that can't be created or written. They follow those of sockets, in the order in which hosts name
-    the wires.
+    """Files of wires that can't be created or written. The files of wires follow those of sockets, in the order in
+    which hosts name the wires.
     """
     made = ["b.0.pcap", "d.0.pcap"]
     option = ["--wires"]

@@ -10,12 +10,12 @@ ZERO = "OK 0x0000000000000000"
 ONE = "OK 0x0000000000000001"
 # How many bytes a line has at most.
 LONGEST = 131_200
-# What an answer may take, in seconds.
+# How many seconds a run of the server, or one answer, may take.
 LIMIT = 60
 
 
 def number(value):
-    """The answer that is a number."""
+    """The answer with this number."""
     return f"OK 0x{value:016x}"
 
 
@@ -28,7 +28,7 @@ class Server(Program):
     """Runs of `serve`."""
 
     def serve(self, data, *words, env=None):
-        """Runs with these bytes of input: the status, the output and the errors."""
+        """Runs `serve` with these bytes of input. Returns the status, the output and the errors."""
         ran = subprocess.run([self.program, "serve", *words], input=data, cwd=self.folder, capture_output=True,
                              timeout=LIMIT,
                              env=None if env is None else {**os.environ, **env})
@@ -39,7 +39,7 @@ class Server(Program):
         self.check(name, self.serve(data, *words), (0, wanted, b""))
 
     def talks(self, name, talk, *words):
-        """Checks pairs of a request and the lines up to its answer, in one run."""
+        """Sends the request of each pair in one run, and compares the lines up to its answer."""
         got = self.serve(lines(request for request, _ in talk), *words)
         if got != (0, lines(line for _, told in talk for line in told.split("\n")), b""):
             self.talk_apart(name, talk, got)
@@ -47,7 +47,7 @@ class Server(Program):
             self.passed += len(talk)
 
     def talk_apart(self, name, talk, got):
-        """Prints the first difference of a session."""
+        """Compares a session request by request, and prints each difference."""
         left = got[1].decode(errors="replace").split("\n")
         for request, told in talk:
             wanted = told.split("\n")

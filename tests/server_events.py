@@ -1,4 +1,6 @@
-"""Frames and faults that the server reports as they happen or keeps, rounds after accesses, and the clock."""
+"""Frames and faults that the server reports as they happen or keeps, cycles after accesses, the clock, and requests of
+qtest's clients.
+"""
 
 import base64
 
@@ -14,7 +16,7 @@ from random_requests import RandomRequests, Words
 EVENTS, QUIET = ("events on", "OK"), ("events off", "OK")
 LOG = ("log on", "OK")
 FRAME = "07" * 60
-# The frame of `slot` with this length
+# The rows that offer FRAME for sending
 ONE_SLOT = [slot(60, 0x0B), writes(TDT, 1)]
 PUT = f"frame {FRAME}\n"
 NOTHING = [f"# step {kind} -> nothing" for kind in KINDS]
@@ -91,7 +93,9 @@ RECEIVE_FAULTS = [
 
 
 def stops(server, engine, kind, begun, name, reason, index, changed):
-    """An engine stops for this reason, which is kept, or reported after the step's line of the log."""
+    """An engine stops for this reason. The reason is kept for `faults`, or reported after the step's line of the log,
+    if there is one.
+    """
     words = f"{engine} {index} {reason}"
     stopped = [("restore", "OK"), EVENTS]
     server.talks(f"faults: {engine}: {name}", [
@@ -103,7 +107,8 @@ def stops(server, engine, kind, begun, name, reason, index, changed):
 
 
 def faults(server):
-    """Each reason for which an engine stops is reported at once, or kept for `faults`: the first that applies."""
+    """The reason for which an engine stops is the first one that applies. It is reported at once, or kept for `faults`.
+    """
     transmit, receive = [*RING, *ONE_SLOT], [*SLOTS, *OFFERED, arrives("stored")]
     cases = [("tx", "txtake", transmit, TRANSMIT_FAULTS), ("rx", "rxdata", receive, RECEIVE_FAULTS)]
     for *case, rows in cases:
@@ -123,7 +128,9 @@ def faults(server):
 
 
 def paced(server):
-    """After an access or an arrival, rounds are played until one does nothing, at most the number of `pace`."""
+    """After an access or an arrival, cycles are played until one does nothing, but at most the number that `pace`
+    states.
+    """
     server.talks("pace: a frame is sent at once", [
         *RING, EVENTS, ("pace 1", "OK"), slot(60, 0x0B), writes(TDT, 1, PUT), loads(0x8C, "01000000")])
     server.talks("pace: a frame is received at once", [
@@ -151,7 +158,9 @@ def paced(server):
 
 
 def not_paced(server):
-    """No round comes after other requests, after a round that does nothing, and on a full wire."""
+    """`pace` plays no cycle after a request that is neither an access nor `arrive`. No cycle follows a cycle that does
+    nothing, also on a full wire.
+    """
     server.talks("pace: not after other requests", [
         *THREE, writes(TDT, 3), ("pace 65535", "OK"), ("endianness", "OK little"), ("frames", "OK"),
         ("inl 0xCF8", ZERO), ("outl 0xCF8 0", "OK"),
@@ -170,14 +179,14 @@ def not_paced(server):
 
 
 class Memory:
-    """What the requests of a hostile driver have to know of memory."""
+    """What RandomRequests has to know of an adapter: the size of its memory, and that no registers were read."""
 
     def __init__(self, size):
         self.memory, self.registers = bytes(size), {}
 
 
 def replayed(server):
-    """Rounds are the steps that the log has: played by requests, they do the same."""
+    """The log has the steps of all cycles. If a client requests these steps, the same happens."""
     for seed, count, steps_before in (1, 1, 0), (2, 3, 0), (3, 65_535, 0), (5, 2, 3):
         drawn, asked = RandomRequests(Words(seed), Memory(8192)), []
         while len(asked) < 2000:
@@ -196,7 +205,7 @@ def replayed(server):
 
 
 def clocks(server):
-    """The clock moves only by requests, which play rounds first, as `settle` does."""
+    """The clock moves only by requests, which play cycles first, as `settle` does."""
     last = (1 << 64) - 1
     server.talks("clock: it moves forward", [
         ("clock_step", "OK 0"), ("clock_step 5", "OK 5"), ("clock_step", "OK 5"), ("clock_step 0x10", "OK 21"),
@@ -233,7 +242,7 @@ def restored(server):
 
 
 def compatible(server):
-    """Requests of qtest's clients: bytes in base64, and interrupts to be reported."""
+    """Requests of qtest's clients: bytes in base64, and requests to report interrupts."""
     whole = base64.b64encode(bytes.fromhex("fbffbf") + bytes(13) + bytes(range(1, 7)) + bytes(65_514)).decode()
     server.talks("qtest: bytes in base64", [
         ("b64write 0x10 1 AQ==", "OK"), ("b64write 17 2 AgM=", "OK"), ("b64write 19 3 BAUG", "OK"),

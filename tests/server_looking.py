@@ -6,7 +6,7 @@ from adapter_sessions import (
 from request_forms import KINDS
 from server import ZERO
 
-# Requests whose answers can't change anything
+# Requests that can't change anything
 LOOKS = ["enabled", "target 0 1", f"target {BASE:#x} 4", "rings"]
 
 
@@ -19,7 +19,7 @@ def target(address, size, name):
 
 
 def possible(server):
-    """A kind is enabled if its step would do something; the kinds come in the order of a round."""
+    """A kind is enabled if its step would do something; the kinds come in the order of a cycle."""
     server.talks("enabled: ticks", [
         enabled(), writes(EERD, 1), enabled("eeprom"), writes(MDIC, 0x04201200), enabled("eeprom", "phy"),
         *steps(("eeprom", "ticked")), enabled("phy"), *steps(("phy", "ticked")), enabled("phy"),
@@ -123,7 +123,7 @@ def targets(server):
 
 
 def quiet(server):
-    """These requests play no steps, count no access, and change nothing."""
+    """The requests of LOOKS play no steps, count no access, and change nothing."""
     talk = [*SLOTS, *OFFERED, arrives("stored"), ("interleave 9", "OK"), ("pace 9", "OK"), ("log on", "OK"),
             ("events on", "OK")]
     asked = [request for request, _ in talk]

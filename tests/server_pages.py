@@ -29,7 +29,7 @@ def read_page(*names):
 
 
 def commands(server):
-    """The commands of drivers and sessions in all pages print the output below them, and succeed."""
+    """The commands of drivers and sessions on three pages print the output below them, and succeed."""
     shown = []
     for names in (("examples", "drivers", "README.md"), ("docs", "SERVE.md"), ("README.md",)):
         shown += re.findall(r"^```\n\$ ((?:python3|printf) [^\n]*)\n(.*?)^```$", read_page(*names), re.M | re.S)

@@ -3,7 +3,7 @@
 from adapter_sessions import BASE, ICR, ICS, IMS, VET, reads, writes
 from server import ONE, ZERO, number
 
-# The address of configuration space at device 4 of bus 0
+# The value of the address port that selects the first double word of device 4, function 0, on bus 0
 OURS = 0x80002000
 ONES = {"b": 0xFF, "w": 0xFFFF, "l": 0xFFFFFFFF}
 COMMAND, CLASS, BAR0, SUBSYSTEM, LINE = 0x04, 0x08, 0x10, 0x2C, 0x3C
@@ -17,7 +17,7 @@ def selects(offset):
 
 
 def shows(offset, word):
-    """A double word of configuration space."""
+    """The rows that read a double word of configuration space."""
     return [selects(offset), ("inl 0xCFC", number(word))]
 
 
@@ -64,7 +64,9 @@ def lanes(server):
 
 
 def other_ports(server):
-    """The address port keeps its bits; all other ports and functions read as ones, and ignore writes."""
+    """The address port keeps the bits that are stored. Other ports, other functions, and narrow accesses of the address
+    port read as ones, and ignore writes.
+    """
     server.talks("ports: the address", [
         ("inl 0xCF8", ZERO), ("outl 0xCF8 0xFFFFFFFF", "OK"), ("inl 0xCF8", number(0x80FFFFFC)), ("outb 0xCF8 0", "OK"),
         ("outw 0xCFA 0", "OK"),
@@ -90,7 +92,9 @@ def other_ports(server):
 
 
 def places(server):
-    """BAR0 places the registers, and the command register removes them."""
+    """BAR0 determines the address of the registers. If the command register disables memory space, no access goes to
+    a register.
+    """
     kept = writes(VET, 0x1234)
     server.talks("ports: the registers move", [
         kept, *sets(BAR0, 0xE0000000), (f"readl {0xE0000000 + VET:#x}", number(0x1234)),
@@ -125,7 +129,7 @@ def places(server):
 
 
 def refusals(server):
-    """Accesses that aren't of four bytes at an aligned address: of registers, of memory, and of neither."""
+    """Accesses that are refused: with `ERR register` if they touch a register, otherwise with `ERR address`."""
     wrong = [("readb 0xFEB00000", 1), ("readw 0xFEB00002", 2), ("readq 0xFEB00000", 8), ("readl 0xFEB00001", 4),
         ("readl 0xFEB1FFFD", 4), ("readb 0xFEB1FFFF", 1),
              ("readl 0xFEAFFFFD", 4), ("readq 0xFEAFFFF9", 8), ("read 0xFEB05400 3", 3), ("read 0xFEB05400 8", 8),

@@ -50,7 +50,9 @@ def played(server):
 
 
 def held(server):
-    """The EEPROM and the PHY take one step before each access while they have work, unless it is held."""
+    """Before an access, the EEPROM and the PHY take one step each if they have work, unless the schedule holds this
+    step.
+    """
     eerd = "readl 0xFEB00014"
     plays(server, "default steps", [], [("writel 0xFEB00014 1", "OK"), (eerd, number(0x00020010)), ("log on", "OK"),
                                         ("readb 0", "# readb 0\n" + ZERO)])
@@ -86,7 +88,9 @@ def unmet(server):
 
 
 def refused(server):
-    """Files that aren't schedules: no request is read."""
+    """Files that aren't schedules, can't be opened, or have other options than the server: no request is read. Only the
+    seed may differ.
+    """
     for text, told in [("4.6 rx", "line 1: no access or request is named"),
                        ("# x\n4.6 fly before read ICR", "line 2: no deviation"),
                        ("1.2 rx before read ICR\n1.1 rx before read ICR", "line 2: sort the lines by place"),

@@ -1,4 +1,4 @@
-"""States that are saved and restored, and frames that are offered to the server."""
+"""States that are saved and restored, their digests, and frames that are offered to the server."""
 
 from adapter_sessions import BASE, ICR, IMS, MPC, RCTL, RDLEN, RDT
 from server import ONE, ZERO, lines, number
@@ -14,7 +14,7 @@ NOTHING = "\n".join(f"# step {kind} -> nothing" for kind in KINDS)
 
 
 def restored(server):
-    """All of a state comes back, again and again; what was done since then is gone."""
+    """`restore` brings all of the saved state back, again and again: later changes are lost."""
     server.talks("states: nothing is saved",
                  [("restore", "ERR saved"), ("writeb 0 1", "OK"), ("restore", "ERR saved"), ("readb 0", ONE)])
     server.talks("states: memory and registers", [
@@ -86,8 +86,8 @@ def offered(server):
 
 
 def drawn(server):
-    """While a frame waits, an interleaved step may be its arrival. Without one, a seed means what it means without
-    offers.
+    """While a frame waits, an interleaved step may be its arrival. While none waits, a seed draws the same steps as
+    without offers.
     """
     reads = ["readl 0xFEB00008"] * 40
     plain = server.serve(lines(["log on", "interleave 3", *reads]), "--seed", "3")
@@ -136,7 +136,9 @@ CHANGES = [
 
 
 def digests(server):
-    """States that differ have different digests, and a state that comes back has its digest again."""
+    """Each of the changes leads to another digest, and a restored state has its digest again. The log, events and
+    offered frames don't change the digest.
+    """
     asked = ["save", "digest", *sum(([*change, "digest", "restore", "digest"] for change in CHANGES), [])]
     status, out, errors = server.serve(lines(asked))
     told = [line for line in out.decode().split("\n") if line.startswith("OK 0x") and len(line) == len(ZERO)]

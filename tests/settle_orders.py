@@ -1,9 +1,8 @@
-"""The order of the steps of a `settle` doesn't matter: any other order leads to the same state, frames on the wire and
-faults.
+"""Tries other orders of the steps of each `settle`: each leads to the same state, frames on the wire and faults.
 
-So the finder of races needs no deviations inside a `settle`. This holds if the adapter reads no memory that it writes
-in the same `settle`, as with the drivers of examples/drivers. A driver for which it doesn't hold has a race that a
-deviation before the `settle` shows.
+The condition for this is that the adapter reads no memory that it writes in the same `settle`. The drivers of
+examples/drivers meet this condition, so the finder of races needs no deviations inside a `settle`. A driver that
+doesn't meet this condition has a race that a deviation before the `settle` shows.
 """
 
 import random
@@ -28,7 +27,9 @@ class AnyOrder(Adapter):
         return self.ask("digest")[0], self.line, self.wire[self.seen:], self.faults[self.fault:]
 
     def settle(self):
-        """The first order is that of the request `settle`. A handler that can cut in does it after all of them."""
+        """Plays several orders, first that of the request `settle`. A handler can cut in only after all of these
+        orders. Returns how many steps of the request did something.
+        """
         with self.interrupts_off():
             return self.settle_in_orders()
 
@@ -47,7 +48,7 @@ class AnyOrder(Adapter):
         return wanted[0]
 
     def settle_by_steps(self):
-        """Plays steps in a random order until none is left. Returns how many did something."""
+        """Plays steps in a random order until no step does anything. Returns how many did something."""
         count, left = 0, set(KINDS)
         while left:
             kind = self.random.choice(sorted(left))
@@ -59,7 +60,9 @@ class AnyOrder(Adapter):
 
 
 def settle_in_any_order(server):
-    """Each settle of the drivers without a bug has the same result in each order, with random steps before it."""
+    """Each `settle` of the drivers without a bug has the same result in each order that is tried. Random steps are
+    played before accesses.
+    """
     for name in RIGHT:
         for test, play in TESTS.items():
             settles, longest, differences = 0, 0, []

@@ -1,12 +1,14 @@
-"""Builds nicbench, and runs it with the given words, from the caller's folder.
+"""Builds nicbench unless it is built, and runs it with WORDS in the caller's folder.
 
 usage: python3 tools/build.py [--build | --prove] [WORDS..]; `./nicbench` calls it
 
 `--prove` builds the proved program. `--build`, and a call without these words, make a quick build of the same sources
-if there is no program of them. It has no proof, but run-time checks. A second call during a build waits for the build.
-The environment variable RT may name another `rt`. BUILT may name a program that `rt ci` has proved and built; it is
-used unless a source is newer. The exit status is the program's, 0 if `--build` or `--prove` has no WORDS, or 70 if no
-program could be built.
+if there is no program of them. A quick build has no proof, but run-time checks. If it fails, the proved program is
+built. A second call during a build waits for the build. The environment variable RT may name another `rt`. BUILT may
+name a program that `rt ci` has proved and built. It is taken in place of a build if it is newer than all sources.
+
+`--build` or `--prove` without WORDS doesn't run the program, and the exit status is 0. Otherwise the exit status is the
+program's. It is always 70 if no program could be built.
 """
 
 from __future__ import annotations
@@ -21,8 +23,8 @@ import prove
 import quick
 import sources
 
-# The program that runs, for those that call it many times: a second name of one of the two builds. It is a hard link,
-# since `rt ci` refuses a repository with a symbolic link in it.
+# The program that was taken last, for scripts that call it many times: a second name of one of the two builds. It is a
+# hard link, since `rt ci` refuses a repository with a symbolic link in it.
 NAMED = os.path.join(sources.BUILD, sources.PROGRAM)
 PROVED = os.path.join(sources.BUILD, "program", sources.PROGRAM)
 QUICK = os.path.join(sources.BUILD, "quick", sources.PROGRAM)
@@ -38,13 +40,13 @@ def tell(text: str) -> None:
 
 
 def stop(text: str) -> None:
-    """Ends if there is no program to run."""
+    """Prints a text, and ends with the status for no program (NO_PROGRAM)."""
     tell(text)
     sys.exit(NO_PROGRAM)
 
 
 def is_built(program: str, checksum: str) -> bool:
-    """Whether the program was built from the sources of this sum."""
+    """Whether there is a program at this path that was built from the sources with this checksum."""
     stamp = f"{program}.sources"
     if not os.access(program, os.X_OK) or not os.path.exists(stamp):
         return False
@@ -53,13 +55,13 @@ def is_built(program: str, checksum: str) -> bool:
 
 
 def stamp(program: str, checksum: str) -> None:
-    """Notes from which sources the program was built."""
+    """Notes the checksum of the sources from which a program was built."""
     with open(f"{program}.sources", "w") as file:
         file.write(f"{checksum}\n")
 
 
 def keep(built: str, checksum: str) -> None:
-    """Keeps a proved program."""
+    """Copies a proved program to PROVED, and notes the checksum of its sources."""
     os.makedirs(os.path.dirname(PROVED), exist_ok=True)
     shutil.copy2(built, f"{PROVED}.new")
     os.replace(f"{PROVED}.new", PROVED)
@@ -67,7 +69,7 @@ def keep(built: str, checksum: str) -> None:
 
 
 def is_newer(program: str, crates: dict[str, str]) -> bool:
-    """Whether there is such a program, and it is newer than all that a build reads."""
+    """Whether there is a program at this path that is newer than all files that a build of these crates reads."""
     newest = max(map(os.path.getmtime, sources.all_files(crates)))
     return os.access(program, os.X_OK) and os.path.getmtime(program) > newest
 
@@ -84,7 +86,7 @@ def build_proved(crates: dict[str, str], checksum: str) -> None:
 
 
 def build_quick(crates: dict[str, str], checksum: str) -> None:
-    """Makes the quick build, or the proved one if that fails."""
+    """Makes the quick build. If it fails, makes the proved one."""
     tell("making a quick build without proof: about three minutes on an idle machine")
     try:
         quick.build(shutil.which(RT) or RT, QUICK, quick.Steps(tell, len(crates), 3))
@@ -101,7 +103,9 @@ def is_there(with_proof: bool, checksum: str) -> bool:
 
 
 def build(with_proof: bool, crates: dict[str, str], checksum: str) -> None:
-    """Builds the program, unless another call does or has done so."""
+    """Builds the program, or takes that of BUILT if it is newer than all sources. If another call builds, waits until
+    that build ends. If it has made the wanted program, does nothing else.
+    """
     if not shutil.which(RT):
         stop(f"the program must be built, and `{RT}` isn't on the PATH: it is the command of the Rattle toolchain, "
              "kit rattle-kit-13f (README.md)")
@@ -124,7 +128,7 @@ def build(with_proof: bool, crates: dict[str, str], checksum: str) -> None:
 
 
 def give_name(program: str) -> None:
-    """Makes the second name of the program."""
+    """Makes NAMED a second name of this program."""
     if not os.path.exists(NAMED) or not os.path.samefile(NAMED, program):
         new = f"{NAMED}.{os.getpid()}"
         os.link(program, new)
@@ -132,14 +136,14 @@ def give_name(program: str) -> None:
 
 
 def state() -> bytes:
-    """The state of the sources, or nothing if there is no `find` that prints it."""
+    """Returns the state of the sources, or no bytes if there is no `find` that prints it."""
     script = os.path.join(sources.TOP, "tools", "source_state.sh")
     words = ["sh", "-c", '. "$1"; source_state "$2"', "sh", script, sources.TOP]
     return subprocess.run(words, capture_output=True).stdout
 
 
 def note_state(found: bytes) -> None:
-    """Notes the state, if there is one and the folder can be written."""
+    """Notes the state in the file STATE, if there is a state and the folder can be written."""
     if not found:
         return
     new = f"{STATE}.{os.getpid()}"
@@ -157,7 +161,7 @@ def main() -> None:
     words = words[1:] if builds else words
     crates = sources.crates()
     os.makedirs(sources.BUILD, exist_ok=True)
-    # The state is read before the sources. A file that changes after that changes the state, too.
+    # The state is read first. If a file changes before the checksum is made, the next call finds another state.
     found, checksum = state(), sources.checksum(crates)
     if not is_there(with_proof, checksum):
         build(with_proof, crates, checksum)

@@ -1,9 +1,10 @@
-"""How many crates `rt` is to prove at the same time: one for each processor, and for each 3 GB of free memory.
+"""How many crates `rt` is to prove at the same time.
 
 usage: python3 tools/jobs.py, which prints the number
 
-By itself, `rt` uses several processors for a crate if no other crate waits for one. In `./test` the must-fail edits use
-them. The environment's RT_JOBS goes first.
+The number is RT_JOBS, if the environment has it as a positive number. Otherwise it is the number of processors, but at
+most the number of whole parts of 3 GB of free memory, and at least 1. By itself, `rt` uses several processors for one
+crate if no other crate waits for a processor. In `./test`, `rt` does so for must-fail edits.
 """
 
 from __future__ import annotations
@@ -15,7 +16,7 @@ CRATE_BYTES = 3 * 10**9
 
 
 def free_bytes() -> int:
-    """The free memory, or none if the system doesn't say."""
+    """The bytes of free memory, or 0 if the system doesn't report them."""
     try:
         with open("/proc/meminfo") as file:
             found = re.search(r"^MemAvailable:\s+(\d+)", file.read(), re.M)

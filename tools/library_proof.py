@@ -1,11 +1,12 @@
 """Proves the C library, and builds its archive. What was proved from the same sources before isn't proved again.
 
-An archive that an earlier call has built is taken. Otherwise the crates below the library are looked for:
+An archive that an earlier call has built from the same sources is taken. Otherwise the script looks for the proved
+crates below the library:
 - crates/NAME/out, where `rt check` and `rt lib` keep their work: `rt lib` knows by its stamps what has changed;
-- crates/NAME/out, from `rt ci`, without stamps: `./test` notes their sources, and when it ran;
-- .build/proved-crates.tar, in which `./nicbench --prove` stores those that the program shares with the library. For the
-  last two, the toolchain's `rattle` proves what is missing. If nothing is found or fits, `rt ci` proves all crates in a
-  copy.
+- crates/NAME/out, from `rt ci`, without stamps: `./test` notes the sources, and when its `rt ci` ran;
+- .build/proved-crates.tar, in which `./nicbench --prove` stores the crates that the program shares with the library.
+With crates from one of the last two places, the toolchain's `rattle` proves the missing ones and the library. If
+nothing is found or fits, `rt ci` proves all crates in a copy.
 
 usage: python3 tools/library_proof.py begin | passed; `./test` notes that its `rt ci` begins, and that it has passed
 """
@@ -30,7 +31,7 @@ KEPT = os.path.join(sources.BUILD, "proved-library")
 # The processors for which the toolchain builds a library, as it names them
 TARGETS = {"x86_64": "x86_64-unknown-linux-gnu", "aarch64": "aarch64-unknown-linux-gnu"}
 LOG = os.path.join(sources.BUILD, "library-proved.log")
-# What `./test` notes of its `rt ci`: the stamp of the library's sources, and when it began and ended
+# What `./test` notes of its `rt ci`: the stamp of the library's sources, and when the run began and ended
 GATE = os.path.join(sources.BUILD, "ci-proved")
 
 
@@ -39,7 +40,9 @@ class LibraryFailed(Exception):
 
 
 def run(*words: str, cwd: Optional[str] = None) -> str:
-    """Runs a command. If it fails, the exception has the end of its output."""
+    """Runs a command. Returns its output. Raises LibraryFailed if the command can't start, or if it fails; then the
+    text has the end of the output.
+    """
     try:
         ran = subprocess.run(words, cwd=cwd, stdin=subprocess.DEVNULL, stdout=subprocess.PIPE, stderr=subprocess.STDOUT,
                              text=True, errors="replace")
@@ -51,12 +54,12 @@ def run(*words: str, cwd: Optional[str] = None) -> str:
 
 
 def below(line: str) -> list[str]:
-    """What a line of crates.txt names as used: crates and libraries of the toolchain."""
+    """Returns the names of what the crate of this line of crates.txt uses: crates, and libraries of the toolchain."""
     return line.split(":")[1].split()
 
 
 def out(name: str, *path: str) -> str:
-    """A file that `rt` has made for a crate in this repository."""
+    """The path of a file that `rt` makes for a crate in this repository."""
     return os.path.join(sources.CRATES, name, "out", *path)
 
 
@@ -72,7 +75,9 @@ def build_by_rt(rt: str, name: str, crates: dict[str, str], archive: str, target
 
 
 def by_rt(rt: str, crates: dict[str, str], archive: str, target: str, tell: Callable[[str], None]) -> bool:
-    """Lets `rt lib` build the archive, if it has kept all crates below the library. Returns whether it did."""
+    """Lets `rt lib` build the archive, if it has kept all crates below the library. Returns whether the archive was
+    built.
+    """
     if not all(os.path.exists(out(name, "rlib", "stamp")) for name in crates if name != sources.LIBRARY):
         return False
     tell("`rt lib` builds the library over what `rt` has kept in crates/*/out")
@@ -85,18 +90,20 @@ def by_rt(rt: str, crates: dict[str, str], archive: str, target: str, tell: Call
 
 
 def note_begin(rt: str) -> None:
-    """Notes that `rt ci` begins in this repository."""
+    """Notes the stamp of the library's sources, and when `rt ci` begins in this repository."""
     stamp = prove.stamp(rt, sources.crates(sources.LIBRARY))
     prove.write(f"{GATE}.begun", json.dumps({"stamp": stamp, "begun": time.time()}))
 
 
 def note_passed() -> None:
-    """Notes that it has passed."""
+    """Notes that the `rt ci` of `note_begin` has passed, and when."""
     prove.write(GATE, json.dumps({**json.loads(prove.text_of(f"{GATE}.begun")), "ended": time.time()}))
 
 
 def proved_here(rt: str, crates: dict[str, str]) -> dict[str, str]:
-    """The crates' libraries that the noted `rt ci` has left here, if it has proved the present sources."""
+    """Returns the paths of the libraries in crates/*/out that the noted `rt ci` made, by crate. There are none if that
+    run has proved other sources. A library is left out if one below it is.
+    """
     noted, found = json.loads(prove.text_of(GATE) or "{}"), {}
     if noted.get("stamp") != prove.stamp(rt, crates):
         return {}
@@ -104,14 +111,16 @@ def proved_here(rt: str, crates: dict[str, str]) -> dict[str, str]:
         path = out(name, "rlib", f"{name}.rlib")
         made = os.path.join(path, "format")
         is_whole = all(other in found for other in below(line) if other in crates)
-        # others than those of that run may be there, from before it or after it
+        # libraries of other runs may be there, older or newer ones
         if is_whole and os.path.exists(made) and noted["begun"] < os.path.getmtime(made) < noted["ended"]:
             found[name] = path
     return found
 
 
 def proved_with_program(rt: str, folder: str) -> dict[str, str]:
-    """The crates' libraries that `./nicbench --prove` has left of the present sources, unpacked into a folder."""
+    """Unpacks into a folder the libraries that `./nicbench --prove` kept. Returns their paths by crate. There are none
+    if they were proved from other sources.
+    """
     names = sources.shared()
     if not prove.is_kept(rt, names):
         return {}
@@ -122,7 +131,9 @@ def proved_with_program(rt: str, folder: str) -> dict[str, str]:
 
 def compile_crate(rt: str, name: str, crates: dict[str, str], rlibs: dict[str, str], path: str, folder: str,
                   target: str = sources.HOST) -> None:
-    """Proves and builds a crate over the libraries of the crates below it. A static library becomes an archive."""
+    """Proves and builds a crate over the libraries of the crates below it, at `path`. A static library becomes an
+    archive, another crate a folder.
+    """
     kit, is_static = kit_of(shutil.which(rt) or rt), "staticlib" in crates[name].split(":")[0]
     words = [os.path.join(kit, "bin", "rattle"), "build", "--crate-name", name, "src/lib.rt"]
     if is_static:
@@ -142,7 +153,9 @@ def compile_crate(rt: str, name: str, crates: dict[str, str], rlibs: dict[str, s
 
 def over(rt: str, crates: dict[str, str], found: dict[str, str], archive: str, work: str, target: str,
          tell: Callable[[str], None]) -> None:
-    """Builds the archive over the libraries that were found, and proves the crates that are missing in a folder."""
+    """Proves the crates that weren't found, and writes their libraries into the folder `work`. Then builds the archive
+    over the libraries of all crates.
+    """
     missing = [name for name in crates if name not in found and name != sources.LIBRARY]
     tell(f"{len(found)} of {len(crates)} crates are proved; proving {' '.join([*missing, sources.LIBRARY])}")
     rlibs = dict(found)
@@ -156,7 +169,7 @@ def over(rt: str, crates: dict[str, str], found: dict[str, str], archive: str, w
 
 
 def from_nothing(rt: str, crates: dict[str, str], archive: str, target: str, tell: Callable[[str], None]) -> None:
-    """Proves all crates in a copy, and builds the archive there."""
+    """Proves all crates in a copy, builds the archive over them, and removes the copy."""
     tell(f"proving {len(crates)} crates")
     try:
         prove.copy_sources(crates)
@@ -170,7 +183,9 @@ def from_nothing(rt: str, crates: dict[str, str], archive: str, target: str, tel
 
 
 def from_proved(rt: str, crates: dict[str, str], archive: str, target: str, tell: Callable[[str], None]) -> bool:
-    """Builds the archive over crates that were proved before, if there are some. Returns whether it did."""
+    """Builds the archive over crates that were proved before, if there are any and they fit. Returns whether the
+    archive was built.
+    """
     if by_rt(rt, crates, archive, target, tell):
         return True
     for find in (lambda _: proved_here(rt, crates), lambda work: proved_with_program(rt, work)):
@@ -187,7 +202,7 @@ def from_proved(rt: str, crates: dict[str, str], archive: str, target: str, tell
 
 
 def kept(name: str, target: str) -> str:
-    """Where the archive of a static library is kept for a target."""
+    """The path at which the archive of a static library is kept for a target."""
     return os.path.join(KEPT, *([] if target == sources.HOST else [target]), f"lib{name}.a")
 
 
@@ -196,12 +211,14 @@ def is_kept(rt: str, crates: dict[str, str], archive: str) -> bool:
 
 
 def note_sources(rt: str, crates: dict[str, str], archive: str) -> None:
-    """Notes from which sources an archive that is kept was proved."""
+    """Notes the stamp of the sources from which a kept archive was proved."""
     prove.write(f"{archive}.sources", prove.stamp(rt, crates))
 
 
 def search(rt: str, target: str, tell: Callable[[str], None]) -> str:
-    """The proved archive of the explorer's search: a small crate, which uses only the standard library."""
+    """Proves the explorer's search, unless an archive of it from these sources is kept. The search is a small crate,
+    which uses only the standard library. Returns the path of its archive.
+    """
     crates, archive = sources.crates(sources.SEARCH), kept(sources.SEARCH, target)
     if not is_kept(rt, crates, archive):
         tell("proving the explorer's search")
@@ -212,7 +229,7 @@ def search(rt: str, target: str, tell: Callable[[str], None]) -> str:
 
 
 def build(rt: str, archive: str, target: str, tell: Callable[[str], None]) -> None:
-    """Makes the proved archive, as the file `archive`."""
+    """Makes the proved archive as the file `archive`, and keeps a copy for later calls."""
     crates, known = sources.crates(sources.LIBRARY), kept(sources.LIBRARY, target)
     if is_kept(rt, crates, known):
         tell("taking the archive that was proved from these sources")

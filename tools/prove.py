@@ -22,7 +22,7 @@ LOG = os.path.join(sources.BUILD, "proved.log")
 # The libraries of the proved crates that the C library uses. They are packed, since `rt ci` refuses a repository with
 # their files in another folder.
 KEPT = os.path.join(sources.BUILD, "proved-crates.tar")
-# Seconds between two lines of progress.
+# The most seconds between two lines of progress.
 QUIET_SECONDS = 30
 
 
@@ -31,7 +31,7 @@ class ProofFailed(Exception):
 
 
 def text_of(path: str) -> str:
-    """The text of a file without the end of its last line, or nothing if there is no such file."""
+    """The text of a file without blanks and line ends around it, or an empty text if the file can't be read."""
     try:
         with open(path) as file:
             return file.read().strip()
@@ -45,18 +45,20 @@ def write(path: str, text: str) -> None:
 
 
 def stamp(rt: str, crates: Iterable[str]) -> str:
-    """What a proof depends on: the sources of crates, and the toolchain."""
+    """Returns what a proof depends on, as a text: the checksum of the crates' sources, and the version of the
+    toolchain.
+    """
     version = subprocess.run([rt, "version"], stdout=subprocess.PIPE, text=True, check=True).stdout.strip()
     return f"{sources.checksum(crates)} {version}"
 
 
 def rlib(crate: str) -> str:
-    """The library of a proved crate, in the copy."""
+    """The path of the library of a proved crate, in the copy."""
     return os.path.join(WORK, "crates", crate, "out", "rlib", f"{crate}.rlib")
 
 
 def keep_crates(rt: str, crates: Iterable[str]) -> None:
-    """Keeps the libraries of proved crates."""
+    """Packs the libraries of proved crates into KEPT, and notes from which sources they were proved."""
     write(f"{KEPT}.sources", "")
     with tarfile.open(KEPT, "w") as archive:
         for crate in crates:
@@ -70,7 +72,7 @@ def is_kept(rt: str, crates: Iterable[str]) -> bool:
 
 
 def copy_sources(crates: dict[str, str]) -> None:
-    """Makes a repository with only the crates of the program."""
+    """Makes a repository with only these crates in the folder WORK."""
     shutil.rmtree(WORK, ignore_errors=True)
     for crate in crates:
         shutil.copytree(os.path.join(sources.CRATES, crate), os.path.join(WORK, "crates", crate),
@@ -83,7 +85,9 @@ def copy_sources(crates: dict[str, str]) -> None:
 
 
 class Progress:
-    """Prints which crates are proved, and every half minute the time since the start."""
+    """Prints each crate when `rt` reports that it is proved now, or was before. Also prints a line after each half
+    minute without one. Each line has the number of proved crates and the time since the start.
+    """
 
     def __init__(self, crates: dict[str, str], tell: Callable[[str], None]) -> None:
         self.count, self.tell, self.done = len(crates), tell, 0
@@ -109,7 +113,7 @@ class Progress:
 
 
 def follow(process: subprocess.Popen[bytes], progress: Progress, path: str) -> int:
-    """Shows the progress of a running proof until it ends."""
+    """Shows the progress of a running proof until it ends. Returns its exit status."""
     read = 0
     while True:
         ended = process.poll() is not None
@@ -143,7 +147,9 @@ def prove(rt: str, progress: Progress, path: str = LOG) -> int:
 
 
 def build(rt: str, crates: dict[str, str], tell: Callable[[str], None], keep: Callable[[str], None]) -> None:
-    """Proves and builds the program. `keep` is called with its path, and must copy it."""
+    """Proves and builds the program. Calls `keep` with the path of the program; `keep` must copy it. Raises ProofFailed
+    if there is no proved program.
+    """
     progress = Progress(crates, tell)
     try:
         copy_sources(crates)

@@ -1,6 +1,6 @@
 """Builds the program without proof and with run-time checks, in about three minutes on an idle machine.
 
-This depends on how `rt try` works inside: it compiles a program for a test run and keeps nothing. So it is run from a
+This depends on how `rt try` works inside: it compiles a program for a test run and keeps nothing. So `rt` is run from a
 folder of links to the toolchain in which `clang` is a script of ours. That script keeps the bitcode of the program and
 fails; then the toolchain's own clang and linker make the program from it. If any step fails, QuickBuildFailed has the
 reason, and the caller makes the proved build. tools/quick_library.py builds the C library in the same way.
@@ -19,7 +19,7 @@ import sources
 
 # The bitcode of a single crate or of the runtime is smaller, that of the program is larger.
 LEAST_PROGRAM_BYTES = 4_000_000
-# Seconds between two lines of progress.
+# The most seconds between two lines of progress.
 QUIET_SECONDS = 10
 CLANG = """#!/bin/sh
 for word in "$@"; do
@@ -36,12 +36,12 @@ exec "{kit}/toolchain/bin/clang" "$@"
 
 
 class QuickBuildFailed(Exception):
-    """There is no unproved program; the text has the reason."""
+    """There is no quick build; the text has the reason."""
 
 
 class Steps:
-    """Runs the commands of a build, and prints every ten seconds which of its parts runs, and the time since the
-    start.
+    """Runs the commands of a build. When a command begins, and then every ten seconds, prints which part of the build
+    runs and the time since the start.
     """
 
     def __init__(self, tell: Callable[[str], None], crates: int, parts: int) -> None:
@@ -56,7 +56,9 @@ class Steps:
         self.show(what)
 
     def run(self, what: str, words: list[str], log: str, cwd: str, env: Optional[Mapping[str, str]] = None) -> bool:
-        """Runs a command, and returns whether it succeeded."""
+        """Runs a command as the next part of the build. Adds its output to the file `log`. Returns whether it
+        succeeded.
+        """
         self.begin(what)
         with open(log, "ab") as file:
             process = subprocess.Popen(words, cwd=cwd, env=env, stdin=subprocess.DEVNULL, stdout=file, stderr=file)
@@ -81,8 +83,8 @@ def link_all(source: str, target: str, but: Iterable[str]) -> None:
 
 
 def links_to(kit: str, work: str, least: int) -> str:
-    """A folder of links to the toolchain, with copies of `rt` and its library, which look for the toolchain next to
-    them.
+    """Makes a folder of links to the toolchain. It has our script in place of `clang`, and copies of `rt` and its
+    library, which look for the toolchain next to them. Returns the path of this `rt`.
     """
     top = os.path.join(work, "kit")
     link_all(kit, top, ("bin", "toolchain"))
@@ -105,7 +107,9 @@ def last_line(log: str) -> str:
 
 
 def flags_of(work: str, kit: str) -> list[str]:
-    """The flags of the toolchain's own call of clang, with optimization and without the sanitizer."""
+    """The flags with which `rt` called our `clang`, with optimization, without the sanitizer, and with the toolchain's
+    own paths.
+    """
     with open(os.path.join(work, "flags")) as file:
         flags = file.read().splitlines()
     changed = [flag.replace(os.path.join(work, "kit"), kit) for flag in flags]
@@ -118,13 +122,15 @@ def kit_of(rt: str) -> str:
 
 
 def make_bitcode(rt: str, crate: str, least: int, work: str, steps: Steps) -> None:
-    """Compiles the program of this crate's folder. Its bitcode is `module.bc` in the folder `work`, next to `flags`."""
+    """Compiles the program of this crate's folder. Stores its bitcode as `module.bc` in the folder `work`, and clang's
+    flags as `flags`. Raises QuickBuildFailed if there is no bitcode.
+    """
     log = os.path.join(work, "log")
     try:
         own = links_to(kit_of(rt), work, least)
     except OSError as error:
         raise QuickBuildFailed(f"the toolchain of {rt} isn't laid out as expected: {error}") from error
-    # It fails after the bitcode was kept.
+    # The command fails, because our `clang` fails after it has kept the bitcode.
     env = {**os.environ, "TMPDIR": work}
     steps.run(f"compiling {steps.crates} crates", [own, "try", "--", "--help"], log, crate, env)
     if not os.path.exists(os.path.join(work, "module.bc")):
@@ -132,7 +138,7 @@ def make_bitcode(rt: str, crate: str, least: int, work: str, steps: Steps) -> No
 
 
 def run_all(work: str, steps: Steps, commands: Iterable[tuple[str, list[str]]]) -> None:
-    """Runs commands in the folder `work`, each with what it does."""
+    """Runs commands in the folder `work`, each with a text about what it does. Raises QuickBuildFailed if one fails."""
     log = os.path.join(work, "log")
     for what, command in commands:
         if not steps.run(what, command, log, work):

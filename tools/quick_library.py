@@ -1,7 +1,7 @@
 """Builds the object of the C library without proof and with run-time checks, in about a minute on an idle machine.
 
-`rt try` compiles programs only. So this copies the crates of the library, and makes a program of the one that has the
-exports: its `main` calls each export. In the program's code, in LLVM's text form, each export then gets its name for C,
+`rt try` compiles programs only. So the crates of the library are copied, and the crate with the exports becomes a
+program: its `main` calls each export. In the program's code, in LLVM's text form, each export then gets its name for C,
 and `main` is hidden. If any step fails, QuickBuildFailed has the reason.
 """
 
@@ -64,7 +64,9 @@ def write(path: str, text: str) -> None:
 
 
 def exports(text: str) -> dict[str, list[str]]:
-    """The names of the exports, each with the types of its parameters."""
+    """Returns the names of the exports, each with the types of its parameters. Raises QuickBuildFailed if VALUES lacks
+    one of these types.
+    """
     found = {name: [part.split(": ")[1] for part in re.split(r",\s+", parameters)]
              for name, parameters in EXPORT.findall(text)}
     for name, types in found.items():
@@ -74,13 +76,16 @@ def exports(text: str) -> dict[str, list[str]]:
 
 
 def values_of(types: list[str]) -> list[str]:
-    """A value for each of these types of parameters. A second handle is another one."""
+    """Returns a value for each of these types of parameters. The first handle is `nic`, and each other one is `other`.
+    """
     return ["&mut other" if kind == HANDLE and HANDLE in types[:place] else VALUES[kind]
             for place, kind in enumerate(types)]
 
 
 def copy(crates: dict[str, str], top: str) -> tuple[str, list[str]]:
-    """Copies the crates, that of the exports as a program. Returns its folder, and the names of the exports."""
+    """Copies the crates into the folder `top`; the one with the exports becomes a program. Returns the folder of this
+    crate, and the names of the exports.
+    """
     for crate in crates:
         shutil.copytree(os.path.join(sources.CRATES, crate), os.path.join(top, "crates", crate),
                         ignore=shutil.ignore_patterns(*sources.UNREAD))
@@ -91,7 +96,7 @@ def copy(crates: dict[str, str], top: str) -> tuple[str, list[str]]:
     folder = os.path.join(top, "crates", NAME)
     library, owner = (os.path.join(folder, "src", name) for name in ("lib.rt", "owner.rt"))
     text = read(library)
-    # the calls of a module are in the program's root by their names
+    # the exports of all modules can be called by their names in the program's root
     found = exports("\n".join(read(path) for path in sorted(glob.glob(os.path.join(folder, "src", "*.rt")))))
     calls = [f"{name}({', '.join(values_of(types))});" for name, types in found.items()]
     write(os.path.join(folder, "src", "main.rt"), text + MAIN.replace("CALLS", "\n    ".join(calls)))
@@ -101,7 +106,9 @@ def copy(crates: dict[str, str], top: str) -> tuple[str, list[str]]:
 
 
 def exported(text: str, names: Iterable[str]) -> str:
-    """The code with the names of the exports for C, and without a `main` for others."""
+    """Returns the code, in which each export has its name for C, and `main` is hidden. Raises QuickBuildFailed unless
+    the code defines each export once.
+    """
     for name in names:
         inner = rf'@"{NAME}::(?:\w+::)?{name}"\('
         text, count = re.subn(rf'^define internal (.*){inner}', rf"define \1@{name}(", text, flags=re.M)

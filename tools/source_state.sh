@@ -1,5 +1,6 @@
-# source_state TOP: prints a line for each file of the crates: its path, number, size and times of change. If the lines
-# are those of an earlier call, no file has changed. This takes milliseconds; a checksum of all files takes 0.1 s.
+# source_state TOP: prints a line for crates.txt and for each file of the crates outside of out and must-fail: its path,
+# its inode's number, its size, and its times of change. If the lines are those of an earlier call, no file has changed.
+# This takes milliseconds; a checksum of all files takes 0.1 s.
 source_state() (
     cd "$1" || exit
     exec find crates.txt crates \( -name out -o -name must-fail \) -prune -o -type f -printf '%p %i %s %T@ %C@\n'

@@ -22,7 +22,8 @@ UNREAD = ("out", "must-fail")
 
 
 def crates(of: str = PROGRAM) -> dict[str, str]:
-    """The crates below the program or another crate, lowest first, itself last, each with its line of crates.txt."""
+    """The crate `of` and all crates below it, each with its line of crates.txt. A crate comes after those that it uses.
+    """
     with open(os.path.join(TOP, "crates.txt")) as file:
         lines = [line for line in file if ":" in line and not line.startswith("#")]
     known = {line.split(":")[0].split()[0]: line for line in lines}
@@ -40,12 +41,12 @@ def crates(of: str = PROGRAM) -> dict[str, str]:
 
 
 def shared() -> list[str]:
-    """The crates that both the program and the library depend on, lowest first."""
+    """The crates that both the program and the library depend on. A crate comes after those that it uses."""
     return [name for name in crates() if name in crates(LIBRARY)]
 
 
 def files_of(crate: str) -> Iterator[str]:
-    """The files of a crate that a build reads, in order."""
+    """Yields the paths of the files of a crate that a build reads, in order."""
     for folder, folders, names in os.walk(os.path.join(CRATES, crate)):
         folders[:] = sorted(name for name in folders if name not in UNREAD)
         yield from (os.path.join(folder, name) for name in sorted(names) if name != "README.md")

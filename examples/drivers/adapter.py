@@ -46,8 +46,8 @@ class Adapter:
     def ask(self, *requests):
         """Returns the answers to requests, each without its OK.
 
-        Sends many before it reads the first answer, but a long one by itself. If a handler is set, sends each one by
-        itself. So the handler may cut in between any two requests.
+        Sends many requests before it reads the first answer, but a long request by itself. If a handler is set, sends
+        each request by itself. So the handler may cut in between any two requests.
         """
         if len(requests) == 1:
             answers = self.ask_at_once(requests)
@@ -105,7 +105,9 @@ class Adapter:
     # Interrupts
 
     def cut_in(self):
-        """Calls the handler while the line is asserted, if the processor takes interrupts. It takes none meanwhile."""
+        """Calls the handler while the line is asserted, if the processor takes interrupts. During a call, it takes
+        none.
+        """
         while self.line and self.handler and self.takes_interrupts:
             self.takes_interrupts = False
             self.handler()
@@ -113,7 +115,7 @@ class Adapter:
 
     @contextmanager
     def interrupts_off(self):
-        """In this block, the processor takes no interrupt. At its end, a handler that waits is called."""
+        """In this block, the processor takes no interrupt. At its end, the handler cuts in if the line is asserted."""
         before, self.takes_interrupts = self.takes_interrupts, False
         yield
         self.takes_interrupts = before
@@ -148,19 +150,21 @@ class Adapter:
         return fate
 
     def offer(self, frame):
-        """Offers a frame. It arrives when the adapter settles, or earlier if a schedule of `tools/races` plays this."""
+        """Offers a frame. It arrives when the adapter settles, or earlier by a random step or a schedule of
+        `tools/races`.
+        """
         self.ask(f"offer {frame.hex()}")
 
     def settle(self):
-        """Plays steps until nothing is left to do, and returns the number of steps that did something."""
+        """Delivers offered frames, and plays steps until nothing is left to do. Returns how many did something."""
         return int(self.ask("settle")[0], 0)
 
     def choose(self, limit):
-        """A number below the limit, which a schedule of `tools/races` chooses: 0 by default."""
+        """A number below the limit: from a schedule of `tools/races`, drawn after `interleave`, or else 0."""
         return int(self.ask(f"choose {limit}")[0], 0)
 
     def interleave(self, count):
-        """From now on plays up to `count` steps before each access."""
+        """From now on plays up to `count` random steps before each access."""
         self.ask(f"interleave {count}")
 
     def log(self, on):

@@ -21,7 +21,8 @@ MISSED = 4_294_967_295
 
 
 class Arrivals(Traffic):
-    """Traffic in which frames are offered: they arrive at the next `settle`, or earlier by a schedule."""
+    """Traffic in which frames are offered: they arrive at the next `settle`, or earlier by a schedule or a random step.
+    """
 
     def __init__(self, adapter, driver, is_offered=True):
         super().__init__(adapter, driver)
@@ -94,7 +95,9 @@ class GroupFrames(Arrivals):
         self.finish()
 
     def offer_to(self, group, change):
-        """A frame to a joined group arrives at any time during a change of other groups. It must be stored."""
+        """A frame to a joined group arrives at any time during a change of other groups, or after it. The frame must be
+        stored.
+        """
         self.adapter.offer(self.next_to(group))
         change()
         self.finish()

@@ -1,7 +1,7 @@
-"""Which bytes memory must contain after each request, and which outcome each step must have.
+"""What each request of a hostile driver must do: bytes of memory, fates, outcomes, heads, frames on the wire, faults.
 
-`Expected` gets each request and its answer, in order, and memory after each request. Before a step it also gets the
-registers of both rings. docs/ADAPTER.md defines the rules.
+`Expected` gets each request and its answer, in order, and memory after each request. Before a step it also gets RCTL,
+TCTL and the registers of both rings; before an arrival, RCTL and PBA. docs/ADAPTER.md defines the rules.
 """
 
 import struct
@@ -88,14 +88,14 @@ class Expected:
         self.waiting = deque()  # the frames in the receive packet buffer
         self.moved = 0  # the number of bytes of the oldest one that were moved to memory
         self.piece = None  # the descriptor of the piece in progress, and its bytes from the length on
-        self.is_ring_moved = False  # whether RDBAL or RDBAH was written since then
+        self.is_ring_moved = False  # whether RDBAL or RDBAH was written since that piece was moved
         self.taken = deque()  # the frames in the transmit packet buffer, each with its descriptor and its command
         self.stopped = set()  # the steps whose engine a fault has stopped
 
     # Memory
 
     def lacks(self, address, size):
-        """Returns how these bytes aren't in memory, or None if they are. Addresses don't wrap."""
+        """Returns in words how an area is outside memory, or None if all of it is inside. Addresses don't wrap."""
         if address + size <= len(self.memory):
             return None
         if address + size > 1 << 64:
@@ -203,7 +203,7 @@ class Expected:
         return Reason(word, f"{word} {lacks}") if lacks else None
 
     def of_rxdata(self, ring, _):
-        """Returns the outcomes that RxData may have, and why it must be a fault, if it must."""
+        """Returns the outcomes that RxData may have; and the reason if RxData must be a fault, or None."""
         if self.piece or not self.waiting or not self.is_ready("rxdata", ring, self.registers[RCTL]):
             return ["nothing"], None
         piece, is_last = self.next_piece()
@@ -218,7 +218,7 @@ class Expected:
         return ["done" if self.piece else "nothing"], None
 
     def of_txtake(self, _, ring):
-        """Returns the outcomes that TxTake may have, and why it must be a fault, if it must."""
+        """Returns the outcomes that TxTake may have; and the reason if TxTake must be a fault, or None."""
         if len(self.taken) == TRANSMIT_ROOM or not self.is_ready("txtake", ring, self.registers[TCTL]):
             return ["nothing"], None
         reason = self.no_ring(ring) or self.outside("descriptor", ring.at_head, DESCRIPTOR_BYTES)
@@ -281,7 +281,7 @@ class Expected:
         self.counts["write-backs outside the receive ring"] += not ring.has(descriptor)
 
     def take(self, receive, ring):
-        """The frame of the descriptor at the head goes into the packet buffer."""
+        """The frame of the descriptor at the head goes into the transmit packet buffer."""
         address, length, command = self.transmit_descriptor(ring.at_head)
         frame = self.bytes_at(address, length)
         if self.registers[TCTL] & PSP:

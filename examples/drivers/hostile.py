@@ -42,7 +42,7 @@ class CheckedAdapter(Adapter):
         self.checks = iter([])
 
     def start(self, *words):
-        """Starts the server. Ctrl-C is blocked meanwhile, and so for the server, which doesn't end at it."""
+        """Starts the server. Ctrl-C is blocked meanwhile. The server inherits this, so Ctrl-C doesn't end it."""
         signal.pthread_sigmask(signal.SIG_BLOCK, {signal.SIGINT})
         try:
             return super().start(*words)
@@ -60,7 +60,7 @@ class CheckedAdapter(Adapter):
             signal.setitimer(signal.ITIMER_REAL, 0)
 
     def wait_for(self, request):
-        """Sets the time for the answer to a request."""
+        """Begins the time in which the answer to a request must come."""
         self.awaited = request
         signal.setitimer(signal.ITIMER_REAL, self.limit)
 

@@ -1,4 +1,4 @@
-"""The requests of a hostile driver. They depend on the seed only, and never on an answer."""
+"""The requests of a hostile driver. They depend on the seed and on the size of memory, and never on an answer."""
 
 import base64
 import struct
@@ -70,7 +70,7 @@ class Words:
         return items[self.below(len(items))]
 
     def chance(self, percent):
-        """Returns true with this probability."""
+        """Returns true with a probability of this percentage."""
         return self.below(100) < percent
 
     def word(self):
@@ -102,7 +102,9 @@ class RandomValues:
         return max(address + self.words.below(2 * distance + 1) - distance, 0) % 2**64
 
     def base(self, count):
-        """A ring's base: in memory, or at its end, across its end, over a ring, near 2^64, and anywhere."""
+        """A ring's base: in memory. If it is to be wrong: at or across the end of memory, over a ring, near 2^64, or
+        anywhere.
+        """
         size, words = DESCRIPTOR_BYTES * count, self.words
         room = max(self.size - size, 0)
         base = words.below(room + 1)
@@ -113,7 +115,9 @@ class RandomValues:
         return base // DESCRIPTOR_BYTES * DESCRIPTOR_BYTES
 
     def address(self, length):
-        """A buffer's address: in memory, or at its end, across its end, in a ring, near 2^64, and anywhere."""
+        """A buffer's address: in memory. If it is to be wrong: at or across the end of memory, in a ring, near 2^64, or
+        anywhere.
+        """
         words, room = self.words, max(self.size - length, 0)
         if not self.is_wrong():
             return words.below(room + 1)
@@ -123,7 +127,7 @@ class RandomValues:
             2**64 - 1 - words.below(length + 1), words.word(), words.next() << 32 | words.word()])
 
     def slot(self, count):
-        """An index of a descriptor, or the number of descriptors, and any number."""
+        """An index of a descriptor; if the value is to be wrong, the number of descriptors, or any word."""
         return self.words.choose([count, self.words.word()]) if self.is_wrong() else self.words.below(count)
 
     def length_of_ring(self):
@@ -245,7 +249,7 @@ class RandomRequests:
         self.write(RCTL if first == RDBAL else TCTL, self.values.control(first))
 
     def write_known(self):
-        """Writes a register of the adapter. This isn't a reset."""
+        """Writes a register of the adapter, but doesn't reset the adapter."""
         register, word = self.words.choose(KNOWN), self.words.word()
         if register == EERD:
             word |= START_READ
@@ -332,7 +336,9 @@ class RandomRequests:
         self.write(RCTL if first == RDBAL else TCTL, values.control(first))
 
     def phase(self, most):
-        """Sets up both rings, mostly after a reset, and then draws steps, at most this number. Returns their number."""
+        """Draws requests that mostly reset the adapter and set up each ring, and then steps. Returns the number of
+        steps, which is at most `most`.
+        """
         words = self.words
         self.values.wrong = words.choose(PERCENTAGES)
         if words.chance(80):

@@ -195,7 +195,9 @@ class Answers(Traffic):
 
 
 def cuts(adapter, driver):
-    """The handler cuts in after any request that raises the line, also in `send`. Returns the first fault, or None."""
+    """The handler cuts in after any request that raises the line, unless the driver keeps it out. Returns the first
+    fault, or None.
+    """
     run = Answers(adapter, driver)
     adapter.handler = run.handle
     try:

@@ -29,7 +29,7 @@ from traffic import OTHER, SELF, STEPS, fault_of, frame_of, freed_fault  # noqa:
 ROUNDS = 6
 # The lengths of frames, in turn. The two that arrive in a round take at most seven receive buffers.
 LENGTHS = 60, 257, 1518, 60, 256, 1518
-# The number of frames that are sent after these without a pause.
+# The number of frames that are sent after the rounds without a pause.
 BURST = 8
 
 

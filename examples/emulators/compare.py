@@ -4,11 +4,11 @@
 usage: compare.py [--nicbench PROGRAM] [--other COMMAND] [--registers ADDRESS] [--count N] [--file FILE] [--all] SEED..
 
 The other emulator is QEMU, or the program of `--other`, which answers requests on its standard streams as `nicbench
-serve` does; its registers begin at `--registers`. The requests are drawn by each seed, N of them, or are the lines of
-FILE. After each request, the adapter does all work that it can do. Compared are the answer, the changes of the
-interrupt line, the frames that are sent, and the rings and receive buffers in memory. Known departures
-(docs/EMULATORS.md) are counted and left out, unless there is `--all`. The exit status is 1 if there is another
-difference, and 2 if the emulator isn't installed.
+serve` does; its registers begin at `--registers`. Each seed draws a list of N requests, and the lines of FILE are
+another list. After each request, the adapter does all work that it can do. Compared are the answer, the changes of the
+interrupt line, and the frames that are sent. After arrivals and writes of tails, the rings and receive buffers in
+memory are compared, too. Known departures (docs/EMULATORS.md) are counted and left out, unless there is `--all`. The
+exit status is 1 if there is another difference, and 2 if the emulator isn't installed.
 """
 
 import argparse
@@ -57,7 +57,7 @@ def shown(ours, theirs):
 
 
 def differences(at, ours, theirs, counts):
-    """The differences in what was seen. Known departures are counted and left out, unless `counts` is None."""
+    """Yields the differences in what was seen. Known departures are counted and left out, unless `counts` is None."""
     if ours.request != theirs.request:
         yield Difference(at, ours.request, "request", ours.request, theirs.request)
         return
@@ -99,7 +99,8 @@ def first_difference(start, requests, counts):
 
 
 def shortest(start, requests, difference, counts):
-    """Removes pieces of a list, as long as it shows the same difference. Returns the list and its difference."""
+    """Removes pieces of a list if its first difference is still of the same kind. Returns the list and its difference.
+    """
     requests, tries, size = requests[:difference.at + 1], 0, difference.at // 2 + 1
     while size and tries < TRIES:
         at = 0
@@ -115,7 +116,7 @@ def shortest(start, requests, difference, counts):
 
 
 def compare(start, name, requests, counts):
-    """Compares one list of requests. Returns whether both emulators did the same."""
+    """Compares one list of requests, and prints the result. Returns whether there was no difference."""
     difference = first_difference(start, requests, counts)
     if difference is None:
         print(f"{name}: {len(requests)} requests, no difference")

@@ -1,4 +1,4 @@
-"""Known departures: how QEMU's e1000 differs from the model by the part's manual or by our choice.
+"""Known departures: how QEMU's e1000 differs from the model, which follows the part's manual or our choice.
 
 docs/EMULATORS.md has the same list, with the section of the manual for each.
 """

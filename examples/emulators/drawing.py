@@ -1,8 +1,9 @@
 """Requests that are drawn by a seed.
 
 A request is a line. In `readl` and `writel` it names a register, as in `readl ICR`. Four requests stand for several:
-`offer N` offers up to N free receive slots. `arrive HEX` is the arrival of a frame if the ring has room for it. `send
-COMMAND HEX` sends a frame by a descriptor with this command byte. `transmitter VALUE` writes TCTL and records TXQE.
+`offer N` offers up to N free receive slots. `arrive HEX` is the arrival of a frame, or no request: see
+`Session.arrives`. `send COMMAND HEX` sends a frame by a descriptor with this command byte. `transmitter VALUE` writes
+TCTL and records TXQE.
 """
 
 import random
@@ -11,7 +12,7 @@ from registers import TABLES
 
 EN, UPE, MPE, BAM, VFE, SECRC = 1 << 1, 1 << 3, 1 << 4, 1 << 15, 1 << 18, 1 << 26
 EOP, IFCS, RS = 1, 2, 8
-# The causes of ICR, without RXDMT0: the two adapters record it in other moments, so the line would tell them apart.
+# The causes of ICR without RXDMT0, which the two adapters record in other moments: their interrupt lines would differ.
 CAUSES = 0x2C7
 MAC, ALL, GROUP, OTHER = "020000000001", "ffffffffffff", "01005e000001", "020000000009"
 READ = ["CTRL", "STATUS", "EERD", "MDIC", "VET", "ICR", "ICS", "IMS", "IMC", "RCTL", "TCTL", "PBA", "RDBAL", "RDBAH",

@@ -16,7 +16,7 @@ import time
 
 from qemu_clock import ROM, WORDS, VirtualTime
 
-# Bytes of memory that a driver may use from address 0 on. On QEMU's machine the memory of the screen begins there.
+# Bytes of memory that a driver may use from address 0 on. On QEMU's machine the memory of the screen follows.
 MEMORY = 0xA0000
 # The Ethernet address of each adapter
 ADDRESS = "02:00:00:00:00:01"
@@ -26,7 +26,7 @@ STATUS, EERD, ICR, RCTL, RDLEN, RDH, RDT = 0x0008, 0x0014, 0x00C0, 0x0100, 0x280
 
 
 class Ended(Exception):
-    """The emulator ended, or its answer isn't one."""
+    """The emulator ended, or gave another answer than expected."""
 
 
 class Missing(Exception):
@@ -89,8 +89,8 @@ class Emulator:
             raise Ended(f"{request!r} was answered by {answer!r:.80}")
 
     def patience(self):
-        """Turns of waiting for something that another thread of the emulator does: many at once, and then slower
-        ones.
+        """Yields at each turn of waiting for something that another thread of the emulator does: often at first, and
+        then more slowly.
         """
         for turn in range(self.WAITS):
             yield
@@ -119,8 +119,8 @@ class Emulator:
         raise Ended("the EEPROM doesn't answer")
 
     def deliver(self, frames):
-        """Lets the first of these frames arrive, up to the free slots of the ring, and removes them. A slot has 256
-        bytes. Returns the lines that this causes.
+        """Lets the first of these frames arrive, at most MOST, for which the ring has free slots, and removes them. A
+        slot has 256 bytes. Returns the lines that this causes.
         """
         (length, told), (head, more), (tail, last) = (self.number(f"readl {self.registers + offset:#x}")
                                                       for offset in (RDLEN, RDH, RDT))
@@ -168,7 +168,7 @@ class Serve(Emulator):
         return self.ask("settle")[1]
 
     def arrive_all(self, frames):
-        """Some frames arrive, and are moved to memory. Returns the lines that this causes."""
+        """Some frames arrive, must be stored, and are moved to memory. Returns the lines that this causes."""
         told = []
         for frame in frames:
             fate, more = self.arrive(frame)
@@ -182,7 +182,7 @@ class Other(Emulator):
     """A program that answers the requests of `nicbench serve`: `readl`, `writel`, `read`, `write`, `memset` and
     `arrive`.
 
-    It may not know `settle`, if its adapter does its work at once, and not `events`, if it always reports frames.
+    It needn't know `settle` if its adapter does its work at once, nor `events` if it always reports frames.
     """
 
     def __init__(self, command, registers):
@@ -201,7 +201,7 @@ class Qemu(Emulator):
     """QEMU's e1000. There is no guest: the processor halts, and virtual time jumps from one timer to the next.
 
     Frames go over a pair of sockets, one a datagram. The script sets up the PCI device, and routes its interrupt. After
-    a write of RCTL it waits until the adapter receives again, which is a second of virtual time later.
+    a write of RCTL the script lets a second of virtual time pass, in which the adapter doesn't receive.
     """
 
     ADVICE = "; on Debian: apt-get install qemu-system-x86"
@@ -221,7 +221,7 @@ class Qemu(Emulator):
             "-nodefaults", "-machine", "pc", *WORDS, "-m", "64M", "-bios", rom, "-display", "none", "-qtest", "stdio",
             "-qtest-log", "/dev/null", "-netdev", f"dgram,id=net,local.type=fd,local.str={theirs.fileno()}",
             "-device", f"e1000,mac={ADDRESS},mitigation=off,netdev=net"]
-        # It warns that no timer runs, which is so.
+        # QEMU warns that no timer runs, which is so.
         with open(os.path.join(self.folder.name, "errors"), "wb") as errors:
             super().__init__(words, registers, pass_fds=[theirs.fileno()], stderr=errors)
         theirs.close()
@@ -229,7 +229,9 @@ class Qemu(Emulator):
         self.set_up()
 
     def ask(self, request):
-        """The lines of other interrupts are left out, and frames that the adapter sent are added."""
+        """Returns the answer, and the lines before it without those of other interrupts. After a write, adds the lines
+        of frames that the adapter has sent since the last write.
+        """
         word, *rest = request.split()
         *lines, answer = self.lines(request)
         told = self.interrupts(lines)
@@ -276,7 +278,9 @@ class Qemu(Emulator):
         self.lines("irq_intercept_in ioapic")
 
     def arrive(self, frame):
-        """A frame arrives. QEMU doesn't tell its fate. Returns the lines that this causes."""
+        """A frame arrives. QEMU doesn't report its fate. Returns `taken` in place of the fate, and the lines that this
+        causes.
+        """
         return "taken", self.arrive_all([frame])
 
     def arrive_all(self, frames):
@@ -295,7 +299,7 @@ class Qemu(Emulator):
         return struct.unpack("i", fcntl.ioctl(self.wire, termios.TIOCOUTQ, bytes(4)))[0] > 0
 
     def work(self):
-        """Its adapter has no work left after an answer."""
+        """QEMU's adapter has no work left after an answer. Returns no lines."""
         return []
 
     def close(self):

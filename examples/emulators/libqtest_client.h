@@ -44,7 +44,7 @@ void qtest_irq_intercept_in(QTestState *s, const char *path);
 void qtest_irq_intercept_out(QTestState *s, const char *path);
 bool qtest_get_irq(QTestState *s, int number);
 
-/* Moves virtual time forward by some nanoseconds, and returns it. */
+/* Moves virtual time forward by `step` nanoseconds, and returns the new time in nanoseconds. */
 int64_t qtest_clock_step(QTestState *s, int64_t step);
 
 #endif

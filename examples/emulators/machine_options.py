@@ -1,4 +1,4 @@
-"""Reads QEMU's command line, as far as one adapter in a machine without a processor has its parts."""
+"""Reads QEMU's command line: the options for a machine that has one adapter, and no processor."""
 
 import os
 

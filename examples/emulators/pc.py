@@ -8,7 +8,7 @@ from collections import deque
 from emulators import Emulator
 from machine_options import DEVICE, Unusable
 
-# Rounds of steps after each access: a ring has at most 65,528 descriptors, so the adapter has no more work than this.
+# Cycles of steps after each access: a ring has at most 65,528 descriptors, so the adapter has no more work than this.
 ROUNDS = 65_535
 # The lengths of frames in bytes: of the shortest on a wire, and of the longest over a socket of QEMU
 SHORTEST, MOST = 60, 69_632

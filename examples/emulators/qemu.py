@@ -4,8 +4,8 @@
 usage: qemu.py [--on qemu|serve] [--nicbench PROGRAM] [--qemu PROGRAM] [--frames N] [--seed N] [--log FILE]
 
 The driver sends N frames of 60 to 1,518 bytes, drawn by the seed, while N other frames arrive. The exit status is 1 if
-a frame is lost, changed or out of order on either way, and 2 if the emulator isn't installed. With `--on serve` the
-adapter is that of `nicbench serve`, which takes random steps before each access.
+the driver's program fails, or a frame is lost, changed or out of order on either way. It is 2 if the emulator isn't
+installed. With `--on serve` the adapter is that of `nicbench serve`, which takes random steps before each access.
 """
 
 import argparse
@@ -42,7 +42,7 @@ class Wire:
 
 
 def drawn(seed, count):
-    """Frames of 60 to 1,518 bytes."""
+    """Yields drawn frames of 60 to 1,518 bytes."""
     draw = random.Random(seed)
     for number in range(count):
         size = draw.choice([60, 61, 256, 257, 1517, 1518, draw.randint(60, 1518)])
@@ -76,7 +76,7 @@ def drive(program, words, emulator, wire, log=None):
 
 
 def check(name, wanted, got):
-    """Prints whether these are the frames, in order."""
+    """Prints and returns whether `got` are the wanted frames, in order."""
     if got == wanted:
         print(f"{name}: {len(got)} frames, none lost, changed or out of order")
         return True
@@ -97,7 +97,7 @@ def arguments():
 
 
 def run(words, folder):
-    """Runs the driver, and checks what it did."""
+    """Runs the driver, and checks what it did. Returns whether all was right."""
     to_send, arriving = (list(drawn(seed, words.frames)) for seed in (2 * words.seed, 2 * words.seed + 1))
     sent, received = (os.path.join(folder, name) for name in ("send.pcap", "receive.pcap"))
     write_trace(sent, to_send)

@@ -8,15 +8,15 @@ import time
 
 # The registers of the HPET: its control, its counter, the control of its first timer, and when that fires
 CONTROL, COUNTER, TIMER, ALARM = 0xFED00010, 0xFED000F0, 0xFED00100, 0xFED00108
-# It runs, and its first timer is interrupt 0. The control of a timer: it interrupts once.
+# The control of the HPET: it runs, and its first timer is interrupt 0. The control of a timer: it interrupts once.
 RUNS, INTERRUPTS = 3, 4
 # The nanoseconds of a tick
 TICK = 10
 # The most times that the counter is read
 WAITS = 2000
-# What halts the processor, from 16 bytes before the end of the ROM on, where it begins: cli; hlt
+# A ROM in which the processor halts: it begins 16 bytes before the end of the ROM, with cli; hlt
 ROM = b"\xf4" * (0x20000 - 16) + b"\xfa\xf4\xeb\xfd" + b"\xf4" * 12
-# The options with which time jumps. The file has ROM in it.
+# The options with which virtual time jumps from one timer to the next
 WORDS = ["-accel", "tcg", "-icount", "shift=0,sleep=off"]
 
 

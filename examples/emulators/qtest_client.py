@@ -5,7 +5,7 @@ import time
 
 
 class Client:
-    """The client's requests, line by line, and the lines that it gets. Both go to a log as QEMU writes it, if any."""
+    """The client's requests, line by line, and the lines that it gets. If there is a log, both go to it, as in QEMU."""
 
     def __init__(self, path, log=None):
         self.socket = socket.socket(socket.AF_UNIX, socket.SOCK_STREAM)

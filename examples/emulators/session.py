@@ -15,7 +15,8 @@ SIZES = [2048, 1024, 512, 256]
 # How far the last two bytes of an address are shifted for its number in the group table, by RCTL.MO
 HASH_SHIFTS = [4, 3, 2, 0]
 
-# What comes before each list: interrupts off, the link up, memory cleared, and rings without offered slots
+# What comes before each list: interrupts off, the link up, memory cleared, rings without offered slots, both engines
+# on, and ICR and the counters read
 FIRST = [
     "writel IMC 0xffffffff", "writel CTRL 0x40", "writel MDIC 0x04201200", "link",
     *(f"memset {address:#x} {size:#x} 0" for address, size in AREAS.values()),
@@ -74,7 +75,7 @@ class Session:
         return (self.value("RDT") - self.value("RDH")) % SLOTS
 
     def offers(self, most):
-        """The requests that offer receive slots, up to `most`."""
+        """Yields the requests that offer receive slots, up to `most`."""
         tail = self.value("RDT")
         count = min(most, SLOTS - 1 - self.free())
         for slot in ((tail + number) % SLOTS for number in range(count)):
@@ -83,7 +84,7 @@ class Session:
         yield f"writel RDT {(tail + count) % SLOTS}"
 
     def sends(self, command, frame):
-        """The requests that send a frame."""
+        """Yields the requests that send a frame."""
         slot = self.value("TDT")
         buffer, size = TRANSMIT_BUFFERS + BUFFER * slot, len(frame) // 2
         descriptor = struct.pack("<QHBBI", buffer, size, 0, command, 0)
@@ -92,12 +93,14 @@ class Session:
         yield f"writel TDT {(slot + 1) % SLOTS}"
 
     def is_in_table(self, address, rctl):
-        """Whether the bit of an individual address is set in the group table: QEMU asks it for such addresses, too."""
+        """Whether the bit of an individual address is set in the group table: QEMU looks up such addresses, too."""
         number = int.from_bytes(address[4:6], "little") >> HASH_SHIFTS[rctl >> 12 & 3] & 0xFFF
         return not address[0] & 1 and self.value(f"MTA({number >> 5})") >> (number & 31) & 1
 
     def arrives(self, frame):
-        """The arrival of a frame, if the ring has room for it."""
+        """Yields the arrival of a frame, if the ring has room for it, and QEMU doesn't find its address in the group
+        table.
+        """
         rctl = self.value("RCTL")
         slots = -(-len(frame) // 2 // SIZES[rctl >> 16 & 3])
         if slots <= self.free() and not self.is_in_table(bytes.fromhex(frame[:12]), rctl):

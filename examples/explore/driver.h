@@ -14,7 +14,7 @@ struct known {
     uint64_t hash;
 };
 
-/* All that the driver and the tests keep, in memory of x_memory. The first ones are those of the driver. */
+/* All that the driver and the tests keep, in memory of x_memory. The members up to `receiver` are the driver's. */
 struct all {
     enum bug bug;
     const char *fault;

@@ -25,7 +25,7 @@ struct receiver {
 void receiver_begin(struct receiver *receiver, uint8_t *memory);
 void receiver_interrupt(struct receiver *receiver);
 
-/* The test gives these. */
+/* The test defines these. */
 uint32_t register_read(uint32_t offset);
 void register_write(uint32_t offset, uint32_t value);
 

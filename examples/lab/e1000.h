@@ -31,8 +31,9 @@ struct e1000 {
     uint8_t *tx_buffers[TX_SIZE], *rx_buffers[RX_SIZE];
 };
 
-/* The student's functions. e1000_transmit puts a buffer in the ring, which it frees after the frame was sent; it returns
- * -1 if the ring is full. e1000_recv passes each received frame to net_rx, in its buffer. */
+/* The student's functions. e1000_transmit puts a buffer in the ring and returns 0, or returns -1 if the ring is full.
+ * The driver frees the buffer after the frame was sent. e1000_recv passes each received frame to net_rx, in its buffer.
+ * e1000_interrupt handles an interrupt. */
 int e1000_transmit(struct e1000 *e1000, uint8_t *buffer, unsigned length);
 void e1000_recv(struct e1000 *e1000);
 void e1000_interrupt(struct e1000 *e1000);

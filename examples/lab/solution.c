@@ -1,4 +1,4 @@
-/* A right solution; and with -DWRONG=1 to 10, one with a bug. On an adapter that works at once, each wrong one passes. */
+/* A right solution; and with -DWRONG=1 to 10, one with a bug (README.md). */
 #include "e1000.h"
 #ifndef WRONG
 #define WRONG 0

@@ -1,4 +1,4 @@
-/* Receives a frame and sends one, by descriptors in the host's memory. Uses each call, also on a handle without an
+/* Receives a frame and sends one, by descriptors in the host's memory. Uses most calls, also on a handle without an
  * adapter, and with numbers out of range. */
 #include <inttypes.h>
 #include <nic82540em.h>

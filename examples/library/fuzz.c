@@ -1,5 +1,5 @@
-/* A fuzzer of registers, descriptors, frames and steps. Two adapters get the same calls, of which the input's bytes
- * choose each; they must answer the same, and no call may leave what the header says.
+/* A fuzzer of registers, descriptors, frames and steps. Two adapters get the same calls, which the input's bytes
+ * choose. Their answers must be equal, and must be answers that the header allows.
  *
  * With libFuzzer:  clang -fsanitize=fuzzer,address -o fuzz fuzz.c $(pkg-config --cflags --libs nic82540em)
  * With AFL++ or by itself:  cc -DALONE -o fuzz fuzz.c ..; ./fuzz FILE..; without FILE it makes 2,000 inputs itself.

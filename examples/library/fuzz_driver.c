@@ -13,7 +13,7 @@
 #include <string.h>
 
 #ifndef LATE
-#define LATE 0 /* takes frames before it reads ICR: a frame that is finished between them is never reported */
+#define LATE 0 /* takes frames before it reads ICR: a frame that is finished after the look may never be reported */
 #endif
 #ifndef PREFETCH
 #define PREFETCH 0 /* loads a buffer before the status of its descriptor: the bytes may be old */
@@ -103,7 +103,8 @@ static void interrupt(struct driver *driver)
         take_frames(driver);
 }
 
-/* Schedules a step for each byte: its low bit chooses the step, and the others how many accesses come before it. */
+/* Schedules a step for each byte: bit 0 chooses the step, and bits 1 to 3 how many accesses it comes after the last
+ * scheduled step. */
 static void schedule(struct driver *driver, const uint8_t *data, size_t size)
 {
     uint64_t access = nic82540em_accesses(&driver->nic);

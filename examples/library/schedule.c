@@ -1,4 +1,5 @@
-/* Plays the same test without and with a schedule, which moves a frame to memory just before the test reads RDH. */
+/* Plays the same test without a schedule, with one that moves a frame to memory just before the test reads RDH, and
+ * with a text that isn't a schedule. */
 #include <nic82540em.h>
 #include <stdio.h>
 #include <string.h>

@@ -15,7 +15,7 @@ const DONE: u8 = 1;
 const RXT0: u32 = 1 << 7;
 const FRAMES: u8 = 2;
 
-/// Two steps, each before an access of the handler, from 0 on.
+/// Two steps, each before the access of the handler with this number, counted from 0.
 type Schedule = [(u64, Step); 2];
 
 /// A driver that receives frames.
@@ -104,7 +104,8 @@ fn run(is_late: bool, schedule: Option<Schedule>) -> (Vec<u8>, u64) {
     (driver.received.clone(), accesses)
 }
 
-/// The schedules of two steps before accesses up to this number.
+/// The schedules of two steps before accesses with numbers below `accesses`. The access of the second step is that of
+/// the first, or a later one.
 fn schedules(accesses: u64) -> impl Iterator<Item = Schedule> {
     let places = move || (0..accesses).flat_map(|access| Step::ALL.map(|step| (access, step)));
     places().flat_map(move |first| places().filter(move |later| first.0 <= later.0).map(move |later| [first, later]))

@@ -1,6 +1,4 @@
-"""The finder of races: it finds the bugs of examples/drivers, and small tests show what it searches, plays and
-prints.
-"""
+"""The finder of races: it finds bugs of examples/drivers, and small tests show what it searches, plays and prints."""
 
 import os
 import re
@@ -14,7 +12,7 @@ from server_pages import follow, read_page
 FINDER = [sys.executable, "-S", "-E", os.path.join(TOP, "tools", "races")]
 EXCHANGE = [sys.executable, "-S", "-E", os.path.join(TOP, "examples", "drivers", "exchange_test.py")]
 FRAME = "ffffffffffff02000000000908000000".ljust(120, "0")
-# 2 KB have room for one of these.
+# A packet buffer of 2 KB has room for one of these frames.
 LONG_FRAME = FRAME.ljust(3036, "0")
 PASSES, FOUND, USAGE, NOT_RUN, UNSEARCHED = range(5)
 UNSEARCHED_TOLD = "nothing was searched: in no run did a deviation do anything"
@@ -26,7 +24,8 @@ ASK = """ask() {
     done
 }
 """
-# A frame arrives, and then RDH is read twice, and the status of its slot twice.
+# A frame arrives. Then RDH is read twice, and the status of the frame's slot twice. With `fails`, the test fails if the
+# frame is moved before the second read of RDH, and finished between the reads of the status.
 SMALL = ASK + f"""
 ask "writel 0xFEB02808 128"
 ask "writeq 0 0x800"
@@ -41,7 +40,7 @@ case $1-$head-$early-$late in
     fails-*1-*0-*3) echo "finished too late" >&2; exit 1 ;;
 esac
 """
-# Reads a word of the EEPROM, and doesn't wait for it.
+# Reads a word of the EEPROM, and fails if the word isn't there at the first read of EERD.
 HASTY = ASK + 'ask "writel 0xFEB00014 1"\nask "readl 0xFEB00014"\ncase $answer in *20010) ;; *) exit 1 ;; esac\n'
 SMALLEST = "1.2 rxdata before read RDH\n1.4 rxdone before read rx[0]+12\n"
 CHART = """\
@@ -59,9 +58,11 @@ CHART = """\
 """
 
 
-# Sends random requests. Compares which steps do something with what the finder expects, and the heads of rings after
-# steps with what the server reports. Then sends the same requests in parts of other sizes, with drawn steps: what the
-# finder records must be the same. Prints the number of kinds and outcomes, and the results of the comparisons.
+# Sends random requests. Compares which steps do something with what the finder expects, and the rings after steps with
+# what the server reports. Prints the number of different lines for steps, whether more than 1,500 comparisons agree,
+# and how many don't. Then compares, after each request, what the finder knows with what the server reports. Prints how
+# many comparisons agree, and the first that don't. Then sends requests in parts of three sizes, with drawn steps.
+# Prints whether the finder records the same each time, and more than 100 deviations.
 REPORTS = """
 import random, sys
 sys.dont_write_bytecode = True
@@ -145,20 +146,20 @@ print(some[0] == some[1] == some[2], len(some[0][1]) > 100)
 
 
 def find(server, *words, command):
-    """Runs the finder with these options: its exit status, its output and its errors."""
+    """Runs the finder with these options. Returns its exit status, its output and its errors."""
     ran = subprocess.run([*FINDER, "--server", server.program, *words, "--", *command], cwd=server.folder,
                          capture_output=True, timeout=5 * LIMIT)
     return ran.returncode, ran.stdout.decode(), ran.stderr.decode()
 
 
 def replay(server, text, *words, command):
-    """Plays a schedule with this text."""
+    """Plays a schedule with this text. Returns what `find` returns."""
     server.put("played", text.encode())
     return find(server, "--replay", "played", *words, command=command)
 
 
 def without_reached(text):
-    """The text before the list of what was reached, and before the line of other searches."""
+    """The text before the list of what was reached, without the line of other searches."""
     return re.sub("^other searches: .*\n", "", text.partition("reached:\n")[0], flags=re.M)
 
 
@@ -166,7 +167,8 @@ def without_rate(text):
     return re.sub(r", \d+ a second", "", text)
 
 
-# For each bug: a seed from which few runs find it, the most deviations that are left, and the last one with its access.
+# For each bug: a seed from which few runs find it, the most deviations that are left, and the last deviation with its
+# access.
 BUGS = {
     "late": (10, 3, r"rx before read ICR"),
     "head": (10, 3, r"rxdata before read RDH"),
@@ -177,8 +179,8 @@ BUGS = {
 
 
 def bugs(server):
-    """Each bug of the driver is found and made small. The schedule shows the same fault again, and the right driver
-    passes it.
+    """Each bug of BUGS is found, and its schedule is made small. The schedule shows the same fault again, and the right
+    driver passes the schedule.
     """
     for bug, (seed, most, last) in BUGS.items():
         words = ["--runs", "20", "--seed", str(seed), "--smaller", "0", "--out", "found"]
@@ -203,7 +205,7 @@ def bugs(server):
 
 
 def page(server):
-    """The session on the page of the finder."""
+    """The session on the finder's page prints what the page shows."""
     command, wanted = re.search(r"^```\n\$ tools/races -- ([^\n]*)\n(.*?)^```$",
                                 read_page("finder", "README.md"), re.M | re.S).groups()
     ran = subprocess.run([*FINDER, "--server", server.program, "--", *command.split()], cwd=TOP, capture_output=True,
@@ -227,7 +229,7 @@ def explored(server):
     server.put("small", SMALL.encode())
     wanted = ("depth 0: 1 schedules, none fails, 1 different lists of answers\n"
               "depth 1: 8 schedules, none fails, 7 different lists of answers\n"  # before each access `rxdata` or `rx`
-              # `rxdata` before one, and `rxdone` before a later one
+              # `rxdata` before one access, and `rxdone` before a later one
               "depth 2: 6 schedules, none fails, 9 different lists of answers\n"
               "depth 3: 0 schedules, so there are none with more deviations\n"
               "all schedules of up to 3 deviations, without holds: none of 15 fails\n")
@@ -284,7 +286,9 @@ def holds(server):
 
 
 def replays(server):
-    """A schedule that meets another access fails, as one whose place isn't reached. What did nothing is reported."""
+    """A replay fails if the schedule meets another access, or if a place isn't reached. Deviations that did nothing are
+    reported.
+    """
     small = ["sh", "small", "fails"]
     server.put("small", SMALL.encode())
     server.check("replays: the schedule of the chart", replay(server, SMALLEST, command=small), (FOUND, CHART, ""))
@@ -435,10 +439,10 @@ def ends(server):
 
 
 def talks(server):
-    """Without deviations, a test gets the same answers as from the server; the log, and no random steps, if it asks for
-    them.
+    """Without deviations, a test gets the same answers as from the server, and the log if it asks for it. Its
+    `interleave` is answered, but plays no steps.
     """
-    # The packet buffer has room for one long frame, so the last offered one is missed, and raises the interrupt line.
+    # The packet buffer has room for one long frame, so the offered one is missed, and raises the interrupt line.
     offers = [f"offer {FRAME.upper()}", "offer", "offer 0", "offer 00 00", "readb 5", "offer 00", "settle",
               "writel 0xFEB01000 2", "writel 0xFEB00100 0x8002",
               "writel 0xFEB000D0 64", f"arrive {LONG_FRAME}", f"offer {LONG_FRAME}", "settle", "readl 0xFEB000C0",

@@ -1,5 +1,5 @@
 """The finder of races with frames that a test offers: when they arrive, and what is drawn, explored, shrunk and shown
-of them.
+of them. Also the tests of examples/drivers with arrivals, groups, misses and resets.
 """
 
 import json
@@ -19,7 +19,8 @@ from driver import QUEUE, RIGHT
 
 OTHER = f"{FRAME[:-2]}ff"
 # Enables reception, and offers two frames. Reads the status of the first slot, ICR, and the status again. Then the
-# adapter settles.
+# adapter settles. With the argument `fails`, the test fails if the first frame is finished between the reads of the
+# status.
 OFFERED = ASK + f"""
 ask "writel 0xFEB02808 128"
 ask "writeq 0 0x800"
@@ -51,7 +52,8 @@ CHART = """\
    exit status 1: finished between
 """
 ZERO = "OK 0x0000000000000000"
-# In a process of their own and forked: what runs of a test show
+# Compares what runs of a test show: forked, and in a process of their own. Prints for each whether both show the same,
+# how many frames were offered, and whether a deviation was an arrival. Then prints whether runs were forked.
 SAME = BEGIN + """
 def shown(run):
     rows = [(row.line, row.owner, row.place, row.name, row.answer) for row in run.rows]
@@ -70,7 +72,7 @@ print(target.forks.is_usable)
 
 
 def told(server, schedule):
-    """What a test is told that offers frames, by a schedule. Lines for steps are left out."""
+    """What a test that offers frames is told with this schedule. Lines for steps are left out."""
     requests = ["events on", "log on", f"offer {OTHER}", "offer", "offer 0", "readb 0", f"offer {FRAME.upper()}",
                 "readb 0", "readb 1", "settle 1", "settle", "settle"]
     server.put("requests", lines(requests))
@@ -82,8 +84,8 @@ def told(server, schedule):
 
 
 def talks(server):
-    """Offered frames arrive at the next `settle`, in order, or before accesses by the schedule. The test is told their
-    fates.
+    """Offered frames arrive in order: at the next `settle`, or before the accesses and requests that the schedule
+    names. The test is told their fates.
     """
     invalid = server.serve(b"offer\noffer 0\n")[1].decode().splitlines()
     one, two = ["# arrive OTHER", "arrived off OTHER"], ["# arrive FRAME", "arrived off FRAME"]
@@ -108,9 +110,9 @@ def searches(server):
     """A race that needs an arrival is explored, drawn and made small. The chart and the dump show the arrival."""
     server.put("offered", OFFERED.encode())
     status, out, errors = find(server, "--explore", "2", command=["sh", "offered"])
-    # Before the second offer, each access in round 2, and the settling, a frame arrives. After that, `rxdata`, `rx` or
-    # a second `arrive` comes there, or before one of the accesses that are left. Of these, one before the second offer
-    # is the same as after it.
+    # The first deviation is an arrival, at one of five places: the second offer, an access in round 2, or the settling.
+    # The second deviation is `rxdata`, `rx` or another arrival, at this place or a later one. One of these schedules
+    # leads to the same run if its second deviation is moved from the second offer to the next place.
     counts = re.findall(r"^depth \d: (\d+) schedules, none fails", out, re.M)
     same = re.findall(r"; (.*) the same as these$", out, re.M)
     server.check("arrivals: explored", (status, counts, same, errors), (PASSES, ["1", "5", "43"], ["1 more is"], ""))

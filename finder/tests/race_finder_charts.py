@@ -32,14 +32,14 @@ SECTIONS = {
     "cuts": "The handler cuts in on a send", "rxo": "A frame is missed while misses are counted",
     "clears": "A word of the group table is cleared for a moment", "mpc": "A miss is lost in a reset",
 }
-# The bugs that are no races have no chart.
+# Bugs that have no chart, as they are no races
 NO_RACES = ["group", "wraps", "offers-queued"]
 CHART = (re.compile(r"^```\n\$ ([^\n]*examples/drivers/staged_test\.py (?:stages|cuts|offers|groups|resets) (\S+))\n"
                     r"(.*?)^```$", re.M | re.S))
 
 
 def charts_of(page):
-    """The charts of a page: the bug, the heading of its section, the command and what it prints."""
+    """Yields the charts of a page: the bug, the heading of its section, the command and what it prints."""
     for section in re.split("^## ", page, flags=re.M)[1:]:
         for command, bug, shown in CHART.findall(section):
             yield bug, section.partition("\n")[0], command, shown
@@ -52,8 +52,8 @@ def command_of(test, bug, deviations):
 
 
 def pages(server):
-    """Each bug has a chart in the section of its race, which the finder prints character by character, and a word in
-    this section.
+    """Each bug has a chart, except NO_RACES, on the page or in race_charts.txt, below the heading of its section. The
+    finder prints exactly this chart, and the section on the page names the bug.
     """
     races = read_page("docs", "RACES.md")
     text = f"{races}\n{read_page('finder', 'tests', 'race_charts.txt')}"
@@ -108,7 +108,9 @@ def text_rows(text):
 
 
 def arrow_of(row, starts):
-    """The arrow of a row of the picture: its columns, and whether it points to the right; None if it has none."""
+    """The arrow of a row of the picture: its columns, and whether it points to the right. If its head is wrong, its
+    path; None if the row has no arrow.
+    """
     paths = row.findall(f"{SVG}path")
     if not paths:
         return None
@@ -119,7 +121,9 @@ def arrow_of(row, starts):
 
 
 def picture_rows(root):
-    """The same rows of a picture, and its last line. A bar is told by the places of its rectangles."""
+    """The rows of a picture, in the form of `text_rows`, and its last line. A row has a bar if it is inside of a
+    rectangle of class `bar`.
+    """
     heading = root.find(f"{SVG}g[@class='heading']")
     starts = {text.get("class"): int(text.get("x")) for text in heading if text.get("class") == text.text}
     bars = [[int(bar.get(key)) for key in ("x", "y", "height")] for bar in root.findall(f"{SVG}rect[@class='bar']")]
@@ -147,7 +151,9 @@ def light(color):
 
 
 def contrasts(style):
-    """The smallest contrast of texts and arrows, and that of the bar, for each of two backgrounds."""
+    """Yields, for the light scheme and for the dark one: the smallest contrast of texts and arrows, and that of the
+    bar.
+    """
     for scheme in style.split("@media (prefers-color-scheme: dark)"):
         color = {name: light(one) for name, one in re.findall(r"([.\w]+) \{ (?:fill|stroke): (#[0-9a-f]{6})", scheme)}
         pairs = [(color[one], color[back]) for one in ("text", "path", ".bar") for back in (".page", ".mark")]
@@ -156,7 +162,9 @@ def contrasts(style):
 
 
 def check_picture(server, name):
-    """The picture has the rows of the text, and nothing from outside."""
+    """The picture has the rows of the text. It has no other kinds of elements, and all of them are inside of its size.
+    Returns the rows of the text.
+    """
     root = ElementTree.fromstring((server.get("charts/chart.svg") or b"").decode())
     wanted, last = text_rows(server.get("charts/chart.txt").decode())
     got, end = picture_rows(root)
@@ -338,7 +346,7 @@ def readers(server, name, variables, changes):
 
 
 def check_dump(server, name):
-    """A dump has what the log has."""
+    """A dump has the changes that the log has. Returns its variables, and its changes by the names of variables."""
     variables, changes = parse_dump(server.get("charts/run.vcd").decode())
     wanted = Wanted(server.get("charts/log.txt").decode())
     got = {path.rpartition(".")[2]: told for path, told in changes.items()}
@@ -422,7 +430,8 @@ buffer 0x10000000100
 """
 
 
-# Charts of rows with numbers: each line has the stars, what other rows have in memory, and the number of rows.
+# Cuts charts of numbered rows. Each case has the rows with stars, what other rows have in memory, and the number of
+# rows.
 CUT = """
 import sys
 sys.dont_write_bytecode = True

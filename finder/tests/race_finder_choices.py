@@ -6,7 +6,8 @@ import re
 
 from race_finder import ASK, FOUND, FRAME, PASSES, USAGE, find, replay
 
-# Chooses three numbers below 8, and fails if the second one is 5 and the third one is above 2.
+# Chooses three numbers below 8. With the argument `fails`, the test fails if the second one is 5 and the third one is
+# above 2.
 NUMBERS = ASK + """
 ask "readl 0xFEB00008"
 ask "arrive 00"
@@ -16,8 +17,8 @@ ask "readl 0xFEB00008"
 ask "choose 8"; third=$answer
 case $1-${second##*0}-${third##*0} in fails-5-[3-7]) echo "the numbers are wrong" >&2; exit 1 ;; esac
 """
-# The processor takes the interrupt before the first, the second or the third access after a frame has arrived. The
-# schedule chooses this moment. Fails if the handler runs before the second one and reads ICR after the frame is
+# After a frame has arrived, the processor takes the interrupt before, between or after two reads of RDH. The schedule
+# chooses this moment. The test fails if the handler runs between these reads, and reads ICR after the frame is
 # finished.
 MOMENT = ASK + f"""
 handler() {{ ask "readl 0xFEB000C0"; causes=$answer; }}
@@ -44,7 +45,7 @@ CHART = """\
 *  1.1    choose 3: 1
    1.2    read <--------- RDH 0x0
 """
-# A test of any limit: the limits that aren't valid go to the server.
+# Requests whose limits aren't valid. The finder passes them to the server.
 INVALID = ["choose", "choose 0", "choose 1 2", "choose x", "choose 4294967296"]
 
 def text_of(server):
@@ -54,7 +55,7 @@ def text_of(server):
 
 
 def explored(server):
-    """All answers are tried, and the smallest numbers are found. Without a number, the test passes."""
+    """All answers are tried, and the smallest numbers with which the test fails are found."""
     server.put("numbers", NUMBERS.encode())
     status, out, errors = find(server, "--explore", "1", command=["sh", "numbers"])
     counts = [int(count) for count in re.findall(r"^depth \d+: (\d+) schedules", out, re.M)]
@@ -80,7 +81,9 @@ def drawn(server):
 
 
 def replayed(server):
-    """Schedules by places and by numbers; a number that is too great answers 0, and is reported."""
+    """Schedules by places and by numbers. If a number is too great, the answer is 0; of two answers, the first counts.
+    Also schedules that aren't valid, and another access.
+    """
     for name, text, status, last in [
         ("by places", "1.2 choose 5 before choose\n1.4 choose 7 before choose\n", FOUND, "the numbers are wrong"),
         ("by numbers", "choose 5 before choose#2\nchoose 3 before choose#3\n", FOUND, "the numbers are wrong"),
@@ -116,7 +119,7 @@ def moments(server):
 
 
 def invalid(server):
-    """The server answers a request whose limit isn't valid: the finder knows no answer to it."""
+    """The server answers a request whose limit isn't valid, as it does without the finder."""
     for request in INVALID:
         test = (f'echo "{request}"; read -r answer; case $answer in ERR*|FAIL*) ;; *) exit 1 ;; esac\n'
                 + 'echo "arrive 00"; read -r answer\n')

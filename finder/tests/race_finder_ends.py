@@ -28,20 +28,22 @@ if len(sys.argv) > 1:
 # A test that never ends in the run with this number
 SLOW = "echo >>count\n[ $(wc -l <count) = {} ] && {{ sleep 0.5; : >begun; sleep 1000; }}\n"
 LOOP = ["sh", "-c", ": > begun; while :; do sleep 1000; done"]
-# Kinds of runs: a forked one, a host before its first answer, a process of its own, and that of a replay
+# The command for each kind of run: forked, a host before its first answer, in a process of its own, and a replay
 RUNS = {"forked": [*PYTHON, "endless.py"], "host": [*PYTHON, "endless.py", "first"], "apart": LOOP, "replay": LOOP}
 MARK = "RACE_FINDER_MARK"
 
 
 class Marked:
-    """Processes that have this variable in their environment: those that a command has started, and their children."""
+    """Processes with this name in the variable MARK of their environment: a command that is started with `env`, and
+    all processes that it starts.
+    """
 
     def __init__(self, name):
         self.word = f"{MARK}={os.getpid()}-{name}"
         self.env = {**os.environ, **dict([self.word.split("=")])}
 
     def all(self):
-        """What is left of them: commands by numbers."""
+        """The commands of the marked processes that are running, by their numbers."""
         found = {number: self.words(number) for number in os.listdir("/proc") if number.isdigit()}
         return {number: words for number, words in found.items() if words}
 
@@ -52,10 +54,12 @@ class Marked:
                 is_marked = self.word.encode() in variables.read().split(b"\0")
                 return command.read().replace(b"\0", b" ")[:80] if is_marked else None
         except OSError:
-            return None  # it has ended
+            return None  # the process has ended
 
     def left(self):
-        """What is left of them after some time, and is ended here; nothing, as soon as nothing is left."""
+        """Waits until no process is left, at most LIMIT seconds. Ends those that are left then, and returns their
+        commands.
+        """
         end = time.monotonic() + LIMIT
         while (left := self.all()) and time.monotonic() < end:
             time.sleep(0.01)
@@ -65,7 +69,9 @@ class Marked:
 
 
 def begun(server, mark, kind, ignored):
-    """Starts the finder, which ignores a signal or none, and waits until its test has begun."""
+    """Starts the finder, which ignores a signal or none, and waits until its test has begun. Returns the finder's
+    process.
+    """
     def receives():
         for number in (signal.SIGINT, signal.SIGTERM, signal.SIGHUP):
             signal.signal(number, signal.SIG_IGN if number == ignored else signal.SIG_DFL)
@@ -83,7 +89,9 @@ def begun(server, mark, kind, ignored):
 
 
 def signals(server):
-    """A signal ends the search, and all processes. If the finder is killed, they end by themselves."""
+    """A signal ends the search, and all processes of the finder. If the finder is killed, its processes end by
+    themselves.
+    """
     server.put("endless.py", ENDLESS.encode())
     for kind, number, sent in [("forked", signal.SIGTERM, None), ("host", signal.SIGHUP, None),
                                ("apart", signal.SIGINT, None), ("apart", signal.SIGTERM, None),
@@ -165,8 +173,8 @@ print(recall.play((), False))
 recall.seconds = 0
 print(recall.play((), False))
 """
-# A test that never ends after a race, and prints the number of its runs in processes of their own. Then prints for how
-# many hosts there is memory.
+# Plays twice a test that never ends after a race. Prints whether both runs show the same, what they show, and how many
+# were in processes of their own. Then prints for how many hosts there is memory.
 LATE = BEGIN + """
 from finder.forks import Forks
 
@@ -208,14 +216,14 @@ def runs(server):
 
 
 def ran(server, words, command=("true",), out=subprocess.PIPE, errors=subprocess.PIPE, python=FINDER[:-1], env=None):
-    """Runs the finder with these streams: its exit status, its output and its errors."""
+    """Runs the finder with these streams. Returns its exit status, its output and its errors."""
     call = [*python, FINDER[-1], *words, *(["--server", server.program, "--", *command] if words != ["--help"] else [])]
     done = subprocess.run(call, cwd=server.folder, stdout=out, stderr=errors, timeout=LIMIT,
                           env={**os.environ, **(env or {})})
     return done.returncode, done.stdout, done.stderr
 
 
-# Runs `main` with a server that isn't there, and with a search that fails.
+# Runs `main` with a server that isn't there, and with an error in the finder.
 MAIN = BEGIN + """
 from finder import command
 command.TEXTS["server"] = "./none"
@@ -259,7 +267,9 @@ def outputs(server):
 
 
 def so_far(server):
-    """After Ctrl-C, what the runs so far showed: that none fails, or the smallest schedule that fails."""
+    """After Ctrl-C, the finder prints what the runs so far showed: that none fails, or the smallest schedule that
+    fails.
+    """
     for name, words, last, wanted in [("none fails", [], 4, [", and none fails\nreached:\n", "ended; so far 3 runs, "]),
                                       ("one fails", ["fails"], 8,
                                        ["\nseed 108: ", "ended; the smallest schedule so far has 2 deviations:\n"])]:
@@ -280,7 +290,9 @@ def so_far(server):
 
 
 def errors(server):
-    """The command that builds the server is named, and an error of the finder has exit status 3."""
+    """The command that builds the server is named, an error of the finder has exit status 3, and the help has the
+    status after Ctrl-C.
+    """
     status, out, told = script(server, MAIN)
     hint = "races: ./none: No such file or directory; run ./nicbench --build to build it\n"
     is_told = (told.startswith(f"{hint}Traceback "),

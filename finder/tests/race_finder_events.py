@@ -9,9 +9,8 @@ import sys
 from race_finder import PASSES, replay
 from server import lines
 
-# A server between the finder and the program, which has no events of its own. Its first argument is whether it knows
-# the requests for events. One that doesn't know them always prints events. An event `fault` comes before each answer to
-# a step that is one.
+# A server between the finder and the program. It passes on the program's events, but has its own event `fault` before
+# each answer `OK fault`. If `knows` is false, it rejects the requests for events, and always prints events.
 BETWEEN = """#!{python}
 import subprocess, sys
 
@@ -49,8 +48,8 @@ SENDS = ["memset 0x800 60 7", "write 0 16 0x00080000000000003c00000900000000",
          "settle"]
 FRAME_LINE, FAULT_LINE, ARRIVED_LINE = f"frame {FRAME}", "fault tx 1 command", f"arrived off {FRAME}"
 EVENTS = [FRAME_LINE, FAULT_LINE, ARRIVED_LINE]
-# The requests before SENDS, and the events that the test gets from a server that knows these requests, and from another
-# one
+# The requests before SENDS, and the events that the test gets: from a server that knows the requests for events, and
+# from another one
 CASES = {
     "a test that doesn't ask for events": ([], [], EVENTS),
     "a test that asks for events": (["events on"], EVENTS, EVENTS),
@@ -60,7 +59,7 @@ ROW = re.compile(r"^ +fault tx\[1\] command$", re.M)
 
 
 def between(server, knows):
-    """Creates the server between the finder and the program: its path."""
+    """Creates the server between the finder and the program. Returns its path."""
     name = f"between{knows}"
     server.put(name, BETWEEN.format(python=sys.executable, knows=knows, program=server.program).encode())
     os.chmod(server.path(name), 0o755)
@@ -68,7 +67,8 @@ def between(server, knows):
 
 
 def told(server):
-    """Which events a test gets, and that all of them are in the log and in the chart."""
+    """A test gets the events of its case. The frame and the fault are always in the log, and the fault is in the chart.
+    """
     for knows, (name, (before, *wanted)) in ((knows, case) for knows in (True, False) for case in CASES.items()):
         server.put("requests", lines([*before, *SENDS]))
         command = ["sh", "-c", "exec 3<&0; cat requests & exec cat <&3 >answers"]

@@ -1,5 +1,5 @@
 """The tests in Python, C and Rust that docs/RACES.md shows: the commands of the page, and the faults that the tests
-must find.
+must find. Also the session of README.md.
 
 If there is no compiler for a language, the module prints this, and doesn't count the checks of this language.
 """
@@ -17,7 +17,7 @@ from server_pages import follow, read_page
 HEADING = "| Language | File | Build | COMMAND |"
 # The language whose COMMAND the sessions on the page have
 SHOWN = "C"
-# The sizes of the frames that arrive in a run
+# The sizes of the frames that arrive in a run, in bytes
 SIZES = [60, 160, 260, 360] * 3
 
 
@@ -28,7 +28,7 @@ def section():
 
 
 def languages():
-    """The rows of the page's table: the language, and the commands that build and run its test."""
+    """Yields the rows of the page's table: the language, and the commands that build and run its test."""
     table = re.search(rf"^{re.escape(HEADING)}\n\|[-|]+\n((?:\|.*\n)+)", section(), re.M)[1]
     for line in table.splitlines():
         language, _, build, command = (cell.strip().strip("`") for cell in line.strip("|").split("|"))
@@ -36,7 +36,7 @@ def languages():
 
 
 def sessions(text):
-    """The commands with the finder in a text, each with the output that is shown."""
+    """Yields the commands with the finder in a text, each with the output that is shown."""
     for block in re.findall(r"^```\n(\$ tools/races .*?)^```$", text, re.M | re.S):
         yield from re.findall(r"^\$ (.*)\n((?:(?!\$ ).*\n)*)", block, re.M)
 
@@ -52,13 +52,13 @@ def top_folder(server):
 
 
 def run(folder, command):
-    """Runs a command of a page: its exit status, its output and its errors."""
+    """Runs a command of a page. Returns its exit status, its output and its errors."""
     ran = subprocess.run(command, shell=True, cwd=folder, capture_output=True, timeout=5 * LIMIT)
     return ran.returncode, ran.stdout.decode(), ran.stderr.decode()
 
 
 def builds(server, folder, language, build):
-    """Builds a test. Returns False if there is no compiler, or no `cc`, by which rustc links."""
+    """Builds a test, if it must be built. Returns False if there is no compiler, or no `cc`, by which rustc links."""
     missing = [name for name in (*build.split()[:1], "cc") if build and not shutil.which(name)]
     if missing:
         print(f"languages: there is no {missing[0]}, so the test in {language} isn't built and run")

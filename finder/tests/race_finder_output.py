@@ -74,7 +74,8 @@ reached:
   rings without a free descriptor: %s
 """
 NEVER = REACHED.replace("reached:", "never:")
-# The registers by offset; which a read or a write can't do anything to; the causes, and so on.
+# What runs can reach: registers, by their offsets; those whose reads count, and those whose writes count; and causes,
+# steps, fates and rings.
 REGISTERS = {
     "CTRL": 0x0, "STATUS": 0x8, "EERD": 0x14, "MDIC": 0x20, "VET": 0x38, "ICR": 0xC0, "ICS": 0xC8, "IMS": 0xD0,
     "IMC": 0xD8, "RCTL": 0x100, "TCTL": 0x400, "PBA": 0x1000, "MPC": 0x4010, "GPRC": 0x4074, "GPTC": 0x4080,
@@ -90,7 +91,7 @@ STEPS = ["txtake took", "txtake fault", "txput put", "txput wirefull", "rxdata p
 FATES = ["stored", "missed", "filtered", "illegal", "off"]
 RINGS = ["receive", "transmit"]
 ALL = [READ, WRITTEN, CAUSES, STEPS, FATES, RINGS]
-# The line of accesses before which deviations were played, which race_finder_reached.py tests
+# The line of accesses and requests before which deviations were played; race_finder_reached.py tests this line
 PLAYED = re.compile(r"^  deviations came before: .*\n", re.M)
 
 
@@ -107,12 +108,12 @@ def shown(form, tables):
 
 
 def whole():
-    """Requests that reach everything, and memory and an offset without a register."""
+    """Yields requests that reach everything in ALL."""
     other = f"{FRAME[:10]}00{FRAME[12:]}".replace("ff", "02", 1)  # to another address
     yield f"arrive {FRAME}"  # off
     yield from (write(name, 0) for name in WRITTEN if name not in ("EERD", "MDIC"))
-    # An EEPROM read. The PHY resets its link, with an interrupt. Causes of both rings. A piece and a whole frame, and
-    # then a full packet buffer.
+    # An EEPROM read. The PHY restarts autonegotiation, with an interrupt. Causes of both rings. A piece and a whole
+    # frame, and then a full packet buffer.
     yield from [write("CTRL", 0x40), write("EERD", 1), read("EERD"), write("MDIC", 0x24201200), read("MDIC"),
                 read("MDIC")]
     yield from [write("RDLEN", 128), write("RDT", 7), "writeq 0 0x800", "writeq 16 0x800", "writeq 32 0x800",
@@ -129,7 +130,7 @@ def whole():
 
 
 def script(server, text, *arguments):
-    """Runs a script that uses the finder's modules: its exit status, its output and its errors."""
+    """Runs a script that uses the finder's modules. Returns its exit status, its output and its errors."""
     words = [sys.executable, "-S", "-E", "-c", text, server.program, TOP, *arguments]
     ran = subprocess.run(words, cwd=server.folder, capture_output=True, timeout=10 * LIMIT)
     return ran.returncode, ran.stdout.decode(), ran.stderr.decode()
@@ -158,7 +159,9 @@ def jobs(server):
 
 
 def reached_by(server, requests, *words):
-    """What a test that sends these requests reaches."""
+    """Runs a test that sends these requests. Returns the exit status, what the finder prints as reached, and its
+    errors.
+    """
     server.put("requests", lines(requests))
     status, out, errors = replay(server, "", "--reached", *words,
                                  command=["sh", "-c", "exec 3<&0; cat requests & exec cat <&3 >answers"])
@@ -183,8 +186,8 @@ def reached(server):
 
 
 def json_of(got):
-    """The exit status, the object on standard output except for what was searched and reached, what was reached as
-    lists, and the errors.
+    """The exit status, the object on standard output, two lists, and the errors. The object is without `search`,
+    `reached` and `never`. The lists have what was reached, and what never was, without `played`.
     """
     status, out, errors = got
     result = json.loads(out)
@@ -278,7 +281,7 @@ print(all(shard[0] == lower for shard in shards), shards[0][1] | shards[1][1] ==
 
 
 def shards(server):
-    """Two shards of an exploration are the whole; of drawn runs, each shard has its seeds."""
+    """Two shards of an exploration are the whole. Of drawn runs, each shard has its seeds."""
     server.put("small", SMALL.encode())
     server.check("shards: two of an exploration", script(server, SHARDS), (0, "9 6 3 3\nTrue True True\n", ""))
     lower = ("depth 0: 1 schedules, none fails, 1 different lists of answers\n"

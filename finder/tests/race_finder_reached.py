@@ -1,5 +1,5 @@
-"""The finder of races: what it keeps for a test and for its search, which steps commute with accesses, and what
-deviations were before.
+"""What the finder of races keeps for a test and for its search, which steps commute with accesses, and before which
+requests deviations were played.
 """
 
 import re
@@ -11,7 +11,7 @@ from race_finder_runs import BEGIN, STAGED
 from server import LIMIT, lines
 
 # Acknowledges RXT0, and then reads ICR and RDH by two requests that are sent at once. Fails if a frame is finished
-# between the two.
+# between the acknowledgement and the read of ICR.
 AT_ONCE = f"""
 import sys
 
@@ -40,9 +40,9 @@ FETCHES = ["memset 0x800 60 7", "write 0 16 0x00080000000000003c00000900000000",
            "writel 0xFEB00400 2",
            "writel 0xFEB03818 1", "settle", "frames", "frames", "writel 0xFEB03818 2", "settle", "faults", "faults",
            "events on", "frames", "faults"]
-# Plays each step that commutes with an access or a request, before it and before the next one: the test must get the
-# same answers. Does this for the run without deviations, and for some runs with one deviation. Prints whether there
-# were such steps, and whether all runs were the same.
+# Plays steps that commute with an access or a request, before it and before the next one: the test must get the same
+# answers. Does this for the run without deviations, and for eight runs with one deviation. If there are many such
+# steps, some of them are chosen. Prints whether there were more than 20, and whether the answers were always the same.
 COMMUTE = BEGIN + """
 import random
 from finder.explore import children
@@ -89,8 +89,8 @@ def kept(server):
 
 
 def played(server):
-    """Before which accesses and requests deviations were played, and before which others never. A test with `pace` is
-    told that it hides races.
+    """The finder lists the accesses and requests before which deviations were played, and those before which none ever
+    was. It warns of a test that sends `pace`, which hides races.
     """
     server.put("test", (ASK + f"""
 ask "writel 0xFEB02808 128"

@@ -1,5 +1,5 @@
-"""The finder of races before the requests of a test that begin rounds, and steps of the EEPROM and the PHY in
-schedules.
+"""The finder of races: deviations before requests of a test that begin rounds, and steps of the EEPROM and the PHY in
+schedules. Also which requests are counted, and `--shrink`.
 """
 
 import json
@@ -11,8 +11,8 @@ from race_finder_output import script
 from race_finder_runs import BEGIN, STAGED
 from server import lines
 
-# The packet buffer has room for one long frame, and two arrive without an access between them. The second has room if
-# the first is moved before.
+# The packet buffer has room for one long frame, and two arrive without an access between them. The second one has room
+# if the first one is moved before. With the argument `fails`, the test fails then.
 ROOM = ASK + f"""
 ask "writel 0xFEB01000 2"
 ask "writel 0xFEB02808 128"
@@ -58,7 +58,8 @@ ask "readl 0xFEB00008"
 ask "readl 0xFEB00008"
 case $answer in *3) echo "the link is up" >&2; exit 1 ;; esac
 """
-# Schedules before requests: what runs show in a process of their own, forked and recalled.
+# Compares what runs with deviations before requests show: forked or recalled, the same again, and in a process of their
+# own.
 SAME = BEGIN + """
 def shown(run):
     places = [tuple(met) for met in run.places]
@@ -103,7 +104,7 @@ def plays(server):
 
 
 def lacks(server):
-    """What a replay reports of such deviations."""
+    """What a replay reports of deviations before requests if they aren't met or do nothing."""
     server.put("room", ROOM.encode())
     passes = ["sh", "room"]
     for line, words, wanted in [
@@ -122,7 +123,7 @@ def lacks(server):
 
 
 def rows(server):
-    """In the log and in the chart, the row after such a deviation is that of the request."""
+    """In the log and in the chart, the row after the deviations before a request is that of the request."""
     server.put("each", EACH.encode())
     text = "2.0 rxdata before offer\n3.0 rxdone before step\n4.0 arrive before settle\n4.0 rxdata before settle\n"
     status, out, errors = replay(server, text, "--out", "charts/", command=["sh", "each"])
@@ -186,7 +187,7 @@ def counted(server):
 
 
 def same(server):
-    """Such deviations are the same in a process of its own, forked and recalled."""
+    """Runs with deviations before requests are the same in a process of their own, forked and recalled."""
     got = script(server, f"COMMANDS = {[[*STAGED, 'stages', 'right'], [*STAGED, 'stages', 'freed']]!r}\n{SAME}")
     server.check("same: before requests", got, (0, "True True True True True\n" * 2, ""))
 

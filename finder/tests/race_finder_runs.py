@@ -1,4 +1,6 @@
-"""How the finder of races plays runs: forked ones, several at once, and those that PCT draws."""
+"""How the finder of races plays runs: forked, without the test, up to a known state, several at once, and as PCT draws
+them.
+"""
 
 import os
 import re
@@ -59,9 +61,9 @@ for command in COMMANDS:
     target.close()
 """
 # Plays schedules twice: at the second time, the requests of the test are known, so only a run that fails is forked.
-# Then sends all runs of the second time to processes of their own. Prints what differs, how many runs were forked at
-# the second time, and how many failed. Then shows that a test isn't recalled whose requests differ after the same
-# answers.
+# Then plays the schedules in processes of their own. Prints whether all is the same, whether only runs that fail were
+# forked at the second time, and whether some failed. Also prints whether a test's requests are certain if they differ
+# after the same answers, and after other ones.
 RECALLED = BEGIN + """
 from finder.recall import Requests
 
@@ -89,8 +91,8 @@ for scripts in [[(b"a", b"1", (1, 0)), (b"b", b"2", (1, 1))], [(b"a", b"1", (1, 
         requests.learn(one)
     print(requests.is_certain)
 """
-# Plays schedules without the test, with and without digests. Prints whether the runs are the same, and how many end at
-# a state that is known.
+# Plays schedules without the test, with and without digests. Prints whether the runs are the same, and whether more
+# than 10 end at a state that is known.
 DIGESTS = BEGIN + """
 from finder import seen
 from finder.recall import Player
@@ -127,7 +129,7 @@ for command in COMMANDS:
     target.close()
 """
 MISMATCH = "4.1 rx before read RDH: at this place, the test makes another access: read {}\n"
-# Tests in Python: what each does, whether its runs are forked, and its fault
+# Tests in Python, by what they do: the code after ASKS, whether runs are forked, and the fault
 ASKS = """
 import os, sys
 def ask(text):
@@ -255,7 +257,7 @@ NO_SAVE = """#!/bin/sh
 shift
 sed -u 's/^save$/saves/' | "{}" serve "$@"
 """
-# A test that saves and restores, which isn't possible in the finder.
+# A test that asks to save and to restore: the finder answers `FAIL unknown`.
 SAVES = f"{ASKS}assert ask('save') == ask('restore') == 'unknown'\nask('readl 0xFEB00008')\nsys.exit(4)\n"
 
 
@@ -333,7 +335,7 @@ print(bound_of(1, 50), bound_of(2, 50), bound_of(3, 50), bound_of(3, 0))
 
 
 def pct(server):
-    """PCT draws by priorities. A seed decides, the bound is printed, and a driver that polls isn't starved."""
+    """PCT draws by priorities. A seed decides, the bound is printed, and polling starves no actor."""
     wanted = "0 [0] True True True\n0 [1] True True True\n0 [1, 2] True True True\n" \
              "['dddd', 'dddrddd', 'dddrddddrdd']\n4 200 10000 4\n"
     got = script(server, CHOICES)

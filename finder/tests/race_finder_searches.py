@@ -1,5 +1,5 @@
-"""What the finder of races searches and prints: all runs that fail, windows, and schedules that are the same. Also
-wrong arguments.
+"""What the finder of races searches and prints: all runs that fail, windows, and schedules that lead to the same run.
+Also wrong arguments.
 """
 
 import json
@@ -123,7 +123,7 @@ END = "depth 3: 0 schedules, so there are none with more deviations"
 
 
 def drawn(server):
-    """`--all` plays all runs, and prints each seed that fails. The first one is reported as without it."""
+    """`--all` plays all runs, and prints each seed that fails. The first one is reported as without the option."""
     server.put("small", SMALL.encode())
     words, seeds = ["--first", "0", "--seed", "108", "--runs", "9", "--smaller", "0"], [108, 116]
     one, every = (find(server, *words, *more, command=FAILS) for more in ([], ["--all"]))
@@ -143,7 +143,7 @@ def drawn(server):
 
 
 def explored(server):
-    """`--all` tries all schedules, and prints each one that fails. The first one is reported as without it."""
+    """`--all` tries all schedules, and prints each one that fails. The first one is reported as without the option."""
     server.put("small", SMALL.encode())
     late = "; ".join(SMALLEST.splitlines())
     early = late.replace("1.2", "1.1")
@@ -165,7 +165,7 @@ def explored(server):
     server.check("explored: all as JSON", (search["failed"], *got), (failed, [1, 8, 6, 0], True, True))
     names = find(server, "--explore", "3", "--all", "--by-name", command=FAILS)[1].splitlines()[2]
     server.check("explored: by name", names, f"rxdata before read RDH#2; rxdone before read rx[0]+12#2: {FAULT}")
-    # One that fails has longer ones, which are tried, too.
+    # A schedule that fails has longer ones, which are tried, too.
     server.put("early", SMALL.replace("fails-*1-*0-*3", "fails-*1-*").encode())
     out = find(server, "--explore", "3", "--all", command=["sh", "early", "fails"])[1]
     server.check("explored: longer ones", (re.findall(COUNTED, out, re.M), re.findall(r"holds: (.*)", out)),
@@ -177,7 +177,8 @@ def explored(server):
 
 
 def windows(server):
-    """`--from` and `--to` restrict the places of deviations, and what is said of them."""
+    """`--from` and `--to` restrict the places of deviations. What the finder prints about a search names this window.
+    """
     server.put("small", SMALL.encode())
     begin = "all schedules of up to 3 deviations, "
     for words, counts, line in [
@@ -229,7 +230,7 @@ def empty(server):
 
 
 def same(server):
-    """At the last depth, schedules that are the same as later ones are counted and left out."""
+    """At the last depth, schedules that lead to the same run as later ones are counted and left out."""
     server.check("same: which are tried", script(server, SAME), (0, SAME_TOLD, ""))
     server.check("same: schedules are small", script(server, SMALL_LEVEL), (0, "200000 True True True True\n", ""))
 
@@ -308,8 +309,8 @@ def options(server):
 
 
 def groups(server):
-    """A schedule that contains the actions of a smaller one belongs to it. What all groups have in common comes
-    first.
+    """A schedule that contains the actions of a smaller one belongs to the group of the smaller one. What all groups
+    have in common comes first.
     """
     ran = subprocess.run([sys.executable, "-S", "-c", GROUPS, TOP], capture_output=True,
                          text=True, timeout=LIMIT)

@@ -14,8 +14,8 @@ from race_finder import replay
 from race_finder_output import script
 from server import LIMIT
 
-# Turns on random steps, and runs a script with arguments. Stores in the file argv[1] each line that is read, the exit
-# status and the fault.
+# Sends `interleave 3`, and runs a script with arguments. Stores in the file argv[1] each line that is read, and the
+# exit status, or the text with which the script exits.
 STORED = """
 import os, runpy, sys
 stored = open(sys.argv[1], "wb")
@@ -52,8 +52,8 @@ stored.write(f"exit status {status}\\n".encode())
 stored.close()
 sys.exit(status)
 """
-# Draws schedules with argv[3], and stores each in the folder argv[4], by places and by names. In every second one, a
-# step of the EEPROM or the PHY is played after each hold. Prints how many deviations are before requests.
+# Draws schedules with the seeds 1 to argv[3], and stores each in the folder argv[4], by places and by names. In every
+# fourth one, a step of the EEPROM or the PHY is played after each hold. Prints how many deviations are before requests.
 DRAWN = """
 import os, sys
 sys.dont_write_bytecode = True
@@ -91,15 +91,15 @@ def command_of(server, test):
 
 
 def taken(server):
-    """What a test has stored."""
+    """What a test has stored. Removes the file."""
     stored = server.get("stored")
     server.remove("stored")
     return stored
 
 
 def direct(server, command, *words):
-    """Runs a test at a server with nothing between: what it stored, and the exit status and the errors of the
-    server.
+    """Runs a test at a server with nothing between. Returns what the test stored, and the exit status and the errors of
+    the server.
     """
     requests, answers = os.pipe(), os.pipe()
     with subprocess.Popen([server.program, "serve", *words], cwd=server.folder, stdin=requests[0], stdout=answers[1],
@@ -114,8 +114,8 @@ def direct(server, command, *words):
 
 
 def by_finder(server, path, command):
-    """Replays a schedule by the finder: what the test stored, and whether the finder reports that all deviations were
-    played.
+    """Replays a schedule by the finder. Returns what the test stored, the finder's reports of deviations that weren't
+    played, and its errors.
     """
     text = server.get(path).decode()
     _, out, errors = replay(server, text, command=command)
@@ -123,7 +123,7 @@ def by_finder(server, path, command):
 
 
 def plays_alike(server, name, path, command):
-    """The finder and the server play a schedule alike."""
+    """The finder and the server play a schedule alike. Returns what the test stored under the finder."""
     told, lacks, errors = by_finder(server, path, command)
     server.check(f"alike: {name}: the finder plays it all", (lacks, errors, told is not None), ([], "", True))
     got, status, errors = direct(server, command, "--schedule", path)
@@ -133,14 +133,14 @@ def plays_alike(server, name, path, command):
 
 
 def first_difference(one, other):
-    """The first lines that differ, with their number; None if there are none."""
+    """The number of the first line that differs, from 0, and both lines; None if the bytes are the same."""
     pairs = [(one or b"").splitlines(), (other or b"").splitlines()]
     at = next((at for at, (left, right) in enumerate(zip(*pairs)) if left != right), min(map(len, pairs)))
     return None if one == other else (at, pairs[0][at:at + 1], pairs[1][at:at + 1])
 
 
 def drawn(server):
-    """Drawn schedules, also before requests and with holds, by places and by names."""
+    """Drawn schedules are played alike, by places and by names. Some have deviations before requests, or holds."""
     faults = set()
     for test in TESTS:
         os.makedirs(server.path("drawn"), exist_ok=True)

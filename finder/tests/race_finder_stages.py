@@ -1,5 +1,5 @@
-"""The finder of races on the tests `stages` and `cuts` of examples/drivers: the table of examples/drivers/README.md,
-and the drivers without a bug.
+"""The finder of races on the tests of examples/drivers: the table of examples/drivers/README.md, and the drivers
+without a bug in `stages` and `cuts`. Also words that name no test or driver.
 """
 
 import os
@@ -20,7 +20,7 @@ HEADING = "| Bug | Test | Options | Seed | Schedule |"
 AGAIN = {"late": ["--explore", "1"], "length": ["--explore", "1"], "masks-late": ["--explore", "1"],
          "cuts": ["--runs", "1"], "rxo": ["--explore", "1"],
          "clears": ["--explore", "1"], "mpc": ["--explore", "1"]}
-# The drivers that have bugs of their own. Those without the bug pass the schedules that show it.
+# For a bug of another driver than `right`: the driver without this bug, which passes the schedule that shows it.
 RIGHT_OF = {"offers-queued": "queue"}
 RIGHT_SEEDS = 20
 # Draws the schedules of the seeds 1 to argv[4] until one fails. Prints this seed, or `none`. Doesn't shrink the
@@ -43,7 +43,7 @@ else:
 
 
 def rows():
-    """The rows of the table: a bug, its test, options of the finder, the seed, and the deviations."""
+    """Yields the rows of the table: a bug, its test, options of the finder, the seed, and the deviations."""
     found = re.search(rf"^{re.escape(HEADING)}\n\|[-|]+\n((?:\|.*\n)+)", read_page("examples", "drivers", "README.md"),
                       re.M)
     for line in found[1].splitlines() if found else ():
@@ -52,15 +52,15 @@ def rows():
 
 
 def first_seed(server, options, seeds, command):
-    """The first seed up to `seeds` that fails, or `none`."""
+    """The first seed up to `seeds` that fails, or `none`; and what the runs wrote to standard error."""
     words = [TOP, server.program, *(options or ["-"]), str(seeds), *command]
     ran = subprocess.run([sys.executable, "-S", "-E", "-c", DRAW, *words], capture_output=True, timeout=10 * LIMIT)
     return ran.stdout.decode().strip(), ran.stderr.decode()
 
 
 def table(server):
-    """Each bug is found first with the seed of its row. Its schedule shows it, and no smaller one does. The right
-    driver passes the schedule.
+    """Each bug is found first with the seed of its row. Its schedule shows it, and no smaller one does. The driver
+    without the bug passes the schedule.
     """
     seen = []
     for bug, test, options, seed, deviations in rows():

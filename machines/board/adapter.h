@@ -49,7 +49,7 @@ void adapter_start(const char *program, uint64_t memory);
 uint32_t adapter_read(uint32_t offset);
 void adapter_write(uint32_t offset, uint32_t value);
 
-/* The adapter's memory. The bytes must be inside of it. */
+/* Whether the adapter's memory has all these bytes. The next two calls need bytes for which this holds. */
 bool adapter_holds(uint64_t address, uint64_t size);
 void adapter_load(uint64_t address, void *into, uint32_t size);
 void adapter_store(uint64_t address, const void *bytes, uint32_t size);
@@ -63,7 +63,7 @@ uint32_t adapter_take_sent(uint8_t *into);
 /* Whether the interrupt line is asserted. */
 bool adapter_line(void);
 
-/* The number of requests to another process so far. */
+/* The number of requests to the adapter's process so far; 0 for the library. */
 uint64_t adapter_requests(void);
 
 #endif

@@ -1,5 +1,5 @@
-/* The adapter in `nicbench serve` (docs/SERVE.md). Stores and writes are sent without waiting for their answers; the
- * answers are read before the next request whose answer matters. */
+/* The adapter in `nicbench serve` (docs/SERVE.md). Stores and writes don't wait for their answers. These are read
+ * later, at the latest before the answer to the next request whose answer matters. */
 #include "adapter.h"
 
 #include <errno.h>
@@ -17,7 +17,7 @@
 enum {
     ANSWER_BYTES = 1 << 18,
     REQUEST_BYTES = 16384,
-    MOST_OWED = 16, /* requests that are sent before their answers are read: they fit into the pipe */
+    MOST_OWED = 16, /* requests that are sent before their answers are read: both fit into their pipes */
     SENT_ROOM = 64
 };
 
@@ -82,7 +82,8 @@ static int digit_of(char letter)
     return letter <= '9' ? letter - '0' : (letter | 32) - 'a' + 10;
 }
 
-/* Stores the bytes in some hexadecimal digits. Returns their number. */
+/* Converts pairs of hexadecimal digits to bytes, at most `room` bytes, and stores them in `into`. Returns the number of
+ * bytes. */
 static uint32_t bytes_of(const char *digits, uint8_t *into, uint32_t room)
 {
     uint32_t size = 0;
@@ -102,7 +103,7 @@ static void keep_sent(const char *digits)
     sent_count++;
 }
 
-/* Reads lines up to an answer. Returns the answer's text after `OK`. */
+/* Reads lines up to an answer. Returns the answer's text after `OK`, or the whole line if it is an error. */
 static char *next_answer(void)
 {
     for (;;) {
@@ -149,7 +150,7 @@ static void post(const char *text, const uint8_t *bytes, uint32_t size)
     asked++;
 }
 
-/* Sends a request, and returns the text of its answer. */
+/* Sends a request, and returns the text of its answer after `OK`. Ends the program if the answer is an error. */
 static char *ask(const char *text, const uint8_t *bytes, uint32_t size)
 {
     char *answer;

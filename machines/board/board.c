@@ -6,9 +6,9 @@
  *   --memory BYTES      the size of the guest's memory
  *   --nicbench PROGRAM  the program of the adapter, for a board that is linked with adapter_serve.c
  *   --rom BYTES         the size of the option ROM that QEMU has for the function (romfile=)
- *   --tap NAME          the wire's other end is a TAP device; otherwise it is the responder
- *   --out FOLDER        steps are drawn in rounds; the trace of the first one that fails, and what rounds reached,
- * are written there
+ *   --tap NAME          the wire's other end is a TAP device; otherwise it is the responder, and with --echo its rounds
+ *   --out FOLDER        steps are drawn in rounds; the trace of the first round that fails, and what rounds reached,
+ *                       are written there
  *   --echo ROUNDS       FIRST,LAST,MOST,STOP: rounds of echo requests (echo_rounds.h)
  *   --seed N            determines the steps
  *   --at-once           nothing is drawn
@@ -111,7 +111,7 @@ static void start(const struct options *options)
         close(files[number]);
 }
 
-/* The driver has accessed memory, and waits. */
+/* The driver has accessed a ring, and waits. */
 static void answer_plugin(void)
 {
     char letter;
@@ -127,7 +127,7 @@ static void answer_plugin(void)
         report("the plugin has ended");
 }
 
-/* Without a seed, the adapter works while the guest runs. Returns whether it has more work. */
+/* If steps aren't drawn, the adapter works while the guest runs. Returns whether it has more work. */
 static bool work(void)
 {
     bool has_more;

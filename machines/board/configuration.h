@@ -5,7 +5,7 @@
 #include <stdbool.h>
 #include <stdint.h>
 
-/* `rom` is the size of the option ROM, rounded up to a power of 2; 0 if there is none. */
+/* `rom` is the size of the option ROM, or 0 if there is none. The space shows the next power of 2, at least 2,048. */
 void configuration_start(uint64_t rom);
 
 /* Reads and writes up to four bytes. Bytes outside of the space read as 0. */
@@ -19,7 +19,7 @@ uint32_t configuration_window(void);
 /* Whether the guest has disabled the interrupt line. */
 bool configuration_disables_interrupt(void);
 
-/* The level of the interrupt line before that, which the status shows. */
+/* Sets the level of the interrupt line that the status shows, also while the guest has disabled the line. */
 void configuration_set_interrupt(bool level);
 
 /* The interrupt that the machine's firmware or the guest has given to the function. */

@@ -56,8 +56,8 @@ static uint64_t address_in(const uint8_t *descriptor)
     return number_at(descriptor, 4) | (uint64_t)number_at(descriptor + 4, 4) << 32;
 }
 
-/* Copies bytes of the guest to the adapter's memory, through a copy that the guest can't change. Bytes that one of
- * them doesn't have aren't copied: the adapter's step decides what follows. */
+/* Copies bytes of the guest to the adapter's memory, through a copy that the guest can't change. If the guest or the
+ * adapter doesn't have all of them, none is copied: the adapter's step decides what follows. */
 static void copy_in(uint64_t address, uint32_t size, uint8_t *copy)
 {
     const uint8_t *bytes = guest_at(address, size);
@@ -68,7 +68,7 @@ static void copy_in(uint64_t address, uint32_t size, uint8_t *copy)
     adapter_store(address, copy, size);
 }
 
-/* Copies bytes that a step wrote to the guest. */
+/* Copies to the guest the bytes that a step wrote. If the guest doesn't have all of them, none is copied. */
 static void copy_out(uint64_t address, uint32_t size)
 {
     uint8_t copy[FRAME_BYTES];

@@ -8,8 +8,10 @@
 /* Makes the memory that is shared with the plugin. Returns its file. */
 int accesses_start(void);
 
-/* A round begins, or was judged: accesses are counted from 0 on, or no more. */
+/* A round begins: its accesses are counted from 0. */
 void accesses_begin(void);
+
+/* A round was judged: the plugin reports no more accesses. */
 void accesses_end(void);
 
 /* The plugin looks at the rings where they are now, also outside of rounds. */
@@ -21,7 +23,7 @@ void accesses_collect(void);
 /* The driver has accessed a register. */
 void accesses_register(bool is_write, uint32_t offset, uint32_t value);
 
-/* The number of accesses so far, as far as they are collected. */
+/* The number of the round's accesses that were collected so far. */
 uint32_t accesses_count(void);
 
 /* The plugin asks the board after this number of further accesses of rings; with 0, it doesn't ask. */

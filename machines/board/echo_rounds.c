@@ -37,15 +37,13 @@ enum {
     ECHO = 8,
     REPLY = 0,
     MOST_REQUESTS = 64,
-    /* Points: from one request of a probe to the next, of the drawn part, until a round is judged without all replies,
-     * and from the last reply to the verdict */
-    PROBE_EVERY = 200,
-    DRAWN_LEAST = 5,
+    PROBE_EVERY = 200, /* points from one request of a probe to the next */
+    DRAWN_LEAST = 5,   /* points of the drawn part, at least; a number below DRAWN_FEW or DRAWN_MANY is added */
     DRAWN_FEW = 20,
     DRAWN_MANY = 200,
-    PATIENCE = 5000,
-    AFTER_LAST = 40,
-    BETWEEN = 30,
+    PATIENCE = 5000, /* points that a round waits for its replies, at most */
+    AFTER_LAST = 40, /* points from the end of this wait to the verdict */
+    BETWEEN = 30,    /* points between two rounds, at most */
     GAP = 20, /* accesses of rings from one point to the next, if steps aren't drawn */
     REPORT_EVERY = 100
 };
@@ -84,7 +82,7 @@ static uint32_t get16(const uint8_t *bytes)
     return (uint32_t)bytes[0] << 8 | bytes[1];
 }
 
-/* Frames that the adapter has counted as missed, or that were lost before they arrived. */
+/* Frames that the adapter missed, that arrived while its receiver was off, or that the wire dropped. */
 static uint64_t counted(void)
 {
     return dma_counts.fates[MISSED] + dma_counts.fates[OFF] + wire_counts.dropped;

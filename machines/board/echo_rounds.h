@@ -1,6 +1,6 @@
 /* Rounds of a sweep without a program in the guest. The wire's other end sends ICMP echo requests, of drawn number and
- * sizes, to 10.0.0.1 and judges the replies. So every driver can be swept whose host answers pings. All is counted in
- * the driver's accesses. */
+ * sizes, to 10.0.0.1 and judges the replies. So every driver can be swept whose host answers pings. Waits are counted
+ * in points (`echo_point`), not in time. */
 #ifndef ECHO_ROUNDS_H
 #define ECHO_ROUNDS_H
 

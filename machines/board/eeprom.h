@@ -1,5 +1,5 @@
 /* EECD (13.4.3 of the manual), which the adapter doesn't have: the wires to a 93C46, over the words that the
- * adapter's EERD reads. It knows the command READ; others do nothing. */
+ * adapter's EERD reads. Of the 93C46's commands, only READ does something. */
 #ifndef EEPROM_H
 #define EEPROM_H
 

@@ -3,7 +3,7 @@
 
 #include <stdint.h>
 
-/* The Internet checksum of some bytes (RFC 1071), after a sum of others. */
+/* The Internet checksum (RFC 1071) of these bytes. `sum` is the sum of the words before them that it covers, or 0. */
 uint16_t internet_checksum(const uint8_t *bytes, uint32_t size, uint32_t sum);
 
 #endif

@@ -8,7 +8,8 @@
 /* `path` is QEMU's socket for qtest. */
 void interrupts_start(const char *path);
 
-/* Sets the pin to the level of the adapter's line. If `waits`, the guest has it when the call returns. */
+/* Sets the pin to the level of the adapter's line, or to 0 if the guest has disabled the interrupt. If `waits`, the
+ * guest has the level when the call returns. */
 void interrupts_update(bool waits);
 
 /* The descriptor of the socket, or -1 before the first change; and what to do when it can be read. */

@@ -88,7 +88,8 @@ void kept_reset(void)
         registers[number].value = registers[number].first;
 }
 
-/* Adds a register's section of the manual and its counts to a text. */
+/* Adds a register to a text, if it was accessed: its name, its section of the manual, and its counts. Returns the
+ * text's length. */
 static size_t put(char *text, size_t used, const struct kept *kept)
 {
     if (kept->reads + kept->writes == 0)

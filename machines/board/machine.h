@@ -10,10 +10,10 @@ enum {
     MACHINE_FILES = 4
 };
 
-/* Runs QEMU with files that get these descriptors, in this order. It ends when the board ends. */
+/* Runs QEMU with files that get these descriptors, in this order. QEMU ends when the board ends. */
 void machine_start(char **words, const int *files);
 
-/* Waits until QEMU has ended. Returns its exit status, or 128 and a signal. */
+/* Waits until QEMU has ended. Returns its exit status, or 128 plus the signal that ended it. */
 int machine_end(void);
 
 /* Ends QEMU. */

@@ -70,7 +70,7 @@ static void take_files(struct msghdr *from)
     memcpy(files, CMSG_DATA(control), file_count * sizeof(int));
 }
 
-/* Reads the rest of some bytes, of which `had` are there. */
+/* Reads the rest of `size` bytes, of which `had` are there. Returns false if the connection ends before. */
 static bool read_rest(int connection, void *into, size_t had, size_t size)
 {
     return had == size || recv(connection, (char *)into + had, size - had, MSG_WAITALL) == (ssize_t)(size - had);
@@ -127,8 +127,8 @@ static void close_files(void)
         close(files[--file_count]);
 }
 
-/* The registers take accesses of four aligned bytes, and so do IOADDR and IODATA. Others read as 0 and change
- * nothing. */
+/* The registers take accesses of four aligned bytes, and so do IOADDR and IODATA. Reads of another form return 0, and
+ * writes of another form change nothing. */
 static bool is_register(const struct bar_message *access, uint32_t begin, uint32_t size, uint32_t *offset)
 {
     *offset = (uint32_t)access->address - begin;

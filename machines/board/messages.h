@@ -5,7 +5,8 @@
 
 #include <stdbool.h>
 
-/* Reads a message from the connection, does what it asks for, and answers. Returns false if QEMU has ended. */
+/* Reads a message from the connection, does what it asks for, and answers if QEMU waits for an answer. Returns false if
+ * QEMU has ended. */
 bool messages_answer(int connection);
 
 #endif

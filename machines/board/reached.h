@@ -26,8 +26,8 @@ void reached_access(uint64_t site);
 /* A step did something after the last access. */
 void reached_step(void);
 
-/* Writes each pair of consecutive accesses: the two sites, how often it was made, and how often with a step in
- * between. */
+/* Writes each pair of consecutive accesses: the two sites, how often the pair was made, and how often with a step
+ * between both. */
 void reached_write(FILE *file);
 
 #endif

@@ -24,7 +24,7 @@ void registers_negotiate(void)
         ;
 }
 
-/* Counts an access, and the register if it is the first one. */
+/* Counts an access, and the register if this is its first access. */
 static void count(uint64_t *accesses, uint32_t offset)
 {
     static bool seen[REGISTER_BYTES / 4];

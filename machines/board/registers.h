@@ -1,4 +1,4 @@
-/* The registers as the guest sees them: the adapter's, EECD, and the board's own. */
+/* The registers as the guest sees them: the adapter's, EECD, those of kept.h, and the board's own. */
 #ifndef REGISTERS_H
 #define REGISTERS_H
 
@@ -8,7 +8,7 @@
 uint32_t registers_read(uint32_t offset);
 void registers_write(uint32_t offset, uint32_t value);
 
-/* The PHY negotiates, and the link is up. */
+/* The PHY negotiates. Then the link is up. */
 void registers_negotiate(void);
 
 /* The machine resets the function. */

@@ -81,7 +81,7 @@ static void answer_arp(uint8_t *frame)
     wire_receive(frame, ARP_END, 0);
 }
 
-/* Adds to an Internet checksum, as if a word of what it covers had become smaller by this (RFC 1624). */
+/* What an Internet checksum becomes after a word that it covers has become smaller by `less` (RFC 1624). */
 static uint32_t adjusted(uint32_t checksum, uint32_t less)
 {
     uint32_t sum = checksum + less;
@@ -118,7 +118,7 @@ static bool is_right(const uint8_t *frame, uint32_t size, const struct round_hea
     return right;
 }
 
-/* Turns the request of a round, with swapped addresses, into a reply. */
+/* Sends reply `number` to a request of a round, in which addresses and ports are swapped already. */
 static void send_reply(const uint8_t *request, const struct round_header *asked, uint32_t number)
 {
     struct round_header header = { asked->round, number, asked->number, 0 };

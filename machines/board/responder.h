@@ -5,8 +5,8 @@
 #include <stdbool.h>
 #include <stdint.h>
 
-/* Answers a frame. Returns false if it has a type that the guest doesn't use, or is a request of a round whose
- * checksums or bytes are wrong. */
+/* Answers a frame. Returns false if it has a size or a type that the guest doesn't use, or is a request of a round
+ * whose checksums or bytes are wrong. */
 bool responder_answer(const uint8_t *frame, uint32_t size);
 
 #endif

@@ -1,4 +1,4 @@
-/* The registers of the adapter's rings, as it last answered for them. */
+/* What the board knows of the adapter's rings: the values that it last read from their registers, RCTL and TCTL. */
 #ifndef RINGS_H
 #define RINGS_H
 
@@ -18,13 +18,13 @@ extern struct ring receive_ring, transmit_ring;
 /* The size of a receive buffer in bytes (RCTL.BSIZE). */
 extern uint32_t receive_buffer_bytes;
 
-/* Reads all these registers again. */
+/* Reads all these registers. */
 void rings_refresh(void);
 
-/* The register at an offset was written: reads it again if it is one of these. */
+/* The register at an offset was written: reads it if it is one of these. */
 void rings_written(uint32_t offset);
 
-/* A step has moved the head of a ring. */
+/* A step has moved the head of a ring: reads the head. */
 void rings_advance(struct ring *ring);
 
 /* Whether the ring offers a descriptor to an engine that is enabled. */

@@ -22,14 +22,15 @@ static uint32_t seed, round_number;
 static uint64_t generator;
 static const char *folder;
 
-/* The round in which only some drawn actions are played, and which; there is no round 0. */
+/* The round in which only some drawn actions are played, and whether each is, by its number. There is no round 0. */
 static struct {
     uint32_t round;
     bool is_played[1 << 16];
 } only;
 
-/* What a round draws first: how often each action is played, the most at a point, at one point in how many, and the
- * most accesses of rings from one point to the next. */
+/* What a round draws first: the weight of each action, and the sum of the weights; the most actions at a point; and the
+ * most accesses of rings from one point to the next. At accesses of registers and in calls of the test program, actions
+ * are drawn with a chance of 1 in `often`. */
 static struct {
     uint32_t weights[ACTIONS], sum, most, often, gap;
 } settings;
@@ -96,7 +97,7 @@ static void draw_settings(void)
     settings.gap = gaps[draw(sizeof gaps)];
 }
 
-/* Frames that may be lost without a miss: the receiver was off, or too many frames waited on the wire. */
+/* Frames that are lost without a miss: they arrived while the receiver was off, or the wire dropped them. */
 static uint64_t excused(void)
 {
     return dma_counts.fates[OFF] + wire_counts.dropped;

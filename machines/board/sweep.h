@@ -1,6 +1,6 @@
 /* The sweep. In a round, steps of the adapter and arrivals are drawn, from the seed and the number of the round, and
- * played between the driver's accesses. Outside of rounds, all steps are played at once. All happens while the guest
- * waits for an answer of the board, so that the guest's run depends only on the seed. */
+ * played between the driver's accesses. Outside of rounds, all steps are played at once. If steps are drawn, the
+ * adapter works only while the guest waits for an answer of the board. So the board's speed doesn't matter. */
 #ifndef SWEEP_H
 #define SWEEP_H
 
@@ -8,11 +8,11 @@
 #include <stdint.h>
 
 /* Rounds may be played. If `drawn`, steps are drawn in them; otherwise each step is played at once. `folder` gets the
- * trace of the first round that fails. */
+ * trace of the first round that fails, and what `sweep_end` writes. */
 void sweep_start(uint32_t seed, const char *folder, bool drawn);
 
-/* In this round, only the drawn actions with these numbers are played. A file has the numbers, which count the round's
- * drawn actions from 1 (trace.h); each number is below 65,536. */
+/* In this round, only the drawn actions with the numbers in the file `path` are played. The numbers count the round's
+ * drawn actions from 1 (trace.h). Numbers from 65,536 on are ignored. */
 void sweep_only(uint32_t round, const char *path);
 
 /* Whether steps are drawn in rounds. */
@@ -28,7 +28,8 @@ void sweep_point(enum point point);
 uint32_t sweep_read(uint32_t offset);
 void sweep_write(uint32_t offset, uint32_t value);
 
-/* Writes what the rounds reached to a file of the folder, and prints the counts. */
+/* If steps are drawn: writes what the rounds reached to the file `reached` of the folder, and prints the counts. If
+ * the last round wasn't judged, it counts as failed, and its trace is written if no round failed before. */
 void sweep_end(void);
 
 #endif

@@ -16,11 +16,11 @@ void trace_to(FILE *file);
 /* A round begins: what was recorded before it isn't kept. */
 void trace_begin(uint32_t round, const char *settings);
 
-/* Writes what was recorded since the round began. */
+/* Writes to a file what was recorded since the round began. */
 void trace_write(const char *path);
 
-/* From now on, steps and arrivals are a drawn action with this number in its round; or, if the number is 0, they are
- * played because the adapter has work. */
+/* Steps and arrivals after this call belong to the drawn action with this number in its round. If the number is 0, they
+ * are played because the adapter has work. */
 void trace_drawn(uint32_t number);
 
 void trace_register(bool is_write, uint32_t offset, uint32_t value);

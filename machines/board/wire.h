@@ -15,8 +15,8 @@ extern struct wire_counts wire_counts;
 typedef bool wire_end(const uint8_t *frame, uint32_t size);
 void wire_start(wire_end *end);
 
-/* A frame comes from the other end, without FCS. It waits until it arrives at the adapter. `number` is shown in
- * traces. */
+/* A frame comes from the other end, without FCS. It waits until it arrives at the adapter, or is dropped if it is too
+ * long or too many wait. `number` is shown in traces. */
 void wire_receive(const uint8_t *frame, uint32_t size, uint32_t number);
 
 /* The number of frames that wait. */
@@ -25,7 +25,7 @@ uint32_t wire_waiting(void);
 /* The oldest of these frames arrives at the adapter. Returns false if none waits. */
 bool wire_arrive(void);
 
-/* Passes the frames that the adapter has sent to the other end. */
+/* Passes to the other end the frames that the adapter has sent. */
 void wire_send(void);
 
 #endif

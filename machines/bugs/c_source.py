@@ -10,7 +10,7 @@ PAIRS = {"(": ")", "{": "}"}
 
 
 class NotFound(Exception):
-    """The source has no such place, or more than one."""
+    """The source doesn't have exactly one such place, or a bracket in it isn't closed."""
 
 
 def without_comments(text: str) -> str:
@@ -35,7 +35,7 @@ class Source:
         self.text = text
 
     def function(self, name: str) -> tuple[int, int]:
-        """The begin and the end of a function's body."""
+        """The places of a function's body: of its first `{`, and after its last `}`."""
         code = without_comments(self.text)
         for found in re.finditer(rf"\b{name}\s*\(", code):
             after = end_of_group(code, found.end() - 1)
@@ -46,7 +46,7 @@ class Source:
         raise NotFound(f"there is no function {name}")
 
     def place(self, function: str, pattern: str) -> tuple[int, int]:
-        """The begin and the end of the only place in a function that matches a pattern."""
+        """Where the only text in a function's body that matches a pattern begins and ends."""
         begin, end = self.function(function)
         found = list(re.finditer(pattern, without_comments(self.text)[begin:end]))
         if len(found) != 1:
@@ -68,12 +68,12 @@ class Source:
         self.replace(end, end, f"\n{text}")
 
     def begin(self, function: str, text: str) -> None:
-        """Inserts declarations at the begin of a function."""
+        """Inserts declarations at the beginning of a function's body."""
         begin, _ = self.function(function)
         self.replace(begin + 1, begin + 1, f"\n{text}")
 
     def change_condition(self, function: str, name: str, change: Callable[[str], str]) -> None:
-        """Changes the condition of the only loop `while` in a function whose condition has a name."""
+        """Changes the condition of the only loop `while` of a function that has this name in its condition."""
         begin, end = self.function(function)
         code = without_comments(self.text)
         loops = [begin + found.end() - 1 for found in re.finditer(r"\bwhile\s*\(", code[begin:end])]

@@ -2,9 +2,9 @@
  *
  *   host EAL-WORDS.. -- PINGS
  *
- * It sends PINGS pings to 10.0.0.2, of 0 to 1,472 bytes, and ends when all are answered, or when no reply comes for
- * some seconds. With 0 it only answers, and doesn't end. Lines that begin with `> ` are for the script that started the
- * guest.
+ * It sends PINGS pings to 10.0.0.2, with 0 to 1,472 bytes of data, and ends when all are answered, or when no reply
+ * comes for 30 seconds. With 0 it only answers, and doesn't end. Lines that begin with `> ` are for the script that
+ * started the guest.
  */
 #include <rte_cycles.h>
 #include <rte_eal.h>
@@ -52,7 +52,7 @@ static void put16(uint8_t *bytes, unsigned value)
     bytes[1] = (uint8_t)value;
 }
 
-/* The Internet checksum of some bytes (RFC 1071): 0 if they contain theirs. */
+/* The Internet checksum of some bytes (RFC 1071): 0 if they contain their right checksum. */
 static unsigned checksum(const uint8_t *bytes, unsigned size)
 {
     uint32_t sum = size & 1 ? (uint32_t)bytes[size - 1] << 8 : 0;
@@ -122,7 +122,7 @@ static void note_reply(const uint8_t *frame, unsigned size)
     counts.wrong += !right;
 }
 
-/* Sends a frame back to the one who sent it. */
+/* Sends a frame back to its sender. */
 static void turn(struct rte_mbuf *buffer, uint8_t *frame)
 {
     memcpy(frame, frame + sizeof own, sizeof own);
@@ -176,7 +176,7 @@ static void handle(struct rte_mbuf *buffer)
     rte_pktmbuf_free(buffer);
 }
 
-/* Starts the adapter. Returns false if that fails. */
+/* Starts the adapter, and waits for the link, at most five seconds. Returns whether the link is up. */
 static bool start(void)
 {
     struct rte_eth_conf none = { 0 };

@@ -11,7 +11,7 @@
 
 enum {
     SOURCE_PORT = 4000,
-    ROOM = 4 << 20, /* of the socket */
+    ROOM = 4 << 20, /* bytes of the socket's receive buffer */
     SECONDS = 1,
     REPORT_EVERY = 100, /* rounds */
     /* How long to wait, in milliseconds, if no further reply comes: while steps are drawn, at the end of the round,
@@ -94,7 +94,8 @@ static void receive_all(void)
         note(data, (uint32_t)size);
 }
 
-/* Waits until `wanted` replies have come, or none for some milliseconds. The board may play steps at each look. */
+/* Waits until `wanted` right replies have come, or no further one comes for `milliseconds`. Returns whether they have
+ * come. The board may play steps at each look. */
 static bool wait_for(uint32_t wanted, unsigned milliseconds, unsigned pause)
 {
     uint32_t last = current.right;
@@ -163,7 +164,7 @@ static void send_requests(void)
     }
 }
 
-/* The replies that weren't missed by the adapter. */
+/* The number of the round's replies without those that BOARD_MISSED counts. */
 static uint32_t expected(void)
 {
     uint32_t missed = reg(BOARD_MISSED);
@@ -202,7 +203,7 @@ static uint32_t verdict(void)
            (reg(BOARD_STOPPED) ? VERDICT_FAULT : 0) | (kernel_log_warnings() ? VERDICT_KERNEL : 0);
 }
 
-/* Prints what was wrong. */
+/* Prints what was wrong, and the numbers of requests and replies. */
 static void explain(uint32_t found)
 {
     static const char *const texts[] = { "replies came only after the watchdog",

@@ -70,7 +70,7 @@ int serve(void)
         { bound(SOCK_DGRAM, GROUP_PORT + 1), POLLIN, 0 },
     };
 
-    prctl(PR_SET_PDEATHSIG, SIGTERM); /* it ends when the board ends */
+    prctl(PR_SET_PDEATHSIG, SIGTERM); /* this process ends when the board ends */
     for (;;) {
         poll(waits, sizeof waits / sizeof *waits, -1);
         if (waits[0].revents)

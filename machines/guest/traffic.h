@@ -28,7 +28,7 @@ struct transfer {
 
 struct sockaddr_in address_of(const char *host, uint16_t port);
 
-/* A socket with a limit of time for each call. Ends the program if there is none. */
+/* A socket with a limit of time for each call. Ends the program if the socket can't be made. */
 int open_socket(int type, unsigned seconds);
 
 /* Monotonic time in seconds; and a pause in microseconds. */

@@ -3,8 +3,8 @@
  * accesses.
  *
  *   -plugin accesses.so,socket=N,log=N,memory=N  descriptors of the board's socket, the shared log, and memory
- *   physical=1                                   any guest: each instruction counts, by physical addresses. Otherwise
- * the guest is Linux, and the driver is its only module
+ *   physical=1                                   any guest: accesses of each instruction, found by physical addresses.
+ *                                                Otherwise the guest is Linux, and the driver is its only module
  *
  * Debian 12 has no package with qemu-plugin.h, so the functions that are used here are declared here.
  */
@@ -78,7 +78,7 @@ static bool is_in_ring(uint64_t address)
     return false;
 }
 
-/* Whether an address is in a ring as far as its place in a page says, which no map changes. */
+/* Whether an address may be in a ring, by its offset in a page: no map changes this offset. */
 static bool may_be_in_ring(uint64_t address)
 {
     for (int ring = 0; ring < ACCESS_RINGS; ring++)

@@ -1,6 +1,6 @@
-/* Memory that the board shares with the plugin, which reports the accesses of the driver to the rings there. A step of
- * the adapter uses no other memory but the buffers of offered slots. No steps are played between two accesses to other
- * memory.
+/* Memory that the board shares with the plugin. In it the plugin reports the driver's accesses to the rings. A step of
+ * the adapter uses only the rings, and the buffers of offered slots. No steps are played between two accesses of the
+ * driver to memory outside of the rings.
  */
 #ifndef ACCESSES_H
 #define ACCESSES_H
@@ -9,7 +9,7 @@
 
 /* A load or a store of the driver in a ring. */
 struct access_record {
-    uint64_t instruction; /* its address */
+    uint64_t instruction; /* the address of the instruction */
     uint64_t address;     /* in the guest's physical memory */
     uint64_t value;       /* after the access; 0 if it isn't known */
     uint32_t size;        /* in bytes */

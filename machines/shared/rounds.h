@@ -11,7 +11,8 @@
 enum {
     BOARD_ROUND = 0x00,   /* write: the round that begins, or 0 at the end of a round; read: the seed */
     BOARD_POKE = 0x04,    /* read: steps may be played; the number of frames that wait to arrive */
-    BOARD_MISSED = 0x08,  /* read: frames of this round that the adapter missed, or that came while it was off */
+    BOARD_MISSED = 0x08,  /* read: frames of this round that the adapter missed, that came while it was off, or that
+                             the wire dropped */
     BOARD_WRONG = 0x0C,   /* read: requests of this round that were wrong on the wire */
     BOARD_STOPPED = 0x10, /* read: engines that a fault has stopped: bit 0 receive, bit 1 transmit */
     BOARD_LOST = 0x14,    /* write: the number of a reply that is missing, before the verdict */
@@ -27,7 +28,7 @@ enum verdict {
     VERDICT_TWICE = 1 << 3,   /* replies that came twice */
     VERDICT_REQUEST = 1 << 4, /* requests with other bytes on the wire */
     VERDICT_FAULT = 1 << 5,   /* an engine of the adapter has stopped */
-    VERDICT_KERNEL = 1 << 6   /* a line in the kernel's log */
+    VERDICT_KERNEL = 1 << 6   /* a warning or an error in the kernel's log */
 };
 
 enum {

@@ -1,4 +1,4 @@
-"""Writes a tree of files as an archive, with the same bytes for the same files and the same moment."""
+"""Writes a tree of files as an archive or a Debian package: the same bytes for the same files and the same moment."""
 
 import gzip
 import io
@@ -8,12 +8,12 @@ import subprocess
 import tarfile
 import tempfile
 
-# What builds and runs leave in folders
+# Names that aren't packed: of what builds and runs make, of tests, and of Git's file
 LEFT = ("out", "__pycache__", "target", "tests", ".gitignore")
 
 
 class Tree:
-    """The files and the links of an archive, by their paths."""
+    """The files and the links of an archive, by their paths; and the paths of those files that are programs."""
 
     def __init__(self):
         self.files, self.links, self.programs = {}, {}, set()
@@ -28,7 +28,7 @@ class Tree:
             self.add(path, file.read(), os.access(source, os.X_OK))
 
     def add_folder(self, source, path):
-        """Adds what is in a folder, without tests and without what builds and runs leave there."""
+        """Adds the files of a folder and of the folders in it, except for the names in LEFT."""
         for folder, folders, names in os.walk(source):
             folders[:] = [name for name in folders if name not in LEFT]
             for name in (name for name in names if name not in LEFT):
@@ -36,7 +36,8 @@ class Tree:
                 self.add_file(os.path.join(folder, name), os.path.join(path, inner))
 
     def write_into(self, folder, moment):
-        """Writes all into a folder."""
+        """Writes all files and links into a folder. `moment` is the time of files and folders, in seconds since 1970.
+        """
         for path, data in self.files.items():
             target = os.path.join(folder, path)
             os.makedirs(os.path.dirname(target), exist_ok=True)
@@ -54,7 +55,7 @@ class Tree:
 
 
 def write_tar(tree, top, target, moment):
-    """Writes a tar.gz with all in the folder `top`."""
+    """Writes a tar.gz with all files and links in the folder `top`. `moment` is their time, in seconds since 1970."""
     with open(f"{target}.new", "wb") as file, gzip.GzipFile("", "wb", 9, file, moment) as packed:
         with tarfile.open(fileobj=packed, mode="w", format=tarfile.PAX_FORMAT) as archive:
             for path in sorted([*tree.files, *tree.links]):
@@ -70,7 +71,9 @@ def write_tar(tree, top, target, moment):
 
 
 def write_deb(tree, control, target, moment):
-    """Writes a Debian package. `control` has its fields, except for the size."""
+    """Writes a Debian package. `control` has its fields, except for the size. `moment` is the time of all files, in
+    seconds since 1970.
+    """
     size = sum(-(-len(data) // 1024) for data in tree.files.values())
     with tempfile.TemporaryDirectory() as folder:
         inner = os.path.join(folder, "package")

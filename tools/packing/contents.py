@@ -14,7 +14,7 @@ FOLDERS = ("docs", "examples", "machines", "bench", "bindings", "crates", "finde
 FILES = ("README.md", "CHANGELOG.md", "LICENSE", os.path.join("tools", "races"), os.path.join("tools", "run_chart"))
 # The site of tools/pages
 SITE = os.path.join("share", "doc", "nicbench", "site")
-# `./nicbench --build` is a line of the pages: here the program is built.
+# The pages have the command `./nicbench --build`. In a release, the program is built already.
 SCRIPT = """#!/bin/sh
 # Runs the program of this release with the given words. `--build` has nothing to do.
 if [ "${1-}" = --build ]; then

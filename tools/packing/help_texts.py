@@ -24,13 +24,15 @@ class Help:
         self.options = self.options_of(self.table("Options") or text)
 
     def table(self, heading):
-        """The indented lines after a heading."""
+        """The indented lines after a heading; an empty text if there is no such heading."""
         found = re.search(rf"^{heading}:\n((?: .*\n)+)", self.text, re.M)
         return found[1] if found else ""
 
     @staticmethod
     def options_of(table):
-        """The options, each with the name of its value or nothing, and with what it does."""
+        """Returns the options by their names without dashes: for each the name of its value, or an empty text, and what
+        it does.
+        """
         found = {}
         for line in table.splitlines():
             left, _, does = line.strip().partition("  ")
@@ -66,7 +68,7 @@ def roff(text):
 
 
 def paragraphs(lines):
-    """The paragraphs: texts are filled, and tables and examples stay as they are."""
+    """Yields the lines of roff for these lines. Texts are filled, and tables and examples keep their lines."""
     block = []
     for line in [*lines, ""]:
         if line.strip():
@@ -84,7 +86,7 @@ def paragraphs(lines):
 
 
 def man_page(text, version, moment):
-    """The page of a help text, in section 1."""
+    """Returns the man page of a help text, in section 1. `moment` is its date, in seconds since 1970."""
     name = text.name.replace(" ", "-")
     date = time.strftime("%Y-%m-%d", time.gmtime(moment))
     # the description comes after the last table
@@ -99,7 +101,7 @@ def man_page(text, version, moment):
 
 
 def man_pages(found, version, moment):
-    """The pages by their file names."""
+    """Returns the man pages of these help texts, by file name."""
     return {f"{text.name.replace(' ', '-')}.1": man_page(text, version, moment) for text in found}
 
 

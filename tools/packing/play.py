@@ -1,4 +1,4 @@
-"""Plays a release in an empty root: the sessions of its README, its library, its man pages, and its Debian package."""
+"""Plays a release, if possible in an empty root: the sessions of its README, its library, and its Debian package."""
 
 import os
 import re
@@ -41,11 +41,11 @@ PACKAGE = [
 
 
 class NotPlayed(Exception):
-    """A session of the release doesn't do what its page shows."""
+    """A command of the release fails, or its output isn't the expected one."""
 
 
 def sessions(page):
-    """The commands of a page, after `$ `, each with the output that the page shows."""
+    """Yields the commands of a page, which are after `$ `, each with the output that the page shows."""
     for block in re.findall(r"^```\n(\$ .*?)^```$", page, re.M | re.S):
         for session in re.split(r"^\$ ", block, flags=re.M)[1:]:
             command, _, output = session.partition("\n")
@@ -59,13 +59,15 @@ def fits(output, shown):
 
 
 def lacks(root, command):
-    """A program that a session needs, if it isn't there."""
+    """Returns a program that a command needs and that isn't there, or None."""
     needed = [program for word, program in NEEDS.items() if word in command]
     return next((program for program in needed if root.run(f"command -v {program}")[0] != 0), None)
 
 
 def play(root, played, tell):
-    """Plays commands, each with its output, or with None for any output. Returns how many were played."""
+    """Plays commands, each with the output that it must have, or with None if it must only succeed. Raises NotPlayed at
+    the first other result. A command whose program is missing isn't played. Returns how many were played.
+    """
     count = 0
     for command, shown in played:
         missing = lacks(root, command)
@@ -80,8 +82,8 @@ def play(root, played, tell):
 
 
 def play_archive(path, tell):
-    """Unpacks an archive, and plays its README and its library: how many commands were played, and whether in a
-    root.
+    """Unpacks an archive. Plays the sessions of its README, and commands that use its library. Returns how many
+    commands were played, and whether in an empty root.
     """
     with tempfile.TemporaryDirectory() as folder:
         with tarfile.open(path) as archive:
@@ -94,7 +96,9 @@ def play_archive(path, tell):
 
 
 def play_package(path, tell):
-    """Plays a Debian package whose files are added to /usr. Returns how many commands were played."""
+    """Plays a Debian package whose files are added to /usr. Returns how many commands were played: 0 if the system
+    refuses an empty root.
+    """
     with tempfile.TemporaryDirectory() as folder:
         subprocess.run(["dpkg-deb", "-x", path, folder], check=True)
         root = Root(folder, os.path.join(folder, "usr"))

@@ -1,7 +1,7 @@
-"""Runs commands in an empty root: nothing but /usr, /proc, /dev, an empty /tmp, and a folder at /release.
+"""Runs commands in an empty root: it has little more than /usr, /proc, /dev, an empty /tmp, and a folder at /release.
 
-This needs namespaces of the system. Where they are refused, commands run in the folder itself. In both cases, the
-environment is empty except for PATH, HOME and LANG, and in a root there is no network.
+This needs namespaces. If the system refuses them, commands run in the folder itself. In both cases, the environment
+contains only PATH, HOME and LANG. In a root, there is no network.
 """
 
 import os
@@ -28,7 +28,7 @@ HOW = {"stdin": subprocess.DEVNULL, "stdout": subprocess.PIPE, "stderr": subproc
 
 
 class Root:
-    """An empty root with a folder. With `usr`, its files are added to those of /usr."""
+    """An empty root with a folder at /release. If `usr` names a folder, its files are added to those of /usr."""
 
     def __init__(self, folder, usr=""):
         self.folder, self.usr = folder, usr

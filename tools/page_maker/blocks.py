@@ -28,13 +28,15 @@ def bare(tokens: list, definition) -> list:
 
 
 def bare_rust(tokens: list, definition) -> list:
-    """Tokens of Rust with the own name in bold, and comments without their marks."""
+    """Tokens of Rust with the own name in bold, and doc comments without their marks."""
     return [(text, None, "own") if found is definition else (re.sub("^/// ?", "", text), found, kind)
             for text, found, kind in tokens]
 
 
 def dedent(tokens: list) -> list:
-    """Tokens without the indent that all lines after the first have in common, but for four signs."""
+    """Tokens without the indent that all lines after the first have in common. Four blanks of it remain, unless a line
+    begins with `)`.
+    """
     lines = "".join(text for text, _, _ in tokens).split("\n")[1:]
     least = min((len(line) - len(line.lstrip()) for line in lines if line.strip()), default=0)
     keep = 0 if any(re.match(r"\s*\)", line) for line in lines) else 4
@@ -51,12 +53,14 @@ def row(left: str, right: str, css: str = "", identity: str = "", below: str = "
 
 
 def nothing_below(_tokens: list) -> str:
-    """What pages without unfolding show below a row."""
+    """What pages without unfolding show below a row: an empty text."""
     return ""
 
 
 class Blocks:
-    """Makes blocks. `after(tokens)` is what a page shows below a row with these tokens."""
+    """Makes blocks. A method's argument `after` is a function: `after(tokens)` is what the page shows below a row with
+    these tokens.
+    """
 
     def __init__(self, site):
         self.site, self.prose = site, Prose(site)
@@ -64,7 +68,7 @@ class Blocks:
     # Heads
 
     def users(self, page, definition) -> str:
-        """Where a definition is used."""
+        """The definitions that use a definition, as a list of links that unfolds; empty if there are none."""
         users = [user for user in definition.used if user.url and user is not definition]
         users.sort(key=lambda user: (user.crate != definition.crate, user.crate, user.name))
         if not users:
@@ -77,14 +81,14 @@ class Blocks:
         return f'<details class="users"><summary>used by {len(users)}</summary><p>{shown}</p></details>'
 
     def source_link(self, page, definition) -> str:
-        """A link to the lines of a definition."""
+        """A link to the line of a definition in its file. For the toolchain, a text with the crate and the line."""
         if definition.kit:
             return f'<span class="at">toolchain: {definition.crate}, line {definition.line}</span>'
         url = f"{self.site.code_address(definition.module)}#L{definition.line}"
         return f'<a class="at" href="{page.relative(url)}">line {definition.line}</a>'
 
     def heading(self, page, definition, kind: str) -> str:
-        """The name of a definition, with its users and its lines."""
+        """The head of a block: the name of a definition, its kind, its users and its line."""
         name = f'<a href="#{quote(definition.id)}">{html.escape(definition.full())}</a>'
         return (f'<div class="head"><h3>{name}</h3><em>{kind}</em><span class="gap"></span>'
                 f"{self.users(page, definition)}{self.source_link(page, definition)}</div>")
@@ -122,8 +126,8 @@ class Blocks:
     # Functions
 
     def function_rows(self, page, function, comment: str, after=nothing_below) -> str:
-        """The rows of a function: a comment next to its signature, its clauses with their headings and edits, and the
-        edits of the whole contract."""
+        """The rows of a function: a comment next to its signature, and its clauses with their headings and edits. After
+        them are the edits that fit no clause, and the functions that prove its outcome."""
         signature, clauses = self.site.linked(function)
         page.skip = set(re.findall(r"(\w+)\s*:", function.text)) | {"self", "result", "true", "false"}
         said = self.prose.block(page, comment, function.scope, function.owner)
@@ -147,7 +151,9 @@ class Blocks:
         return "".join(out) + self.outcome(page, function)
 
     def outcome(self, page, function) -> str:
-        """The functions that make a call twice, and so prove that its contract determines its outcome."""
+        """A line with the functions that make a call twice, and so prove that its contract determines its outcome. It
+        is an empty text if no function does.
+        """
         links = [f'<a href="{page.relative(one.url)}"><code>{one.crate}::{html.escape(one.name)}</code></a>'
                  for one in self.site.twice_of.get(function, [])]
         shown = edits_link(page, "A contract that determines the outcome",
@@ -187,7 +193,9 @@ class Blocks:
     # Types and constants
 
     def type_rows(self, page, item, ids: bool = True) -> str:
-        """The rows of a Rust type: its head, and its fields or variants."""
+        """The rows of a Rust type: its head, and its fields or variants. If `ids` isn't set, a trait has rows for its
+        members.
+        """
         scope, linker = item.scope or item.module.scope, self.site.linker
 
         def code(definition):
@@ -200,7 +208,7 @@ class Blocks:
         return out if ids or item.kind != "trait" else out + self.trait_rows(page, item)
 
     def trait_rows(self, page, item) -> str:
-        """The members of a trait: what each means, and its type or its signature."""
+        """The ghost members and the functions of a trait: what each means, and its type or its signature."""
         out = ""
         for member in item.members.values():
             if member.kind in ("ghost", "fn") and member.module is item.module:

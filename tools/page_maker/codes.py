@@ -24,7 +24,9 @@ class Code(NamedTuple):
 
 
 def read_codes(root: str) -> list[Code]:
-    """The table of codes, in its order. Raises ValueError if a constant has the label of another one."""
+    """The table of codes, in its order. Raises ValueError if a constant has the label of another one, or another form
+    than ENTRY.
+    """
     with open(os.path.join(root, CODES), encoding="utf-8") as file:
         source = file.read()
     out = []
@@ -53,7 +55,7 @@ def help_row(row: Code) -> str:
 def with_codes(source: str, codes: list[Code]) -> str:
     """The source of the help texts with the rows of the table. A row with the same words keeps its line breaks.
 
-    Raises ValueError if the rows aren't those of the table, in its order.
+    Raises ValueError if the codes in the source aren't those of the table, in the table's order.
     """
     rows = {row.code: row for row in codes}
     found = []

@@ -21,7 +21,7 @@ MARK = ".made-by-tools-pages"
 
 
 def kit_folder() -> str:
-    """The folder of the toolchain that is on the PATH; empty if there is none."""
+    """The folder of the toolchain to which `rt`, or the command that RT names, belongs; empty if there is none."""
     rt = shutil.which(os.environ.get("RT", "rt"))
     if rt is None:
         return ""
@@ -34,7 +34,9 @@ def kit_folder() -> str:
 
 
 def make_site(out: str, kit: str) -> Site:
-    """Makes the site in a folder."""
+    """Makes the site in the folder `out`, and returns it. `kit` is the toolchain's folder, or empty for a site without
+    the toolchain's sources.
+    """
     repository = Repository(TOP, kit)
     site = Site(repository, out)
     site.link_all()
@@ -56,7 +58,9 @@ def make_site(out: str, kit: str) -> Site:
 
 
 def clear(out: str):
-    """Removes an older site. A folder with other files is an error."""
+    """Makes an empty folder. If it has the file MARK, removes all that is in it. If it has only other files, ends with
+    an error.
+    """
     if os.path.isdir(out) and os.listdir(out) and not os.path.isfile(os.path.join(out, MARK)):
         sys.exit(f"tools/pages: {out} isn't empty and contains no site; name another folder")
     shutil.rmtree(out, ignore_errors=True)
@@ -64,7 +68,7 @@ def clear(out: str):
 
 
 def arguments() -> argparse.Namespace:
-    """The arguments."""
+    """Reads the arguments of the command line, and returns them."""
     parser = argparse.ArgumentParser(
         prog="tools/pages", description="Makes a site from the sources, or the generated parts of pages.")
     parser.add_argument("folder", nargs="?", default=DEFAULT, help="the site's folder, by default .build/pages")
@@ -75,7 +79,7 @@ def arguments() -> argparse.Namespace:
 
 
 def main() -> int:
-    """Makes the site. Returns the exit status."""
+    """Makes the site, or writes or checks the generated parts of files. Returns the exit status."""
     chosen = arguments()
     if chosen.tables or chosen.check:
         from .tables import write_tables

@@ -18,7 +18,9 @@ class ContractLinker(Linker):
     # Words of specs
 
     def definition(self, definition):
-        """The tokens of the head of a word of specs; and its rows: (member, tokens), or (line, comment, tokens)."""
+        """The tokens of the head of a word of specs, and its rows. A row of a record or of data is (member, tokens). A
+        row of another word is (line, comment, tokens).
+        """
         if definition.kind in ("record", "data"):
             return self.type_definition(definition)
         scope = definition.module.scope
@@ -36,7 +38,7 @@ class ContractLinker(Linker):
         return head, rows
 
     def type_definition(self, definition):
-        """The tokens of a record or of data: its head, and its fields or cases."""
+        """The tokens of the head of a record or of data; and its fields or cases, each as (member, tokens)."""
         scope = definition.module.scope
         types = self.types_of(definition.head, scope)
         head = self.link(definition.head, Context(scope, definition, types))
@@ -55,12 +57,12 @@ class ContractLinker(Linker):
         return head, rows
 
     def types_of(self, text: str, scope) -> dict:
-        """The names that a text binds, with what their types mean."""
+        """The names that a text binds, each with the definition of its type or None."""
         return {name: self.repository.head_of(kind, scope) if kind else None
                 for name, kind in all_binders(text).items()}
 
     def pattern(self, pattern: str, kind: str, scope, types: dict):
-        """Adds the names that a pattern of a type binds."""
+        """Adds to `types` the names that a pattern binds. `kind` is the text of the pattern's type."""
         if not pattern.startswith("("):
             found, known = self.repository.lookup(scope, pattern)
             maker = known and is_constructor(found)
@@ -78,7 +80,7 @@ class ContractLinker(Linker):
             self.made_pattern(inner, scope, types)
 
     def made_pattern(self, inner: list[str], scope, types: dict):
-        """Adds the names that a pattern `(maker a b)` binds."""
+        """Adds to `types` the names that a pattern `(maker a b)` binds. `inner` has the texts `maker`, `a` and `b`."""
         given = self.parts_of(self.repository.dotted(inner[0], scope))
         for at, part in enumerate(inner[1:]):
             if part.startswith("("):
@@ -87,7 +89,7 @@ class ContractLinker(Linker):
                 types[part] = given[at] if at < len(given) else None
 
     def parts_of(self, maker) -> list:
-        """The types of the parts of a case or a variant."""
+        """The types of the parts of a case or a variant, each as a definition or None."""
         repository = self.repository
         if maker is not None and maker.kind == "case":
             arguments = split_arguments(maker.text.partition(" : ")[2])
@@ -102,7 +104,7 @@ class ContractLinker(Linker):
     # Contracts
 
     def function(self, function):
-        """The tokens of a signature, and the clauses: keyword, name, line, tokens."""
+        """The tokens of a signature; and the clauses, each as (keyword, name, line, tokens)."""
         types, returned, inner = self.argument_types(function)
         head = returned.split("<")[0].strip()
         rows = []
@@ -118,7 +120,9 @@ class ContractLinker(Linker):
         return self.rust(function.text, function), rows
 
     def argument_types(self, function):
-        """What the arguments and the result of a function are in contracts; the result's type; and its parts."""
+        """The types that the arguments and `result` of a function have in contracts, by name. Also the text of the
+        result's type, and the texts of that type's arguments.
+        """
         repository, module, self_type = self.repository, function.module, function.scope.self_type
         rest = function.text[re.search(r"\bfn\s+\w+", function.text).end():]
         if rest.startswith("<"):
@@ -154,7 +158,7 @@ class ContractLinker(Linker):
         return [(definition.text[:end], None, "keyword")] * bool(end) + linked
 
     def rust(self, text: str, user):
-        """The tokens of a Rust text: types, keywords and comments."""
+        """The tokens of a Rust text: types, keywords, comments, and the texts between them."""
         out, last = [], 0
         clear = masked(text)
         if "//" in text:

@@ -16,7 +16,7 @@ PARTS_OF_TYPES = ("field", "case", "variant")
 
 @dataclass(eq=False)
 class Definition:
-    """A thing that has a name: a word of specs, a field, a Rust item."""
+    """A thing that has a name: a word of specs, a Rust item, a member of these, or what the prover has built in."""
     kind: str
     name: str
     module: object
@@ -27,19 +27,19 @@ class Definition:
     # The signature of a word of specs, or the head of a record or of data.
     head: str = ""
     owner: object = None
-    # Fields, cases, variants, methods and ghosts by name.
+    # Fields, cases, variants, ghosts, and the methods, constants and types of impls, by name.
     members: dict = field(default_factory=dict)
-    # The clauses of a word of specs: line, comment, text.
+    # The clauses of a word of specs, each as (line, comment, text).
     parts: list = field(default_factory=list)
     public: bool = True
-    # The definitions that use it.
+    # The definitions that use this one, each with the number of its uses.
     used: dict = field(default_factory=dict)
     scope: object = None
-    # The clauses of a contract: keyword, name, text, line.
+    # The clauses of a contract, each as (keyword, name, text, line).
     clauses: list = field(default_factory=list)
-    # The comments above clauses, by the number of the clause below.
+    # The comments above clauses, by the number, from 0, of the clause below.
     headings: dict = field(default_factory=dict)
-    # The bounds of type parameters: name to trait.
+    # The traits that bound type parameters, by the parameters' names.
     generics: dict = field(default_factory=dict)
     # What a type is in contracts: the text of its `ghost Value`, and the scope of this text.
     value: object = None
@@ -59,14 +59,14 @@ class Definition:
         return self.module is None or self.module.kit
 
     def full(self) -> str:
-        """Its name, after that of its type."""
+        """Its name. That of a function, a variant, a constant or a ghost follows the name of its type."""
         if self.owner is not None and self.kind in ("fn", "variant", "const", "ghost"):
             return f"{self.owner.full()}::{self.name}"
         return self.name
 
 
 class Scope:
-    """The ghost imports of a file, an impl or a function, inside those of `outer`."""
+    """The names that a file, an impl, a trait or a function adds for contracts to those of `outer`."""
 
     def __init__(self, module, outer=None):
         self.module, self.outer = module, outer
@@ -74,7 +74,7 @@ class Scope:
         self.self_type, self.operators = None, None
 
     def chain(self):
-        """This scope, and those around it."""
+        """Yields this scope, and those around it."""
         at = self
         while at is not None:
             yield at
@@ -99,7 +99,9 @@ class Module:
         return self.path.split(".", 2)[2].replace(".", "/")
 
     def add(self, definition: Definition, chunk: bool = False):
-        """Adds a definition in order; to the chunks, too, if it is a word of specs."""
+        """Adds a definition to the module. If `chunk` is set, it is a word of specs, and is also added to the module's
+        names and chunks.
+        """
         self.all.append(definition)
         if chunk:
             self.defs[definition.name] = definition

@@ -14,9 +14,9 @@ from .texts import first_sentence
 PATTERNS = ["README.md", "CHANGELOG.md", "docs/*.md", "crates/*/README.md", "examples/*.md", "examples/*/README.md",
             "bench/README.md", "finder/README.md", "machines/README.md"]
 EDITS = "docs/EDITS.md"
-# What the first page shows of README: the paragraph that begins in this way, and the list after it.
+# What the first page shows of README: from the paragraph that begins in this way to the end of its section.
 LIMITS = "The proofs hold only"
-# The search finds the first cell of a row only if the cell has at most this many characters.
+# The search finds a heading or the first cell of a row only if it has at most this many characters.
 LONGEST_FOUND = 60
 
 
@@ -26,7 +26,7 @@ def address(path: str) -> str:
 
 
 class DocPages:
-    """Makes these pages."""
+    """Makes a page of the site from each Markdown page."""
 
     def __init__(self, site, blocks):
         self.site, self.repository, self.prose = site, site.repository, blocks.prose
@@ -67,8 +67,8 @@ class DocPages:
         return f'<a href="{page.relative(url + (f"#{place}" if place else ""))}">{shown}</a>'
 
     def word(self, text: str, crate: str):
-        """The definition that a name in backticks means, or None: one of the page's crate or below, else the only
-        public one of this name."""
+        """The definition that a name in backticks means, or None. `Type::name` means a member of the type. Another name
+        means a definition of the page's crate or below it, or else the only public one or variant of all crates."""
         name = text.rstrip("()").replace(".", "::") if re.fullmatch(r"[A-Z]\w*\.\w+", text) else text.rstrip("()")
         if not re.fullmatch(r"[\w:]+", name) or not (re.search(r"[a-z]", name) and re.search(r"[A-Z_]", name)):
             return None
@@ -118,9 +118,10 @@ class DocPages:
     # Pages
 
     def sections(self) -> list[tuple[str, str, str, str]]:
-        """What the search finds in pages: headings, and the first cells of rows with the heading before them.
+        """What the search finds in pages: headings, and the first cells of rows.
 
-        Each has a text, a kind, its page, and a link.
+        For each, its text, its kind (section or row), and the page. The last part is the address of the heading, or of
+        the last one above the row.
         """
         rows = {}
         for path in self.paths:
@@ -136,12 +137,12 @@ class DocPages:
         return list(rows.values())
 
     def title(self, path: str) -> str:
-        """The heading of a page."""
+        """The first heading `#` of a page, or the page's path if it has none."""
         found = re.search(r"^# (.*)$", self.texts[path], re.M)
         return re.sub(r"`", "", found[1]) if found else path
 
     def make(self):
-        """Makes all pages."""
+        """Makes all pages, and the list of them."""
         for path in self.paths:
             page = Page(address(path))
             body = f'<article class="page">{self.html_of(page, path, self.texts[path])}</article>'
@@ -155,7 +156,9 @@ class DocPages:
         self.list_page()
 
     def picture(self, page, path: str) -> str:
-        """The beginning of a picture's tag, with the way from a page to the pictures of its folder."""
+        """Copies the pictures of a page to the site. Returns the beginning of a picture's tag, with the way from the
+        page to their folder.
+        """
         folder = os.path.dirname(path)
         for name in re.findall(r"!\[[^\]]*\]\(([^)\s]+)\)", self.texts[path]):
             source = os.path.normpath(os.path.join(folder, name))
@@ -165,7 +168,7 @@ class DocPages:
         return f'<img src="{page.relative(folder + "/" if folder else "")}'
 
     def list_page(self):
-        """The list of all pages but those of crates, each with its first sentence."""
+        """Writes the list of all pages but those of crates, each with its heading and its first sentence."""
         page, rows = Page("pages.html"), []
         for path in (path for path in self.paths if not path.startswith("crates/")):
             rest = re.sub(r"^```.*?^```$", "", COMMENT.sub("", self.texts[path]), flags=re.M | re.S)
@@ -178,7 +181,7 @@ class DocPages:
                         f'<h1>Pages</h1><dl class="crates">{"".join(rows)}</dl>')
 
     def limits(self, page) -> str:
-        """What isn't proved: a paragraph of README, and the list after it."""
+        """What isn't proved: README from the paragraph LIMITS to the end of its section."""
         begin = self.texts["README.md"].index(LIMITS)
         return self.html_of(page, "README.md", self.texts["README.md"][begin:].partition("\n## ")[0])
 

@@ -1,7 +1,7 @@
 """Edits that the prover must refuse: crates/CRATE/must-fail/EDIT.edit.
 
-Besides what `rt` reads, an edit has two lines. `rule: TEXT` is the rule that it shows. `of: CALL, ..` names the public
-calls or types whose contracts state the rule. `CALL/CLAUSE` also names the clause.
+Besides what `rt` reads, an edit has two lines that are read here. `rule: TEXT` is the rule that it violates. `of: CALL,
+..` names the public calls or types whose contracts state the rule. `CALL/CLAUSE` also names the clause.
 """
 
 import os
@@ -22,12 +22,12 @@ class Edit:
     changes: list = field(default_factory=list)
 
     def calls(self) -> list[tuple[str, str]]:
-        """The calls or types that it names, each with its clause or an empty text."""
+        """The calls or types that the edit names, each with the name of a clause or an empty text."""
         return [call.partition("/")[::2] for call in self.of]
 
 
 def read_edit(crate: str, path: str) -> Edit:
-    """Reads the file of an edit."""
+    """Reads the file of an edit, and returns the edit."""
     edit, file, old = Edit(crate, os.path.basename(path)[:-len(".edit")]), "", ""
     with open(path, encoding="utf-8") as source:
         for line in source.read().split("\n"):
@@ -46,7 +46,7 @@ def read_edit(crate: str, path: str) -> Edit:
 
 
 def read_edits(root: str, crates) -> list[Edit]:
-    """All edits, in the order of crates, then of names."""
+    """All edits of these crates, in the order of crates, then of names."""
     edits = []
     for crate in crates:
         folder = os.path.join(root, "crates", crate, "must-fail")
@@ -56,7 +56,9 @@ def read_edits(root: str, crates) -> list[Edit]:
 
 
 def target(repository, crate: str, call: str):
-    """The definition that an `of:` line of a crate names: one of this crate, or else the only `TYPE::CALL` of all."""
+    """The definition that an `of:` line of a crate names, or None. It is the only one of this name in the crate, or
+    else the only `TYPE::CALL` of all crates.
+    """
     kin, _, name = call.rpartition("::")
     for at in (crate, None) if kin else (crate,):
         found = [one for one in repository.by_name.get(kin or name, [])
@@ -71,7 +73,7 @@ def target(repository, crate: str, call: str):
 
 
 def only_call(repository, crate: str, call: str):
-    """The definition of a call that a function of this crate makes, or None if it isn't the only one."""
+    """The definition of a call that a comment of this crate names, or None if there isn't exactly one."""
     kin, _, name = call.rpartition("::")
     if kin and kin not in repository.crates:
         return target(repository, crate, call)
@@ -81,7 +83,9 @@ def only_call(repository, crate: str, call: str):
 
 
 def made_twice(repository) -> dict:
-    """The calls whose contract determines the outcome, each with the functions that prove this: they make it twice."""
+    """The calls whose contract determines the outcome, each with the functions of other crates that prove this by
+    making the call twice.
+    """
     out = {}
     for module in repository.own():
         for function in module.all if module.rust else ():

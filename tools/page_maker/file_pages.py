@@ -21,18 +21,18 @@ class FilePages:
             self.code_page(module)
 
     def crumbs(self, module, name: str) -> list:
-        """The way to a module's page."""
+        """The names on the way to a module's page, each with an address or None."""
         crate = (f"toolchain: {module.crate}", None) if module.kit else (module.crate, f"{module.crate}/index.html")
         return [(HOME, "index.html"), crate, (name, None)]
 
     def contents(self, page, definitions: list) -> str:
-        """The names of a page, if they are many."""
+        """Links to the definitions of a page, if there are more than three."""
         if len(definitions) <= 3:
             return ""
         return f'<p class="toc">{" ".join(self.site.anchor(page, one, one.full()) for one in definitions)}</p>'
 
     def intro(self, page, text: str, scope) -> str:
-        """A comment that belongs to no definition."""
+        """A comment that belongs to no definition, as HTML. A numbered title at its beginning becomes a heading."""
         section = re.match(r"(\d+\. [^.\n]+)\.\s*(.*)", text, re.S)
         if not section:
             return f'<div class="intro">{self.prose.block(page, text, scope)}</div>'
@@ -41,7 +41,7 @@ class FilePages:
         return f"<h2>{self.prose.inline(page, section.group(1), scope)}</h2>{said}"
 
     def spec_page(self, page, module):
-        """The words of a file of specs."""
+        """Writes the page of a file of specs: its words, with the comments between them."""
         shown = [one for one in module.all if one.url and (one.public or not module.kit)]
         body = [f"<h1>{html.escape(module.name)} <small>words of {module.crate}</small></h1>",
                 self.intro(page, module.head, module.scope) if module.head else "", self.contents(page, shown)]
@@ -56,7 +56,7 @@ class FilePages:
         self.site.write(page, f"{module.name} · {module.crate}", self.crumbs(module, module.name), "".join(body))
 
     def rust_page(self, page, module):
-        """The items of a file of code: the public ones first."""
+        """Writes the page of a file of code: its items, the public ones first."""
         name = module.name + ".rt"
         shown = sorted((one for one in module.all if one.id), key=lambda one: (not one.public, one.line))
         public = [one for one in shown if one.public and one.kind != "ghost"]
@@ -75,7 +75,7 @@ class FilePages:
         self.site.write(page, f"{name} · {module.crate}", self.crumbs(module, name), "".join(body))
 
     def code_page(self, module):
-        """The text of a file, with line numbers."""
+        """Writes the page with the text of a file, with line numbers."""
         page, mark = Page(self.site.code_address(module)), "//" if module.rust else "--"
         lines = []
         for number, line in enumerate(module.text.rstrip("\n").split("\n"), 1):

@@ -1,4 +1,7 @@
-"""Links the names in texts to their definitions: by type, or not at all."""
+"""Links the names in texts to their definitions: names by their scope, and fields by the type of their record.
+
+A name whose definition isn't known gets no link.
+"""
 
 import re
 
@@ -20,7 +23,8 @@ class Context:
     """What is known at the place of a text."""
 
     def __init__(self, scope, user=None, types=None, generics=None, own=None):
-        # The types of local names; the bounds of type parameters; the fields of the record that the text is part of.
+        # `types` has the types of local names, and `generics` the bounds of type parameters. `own` has the fields of
+        # the record to which the text belongs.
         self.scope, self.user = scope, user
         self.types, self.generics, self.own = dict(types or {}), generics or {}, own or {}
 
@@ -39,7 +43,7 @@ class Linker:
         return found
 
     def lost(self, name: str, how: str, fields: bool = False):
-        """Counts a name that isn't linked."""
+        """Counts a name that isn't linked. `how` is the reason, and `fields` is set for the name of a field."""
         self.repository.counts[how] += 1
         (self.repository.ambiguous if fields else self.repository.missing)[name] += 1
 
@@ -112,12 +116,12 @@ class Linker:
         return self.repository.head_of(member.text.partition(" : ")[2], member.module.scope)
 
     def returned(self, definition):
-        """What the type of a word's result means."""
+        """The definition of the type of a word's result, or None."""
         given = split_arguments((definition.head or definition.text).partition(" : ")[2])
         return self.repository.head_of(given[-1][1], definition.module.scope) if given else None
 
     def ghost_result(self, definition):
-        """What the type of a ghost member's result means."""
+        """The definition of the type of a ghost member's result, or None."""
         found = re.search(r"\{\s*(.*?)\s*\}", definition.text, re.S)
         if definition.kind != "ghost" or not found:
             return None
@@ -125,7 +129,9 @@ class Linker:
         return self.repository.head_of(given[-1][1], definition.scope) if given else None
 
     def result_type(self, tokens: list[Token], context: Context):
-        """The type of an application in parentheses, by what its first name returns."""
+        """The type of a text in parentheses: of a local name, of a field, or of what the first name returns. None if it
+        isn't known.
+        """
         found = None
         for text, definition, kind in tokens:
             if definition is not None and definition.kind not in ("field", "ghost"):
@@ -182,7 +188,7 @@ class Linker:
         return word, None, "unknown"
 
     def trait_member(self, scope, word: str):
-        """The member of the type or trait around a scope that has this name, or None."""
+        """The member with this name of the type or trait around a scope, or of the traits above it; or None."""
         for at in scope.chain():
             kin = self.repository.rust_name(at.module, at.self_type) if at.self_type and at.module.rust else None
             if kin is None:
@@ -196,7 +202,7 @@ class Linker:
     # Paths
 
     def path(self, word: str, context: Context) -> list[Token]:
-        """The tokens of a word with dots: a name with fields, or a name of a module."""
+        """The tokens of a word with dots: a name with fields, a name in a module, or a Rust item with its members."""
         repository, scope = self.repository, context.scope
         whole = repository.dotted(word, scope) if word.startswith("Rattle.") else None
         if whole is not None:
@@ -222,7 +228,9 @@ class Linker:
         return [(head, found, "name"), *self.fields(rest, kind, context)]
 
     def local_head(self, head: str, rest: list[str], context: Context):
-        """For a local name, a type parameter or Self: its field or None, and its type. None for other names."""
+        """For the name of a local, of an own field, of a type parameter, or Self: the field or None, and the type. None
+        for other names.
+        """
         repository, module = self.repository, context.scope.module
         if head in context.types or head in context.own:
             repository.counts["local"] += 1
@@ -240,7 +248,9 @@ class Linker:
         return None, kind
 
     def in_module(self, word: str, alias: str, context: Context) -> list[Token]:
-        """The tokens of a name in a module that has a short name here."""
+        """The tokens of a word with dots that begins with the short name of a module. `alias` is the path of this
+        module.
+        """
         head, name, *rest = word.split(".")
         found = self.repository.find(alias, name)
         if found is None:
@@ -250,7 +260,7 @@ class Linker:
         return [(head, None, "local"), (".", None, ""), (name, found, "name"), *self.fields(rest, None, context)]
 
     def item_path(self, head: str, rest: list[str], item, context: Context) -> list[Token]:
-        """The tokens of a Rust item with members."""
+        """The tokens of a Rust item, named `head`, and of the names of its members after it."""
         out = [(head, self.use(context.user, item, "name"), "name")]
         for name in rest:
             item = item.members.get(name) if item is not None else None

@@ -28,15 +28,15 @@ def cells(line: str) -> list[str]:
 
 
 class Markdown:
-    """Makes HTML of a page. `code(text, line)` makes HTML of a text in backticks in a row of a table or another line,
-    and `link(target, html)` of a link.
+    """Makes HTML of a page. `code(text, row)` makes HTML of a text in backticks; `row` is the row of a table that
+    contains it, or empty. `link(target, html)` makes HTML of a link.
     """
 
     def __init__(self, code, link):
         self.code, self.link, self.row = code, link, ""
 
     def inline(self, text: str) -> str:
-        """A text in a line."""
+        """HTML of a text without blocks: of a paragraph, a heading, a cell or an item."""
         out, at = [], 0
         for found in PIECES.finditer(text):
             out.append(html.escape(text[at:found.start()], False))
@@ -45,7 +45,7 @@ class Markdown:
         return "".join(out) + html.escape(text[at:], False)
 
     def piece(self, found) -> str:
-        """Code, a picture, a link, or bold or italic text."""
+        """HTML of code, of a picture, of a link, or of bold or italic text."""
         if found["code"]:
             return self.code(found["code"][1:-1], self.row)
         if found["picture"]:
@@ -57,14 +57,16 @@ class Markdown:
         return f"<{tag}>{self.inline(found['bold'] or found['italic'])}</{tag}>"
 
     def page(self, text: str) -> str:
-        """A whole page, or a part of it."""
+        """HTML of a whole page, or of a part of it."""
         lines, out, at = COMMENT.sub("", text).split("\n"), [], 0
         while at < len(lines):
             at = self.block(lines, at, out)
         return "".join(out)
 
     def block(self, lines: list[str], at: int, out: list[str]) -> int:
-        """One block: appends its HTML, and returns the number of the line after it."""
+        """Appends to `out` the HTML of the block that begins at the line `at`. Returns the number of the line after it,
+        from 0.
+        """
         line = lines[at]
         if not line.strip():
             return at + 1

@@ -5,19 +5,21 @@ import re
 
 
 def read_notation(root: str) -> str:
-    """The section of the page."""
+    """The section `Notation` of the page."""
     with open(os.path.join(root, "docs", "CONTRACTS.md"), encoding="utf-8") as file:
         return file.read().partition("\n## Notation\n")[2].partition("\n## ")[0].strip()
 
 
 def table_rows(block: str) -> list[list[str]]:
-    """The cells of the rows of a table."""
+    """The cells of each row of a table, its head included."""
     return [[cell.replace("\\|", "|") for cell in line.strip("| ").split(" | ")]
             for line in block.split("\n") if not line.startswith("|---")]
 
 
 def meanings(section: str) -> dict[str, str]:
-    """What signs and words mean: each example, with its meaning. A row with several examples has a meaning for each."""
+    """What signs and words mean: for each, its first example with the meaning. A row of several examples counts if it
+    has a meaning for each.
+    """
     found = {}
     section = re.sub(r"\[([^\]]+)\]\([^)]*\)", r"\1", section)
     for block in section.split("\n\n"):

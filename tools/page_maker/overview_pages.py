@@ -38,7 +38,7 @@ class OverviewPages:
         return [module for module in self.repository.own() if module.crate == crate]
 
     def crate_page(self, crate: str):
-        """A crate: its purpose, its calls, its words."""
+        """Writes the page of a crate: its purpose, its calls, its words and its files."""
         page, lib = Page(f"{crate}/index.html"), self.repository.lib(crate)
         said = self.prose.block(page, lib.head, lib.scope) if lib else ""
         body = [f'<h1>{crate}</h1><div class="intro">{said}</div>']
@@ -72,7 +72,7 @@ class OverviewPages:
         return f"<h2>Calls</h2>{''.join(out)}" if out else ""
 
     def call_list(self, page, functions: list) -> str:
-        """Calls, each with its first sentence and the names of its clauses."""
+        """Calls, each with its signature, its first sentence and the names of its clauses."""
         rows = []
         for one in functions:
             clauses = " ".join(f'<span class="{keyword}">{html.escape(name or keyword)}</span>'
@@ -84,7 +84,7 @@ class OverviewPages:
         return f'<dl class="calls">{"".join(rows)}</dl>' if rows else ""
 
     def words(self, page, crate: str) -> str:
-        """The words that a crate defines, by file."""
+        """The public words that a crate defines, by file."""
         out = []
         for module in sorted((one for one in self.mine(crate) if not one.rust and one.all), key=lambda one: one.path):
             said = self.prose.inline(page, first_sentence(module.head), module.scope)
@@ -97,7 +97,7 @@ class OverviewPages:
         return f"<h2>Words</h2>{''.join(out)}" if out else ""
 
     def files(self, page, crate: str) -> str:
-        """The files of a crate."""
+        """Links to the code of the files of a crate."""
         links = ""
         for module in self.mine(crate):
             name = html.escape(f'{module.path.split(".", 2)[1]}/{module.name}')
@@ -107,8 +107,8 @@ class OverviewPages:
     # The first page
 
     def first_page(self, statements: list, docs):
-        """The statements, what isn't proved, the pages, and the crates by layer. `statements`: the address, the call,
-        the title and the number of definitions of each.
+        """Writes the first page: the statements, what isn't proved, the pages, and the crates by layer. A statement is
+        an address, a call, a title and a number of definitions.
         """
         page = Page("index.html")
         body = ['<h1>nicbench</h1><p class="sentence">A driver, a model of the Intel 82540EM, and networks of them. '
@@ -133,7 +133,7 @@ class OverviewPages:
         self.site.write(page, HOME, [(HOME, None)], "".join(body))
 
     def page_links(self, page, docs) -> str:
-        """Links to the pages of docs, and to the list of all pages."""
+        """Links to README, to the pages of docs, and to the list of pages."""
         shown = [path for path in docs.paths if path.startswith("docs/") or path == "README.md"]
         links = [f'<a href="{page.relative(docs.target(path))}">{path.removeprefix("docs/").removesuffix(".md")}</a>'
                  for path in shown]
@@ -142,7 +142,7 @@ class OverviewPages:
     # Notation and names
 
     def notation_page(self):
-        """The notation of contracts, from docs/CONTRACTS.md."""
+        """Writes the page of the notation of contracts, from docs/CONTRACTS.md."""
         page, body = Page(NOTATION), ["<h1>Notation</h1>"]
         for block in read_notation(self.repository.root).split("\n\n"):
             text = plain_markdown(block)
@@ -154,7 +154,9 @@ class OverviewPages:
         self.site.write(page, "Notation", [(HOME, "index.html"), ("notation", None)], "".join(body))
 
     def names_page(self, docs):
-        """The index of names, and what the search looks in: names, and headings and rows of the pages in `docs`."""
+        """Writes the index of names, and the file in which the search looks: names, and headings and rows of the pages
+        in `docs`.
+        """
         rows = []
         for module in self.repository.own():
             rows += [(one.full(), KINDS.get(one.kind, one.kind), one.crate, one.url) for one in module.all

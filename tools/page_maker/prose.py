@@ -21,7 +21,7 @@ class Prose:
     # What a name in backticks means
 
     def binders(self, definition) -> set:
-        """The names that a word of specs binds itself."""
+        """The names that a word of specs binds."""
         if definition not in self.binder_cache:
             found = set(all_binders(definition.text))
             for _, _, text in definition.parts:
@@ -61,7 +61,10 @@ class Prose:
         return None
 
     def only_one(self, word: str, crate: str):
-        """The only public definition of a name in a crate, or else in the crates below it."""
+        """The only public definition of a name in a crate, or else in the crate and those below it; or None. If there
+        are several, fields, cases, variants and ghosts don't count. A name without a capital first letter or `_` means
+        only a word of specs of the crate itself.
+        """
         telling = word[0].isupper() or "_" in word
         found = [one for one in self.repository.by_name.get(word, [])
                  if one.url and one.public and one.crate in self.repository.below(crate)
@@ -85,7 +88,7 @@ class Prose:
         return f"<code>{''.join(out)}</code>"
 
     def piece(self, part: str, page, scope, owner) -> str:
-        """A link, a text in backticks, or a text."""
+        """HTML of a link, of a text in backticks, or of another text."""
         link = LINK.fullmatch(part)
         if link:
             shown = link.group(1).strip("`")
@@ -101,7 +104,7 @@ class Prose:
         return "".join(self.piece(part, page, scope, owner) for part in PIECES.split(text))
 
     def block(self, page, text: str, scope, owner=None) -> str:
-        """Prose of several paragraphs: also headings, lists and code."""
+        """Prose of several paragraphs: also headings, lists, tables and code."""
         out = []
         for block in re.split(r"\n\s*\n", text.strip("\n")) if text.strip() else ():
             lines = block.split("\n")

@@ -3,14 +3,14 @@
 A quote is between the lines `<!-- words quoted by tools/pages --tables: NAMES -->` and `<!-- end of quote -->`. It is a
 table of the words with their comments; with `code` in place of `words`, it is the text of the definitions. NAMES are
 words such as `wire/Equations: MeetsEquations HostStands`, for definitions of wire/specs/Equations.antt. A field is
-`MeetsEquations.sent_is_accepted`. A name that isn't there, or for a table one without a comment, is an error.
+`MeetsEquations.sent_is_accepted`. A name that isn't there is an error. So is a word without a comment in a table.
 """
 
 import re
 
 QUOTE = re.compile(r"^<!-- (words|code) quoted by tools/pages --tables:\s+([^>]*?)\s*-->\n", re.M)
 END = "<!-- end of quote -->"
-# The marks that a quoted definition goes without.
+# The marks that are removed from a quoted definition.
 MARKS = re.compile(r"\b(?:pub|abbrev|unfoldable) ")
 
 
@@ -63,7 +63,9 @@ def code(repository, names: str) -> str:
 
 
 def with_quotes(repository, text: str) -> str:
-    """A page's text with its quotes made again. Raises ValueError if a name or the end of a quote is missing."""
+    """A page's text with its quotes made again. Raises ValueError if a name, a comment for a table, or the end of a
+    quote is missing.
+    """
     at = 0
     while (mark := QUOTE.search(text, at)) is not None:
         end = text.find(END, mark.end())

@@ -9,7 +9,7 @@ FIELD = re.compile(r"\s*([^\s(){}=;.]+)((?:\.[^\s(){}=;]+)?)\s+=\s")
 
 
 def field_names(text: str, opening: int) -> list[tuple[str, int, str]]:
-    """The names of fields inside the brace at `opening`: for each its place, and the path after it."""
+    """The fields that the brace at `opening` names: for each its name, its place in the text, and the path after it."""
     depth, names = 0, []
     for at in range(opening, len(text)):
         sign = text[at]
@@ -24,7 +24,9 @@ def field_names(text: str, opening: int) -> list[tuple[str, int, str]]:
 
 
 def kind_of(names: list, fields: dict, scope):
-    """The only record that has all of these fields, nearest to the scope; None if there isn't exactly one."""
+    """The record that has all of these fields. Of several, those with no other fields are preferred, then those in
+    scope, then those of the crate. None if not exactly one remains.
+    """
     owners = [{field.owner for field in fields.get(name, [])} for name, _, _ in names]
     kinds = set.intersection(*owners) if owners else set()
     imported = {name for at in scope.chain() for name in at.imports}
@@ -40,7 +42,9 @@ def kind_of(names: list, fields: dict, scope):
 
 
 def made_fields(text: str, fields: dict, scope) -> dict:
-    """For the place of each field that a `record { .. }` names: its definition, or None if that isn't certain."""
+    """For the place of each field that a `record { .. }` names without a path after it: the field's definition, or
+    None if that isn't certain.
+    """
     made = {}
     for found in RECORD.finditer(text):
         names = field_names(text, found.end() - 1)

@@ -3,7 +3,7 @@
 import re
 from dataclasses import dataclass
 
-# The registers of rings, by the part that specs name.
+# The names of rings' registers: a letter by the ring, and the rest by the part, as specs name them.
 RINGS = {"Receive": "R", "Transmit": "T"}
 RING_PARTS = {"BaseLow": "DBAL", "BaseHigh": "DBAH", "Length": "DLEN", "Head": "DH", "Tail": "DT"}
 TABLE, KEPT = "adapter.specs.Table", "registers.specs.Kept"
@@ -28,7 +28,7 @@ class Register:
 
 
 def clauses(repository, module: str, name: str) -> list[tuple[str, str, str]]:
-    """The clauses of a word of specs: for each the pattern, the result, and the comment above it."""
+    """The clauses of a word of specs: for each the pattern, the result, and the comment above the clause."""
     out = []
     for _, comment, text in repository.modules[module].defs[name].parts:
         left, _, right = text.partition(" = ")
@@ -53,7 +53,7 @@ def arguments(text: str) -> list[str]:
 
 
 def written_rules(repository) -> dict[str, str]:
-    """The rules that the table above the offsets of the code states, by register."""
+    """The rules that the table in the comment of adapter/src/offsets.rt states, by register."""
     rules = {}
     for line in repository.modules["adapter.src.offsets"].text.splitlines():
         cells = [cell.strip() for cell in line.removeprefix("//! ").strip("|").split("|")]
@@ -73,7 +73,7 @@ def ring_registers(repository, way: str, text: str) -> list[Register]:
 
 
 def fields_of(repository, text: str) -> tuple[str, object, object]:
-    """The offset, the kept bits or None, and the reset value of a row of the table."""
+    """The offset as a text, the kept bits or None, and the reset value, of a row of the table."""
     if text.startswith("record"):
         offset, kept, reset = re.search(r"offset = ([^;]+); kept = Some ([^;]+); reset = (\w+)", text).groups()
         comment = repository.modules[TABLE].defs[reset].comment
@@ -101,7 +101,7 @@ def registers(repository) -> list[Register]:
 
 
 def causes(repository) -> list[tuple[str, int]]:
-    """The interrupt causes with the places of their bits, which the text at `all_causes` lists."""
+    """The interrupt causes with the places of their bits, which the comment at `all_causes` lists."""
     comment = " ".join(repository.modules[KEPT].defs["all_causes"].comment.split()).rpartition("): ")[2]
     listed = [(name, int(place)) for name, place in re.findall(r"([A-Z0-9]+) (\d+)", comment)]
     if sum(1 << place for _, place in listed) != number(repository, "all_causes"):
@@ -121,7 +121,7 @@ def place_text(register: Register) -> str:
 
 
 def name_text(register: Register) -> str:
-    """The name of a register, and the number of those of an array."""
+    """The name of a register; for an array also its size, or the range of n."""
     if register.count == 1:
         return register.name
     if register.step == 4:
@@ -130,7 +130,7 @@ def name_text(register: Register) -> str:
 
 
 def register_table(repository) -> str:
-    """The table of registers. Registers with the same kept bits, rule and reset value share a row."""
+    """The table of registers."""
     rows = {}
     for register in registers(repository):
         kept = [f"0x{register.kept:08X}"] if register.kept is not None else []
@@ -138,7 +138,7 @@ def register_table(repository) -> str:
         reset = str(register.reset)
         if isinstance(register.reset, int) and register.reset > 9:
             reset = f"0x{register.reset:0{4 if register.reset < 1 << 16 else 8}X}"
-        # The two registers of a part of a ring share a row, and all registers with the same rule.
+        # Registers with the same cells share a row if they are one part of both rings, or have no mask of kept bits.
         same = register.name[1:] if register.name[1:] in RING_PARTS.values() else register.name
         group = (cell, reset, "" if register.kept is None else same)
         rows.setdefault(group, []).append((place_text(register), name_text(register)))
@@ -173,7 +173,7 @@ def rust_offsets(repository) -> str:
 
 
 def wrapped(items: list[str], indent: str, limit: int = 118) -> str:
-    """Items after commas, in lines of at most `limit` signs."""
+    """These items, each with a comma after it, in lines of at most `limit` characters unless one item is longer."""
     lines = [indent]
     for item in items:
         if len(lines[-1]) + len(item) + 2 > limit:
@@ -183,7 +183,7 @@ def wrapped(items: list[str], indent: str, limit: int = 118) -> str:
 
 
 def report_order(register: Register) -> tuple:
-    """The order in which the finder reports registers: single ones, those of rings, words of tables, pairs."""
+    """The key by which the finder sorts registers: single ones, those of rings, words of tables, pairs."""
     of_ring = register.name[1:] in RING_PARTS.values()
     return (register.step, of_ring, register.offset) if register.step < 8 else (8, False, register.offset)
 

@@ -13,7 +13,7 @@ PRELUDE = {"Vec": ("std_alloc", ["vec"]), "String": ("std_alloc", ["string"]), "
            "Option": ("core", ["option"]), "Result": ("core", ["result"])}
 # The crates of the kit whose items std shows.
 STD = ("core", "std_alloc", "std_collections", "std_io")
-# How many imports are followed from one to the next.
+# The most imports that are followed from one to the next.
 MOST_STEPS = 8
 
 
@@ -39,7 +39,8 @@ class Repository:
         self.layers = read_layers(root)
         self.crates = {name: uses for _, crates in self.layers for name, uses in crates.items()}
         self.modules, self.primitives, self.below_of = {}, {}, {}
-        # How many names were linked, by how; how often a name wasn't; the same for fields.
+        # `counts`: how many names were linked, by the way, and how many weren't, by the reason. `missing`: how often
+        # each name wasn't linked. `ambiguous`: how often each field's name wasn't.
         self.counts, self.missing, self.ambiguous = Counter(), Counter(), Counter()
         self.by_name, self.fields, self.rust_names = {}, {}, {}
         self.read_crates()
@@ -83,7 +84,7 @@ class Repository:
                         self.load(crate, folder, part, path)
 
     def load(self, crate: str, folder: str, part: str, file: str) -> Module:
-        """Reads a file."""
+        """Reads a file into a new module, and returns it."""
         module = Module(crate, f"{crate}.{folder}.{part}", file, crate not in self.crates, folder == "src")
         self.modules[module.path] = module
         (read_rust if module.rust else read_spec)(module)
@@ -102,7 +103,7 @@ class Repository:
                 self.rust_names.setdefault((module.crate, definition.name), []).append(definition)
 
     def adopt(self, module: Module):
-        """Adds the members of an `impl` in another file than its type to the type."""
+        """Adds to types the members of their impls in this module, if the type is in another file of the crate."""
         for definition in module.all:
             outer = definition.owner
             if outer is None or outer.kind != "outer":
@@ -142,7 +143,9 @@ class Repository:
         return self.modules[path]
 
     def rust_module(self, crate: str, parts: list[str]):
-        """The module of code of the longest beginning of `parts`, and the rest of them."""
+        """The module of code that the longest possible beginning of `parts` names, and the other parts. None and all
+        parts if there is no such module.
+        """
         inside = crate in self.crates
         if not inside and not self.kit:
             return None, parts
@@ -187,7 +190,7 @@ class Repository:
         return self.shown_by_std(parts, depth) if parts[0] == "std" else None
 
     def declared(self, crate: str, path: list[str]):
-        """The Rust item that specs name after `declared`."""
+        """The Rust item that specs name after `declared`, or None."""
         module, rest = self.rust_module(crate, path)
         if module is None or not rest:
             return None
@@ -197,7 +200,7 @@ class Repository:
         return kin.members.get(rest[-1], kin) if len(rest) > 1 else kin
 
     def shown_by_std(self, parts: list[str], depth: int):
-        """The definition of a name of std, in the crates whose items std shows."""
+        """The definition of a name of std, in the crates whose items std shows, or None."""
         for crate in STD:
             found = self.find(".".join(["Rattle", crate] + parts[1:-1]), parts[-1], depth + MOST_STEPS // 2 + 1)
             if found is not None:
@@ -224,7 +227,7 @@ class Repository:
         return operators.get(name), name in operators
 
     def operators(self, scope: Scope) -> dict:
-        """The parts of names such as ◌≡◌ in a scope."""
+        """The parts of names such as ◌≡◌ in a scope, each with the definition of its name."""
         if scope.operators is None:
             scope.operators = {}
             for at in scope.chain():
@@ -240,7 +243,7 @@ class Repository:
         return next((at.modules[name] for at in scope.chain() if name in at.modules), None)
 
     def dotted(self, word: str, scope: Scope):
-        """The definition of a name with or without a path."""
+        """The definition of a name with or without a path, or None."""
         if word.startswith("Rattle."):
             base, _, name = word.rpartition(".")
             return self.find(base, name)
@@ -304,7 +307,7 @@ class Repository:
         return None
 
     def rust_path_of_std(self, path: list[str], depth: int):
-        """What a path that begins with std means."""
+        """What a path that begins with std means, or None."""
         for name in ("std", "std_io", "std_alloc", "core"):
             inside, rest = self.rust_module(name, path[1:-1])
             if inside is None:
@@ -319,7 +322,7 @@ class Repository:
         return None
 
     def rust_path_of_kit(self, crate: str, path: list[str], depth: int):
-        """What a path into another crate of the kit means."""
+        """What a path into another crate of the kit means, or None."""
         lib, _ = self.rust_module(crate, []) if re.fullmatch(r"[a-z]\w*", crate) else (None, None)
         if lib is None:
             return None
@@ -339,7 +342,7 @@ class Repository:
                 yield above
 
     def value_type(self, definition):
-        """What a type is in contracts: its `ghost Value`, if it has one."""
+        """What a type is in contracts: what its `ghost Value` means, or else the type itself."""
         if definition is not None and definition.value:
             text, scope = definition.value
             return self.head_of(text or "", scope) or definition

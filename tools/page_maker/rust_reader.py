@@ -15,7 +15,7 @@ MEMBER = re.compile(r"(?:\s|,|#\[[^\]]*\])*(?P<vis>pub(?:\([^)]*\))?\s+)?(?:ghos
 
 
 def bounds(text: str) -> dict[str, str]:
-    """The traits that bound type parameters."""
+    """The first trait of each bound of type parameters, by the parameters' names."""
     return dict(re.findall(r"\b([A-Z]\w*)\s*:\s*([A-Z]\w*)", text))
 
 
@@ -59,7 +59,7 @@ def impl_target(header: str) -> tuple[str, str, bool]:
 
 
 class RustReader:
-    """Reads one file into its module."""
+    """Reads one file into its module. The methods for kinds of items return the place after the item."""
 
     def __init__(self, module: Module):
         self.module, self.text = module, module.text
@@ -73,7 +73,7 @@ class RustReader:
         return bisect.bisect_right(self.starts, at)
 
     def docs_above(self, number: int) -> str:
-        """The doc comment that ends above a line, past attributes."""
+        """The doc comment above a line. Attributes may be between them."""
         found = []
         for line in (line.strip() for line in reversed(self.lines[:number - 1])):
             attribute = line.startswith(("#[", "#![")) and not found or line.endswith(")]") and not found
@@ -84,7 +84,9 @@ class RustReader:
         return comment_text(found[::-1])
 
     def end_of(self, at: int, stop: int, sign: str = ";") -> int:
-        """The place after the first `;` outside of brackets, or the place of the first `{`."""
+        """The place after the first `;` outside of brackets, or `stop` if there is none. If `sign` is `{`, the place of
+        the first `{` outside of `()` and `[]`, or the place before `stop`.
+        """
         depth = 0
         for place in range(at, stop):
             here = self.clear[place]
@@ -121,7 +123,7 @@ class RustReader:
                 at = max(read(found, stop, scope, owner, impl_of), found.end()) if read else found.end()
 
     def new(self, kind: str, name: str, found, owner=None, impl_of=None, **more) -> Definition:
-        """A definition at the place of an item."""
+        """Makes a definition at the place of an item."""
         line = self.line_of(found.start())
         of_trait = owner is not None and owner.kind == "trait" or bool(impl_of)
         return Definition(kind, name, self.module, line, comment=self.docs_above(line), owner=owner, impl_of=impl_of,
@@ -171,11 +173,11 @@ class RustReader:
         return end
 
     def mod(self, found, stop, scope, owner, impl_of) -> int:
-        """Passes `mod name;` or the beginning of a module."""
+        """Skips `mod name;` or the beginning of a module."""
         return re.compile(r"[^;{]*[;{]").match(self.clear, found.end()).end()
 
     def macro(self, found, stop, scope, owner, impl_of) -> int:
-        """Reads the constants of a `bitflag_items!`, and passes other macros."""
+        """Reads the items of a `bitflag_items!`, and skips other macros."""
         opening = re.compile(r"[^{(\[]*").match(self.clear, found.end()).end()
         end = closing(self.clear, opening)
         if found.group("kw") == "bitflag_items!":
@@ -274,7 +276,7 @@ class RustReader:
             at = place + 1
 
     def constant(self, found, stop, scope, owner, impl_of) -> int:
-        """Reads a constant or the name of a type."""
+        """Reads a constant, a static or a type alias."""
         end, name = self.end_of(found.end(), stop), self.name_after(found)
         if name:
             kind = "type" if found.group("kw") == "type" else "const"

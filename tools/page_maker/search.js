@@ -49,7 +49,7 @@ document.addEventListener('keydown', event => {
   if (event.key === '/' && document.activeElement !== box) { event.preventDefault(); box.focus(); }
 });
 
-// A click on a word of a statement opens its definition below the row.
+// A click on a word of a statement opens its definition below the row, or closes it.
 document.addEventListener('click', event => {
   const link = event.target.closest('a[data-w]');
   if (!link || event.ctrlKey || event.metaKey || event.shiftKey) return;

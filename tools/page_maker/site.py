@@ -19,7 +19,7 @@ NOTATION = "notation.html"
 KEYWORDS = re.compile(r"record|where|abbrev|pub|data|let|in|elim|unfolding|unfoldable|if|then|else")
 # Kinds of definitions of the kit that have a place only if something uses them.
 HIDDEN_UNUSED = ("word", "fn", "const", "ghost", "type")
-# The most signs of a title that a link shows.
+# The most characters of a title that a link shows.
 TITLE = 180
 
 
@@ -69,7 +69,9 @@ class Site:
         return self.tokens[definition]
 
     def link_all(self):
-        """Links all definitions of the repository, and sets the addresses of all that the site shows."""
+        """Links the repository's words of specs, functions and ghost members. Sets the addresses of all that the site
+        shows.
+        """
         for module in self.repository.own():
             for definition in module.all:
                 if not module.rust or definition.kind in ("fn", "ghost"):
@@ -94,7 +96,9 @@ class Site:
         return f"{module.crate}/code/{self.address(module).split('/', 1)[1]}"
 
     def assign(self, module):
-        """Sets the address of each definition of a module."""
+        """Sets the address of a module's page, and those of its definitions. A definition of the kit that nothing uses
+        has none if its kind is in HIDDEN_UNUSED.
+        """
         taken = set()
         module.url = self.address(module)
         for definition in module.all:
@@ -201,5 +205,5 @@ class Site:
             file.write(text)
 
     def copy(self, name: str):
-        """Copies a file that belongs to this script to the site."""
+        """Copies a file from the folder of this script to the site."""
         shutil.copyfile(os.path.join(HERE, name), os.path.join(self.out, name))

@@ -29,7 +29,7 @@ def lines_of(module: Module) -> list[str]:
 
 
 def end_of(lines: list[str], at: int) -> int:
-    """The number of the line after the item that begins before the line `at`."""
+    """The number, from 0, of the line after an item. `at` is the number of the line after the item's first one."""
     while at < len(lines):
         line = lines[at]
         blank = not line.strip() and at + 1 < len(lines) and lines[at + 1].startswith("  ")
@@ -64,7 +64,7 @@ class SpecReader:
         self.flush()
 
     def flush(self):
-        """Ends a comment that is a paragraph of its own."""
+        """Keeps the comment that was read last as a paragraph of its own, if no definition has followed."""
         if self.pending:
             text = comment_text(self.pending)
             self.module.chunks.append(("prose", text))
@@ -138,7 +138,7 @@ class SpecReader:
                 current.text += "\n" + line[(indent or 0):]
 
     def member(self, definition: Definition, name: str, line: int, text: str, comment: str) -> Definition:
-        """Adds a field or a case."""
+        """Adds a field, or all cases that a line names, to their definition. Returns the one with the given name."""
         kind = "field" if definition.kind == "record" else "case"
         current = Definition(kind, name, self.module, line, comment=comment, text=text.strip(), owner=definition)
         definition.members[name] = current

@@ -7,7 +7,7 @@ from .definitions import KINDS
 from .site import HOME, NOTATION, Page
 from .texts import first_paragraph, first_sentence
 
-# The statements: the crate and the call whose contract it is, and a title.
+# The statements: for each the crate, the call with the contract, and a title.
 STATEMENTS = [
     ("wire", "Lan::run", "Frames between hosts"),
     ("wire", "Lan::drain", "What a host still holds"),
@@ -17,7 +17,7 @@ STATEMENTS = [
     ("scenario_bench", "bench", "A scenario"),
     ("adapter_server", "serve", "An adapter that is served"),
 ]
-# Kinds that don't unfold by themselves: their types do.
+# Kinds of definitions that don't unfold.
 PARTS = ("field", "case", "variant", "ghost", "fn", "const", "outer", "primitive")
 
 
@@ -27,7 +27,7 @@ class Levels:
     def __init__(self, site, function):
         self.site, self.function = site, function
         self.depth = {function: 0}
-        # Definition -> for each of its rows the words that unfold below it.
+        # Definition -> for each of its rows the words that unfold below that row.
         self.below = {}
         level = [function]
         while level:
@@ -35,7 +35,8 @@ class Levels:
         self.count = max(self.depth.values())
 
     def rows(self, definition) -> list:
-        """The tokens of each row of a definition, as its block shows them."""
+        """The tokens of each row of a definition, as its block shows them. Rust items other than the call have no rows.
+        """
         if definition is self.function:
             signature, clauses = self.site.linked(definition)
             return [signature] + [tokens for _, _, _, tokens in clauses]
@@ -47,7 +48,7 @@ class Levels:
         return [head + [token for _, _, tokens in rows for token in tokens]]
 
     def open(self, definition) -> list:
-        """The new words of a definition, all rows together."""
+        """Notes the new words below each row of a definition. Returns the new words of all rows."""
         self.below[definition] = []
         for tokens in self.rows(definition):
             here = []
@@ -60,7 +61,7 @@ class Levels:
 
 
 class StatementPages:
-    """Makes the page of a statement."""
+    """Makes the pages of statements."""
 
     def __init__(self, site, blocks):
         self.site, self.repository, self.blocks = site, site.repository, blocks
@@ -73,7 +74,9 @@ class StatementPages:
         return found.members[name] if kin else found
 
     def make(self, crate: str, target: str, title: str) -> tuple:
-        """Makes the page of a call. Returns what the first page shows of it."""
+        """Writes the page of a call. Returns its address, the call's definition, the title, and the number of words
+        below the call.
+        """
         function, page = self.call(crate, target), Page(f"statement/{target.replace('::', '-')}.html")
         self.levels = Levels(self.site, function)
         words = [word for word in self.levels.depth if word is not function]
@@ -92,7 +95,9 @@ class StatementPages:
         return page.url, function, title, len(words)
 
     def opener(self, page, definition):
-        """What is below each row of a definition: the words that it uses first."""
+        """Returns a function that is called for one row of a definition after the other. It makes what is below the
+        row: the words that `Levels.below` has for the row.
+        """
         turns = iter(self.levels.below[definition])
         return lambda tokens: "".join(self.word(page, word) for word in next(turns, []))
 

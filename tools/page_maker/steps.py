@@ -1,6 +1,6 @@
 """The steps of the adapter with their outcomes, and the fates of frames, as specs state them.
 
-Also their names by the numbers of the library, from the header in C.
+Their names by the library's numbers are from its header in C.
 """
 
 import os
@@ -11,12 +11,12 @@ from .registers import arguments, causes, clauses, registers, report_order, wrap
 STEPS, TEXTS = "adapter.specs.Steps", "server_output.specs.Texts"
 NOTHING = "Nothing"
 HEADER = os.path.join("bindings", "c", "nic82540em.h")
-# What the numbers of the library mean: the name of a tuple, and how the enumeration in the header begins
+# The tuples of names for the library's numbers, each with the first name of its enumeration in the header
 NUMBERED = {"KINDS": "TXTAKE", "OUTCOMES": "NOTHING", "FATES": "OFF", "REASONS": "NO_FAULT"}
 
 
 def words(repository, name: str) -> dict[str, str]:
-    """The words that the server prints for the variants of an enumeration, by these."""
+    """The words that the server prints for the variants of an enumeration, by variant."""
     return {pattern.strip("(").split()[0]: re.search(r'"(\w+)"', text).group(1)
             for pattern, text, _ in clauses(repository, TEXTS, name)}
 
@@ -43,13 +43,15 @@ def step_outcomes(repository) -> dict[str, list[str]]:
 
 
 def texts(some) -> str:
-    """A tuple of texts in Python."""
+    """These texts as a tuple in Python."""
     listed = ", ".join(f'"{text}"' for text in some)
     return f"({listed},)" if len(some) == 1 else f"({listed})"
 
 
 def finder_names(repository) -> str:
-    """For the finder of races: registers by offset, causes by place, the outcomes of steps, and fates."""
+    """The generated part of the finder of races: registers by offset, causes by place, the outcomes of steps, and
+    fates.
+    """
     items = []
     for register in sorted(registers(repository), key=report_order):
         place = f"0x{register.offset:04X}"
@@ -68,7 +70,7 @@ def finder_names(repository) -> str:
 
 
 def binding_names(repository) -> str:
-    """For the binding in Python: the names of the library's numbers, in their order."""
+    """The generated part of the binding for Python: the names of the library's numbers, in their order."""
     with open(os.path.join(repository.root, HEADER), encoding="utf-8") as file:
         header = file.read()
     lines = []

@@ -71,7 +71,9 @@ PARTS = {
 
 
 def with_parts(text: str, parts: dict) -> str:
-    """A file's text with these texts between its markers. Raises ValueError if its markers aren't those of `parts`."""
+    """A file's text with these parts between its markers. Raises ValueError if the names in its markers aren't those of
+    `parts`, or the end of a part is missing.
+    """
     found = [name for name in BEGIN.findall(text)]
     if sorted(found) != sorted(parts):
         raise ValueError(f"its parts are {sorted(found)}, not {sorted(parts)}")
@@ -86,7 +88,9 @@ def with_parts(text: str, parts: dict) -> str:
 
 
 def differences(repository, texts: dict) -> dict[str, str]:
-    """What each of these files, path to text, must be, if it is something else."""
+    """Returns the files that must be changed, each path with the text that the file must have. `texts` has the present
+    texts, by path.
+    """
     out = {}
     for path, makers in PARTS.items():
         wanted = with_parts(texts[path], {name: make(repository) for name, make in makers.items()})
@@ -117,7 +121,7 @@ def read_files(root: str) -> dict[str, str]:
 
 
 def write_tables(repository, check: bool) -> int:
-    """Writes the parts that differ, or only names them. Returns the exit status."""
+    """Writes the files whose parts differ, or only prints their names if `check` is set. Returns the exit status."""
     try:
         changed = differences(repository, read_files(repository.root))
     except ValueError as error:

@@ -18,7 +18,7 @@ def tokens_of(text: str):
 
 
 def masked(text: str) -> str:
-    """Rust text with blanks in place of comments and strings, of the same length."""
+    """Rust text with blanks in place of comments, strings and characters in quotes, of the same length."""
     return HIDDEN.sub(lambda found: re.sub(r"[^\n]", " ", found.group()), text)
 
 
@@ -28,7 +28,7 @@ def turn(sign: str, opening: str = OPENING, closing: str = CLOSING) -> int:
 
 
 def closing(text: str, at: int) -> int:
-    """The place after the bracket that closes the one at `at`."""
+    """The place after the bracket that closes the one at `at`, or the end of the text."""
     depth = 0
     for place in range(at, len(text)):
         depth += turn(text[place])
@@ -38,7 +38,7 @@ def closing(text: str, at: int) -> int:
 
 
 def angle_end(text: str) -> int:
-    """The place of the `>` that closes the `<` at the beginning of a Rust text."""
+    """The place of the `>` that closes the `<` at the beginning of a Rust text, or the end of the text."""
     depth = 0
     for place, sign in enumerate(text):
         depth += (sign == "<") - (sign == ">" and text[place - 1] != "-")
@@ -48,7 +48,7 @@ def angle_end(text: str) -> int:
 
 
 def split_top(text: str, angles: bool = True) -> list[str]:
-    """The parts of a text between commas outside of brackets, and of angles if `angles` is set."""
+    """The parts of a text between commas outside of all brackets, or outside of `{}` only if `angles` isn't set."""
     parts, depth, begin = [], 0, 0
     for at, sign in enumerate(text):
         depth += turn(sign) if angles else turn(sign, "{", "}")
@@ -61,19 +61,19 @@ def split_top(text: str, angles: bool = True) -> list[str]:
 
 
 def comment_text(lines: list[str]) -> str:
-    """The prose of comment lines."""
+    """The text of comment lines, without their marks."""
     return "\n".join(re.sub(r"^\s*(--|///|//!|//) ?", "", line) for line in lines)
 
 
 def first_sentence(text: str) -> str:
-    """The first sentence of a prose, in one line."""
+    """The first sentence of a text, in one line."""
     text = " ".join(text.split())
     found = re.match(r"(.*?[.])(?=\s|$)", text)
     return found.group(1) if found else text
 
 
 def first_paragraph(text: str) -> str:
-    """The first paragraph of a prose, in one line."""
+    """The first paragraph of a text, in one line."""
     return " ".join(re.split(r"\n\s*\n", text.strip("\n"))[0].split())
 
 
@@ -95,7 +95,9 @@ def braces(text: str) -> list[tuple[str, str]]:
 # Binders of specs
 
 def binder_groups(text: str) -> list[tuple[list[str], str]]:
-    """The groups `(a b : T)` of one argument; empty if it is a plain type. A group in braces binds no name."""
+    """The groups `(a b : T)` of one argument, each as its names and its type; empty if it is a plain type. A group in
+    braces has no names.
+    """
     out, rest = [], text.strip()
     while rest and rest[0] in "({":
         end = closing(rest, 0)
@@ -108,7 +110,9 @@ def binder_groups(text: str) -> list[tuple[list[str], str]]:
 
 
 def split_arguments(text: str) -> list[tuple[list, str]]:
-    """The arguments of a signature of specs, the result last: for each its names, [None] without one, and its type."""
+    """The arguments of a signature of specs, and its result last: for each its names, [None] if there is none, and its
+    type.
+    """
     out, depth, current = [], 0, ""
     for kind, word in [*tokens_of(text), ("word", "→")]:
         if kind == "word" and word == "→" and depth == 0:

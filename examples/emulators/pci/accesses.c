@@ -148,7 +148,7 @@ static bool is_in(const struct ring *ring, uint64_t address)
     return address - ring->begin < ring->bytes;
 }
 
-/* Adds to the buffer's address in each descriptor that is complete in these bytes. */
+/* Adds `change` to the buffer's address in each descriptor that is complete in these bytes. */
 static void translate(uint64_t address, uint8_t *bytes, uint64_t size, uint64_t change)
 {
     uint64_t buffer;

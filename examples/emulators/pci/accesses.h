@@ -5,7 +5,7 @@
 #include <stdint.h>
 
 struct access_options {
-    int wait;   /* milliseconds that a read of ICR waits for an interrupt if the last one found no cause */
+    int wait;   /* the most milliseconds that a read of ICR waits for an interrupt, if the last read found no cause */
     int settle; /* milliseconds after the receiver was enabled. QEMU's e1000 receives only a second later */
     int offers; /* a file that gets a letter at each write of RDT: 'A' and the number of new descriptors; or -1 */
 };

@@ -8,7 +8,7 @@
  *   --line         reports the interrupt line; the driver then also has turns when it is asserted
  *   --wait MS      a read of ICR after one that found no cause waits for an interrupt, at most this long (10)
  *   --settle MS    waits after the receiver was enabled (0)
- *   --map BYTES    with vfio: the IOMMU maps only so much of the memory (2097152)
+ *   --map BYTES    with vfio: the IOMMU maps only the first BYTES of the memory (2097152)
  *   --offers FILE  gets a letter at each write of RDT: A and the number of new descriptors
  */
 #include <errno.h>

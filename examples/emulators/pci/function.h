@@ -24,10 +24,10 @@ extern struct function function;
  * part is unknown. With `any`, the part may be another one than the 82540EM. */
 void function_check(const char *name, const char *driver, bool any);
 
-/* Starts it by VFIO: an IOMMU maps the first `mapped` bytes of the memory to bus address 0. */
+/* Starts the function by VFIO: an IOMMU maps the first `mapped` bytes of the memory to bus address 0. */
 void vfio_start(const char *name, uint64_t mapped);
 
-/* Starts it by UIO: the memory is a huge page at any bus address. */
+/* Starts the function by UIO: the memory is a huge page at any bus address. */
 void uio_start(const char *name);
 
 /* Two bytes of the configuration space */
@@ -37,7 +37,7 @@ void configuration_write(unsigned offset, uint16_t value);
 
 enum { COMMAND_MEMORY = 1 << 1, COMMAND_MASTER = 1 << 2, COMMAND_NO_INTERRUPT = 1 << 10, STATUS_INTERRUPT = 1 << 3 };
 
-/* The adapter may access memory, or no more. */
+/* The adapter may access memory from now on, or may not (bus mastering). */
 void function_master(bool may);
 
 /* Registers */

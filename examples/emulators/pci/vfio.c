@@ -18,7 +18,7 @@
 
 static int container, device;
 
-/* Opens the function's IOMMU group, in which no other function may be in use. */
+/* Opens the function's IOMMU group, in which no other function may be bound to another kernel driver. */
 static int open_group(const char *name)
 {
     char path[PATH_MAX], link[PATH_MAX];
@@ -44,7 +44,7 @@ static int open_group(const char *name)
     return group;
 }
 
-/* Maps bus address 0 to the memory. */
+/* Maps bus addresses from 0 on to the first `mapped` bytes of the memory. */
 static void map_memory(uint64_t mapped)
 {
     struct vfio_iommu_type1_dma_map map = { .argsz = sizeof map, .size = mapped };

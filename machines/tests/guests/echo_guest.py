@@ -1,13 +1,13 @@
 """A guest with a small driver and a host that answers pings, in the place of QEMU. The driver or the host may have a
 bug.
 
-usage: board .. -- python3 tests/echo_guest.py SOCKET BUG
+usage: board .. -- python3 machines/tests/guests/echo_guest.py SOCKET BUG
 
 The board starts this script as it starts QEMU (linux_hostile.py). BUG is one of:
     none    replies are right
-    byte    a byte of the reply to a drawn request is changed
-    twice   a reply is sent twice
-    lost    a request isn't answered
+    byte    two bytes of every 40th reply are changed
+    twice   every 40th reply is sent twice
+    lost    every 40th request isn't answered
     length  the driver reads the length of a frame before DD
     reset   no bug, but the driver resets the adapter now and then
 """
@@ -42,7 +42,7 @@ class Host(Guest):
         self.write(CTRL, RST)
         for ring, base in RINGS.items():
             for slot in range(SLOTS):
-                # a transmit slot is free: it has DD
+                # a transmit slot with DD is free
                 status = DD if ring == TRANSMIT else 0
                 self.put(ring, slot, DESCRIPTOR.pack(BUFFERS[ring] + slot * BUFFER, 0, 0, status, 0, 0))
             for offset, value in ((0, base), (4, 0), (8, 16 * SLOTS), (0x10, 0), (0x18, 0)):
@@ -61,7 +61,8 @@ class Host(Guest):
         return length, status
 
     def poll(self):
-        """Looks for a frame. The board may play steps at each read of a register."""
+        """Takes the next frame from the ring, if it is finished. The board may play steps at each read of a register.
+        """
         self.read(ICR)
         early, _ = self.get(RECEIVE, self.clean)
         self.read(STATUS)
@@ -87,7 +88,7 @@ class Host(Guest):
         self.write(TRANSMIT + 0x18, self.free)
 
     def handle(self, frame):
-        """Answers a ping."""
+        """Answers a frame if it is a ping."""
         if len(frame) < ICMP + 8 or frame[12:14] != b"\x08\0" or frame[ICMP] != ECHO:
             return
         self.frames += 1

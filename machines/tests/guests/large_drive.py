@@ -8,7 +8,7 @@ from traces import read_trace, write_trace
 
 SLOTS, BUFFERS = 4096, 8192
 IMS, RDBAL, RDLEN, TDBAL, TDLEN, TDT = 0xD0, 0x2800, 0x2808, 0x3800, 0x3808, 0x3818
-# The memory of the greatest rings, and of rings of 8 with 16 buffers
+# The bytes of memory that the greatest rings need, and those that rings of 8 with 16 buffers need
 GREATEST, LEAST = 10_616_832, 22_528
 # Frames each way: more than a ring has slots
 FRAMES = 4400
@@ -20,8 +20,8 @@ def rings_of(rx, tx, buffers):
 
 
 class Bursts(Serve):
-    """An adapter that takes steps only while it is initialized, and when frames arrive: one for each slot of the ring,
-    at once.
+    """An adapter that takes drawn steps only until it is initialized, and then steps only when frames arrive. Up to
+    SLOTS frames arrive at once.
     """
 
     MOST = SLOTS
@@ -31,8 +31,8 @@ class Bursts(Serve):
         super().__init__(program, 1, STEPS, memory=memory)
 
     def ask(self, request):
-        """Notes what the initialization writes, and how many frames are offered for sending before the first frame
-        arrives.
+        """Makes a request, and returns its answer. Notes what the initialization writes, and how many frames are
+        offered for sending before the first frame arrives.
         """
         word, *rest = request.split()
         offset = int(rest[0], 0) - self.registers if word in ("readl", "writel") else None
@@ -46,7 +46,7 @@ class Bursts(Serve):
         return answer
 
     def arrive_all(self, frames):
-        """Frames arrive and are moved to memory, a few hundred at a time. Notes whether the ring has run dry."""
+        """Frames arrive and are moved to memory, 30 at a time. Notes whether the ring has run dry."""
         told = []
         for at in range(0, len(frames), 30):
             told += super().arrive_all(frames[at:at + 30])
@@ -56,7 +56,7 @@ class Bursts(Serve):
 
 
 def frames_of(seed, slots):
-    """Frames of 60 bytes for each slot of a ring, and then frames of all lengths."""
+    """Frames of 60 bytes for each slot of a ring except one, and then frames of all lengths."""
     frames = list(drawn(seed, FRAMES * slots // SLOTS))
     return [frame[:60] for frame in frames[:slots - 1]] + frames[slots - 1:]
 
@@ -82,7 +82,9 @@ def exchange(bench, slots, words, memory):
 
 
 def rejected(bench):
-    """Sizes of rings that aren't valid, or for which memory is too small: no request is written."""
+    """Sizes of rings that aren't valid, or for which memory is too small: no request is written. With just enough
+    memory, a request is.
+    """
     for rx, tx, buffers, memory in [(SLOTS, SLOTS, BUFFERS, GREATEST - 1), (SLOTS + 8, SLOTS, BUFFERS, 1 << 24),
                                     (SLOTS, SLOTS + 8, BUFFERS, 1 << 24), (SLOTS, SLOTS, SLOTS - 1, 1 << 24),
                                     (SLOTS, SLOTS, BUFFERS + 1, 1 << 24), (12, 8, 16, 1 << 20), (8, 0, 16, 1 << 20),

@@ -1,6 +1,6 @@
 """A guest that does its worst to the board of machines/, in the place of QEMU.
 
-usage: board .. -- python3 tests/linux_hostile.py SOCKET SEED MESSAGES
+usage: board .. -- python3 machines/tests/guests/linux_hostile.py SOCKET SEED MESSAGES
 
 The board starts this script with descriptor 3, the connection of QEMU's x-pci-proxy-dev, and descriptor 4, the guest's
 memory. SOCKET is where QEMU would answer qtest. The script sends drawn accesses, each of which the board must answer
@@ -77,7 +77,7 @@ class Guest:
             self.ask(CONFIGURATION_WRITE, struct.pack("<IIi", offset, value, 4 if offset < 0x3C else 1))
 
     def descriptors(self, count):
-        """Descriptors, some of them with sense."""
+        """Drawn descriptors, most of which have an address in memory and a size of a frame."""
         data = bytearray(self.draw.randbytes(16 * count))
         for at in range(0, len(data), 16):
             if self.draw.randrange(8):
@@ -86,7 +86,7 @@ class Guest:
         return bytes(data)
 
     def offer(self, ring):
-        """A ring of drawn descriptors, some of whose registers are wild."""
+        """Stores drawn descriptors, and writes a ring's registers, one of which may have any value."""
         base, wild = self.draw.randrange(0, self.size, 16), self.draw.randrange(8)
         os.pwrite(MEMORY, self.descriptors(64)[:self.size - base], base)
         values = [base, 0, 1024, 0, self.draw.choice((1, 17, 63))]
@@ -96,7 +96,9 @@ class Guest:
             self.write(ring + offset, value)
 
     def send_ping(self):
-        """Frames that the wire's other end answers, or parts of such frames."""
+        """Offers a drawn frame, or a part of it, up to 31 times. Mostly it is a ping or a datagram to the wire's other
+        end.
+        """
         frame = bytes.fromhex("0200000000020200000000010800") + self.draw.choice((
             bytes.fromhex("450000540000400040010000" "0a0000010a000002" "0800000000000000") + bytes(60),
             bytes.fromhex("450005dc0000200040010000" "0a0000010a000002" "0800000000000000") + bytes(1460),
@@ -132,7 +134,7 @@ class Guest:
             self.ask(BAR_WRITE if kind & 1 else BAR_READ, data)
         elif kind == 4:
             self.ask(CONFIGURATION_READ, struct.pack("<IIi", self.number(), 0, self.draw.choice((-1, 0, 1, 2, 4, 9))))
-        else:  # not the addresses of the windows
+        else:  # not the registers with the addresses of the windows
             offset = self.draw.choice((0, 4, 0xC, 0x2C, 0x3D, 0x40, 0xFC, 0xFF, 0x100, 0xFFFFFFFE))
             size = self.draw.choice((-1, 0, 1, 2, 4, 9))
             self.ask(CONFIGURATION_WRITE, struct.pack("<IIi", offset, self.number(), size))

@@ -17,7 +17,7 @@ NONE = "0000:ff:1f.7"  # there is no such function
 
 
 def built(bench):
-    """The program of the bridge, with all warnings."""
+    """Compiles the bridge with all warnings. Returns whether this succeeds."""
     sources = sorted(os.path.join(PCI, name) for name in os.listdir(PCI) if name.endswith(".c"))
     flags = ["-std=gnu11", "-O2", "-Wall", "-Wextra", "-Werror", "-D_GNU_SOURCE"]
     ran = subprocess.run(["gcc", *flags, "-o", bench.path("bridge"), *sources], capture_output=True, text=True)
@@ -26,7 +26,7 @@ def built(bench):
 
 
 def refusals(bench):
-    """Words that are wrong, and functions that aren't there or aren't of the part."""
+    """The bridge refuses wrong words, a function that isn't there, and one of another part: it prints the reason."""
     usage = "usage: bridge"
     cases = [
         ("no words", [], 2, usage), ("no program", ["vfio", NONE, "--"], 2, usage),
@@ -43,7 +43,7 @@ def refusals(bench):
 
 
 def missing():
-    """What a guest needs and isn't there, or None."""
+    """Returns what a guest needs that isn't there, or None."""
     try:
         needs.check_programs(needs.QEMU)
         needs.kernel_of(needs.CACHE)

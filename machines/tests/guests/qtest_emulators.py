@@ -13,7 +13,7 @@ from harness import TOP
 
 EXAMPLES = os.path.join(TOP, "examples", "emulators")
 NICBENCH, TCG = os.path.join(EXAMPLES, "qemu-system-nicbench"), os.path.join(EXAMPLES, "qemu-system-tcg")
-# What a connection or an answer may take, in seconds.
+# How many seconds a connection or an answer may take.
 LIMIT = 60
 PASSED = "e1000_test: 132 checks passed\n"
 BASE, ICR, ICS, IMS, IMC, RCTL, TCTL = 0xE0000000, 0x00C0, 0x00C8, 0x00D0, 0x00D8, 0x0100, 0x0400
@@ -25,7 +25,7 @@ SET_UP = [f"outl 0xcf8 {DEVICE + 0x10:#x}", f"outl 0xcfc {BASE:#x}", f"outl 0xcf
 
 
 def compiled(bench):
-    """The path of the test, or None without a C compiler."""
+    """Compiles the test. Returns its path, or None if there is no C compiler or the compilation fails."""
     if shutil.which("cc") is None:
         print("not played, because there is no cc: the test with libqtest")
         return None
@@ -38,7 +38,7 @@ def compiled(bench):
 
 
 def runs(bench, test, program):
-    """Runs the test on an adapter: its status, its output and its errors."""
+    """Runs the test on an adapter. Returns its status, its output and its errors."""
     ran = subprocess.run([test], env={**os.environ, "QTEST_QEMU_BINARY": program, "NICBENCH": bench.program},
         capture_output=True, text=True, timeout=LIMIT)
     return ran.returncode, ran.stdout, ran.stderr
@@ -112,7 +112,7 @@ class Session:
         return end
 
     def ask(self, *requests):
-        """The lines up to the answer of the last request. Those before must be answered by OK."""
+        """Makes requests. Returns the lines up to the answer to the last one, without those of the requests before."""
         for request in requests:
             self.client.sendall(f"{request}\n".encode())
             lines = []
@@ -128,7 +128,7 @@ class Session:
         self.wire.sendall(struct.pack(">I", len(frame)) + frame)
 
     def taken(self, size):
-        """The next bytes on the wire."""
+        """The next `size` bytes on the wire; fewer if the wire is closed."""
         data = b""
         while len(data) < size and (more := self.wire.recv(size - len(data))):
             data += more
@@ -195,7 +195,9 @@ def unconfigured(bench):
 
 
 def interrupts(bench):
-    """The interrupt line has the number that the client has routed it to. It is reported after a request for it."""
+    """The interrupt line has the number that the client has routed it to. Its changes are reported after a request
+    for them.
+    """
     session = Session(bench)
     session.ask(*SET_UP, f"writel {BASE + IMS:#x} 0x80")
     bench.check("interrupts: not reported at the start", session.ask(f"writel {BASE + ICS:#x} 0x80",
@@ -236,8 +238,8 @@ def frames(bench):
     bench.check("frames: one is sent", session.ask(*sent), ["IRQ raise 11", "OK"])
     bench.check("frames: one is on the wire", session.taken(64),
         struct.pack(">I", 60) + b"\7" * 60)
-    # The ring's eight descriptors are sent again and again, while nobody reads the wire: it takes some, and the rest
-    # waits.
+    # The ring's eight descriptors are sent again and again, while nobody reads the wire. The wire takes some frames,
+    # and the rest waits.
     ring = [f"write 0x4000 128 0x{'00800000000000003c00000900000000' * 8}",
             *(f"writel {BASE + TDT:#x} {tail}" for tail in (0, 7, 6))]
     session.ask(f"writel {BASE + IMC:#x} 0xffff", *ring * 1000)
