@@ -316,8 +316,8 @@ def drawn(bench):
 
 
 def left_behind(bench):
-    """Bytes that no run reads make no difference between states. A run that reads what an earlier frame left finds it
-    unchanged. A static variable that isn't saved is reported.
+    """A search clears some bytes and counters that no run should read again. A run that reads what an earlier frame
+    left still finds it unchanged. A static variable that isn't saved is reported.
     """
     for name, (use, wanted) in USES.items():
         test = bench.build("left", bench.source("left.c",

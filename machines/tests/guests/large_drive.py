@@ -56,7 +56,7 @@ class Bursts(Serve):
 
 
 def frames_of(seed, slots):
-    """Frames of 60 bytes for each slot of a ring except one, and then frames of all lengths."""
+    """Frames of 60 bytes for each slot of a ring except one, and then frames of drawn lengths (60 to 1,518 bytes)."""
     frames = list(drawn(seed, FRAMES * slots // SLOTS))
     return [frame[:60] for frame in frames[:slots - 1]] + frames[slots - 1:]
 
