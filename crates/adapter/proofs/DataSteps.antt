@@ -14,20 +14,18 @@ use Rattle.adapter.specs.Rings.{ring_of}
 use Rattle.adapter.specs.State.{AdapterState}
 use Rattle.adapter.specs.Transmitting.{moved_on}
 
--- RXDMT0, which a moved piece may record, is a cause of the adapter.
 half-causes : (low free : Bool) → low ≡ free → causes_of (if low then alone rxdmt0 else 0) ≡ (if free then alone rxdmt0 else 0)
 half-causes true true same = refl
 half-causes false false same = refl
 half-causes true false same = cc
 half-causes false true same = cc
 
--- If no cause is recorded, the adapter is the same.
 pub none_recorded : (state : AdapterState)
     → record state { causes = record state.causes { recorded = union state.causes.recorded 0 } } ≡ state
 none_recorded state =
     ap (λ (causes : ℕ). record state { causes = record state.causes { recorded = causes } }) (or_zero_r state.causes.recorded)
 
--- The adapter with the receive engine, the head of the ring and the causes after a data step with this answer.
+-- The adapter with the receive engine, RDH and the recorded causes that a data step with this answer results in.
 abbrev pub left_by : Data → AdapterState → AdapterState
 left_by answer state = record state {
   receiver = engine_after_data answer state.filter.rctl (ring_of state.receive_ring) state.receiver;

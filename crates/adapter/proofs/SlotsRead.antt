@@ -17,7 +17,7 @@ use Rattle.tx_engine.specs.QueuedFrames.{queued_in}
 use Rattle.adapter.specs.HostFrames.{finished_pieces, frames_to_send, pieces_in_slots}
 use Rattle.adapter.specs.World.{World, receive_ring, transmit_ring}
 
--- The finished slots were read from the receive ring, and no frame was begun before them.
+-- The ring `read` is the world's receive ring, and no frame was begun before the finished slots.
 pub record ReadsSlots (world : World) (read : Ring) (begun : List ℕ) : Type 0 where
   pub ring : read ≡ receive_ring world
   pub empty : begun ≡ []
@@ -41,8 +41,6 @@ finished-short oldest world ring begun reads short =
     (subst (λ (b : List ℕ). AreShort b (finished_pieces oldest world)) (sym reads.empty)
     (front-short [] (finished_pieces oldest world) (in_work world.memory world.adapter.receiver.work) short))
 
--- The frames that end in slots are those that end in finished slots and then, if the piece in progress is the last of its frame, that
--- frame.
 all-in-slots : (oldest : ℕ) (world : World) → frames_of (pieces_in_slots oldest world)
     ≡ frames_from [] (finished_pieces oldest world)
     ++ frames_from (begun_from [] (finished_pieces oldest world)) (in_work world.memory world.adapter.receiver.work)
@@ -55,7 +53,6 @@ finished-few oldest world ring begun reads =
     let last = frames_from (begun_from [] (finished_pieces oldest world)) (in_work world.memory world.adapter.receiver.work) in
     omega (arith, ap length (same-pieces oldest world ring begun reads), ap length (all-in-slots oldest world), length-append finished last)
 
--- The piece in progress is one piece with the bytes that were read.
 work-is : (world : World) (work : Work) (bytes : List ℕ) → world.adapter.receiver.work ≡ Some work → bytes ≡ bytes_of_work world.memory work
     → alone work.ends bytes ≡ in_work world.memory world.adapter.receiver.work
 work-is world work bytes has read =
@@ -106,7 +103,6 @@ work-room oldest world ring begun later bytes work old before most reads is has 
       room,
     )
 
--- The frames to be sent are those of the packet buffer, then those of the offered descriptors, padded.
 pub sending-is : (world : World) → frames_to_send world
     ≡ map (λ (q : Queued). q.frame) world.adapter.transmitter.buffer ++ queued_in true world.memory (transmit_ring world)
 unfolding to_send

@@ -3,9 +3,9 @@ use Rattle.std.proofs.Common.{◌≡◌, ◌≢◌, ◌↔◌, ◌+◌, ◌++◌
 use Rattle.std.proofs.Common.{Option, Some, None, IfSome, refl, sym, ap, subst, drop, ◌∙◌, if◌then◌else◌}
 use Rattle.descriptors.specs.declared.ring.Ring.{Ring}
 use Rattle.descriptors.specs.Ring.{address_of, next_of}
-use Rattle.mdic_phy.specs.declared.mdic.Ticked.{Ticked}
-use Rattle.mdic_phy.specs.Mdic as mdi
-use Rattle.mdic_phy.specs.Phy.{PhyState}
+use Rattle.eeprom_phy.specs.declared.mdic.Ticked.{Ticked}
+use Rattle.eeprom_phy.specs.Mdic as mdi
+use Rattle.eeprom_phy.specs.Phy.{PhyState}
 use Rattle.registers.specs.Bits.{HasBit, union}
 use Rattle.registers.specs.Interrupts.{Interrupts}
 use Rattle.registers.specs.Kept.{all_causes, causes_of}
@@ -54,7 +54,6 @@ use Rattle.adapter.specs.declared.register.Register.{Register}
 use Rattle.adapter.specs.declared.register.Register.TheVariants.{Ctrl, Status, Eerd, Mdic, Vet, Icr, Ics, Ims, Imc, Rctl, Tctl, Pba}
 use Rattle.adapter.specs.declared.register.Register.TheVariants.{Receive, Transmit, Mpc, Gprc, Gptc, Rnbc, Mta, Ral, Rah, Vfta}
 
--- A write that is no reset changes only registers of the file, unless it writes PBA.
 kept-state : (register : Register) (value : ℕ) (state : AdapterState) → register ≢ Pba
     → with_file (file_of (by_row (row_of register).kept register value state)) state ≡ by_row (row_of register).kept register value state
 kept-state Ctrl value state other = refl
@@ -86,7 +85,6 @@ write-state register value state is other =
     kept-state register value state other
     ∙ ap (λ (b : Bool). if b then after_reset state else by_row (row_of register).kept register value state) (sym is)
 
--- A read changes only registers of the file.
 pub read-state : (register : Register) (state : AdapterState) → with_file (file_of (read_of register state)) state ≡ read_of register state
 read-state Ctrl state = refl
 read-state Status state = refl
@@ -111,7 +109,6 @@ read-state (Ral entry) state = refl
 read-state (Rah entry) state = refl
 read-state (Vfta word) state = refl
 
--- After causes are recorded, ICR and IMS still contain only causes of the adapter.
 pub alone-raised : (before after : Interrupts) (causes : ℕ) → after ≡ record before { recorded = union before.recorded (causes_of causes) }
     → CausesAlone before.recorded before.mask → CausesAlone after.recorded after.mask
 alone-raised before after causes is alone =
@@ -121,7 +118,7 @@ alone-raised before after causes is alone =
       masked_causes = alone.masked_causes;
     })
 
--- The fate of an arrival is the one that the receive engine returns.
+-- The fate that the receive engine returns meets `IsFate`.
 pub fate-is : (fate : Fate) (frame : List ℕ) (state : AdapterState)
     → (fate ≡ Off) ↔ (¬ (HasBit state.filter.rctl rctl_en))
     → (fate ≡ Illegal) ↔ (HasBit state.filter.rctl rctl_en × (¬ (IsLegal frame)))
@@ -264,7 +261,6 @@ take-answers F takes.Fault memory state nothing fault can = fault.0 refl
 take-answers F (takes.Took emptied) memory state nothing fault can =
     ((λ idle. let no : takes.Took emptied ≡ takes.Nothing = nothing.1 idle in cc), can)
 
--- The answer of the transmit engine determines the outcome of a step `TxPut`.
 pub put-answers : (answer : Put) (wire_free : Bool) (state : AdapterState) → (answer ≡ puts.Nothing) ↔ (state.transmitter.buffer ≡ [])
     → (answer ≡ puts.WireFull) ↔ ((¬ (state.transmitter.buffer ≡ [])) × (wire_free ≡ false))
     → PutAnswers wire_free state (framed (outcome_of_put answer) state)
@@ -340,7 +336,6 @@ pub put-size : (buffer : List Queued) (memory memory' : List ℕ) → ChangesSta
 put-size [] memory memory' only = ap length only
 put-size (queued ∷ later) memory memory' only = only.size
 
--- The causes that a tick of the PHY records are causes of the adapter.
 told-causes : (ticked : Ticked) → causes_of (causes_told ticked) ≡ causes_told ticked
 told-causes ticked = by_tests ticked.link_changed ticked.access_complete
   where

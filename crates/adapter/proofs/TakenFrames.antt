@@ -3,14 +3,12 @@ use Rattle.std.proofs.Common.{◌≡◌, ◌≤◌, ◌<◌, ◌+◌, ◌++◌, 
 use Rattle.std.proofs.lemmas.List.{length-append, length-take-le, take_more}
 use Rattle.std.proofs.lemmas.Option.{get_or_from_slice_get, slice_get_within}
 
--- The first `i + 1` frames are the first `i` frames, and then the frame at index `i`.
 pub next-taken : (frames : List (List ℕ)) (i : ℕ) (frame : List ℕ) → slice_get frames i ≡ Some frame
     → take (i + 1) frames ≡ take i frames ++ frame ∷ []
 next-taken frames i frame is =
     take_more frames i frame (slice_get_within frames i frame is)
     ∙ ap (λ (f : List ℕ). take i frames ++ f ∷ []) (get_or_from_slice_get frames i frame frame is)
 
--- A list with room for all frames has room for frame `i` after the first `i` frames.
 pub room-left : (items start frames : List (List ℕ)) (i most : ℕ) → items ≡ start ++ take i frames → i < length frames
     → length start + length frames ≤ most → length items < most
 room-left items start frames i most is within room =

@@ -1,8 +1,8 @@
 -- The effect of accesses and resets on what registers read, by the table: the laws that `offsets_by_table`, `accesses_by_table` and
 -- `resets_by_table` state.
 use Rattle.std.specs.Prelude.{◌≡◌, ◌≢◌, ◌%◌, ◌<◌, ◌&&◌, ℕ, true, false, List, Some, bit_and, if◌then◌else◌}
-use Rattle.mdic_phy.specs.declared.phy.Link.{Link}
-use Rattle.mdic_phy.specs.Phy.{link_is_up}
+use Rattle.eeprom_phy.specs.declared.phy.Link.{Link}
+use Rattle.eeprom_phy.specs.Phy.{link_is_up}
 use Rattle.registers.specs.Bits.{is_set, union, difference}
 use Rattle.registers.specs.Kept.{causes_of, status_of_link_up}
 use Rattle.adapter.specs.declared.register.Register.{Register}
@@ -25,7 +25,7 @@ pub record AccessesByRegister (offset : ℕ) (register : Register) (state : Adap
   pub read : after_read offset state ≡ read_of register state
   pub written : (value : ℕ) → after_write offset value state ≡ write_of register value state
 
--- If no register is at the offset, a read returns 0, and neither a read nor a write changes anything.
+-- A read at the offset returns 0, and neither a read nor a write at the offset changes anything.
 pub record IgnoresAccesses (offset : ℕ) (state : AdapterState) : Type 0 where
   pub answered : answer_at offset state ≡ 0
   pub read : after_read offset state ≡ state
@@ -39,20 +39,21 @@ abbrev pub OutsideIsIgnored : Type 0
 OutsideIsIgnored = (offset : ℕ) (state : AdapterState) → ((register : Register) → ¬ (StandsAt offset register))
     → IgnoresAccesses offset state
 
--- Right after a write that is no reset, a register whose kept bits are its whole rule reads these bits of the written value.
+-- Right after a write that is no reset, a register whose row has kept bits reads the kept bits of the written value.
 abbrev pub PlainReadsBack : Type 0
 PlainReadsBack =
     (register : Register) (kept value : ℕ) (state : AdapterState)
     → HasRegisters state → IsInTable register → (row_of register).kept ≡ Some kept → is_reset register value ≡ false
     → answer register (write_of register value state) ≡ bit_and value kept
 
--- A write of the first register can change what the second register reads: CTRL.SLU changes STATUS, ICS changes ICR, and IMC changes IMS.
+-- A write of the first register can change what the second register reads: CTRL changes STATUS by SLU, ICS changes ICR, and IMC changes
+-- IMS.
 pub data Touches : Register → Register → Type 0 where
   link_shown : Touches Ctrl Status
   causes_set : Touches Ics Icr
   mask_cleared : Touches Imc Ims
 
--- Except for `Touches` and for a reset, a write of one register doesn't change what another register reads.
+-- A write of one register doesn't change what another register reads, unless `Touches` holds for the two registers or the write is a reset.
 abbrev pub OthersStayAtWrite : Type 0
 OthersStayAtWrite =
     (written other : Register) (value : ℕ) (state : AdapterState)
@@ -64,14 +65,14 @@ abbrev pub OthersStayAtRead : Type 0
 OthersStayAtRead =
     (read other : Register) (state : AdapterState) → read ≢ other → answer other (read_of read state) ≡ answer other state
 
--- The values of STATUS, ICR and IMS after a write of CTRL, ICS or IMC.
+-- What STATUS reads after a write of CTRL, ICR after a write of ICS, and IMS after a write of IMC.
 pub record TouchedRead (value : ℕ) (state : AdapterState) : Type 0 where
-  -- After a write of CTRL that is no reset, STATUS shows a link if and only if the PHY's link is up and SLU, bit 6, was written as 1.
+  -- After a write of CTRL that is no reset, STATUS shows a link if and only if the PHY's link is up and the write set SLU.
   pub link_shown : is_reset Ctrl value ≡ false
       → answer Status (write_of Ctrl value state) ≡ (if link_is_up state.phy && is_set value ctrl_slu then status_of_link_up else 0)
-  -- After a write of ICS, ICR also reads the written causes.
+  -- After a write of ICS, ICR reads the causes that it read before, and the written causes.
   pub causes_set : answer Icr (write_of Ics value state) ≡ union (answer Icr state) (causes_of value)
-  -- After a write of IMC, IMS reads the mask without the written causes.
+  -- After a write of IMC, IMS reads the earlier mask without the written causes.
   pub mask_cleared : answer Ims (write_of Imc value state) ≡ difference (answer Ims state) (causes_of value)
 
 abbrev pub TouchedByWrites : Type 0

@@ -1,10 +1,10 @@
--- Lemmas: every access, step and arrival preserves the invariant of an adapter's registers.
+-- The registers of an adapter meet their invariant (`HasRegisters`) after power-on, a reset, and each access, step and arrival.
 use Rattle.std.proofs.Common.{◌≡◌, ◌%◌, ◌==◌, ◌≤◌, ℕ, Bool, true, false, List, [], ◌∷◌, length, Option, Some, None, refl, ◌∙◌}
 use Rattle.std.proofs.Common.{if◌then◌else◌, arith, length-set}
 use Rattle.std.proofs.lemmas.Bool.{and_parts, eqb-true, leb-true}
-use Rattle.mdic_phy.specs.declared.mdic.Ticked.{Ticked}
-use Rattle.mdic_phy.specs.declared.phy.Link.{Link}
-use Rattle.mdic_phy.specs.Mdic as mdi
+use Rattle.eeprom_phy.specs.declared.mdic.Ticked.{Ticked}
+use Rattle.eeprom_phy.specs.declared.phy.Link.{Link}
+use Rattle.eeprom_phy.specs.Mdic as mdi
 use Rattle.registers.specs.Bits.{IsSubset, union}
 use Rattle.rx_engine.specs.declared.arrival.Fate.{Fate}
 use Rattle.rx_engine.specs.declared.arrival.Fate.TheVariants.{Missed, Stored}
@@ -142,7 +142,6 @@ HasRegisters-read Rnbc state adapter =
     of-parts adapter.tables adapter.allocation adapter.causes (of-counters c.missed c.received c.transmitted (omega arith))
 HasRegisters-read _ state adapter = of-parts adapter.tables adapter.allocation adapter.causes adapter.counters
 
--- The causes that a tick of the PHY records are causes of the adapter.
 causes_told-alone : (ticked : Ticked) → IsSubset (causes_told ticked) all_causes
 causes_told-alone ticked = by_tests ticked.link_changed ticked.access_complete
   where
@@ -152,7 +151,6 @@ causes_told-alone ticked = by_tests ticked.link_changed ticked.access_complete
     by_tests false true = refl
     by_tests false false = refl
 
--- If more causes of the adapter are recorded, the registers still meet their invariant.
 HasRegisters-with_causes : (causes : ℕ) (state : AdapterState) → IsSubset causes all_causes → HasRegisters state
     → HasRegisters (with_causes causes state)
 HasRegisters-with_causes causes state alone adapter =
@@ -165,7 +163,6 @@ HasRegisters-told (Some ticked) state adapter =
     (of-parts adapter.tables adapter.allocation adapter.causes adapter.counters)
 HasRegisters-told None state adapter = adapter
 
--- A test that selects a cause of the adapter or no cause selects only causes of the adapter.
 cause-alone : (test : Bool) (cause : ℕ) → IsSubset cause all_causes → IsSubset (if test then cause else 0) all_causes
 cause-alone true cause alone = alone
 cause-alone false cause alone = refl

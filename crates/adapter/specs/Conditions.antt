@@ -18,7 +18,7 @@ use Rattle.adapter.specs.World.{World, receive_ring, transmit_ring}
 abbrev pub Reports : Queued → Type 0
 Reports queued = queued.report ≡ true
 
--- The conditions on a world whose driver has these oldest slots in its rings.
+-- The conditions on a world whose driver's oldest slots in the receive and in the transmit ring have these indices.
 pub record Sound (oldest_receive oldest_transmit : ℕ) (world : World) : Type 0 where
   -- The outstanding slots of the receive ring are finished slots, then the slot in progress, if any, then the offered slots (`IsDealt`).
   pub receive_slots : IsDealt world.memory (receive_ring world) oldest_receive (in_work world)
@@ -29,13 +29,13 @@ pub record Sound (oldest_receive oldest_transmit : ℕ) (world : World) : Type 0
   pub separate : AreSeparate world.memory (areas oldest_receive world)
   -- The descriptor of each frame to be sent asks for a report.
   pub reports : All Reports (world.adapter.transmitter.buffer ++ map (fetched true world.memory) (offered (transmit_ring world)))
-  -- In finished slots and the slot in progress, the pieces after the last end of a frame are the moved bytes of the receive packet
-  -- buffer's oldest frame.
+  -- The pieces in slots after the last end of a frame are the moved bytes of the receive packet buffer's oldest frame (`HasBegun`).
   pub begun : HasBegun world.memory (finished_pieces oldest_receive world) world.adapter.receiver
   -- If TDH and TDT differ, TCTL.PSP is set.
   pub pads : ¬ (world.adapter.transmit_ring.head ≡ world.adapter.transmit_ring.tail) → HasBit world.adapter.transmit_control tctl_psp
 
--- The finished slots and the slot in progress contain frames that are cut into receive buffers of this size, as the adapter cuts them.
+-- The finished slots and the slot in progress contain legal frames, cut into receive buffers of this size. No finished slot reports an
+-- error.
 pub record AreCut (size oldest_receive : ℕ) (world : World) : Type 0 where
   -- If RCTL.EN is set, RCTL.BSIZE selects this size.
   pub sized : HasBit world.adapter.filter.rctl rctl_en → buffer_size world ≡ size
@@ -45,7 +45,7 @@ pub record AreCut (size oldest_receive : ℕ) (world : World) : Type 0 where
   pub cut : All (IsCut size) (pieces_in_slots oldest_receive world)
   -- Each frame that ends in these slots is legal.
   pub legal : All IsLegal (frames_of (pieces_in_slots oldest_receive world))
-  -- The bytes after the last end of a frame in these slots are fewer than the bytes of the longest legal frame.
+  -- The number of bytes after the last end of a frame in these slots is below the length of the longest legal frame.
   pub short : length (begun_of (pieces_in_slots oldest_receive world)) < longest_frame
 
 -- Receive buffers of this size have room for each finished piece, for the piece in progress, and for later pieces.

@@ -1,6 +1,6 @@
 -- The outcomes of steps, and the causes and counts that the steps record, by the answers of the engines and the PHY.
 use Rattle.std.specs.Prelude.{ℕ, Option, Some, None, if◌then◌else◌}
-use Rattle.mdic_phy.specs.declared.mdic.Ticked.{Ticked}
+use Rattle.eeprom_phy.specs.declared.mdic.Ticked.{Ticked}
 use Rattle.registers.specs.Bits.{union}
 use Rattle.registers.specs.Places.{alone, rxdmt0, txdw, txqe}
 use Rattle.rx_engine.specs.declared.data.Data.{Data}
@@ -25,8 +25,8 @@ outcome_of (answers.Part low) = Part
 outcome_of (answers.Moved low) = Moved
 outcome_of answers.Fault = Fault
 
--- The causes that a data step with this answer records: RXDMT0, bit 4, if a piece was moved, and half of the ring's descriptors are now
--- offered.
+-- The causes that a data step with this answer records: RXDMT0, bit 4, if a piece was moved, and exactly half of the ring's descriptors are
+-- now offered.
 abbrev pub causes_of_answer : Data → ℕ
 causes_of_answer answers.Nothing = 0
 causes_of_answer (answers.Part low) = if low then alone rxdmt0 else 0
@@ -44,18 +44,18 @@ outcome_of_take takes.Nothing = Nothing
 outcome_of_take (takes.Took emptied) = Took
 outcome_of_take takes.Fault = Fault
 
--- The causes that a step `TxTake` with this answer records: TXQE, bit 1, if a frame was taken, and head now equals tail.
+-- The causes that a step `TxTake` with this answer records: TXQE, bit 1, if a frame was taken, and TDH now equals TDT.
 abbrev pub causes_of_take : Take → ℕ
 causes_of_take takes.Nothing = 0
 causes_of_take (takes.Took emptied) = if emptied then alone txqe else 0
 causes_of_take takes.Fault = 0
 
--- The outcome of a tick of the PHY with this result.
+-- The outcome of a tick of the PHY with this result: `Nothing` for `None`, else `Ticked`.
 abbrev pub outcome_of_tick : {F : Type 0} → Option Ticked → Outcome F
 outcome_of_tick (Some ticked) = DidTick
 outcome_of_tick None = Nothing
 
--- The causes that a tick of the PHY with this result records.
+-- The causes that a tick of the PHY with this result records: no cause for `None`, else those of `causes_told`.
 abbrev pub causes_of_tick : Option Ticked → ℕ
 causes_of_tick (Some ticked) = causes_told ticked
 causes_of_tick None = 0
@@ -67,7 +67,7 @@ outcome_of_put puts.WireFull = WireFull
 outcome_of_put (puts.Put reported) = DidPut tt
 
 -- The register file after a step `TxPut` with this answer. If a frame was put, GPTC counts it, and TXDW, bit 0, is recorded if the frame's
--- descriptor asks for a report.
+-- descriptor asks for a report. Otherwise the registers don't change.
 abbrev pub file_after_put : Put → RegisterFile → RegisterFile
 file_after_put puts.Nothing file = file
 file_after_put puts.WireFull file = file

@@ -1,4 +1,4 @@
--- Proofs of the effect of steps and arrivals on the frames of an adapter.
+-- Proofs of the laws in `Frames`: the effect of steps and arrivals on the frames held and on the frames to be sent.
 use Rattle.std.proofs.Common.{◌≡◌, ◌∷◌, [], ℕ, List, All, drop, refl, sym, ap, ◌∙◌, inr}
 use Rattle.std.proofs.lemmas.List.{append-nil}
 use Rattle.dma_memory.specs.Areas.{area_at}

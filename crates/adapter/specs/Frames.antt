@@ -1,4 +1,4 @@
--- The frames that an adapter holds, and the effect of its steps and arrivals on them (our choice): the engines' laws, applied to an
+-- The frames held and the frames to be sent, and the effect of steps and arrivals on both (our choice): the engines' laws, applied to an
 -- adapter.
 use Rattle.std.specs.Prelude.{◌≡◌, ◌∷◌, [], ℕ, List, All, Bool, Some}
 use Rattle.dma_memory.specs.Areas.{AreApart, area_at, descriptor_area}
@@ -33,15 +33,15 @@ TakingLeavesFrames =
     (memory : List ℕ) (state : AdapterState) (answer : FrameOutcome) → TakeAnswers memory state answer
     → frames_to_send memory (after_take answer memory state) ≡ frames_to_send memory state
 
--- If a frame is in the packet buffer, byte 12 of its oldest frame's descriptor is apart from the first ten bytes of each offered transmit
--- descriptor, and from the data of this descriptor.
+-- Byte 12 of the descriptor of the transmit packet buffer's oldest frame, if any, is apart from each offered descriptor's first ten bytes
+-- and data.
 abbrev pub ReportStandsApart : List ℕ → AdapterState → Type 0
 ReportStandsApart memory state =
     IfFront state.transmitter.buffer (λ queued.
     All (λ slot. IsAwayFrom memory (area_at (status_place queued) 1) (address_of (ring_of state.transmit_ring) slot))
     (offered_places (ring_of state.transmit_ring)))
 
--- If `ReportStandsApart` holds, a put step that puts a frame removes this frame, the first of the frames to be sent.
+-- If `ReportStandsApart` holds, a put step that puts a frame removes this frame from the frames to be sent, of which it is the first.
 abbrev pub PuttingTakesFirst : Type 0
 PuttingTakesFirst =
     (wire_free : Bool) (memory : List ℕ) (state : AdapterState) (frame : List ℕ) → PutAnswers wire_free state (Put frame)
@@ -54,20 +54,22 @@ PlaceStandsApart memory state =
     let descriptor = address_of (ring_of state.receive_ring) state.receive_ring.head in
     AreApart (area_at (named_address memory descriptor) (piece_size state)) (descriptor_area descriptor)
 
--- After a step or an arrival, the frames held are those from before, followed by `more`. `finished` are the pieces in finished slots. The
--- slots contain the moved bytes of the oldest frame (`HasBegun`).
+-- After a step or an arrival, the frames held are the earlier ones, followed by `more`, and `HasBegun` holds. `finished` are the pieces in
+-- finished slots.
 abbrev pub HoldsThen : (more : List (List ℕ)) → (finished : List Piece) → (memory memory' : List ℕ) → (state state' : AdapterState) → Type 0
 HoldsThen more finished memory memory' state state' =
     Holds (held memory finished state.receiver) (held memory' finished state'.receiver) more memory' finished state'.receiver
 
--- If `HasBegun` and `PlaceStandsApart` hold, a data step doesn't change the frames held, whatever its outcome.
+-- If `HasBegun` and `PlaceStandsApart` hold, a data step doesn't change the frames held, whatever its outcome, and `HasBegun` holds after
+-- the step.
 abbrev pub DataLeavesFrames : Type 0
 DataLeavesFrames =
     (finished : List Piece) (memory : List ℕ) (state : AdapterState) (answer : FrameOutcome)
     → HasBegun memory finished state.receiver → DataAnswers memory state answer → PlaceStandsApart memory state
     → HoldsThen [] finished memory (memory_after_data_step answer memory state) state (after_data answer state)
 
--- A done step makes the piece in progress a finished piece, if the piece and its descriptor are inside memory and apart.
+-- If `IsReceiver` and `HasBegun` hold, and the piece in progress and its descriptor are inside memory and apart, a done step finishes this
+-- piece (`Finishes`).
 abbrev pub DoneFinishesPiece : Type 0
 DoneFinishesPiece =
     (finished : List Piece) (memory : List ℕ) (state : AdapterState) (work : Work)
@@ -75,7 +77,8 @@ DoneFinishesPiece =
     → LiesIn memory work.descriptor 16 → StandsApart memory work.descriptor work.length
     → Finishes memory finished state.receiver work
 
--- A stored frame is added after the frames held. Any other fate doesn't change them.
+-- If `IsReceiver` and `HasBegun` hold, a stored frame is added after the frames held. An arrival with another fate doesn't change the
+-- frames held. `HasBegun` holds after the arrival.
 abbrev pub ArrivalGrowsFrames : Type 0
 ArrivalGrowsFrames =
     (finished : List Piece) (memory frame : List ℕ) (state : AdapterState) (fate : Fate)

@@ -1,8 +1,8 @@
 -- The values that an adapter writes to a hasher: its whole state except the image of the EEPROM, which never changes (our choice).
 use Rattle.std.specs.Prelude.{◌++◌}
 use Rattle.std.specs.Hash.{HashWrites, u16, u32}
-use Rattle.eeprom.specs.Hashed.{eerd_writes}
-use Rattle.mdic_phy.specs.Hashed.{mdic_writes, phy_writes}
+use Rattle.eeprom_phy.specs.Hashed.{eerd_writes}
+use Rattle.eeprom_phy.specs.Hashed.{mdic_writes, phy_writes}
 use Rattle.rx_engine.specs.Hashed.{filter_writes, receiver_writes}
 use Rattle.tx_engine.specs.Hashed.{transmitter_writes}
 use Rattle.registers.specs.PacketBuffer.{allocation_shown}
@@ -10,11 +10,11 @@ use Rattle.adapter.specs.State.{AdapterState}
 use Rattle.adapter.specs.declared.register_file.RegisterFile.{RegisterFile}
 use Rattle.adapter.specs.declared.ring.RingRegisters.{RingRegisters}
 
--- The values that the registers of a ring feed to a hasher.
+-- The values that the registers of a ring feed to a hasher: low and high word of the address, length in bytes, head and tail.
 abbrev pub ring_writes : RingRegisters → HashWrites
 ring_writes ring = u32 ring.base_low ++ u32 ring.base_high ++ u32 ring.length_bytes ++ u16 ring.head ++ u16 ring.tail
 
--- The values that the register file feeds to a hasher.
+-- The values that the register file feeds to a hasher: each register, in this order.
 abbrev pub file_writes : RegisterFile → HashWrites
 file_writes file = u32 file.ctrl.0
     ++ u32 file.tctl.0

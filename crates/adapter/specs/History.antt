@@ -1,7 +1,7 @@
--- The value of a register whose kept bits are its whole rule, from the list of all events at an adapter since power-on.
+-- The value of a register whose row has kept bits, by the list of all events at an adapter since power-on.
 use Rattle.std.specs.Prelude.{◌≡◌, ◌==◌, ◌&&◌, ◌||◌, ℕ, Bool, true, false, List, [], ◌∷◌, ◌++◌, Some, bit_and}
 use Rattle.std.specs.List.{list_any}
-use Rattle.mdic_phy.specs.declared.phy.Link.{Link}
+use Rattle.eeprom_phy.specs.declared.phy.Link.{Link}
 use Rattle.rx_engine.specs.declared.arrival.Fate.{Fate}
 use Rattle.adapter.specs.declared.register.Register.{Register}
 use Rattle.adapter.specs.declared.register.Register.TheVariants.{Ctrl, Receive, Transmit}
@@ -16,8 +16,8 @@ use Rattle.adapter.specs.State.{AdapterState}
 use Rattle.adapter.specs.Steps.{after_step}
 use Rattle.adapter.specs.Table.{IsInTable, row_of}
 
--- An event at an adapter: a read at an offset, a write of a word at an offset, a step of the adapter, or a frame from the wire. A step
--- contains its outcome and the memory before the step. An arrival contains the fate of the frame.
+-- An event at an adapter: a read or a write at an offset, a step, or the arrival of a frame from the wire. A step contains its outcome and
+-- the memory before the step. An arrival contains the frame and its fate.
 pub data AdapterEvent : Type 0 where
   Read : ℕ → AdapterEvent
   Write : ℕ → ℕ → AdapterEvent
@@ -50,8 +50,7 @@ moves_head place RxData Part = place == (row_of (Receive Head)).offset
 moves_head place RxData Moved = place == (row_of (Receive Head)).offset
 moves_head place kind answer = false
 
--- Whether the event sets the register at this offset: a write of the register, a reset, or a step that advances the head that is at this
--- offset.
+-- Whether the event sets the register at this offset: a write at this offset, a reset, or a step that advances the head at this offset.
 abbrev pub sets_register : ℕ → AdapterEvent → Bool
 sets_register place (Read offset) = false
 sets_register place (Write offset value) = offset == place || is_reset_event (Write offset value)
@@ -62,26 +61,26 @@ sets_register place (Arrive fate frame) = false
 abbrev pub NoneSets : ℕ → List AdapterEvent → Type 0
 NoneSets place events = list_any (sets_register place) events ≡ false
 
--- What a read at an offset returns after a list of events since power-on.
+-- What a read at an offset returns after all events since power-on, the oldest first.
 abbrev pub reads : List ℕ → Link → List AdapterEvent → ℕ → ℕ
 reads words link events offset = answer_at offset (after_events events (new_adapter words link))
 
--- The value of a register whose kept bits are its whole rule, until the next event that sets the register. After power-on or a reset, the
--- register has its reset value. After a write that is no reset, the register has the kept bits of the written value.
+-- The value of a register with these kept bits until the next event that sets the register. After power-on or a reset, it reads its reset
+-- value. After a write that is no reset, it reads the kept bits of the written value.
 pub record ReadsByHistory (register : Register) (kept : ℕ) (words : List ℕ) (link : Link) : Type 0 where
-  -- If no event has set the register, it reads its reset value.
+  -- If no event since power-on has set the register, it reads its reset value.
   pub never_written : (all : List AdapterEvent) → NoneSets (row_of register).offset all
       → reads words link all (row_of register).offset ≡ (row_of register).reset words
-  -- If no event has set the register after a write that is no reset, it reads the kept bits of the written value.
+  -- If no event has set the register since a write that is no reset, the register reads the kept bits of the written value.
   pub written : (before : List AdapterEvent) (value : ℕ) (after : List AdapterEvent)
       → is_reset_event (Write (row_of register).offset value) ≡ false → NoneSets (row_of register).offset after
       → reads words link (before ++ Write (row_of register).offset value ∷ after) (row_of register).offset ≡ bit_and value kept
-  -- If no event has set the register after a reset, it reads its reset value.
+  -- If no event has set the register since a reset, it reads its reset value.
   pub reset : (before : List AdapterEvent) (event : AdapterEvent) (after : List AdapterEvent)
       → is_reset_event event ≡ true → NoneSets (row_of register).offset after
       → reads words link (before ++ event ∷ after) (row_of register).offset ≡ (row_of register).reset words
 
--- `ReadsByHistory` holds for each register of the table whose kept bits are its whole rule.
+-- `ReadsByHistory` holds for each register whose row has kept bits, each EEPROM and each setting of the link.
 abbrev pub PlainByHistory : Type 0
 PlainByHistory =
     (register : Register) (kept : ℕ) (words : List ℕ) (link : Link)

@@ -1,11 +1,11 @@
--- Proofs of the law of a register's history.
+-- The proof of `PlainByHistory`, and the effect of events on what such a register reads and on EERD, MDIC and the PHY.
 use Rattle.std.proofs.Common.{◌≡◌, ◌≢◌, ◌==◌, ◌&&◌, ℕ, Bool, true, false, List, [], ◌∷◌, ◌++◌, Option, Some, None, refl, sym, ◌∙◌, ap}
 use Rattle.std.proofs.Common.{subst, if◌then◌else◌}
 use Rattle.std.specs.List.{list_any}
 use Rattle.std.proofs.lemmas.Bool.{and_parts, eq-eqb, eqb-true, false≢true, or_parts}
-use Rattle.mdic_phy.specs.declared.mdic.Ticked.{Ticked}
-use Rattle.mdic_phy.specs.Mdic as mdi
-use Rattle.mdic_phy.specs.Phy.{new_phy}
+use Rattle.eeprom_phy.specs.declared.mdic.Ticked.{Ticked}
+use Rattle.eeprom_phy.specs.Mdic as mdi
+use Rattle.eeprom_phy.specs.Phy.{new_phy}
 use Rattle.rx_engine.specs.declared.arrival.Fate.{Fate}
 use Rattle.rx_engine.specs.declared.arrival.Fate.TheVariants.{Missed, Stored}
 use Rattle.adapter.specs.declared.register.Register.{Register}
@@ -51,7 +51,7 @@ image-told : (told : Option Ticked) (state : AdapterState) → (after_phy_told t
 image-told (Some ticked) state = refl
 image-told None state = refl
 
--- The EEPROM, EERD, MDIC and the PHY are the same before and after.
+-- The EEPROM, EERD, MDIC and the PHY are the same in both states.
 pub record LeavesParts (before after : AdapterState) : Type 0 where
   pub image : after.image ≡ before.image
   pub eerd : after.eerd ≡ before.eerd
@@ -139,7 +139,6 @@ plain-eeprom : (register : Register) (kept : ℕ) (state : AdapterState) → (ro
 plain-eeprom Eerd kept state plain = cc
 plain-eeprom _ kept state plain = refl
 
--- The test `==` is true for a number and itself.
 elsewhere : (place : ℕ) → ¬ ((place == place) ≡ false)
 elsewhere place none = false≢true (sym none ∙ eq-eqb place place refl)
 
@@ -211,7 +210,7 @@ plain-stepped register RxDone answered memory kept state plain none = plain-done
 plain-stepped register EepromTick answered memory kept state plain none = plain-eeprom register kept state plain
 plain-stepped register PhyTick answered memory kept state plain none = plain-told register (mdi.told state.mdic state.phy) kept state plain
 
--- If the event of a write is no reset, the write of its register is no reset.
+-- If the event of a write at a register's offset is no reset, the write of this register is no reset.
 pub no_reset : (offset value : ℕ) (register : Register) → (row_of register).offset ≡ offset → is_reset_event (Write offset value) ≡ false
     → is_reset register value ≡ false
 no_reset offset value Ctrl there none = by_test (is_reset Ctrl value)
@@ -238,7 +237,6 @@ plain-written offset value register kept state plain none =
         (no_reset offset value written there parts.1)
     by_case None stands = refl
 
--- An event that doesn't set a register doesn't change what the register reads.
 plain-event : (event : AdapterEvent) (register : Register) (kept : ℕ) (state : AdapterState) → (row_of register).kept ≡ Some kept
     → sets_register (row_of register).offset event ≡ false
     → answer register (after_event event state) ≡ answer register state
@@ -251,7 +249,7 @@ plain-event (Write offset value) register kept state plain none = plain-written 
 plain-event (Step kind answered memory) register kept state plain none = plain-stepped register kind answered memory kept state plain none
 plain-event (Arrive fate frame) register kept state plain none = plain-arrived register fate frame kept state plain
 
--- If no event of a list sets a register, the list doesn't change what the register reads.
+-- If no event of a list sets a register that has kept bits, the list doesn't change what the register reads.
 pub plain-events : (events : List AdapterEvent) (register : Register) (kept : ℕ) (state : AdapterState) → (row_of register).kept ≡ Some kept
     → NoneSets (row_of register).offset events
     → answer register (after_events events state) ≡ answer register state
@@ -266,13 +264,12 @@ pub after_events-append : (before after : List AdapterEvent) (state : AdapterSta
 after_events-append [] after state = refl
 after_events-append (event ∷ before) after state = after_events-append before after (after_event event state)
 
--- A register whose kept bits are its whole rule isn't PBA.
 plain-not_pba : (register : Register) (kept : ℕ) → (row_of register).kept ≡ Some kept → register ≢ Pba
 plain-not_pba register kept plain same =
     let ruled : (row_of register).kept ≡ None = ap (λ (r : Register). (row_of r).kept) same in
     cc
 
--- The state after a reset event.
+-- The state after a reset event is the state of `after_reset`.
 pub reset-event : (event : AdapterEvent) (state : AdapterState) → is_reset_event event ≡ true → after_event event state ≡ after_reset state
 reset-event (Read offset) state resets = absurd (false≢true resets)
 reset-event (Step kind answer memory) state resets = absurd (false≢true resets)

@@ -17,7 +17,7 @@ use Rattle.adapter.specs.World.{World, receive_ring, transmit_ring}
 abbrev pub ring_area : Ring → Area
 ring_area ring = record { address = ring.base; size = 16 * count_of ring }
 
--- The area of the piece in progress, as a list of at most one area.
+-- The area of memory that contains the piece in progress, as a list of at most one area.
 abbrev pub work_areas : List ℕ → Option Work → List Area
 work_areas memory None = []
 work_areas memory (Some work) = record { address = receive.named_address memory work.descriptor; size = work.length } ∷ []
@@ -26,7 +26,7 @@ work_areas memory (Some work) = record { address = receive.named_address memory 
 abbrev pub buffer_size : World → ℕ
 buffer_size world = buffer_size_of (field world.adapter.filter.rctl rctl_bsize 2)
 
--- The buffer that a receive descriptor points to.
+-- The buffer that the receive descriptor at this address points to.
 abbrev pub buffer_of : World → ℕ → Area
 buffer_of world descriptor = record {
   address = receive.named_address world.memory descriptor;
@@ -41,15 +41,14 @@ receives world = is_set world.adapter.filter.rctl rctl_en
 abbrev pub offered_buffers : World → List Area
 offered_buffers world = if receives world then map (buffer_of world) (offered (receive_ring world)) else []
 
--- The area of the data that a transmit descriptor points to.
+-- The area of the data that the transmit descriptor at this address points to.
 abbrev pub data_of : List ℕ → ℕ → Area
 data_of memory descriptor = record {
   address = (transmit.descriptor_at memory descriptor).address;
   size = (transmit.descriptor_at memory descriptor).length;
 }
 
--- The data of offered transmit slots, the pieces in finished receive slots, the piece in progress and, if RCTL.EN is set, the buffers of
--- offered receive slots.
+-- The data of offered transmit slots, the pieces in finished receive slots, the piece in progress, and the buffers of `offered_buffers`.
 abbrev pub frame_areas : ℕ → World → List Area
 frame_areas oldest world =
     map (data_of world.memory) (offered (transmit_ring world))
@@ -61,16 +60,18 @@ frame_areas oldest world =
 abbrev pub areas : ℕ → World → List Area
 areas oldest world = ring_area (receive_ring world) ∷ ring_area (transmit_ring world) ∷ frame_areas oldest world
 
--- Bytes 8 to 15 of a receive descriptor.
+-- The area of bytes 8 to 15 of the receive descriptor at this address.
 abbrev pub reported_half : ℕ → Area
 reported_half descriptor = record { address = descriptor + 8; size = 8 }
 
--- Byte 12 of a transmit descriptor.
+-- The area of byte 12 of the transmit descriptor at this address.
 abbrev pub status_byte : ℕ → Area
 status_byte descriptor = record { address = descriptor + 12; size = 1 }
 
--- The areas that the adapter may write: bytes 8 to 15 of each receive descriptor that is in progress or offered, byte 12 of each transmit
--- descriptor that is buffered or offered and, if RCTL.EN is set, the buffers of offered receive slots.
+-- The areas that the adapter may write:
+-- - bytes 8 to 15 of each receive descriptor that is in progress or offered;
+-- - byte 12 of each transmit descriptor that is offered or whose frame is in the packet buffer;
+-- - if RCTL.EN is set, the buffers of offered receive slots.
 abbrev pub writable : World → List Area
 writable world =
     map reported_half (in_work world ++ offered (receive_ring world))

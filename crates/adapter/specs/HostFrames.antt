@@ -20,8 +20,8 @@ pieces_in_slots oldest world = in_slots world.memory (finished_pieces oldest wor
 abbrev pub frames_held : ℕ → World → List (List ℕ)
 frames_held oldest world = held world.memory (finished_pieces oldest world) world.adapter.receiver
 
--- The frames that the host has still to send: first those in the packet buffer, then the frame of each offered transmit descriptor,
--- padded.
+-- The frames still to be sent: first those in the transmit packet buffer, then the frame of each offered transmit descriptor, padded to 60
+-- bytes.
 abbrev pub frames_to_send : World → List (List ℕ)
 frames_to_send world = to_send world.memory (transmit_ring world) true world.adapter.transmitter.buffer
 

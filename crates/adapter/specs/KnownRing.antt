@@ -3,7 +3,7 @@ use Rattle.std.specs.Prelude.{◌≡◌, ◌<◌, ℕ}
 use Rattle.descriptors.specs.declared.ring.Ring.{Ring}
 use Rattle.descriptors.specs.Ring.{count_of}
 
--- The ring has the address, the number of slots and the tail that its driver knows. The head is the index of a slot.
+-- The ring has this address, this number of slots and this tail. The head is the index of a slot.
 pub record KnowsRing (ring : Ring) (base count tail : ℕ) : Type 0 where
   -- The ring begins at this address.
   pub begins : ring.base ≡ base

@@ -14,7 +14,7 @@ abbrev pub oldest : List Queued → List ℕ
 oldest [] = []
 oldest (queued ∷ later) = queued.frame
 
--- The same outcome, with this frame if the outcome contains a frame.
+-- The same outcome, but with this frame in place of the frame in `Put` and `Delivered`.
 abbrev pub with_frame : {F G : Type 0} → G → Outcome F → Outcome G
 with_frame frame Took = Took
 with_frame frame (Put old) = Put frame
@@ -27,8 +27,8 @@ with_frame frame Ticked = Ticked
 with_frame frame Nothing = Nothing
 with_frame frame Fault = Fault
 
--- The same outcome, with the oldest frame of this state's transmit packet buffer if the outcome contains a frame. This is the outcome of a
--- step from this state: a step that puts a frame puts the oldest one.
+-- The same outcome, but with the oldest frame of this state's transmit packet buffer in `Put` and `Delivered`. A step from this state that
+-- puts a frame puts the oldest one.
 abbrev pub framed : {F : Type 0} → Outcome F → AdapterState → FrameOutcome
 framed outcome state = with_frame (oldest state.transmitter.buffer) outcome
 

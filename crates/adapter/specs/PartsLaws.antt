@@ -1,21 +1,21 @@
--- Proofs about the operations on EERD, MDIC and the PHY.
+-- The proof of `PartsHaveTheirLaws`: each event at an adapter has the effect of its operations on EERD, and on MDIC and the PHY.
 use Rattle.std.proofs.Common.{◌≡◌, ℕ, Bool, true, false, List, [], ◌∷◌, ◌++◌, Option, Some, None, refl, sym, ◌∙◌, ap, if◌then◌else◌}
 use Rattle.std.specs.List.{list_any}
 use Rattle.std.specs.Option.{is_some}
 use Rattle.std.proofs.lemmas.Bool.{or_parts, true≢false}
-use Rattle.eeprom.specs.Eerd.{shown}
-use Rattle.eeprom.specs.History as eerd
-use Rattle.eeprom.specs.Laws.{after_all-append}
-use Rattle.mdic_phy.specs.declared.mdic.Operation.{Operation}
-use Rattle.mdic_phy.specs.declared.mdic.Ticked.{Ticked}
-use Rattle.mdic_phy.specs.declared.phy.Negotiation.{Negotiation}
-use Rattle.mdic_phy.specs.declared.phy.Negotiation.TheVariants.{NotStarted, Running, Complete}
-use Rattle.mdic_phy.specs.Mdic.{MdicState, mdic_after_tick, new_mdic, phy_after_tick, told, ended, phy_ended}
-use Rattle.mdic_phy.specs.Mdic as mdi
-use Rattle.mdic_phy.specs.MdicHistory.{MdicAndPhy, MdicEvent, after_mdic_events, both_behind}
-use Rattle.mdic_phy.specs.MdicLaws.{accesses_by_history, after_mdic_events-append}
-use Rattle.mdic_phy.specs.Phy.{PhyState, counted, is_counting, is_running, new_phy}
-use Rattle.mdic_phy.specs.Phy as phy
+use Rattle.eeprom_phy.specs.Eerd.{shown}
+use Rattle.eeprom_phy.specs.EerdHistory as eerd
+use Rattle.eeprom_phy.specs.EerdLaws.{after_all-append}
+use Rattle.eeprom_phy.specs.declared.mdic.Operation.{Operation}
+use Rattle.eeprom_phy.specs.declared.mdic.Ticked.{Ticked}
+use Rattle.eeprom_phy.specs.declared.phy.Negotiation.{Negotiation}
+use Rattle.eeprom_phy.specs.declared.phy.Negotiation.TheVariants.{NotStarted, Running, Complete}
+use Rattle.eeprom_phy.specs.Mdic.{MdicState, mdic_after_tick, new_mdic, phy_after_tick, told, ended, phy_ended}
+use Rattle.eeprom_phy.specs.Mdic as mdi
+use Rattle.eeprom_phy.specs.MdicHistory.{MdicAndPhy, MdicEvent, after_mdic_events, both_behind}
+use Rattle.eeprom_phy.specs.MdicLaws.{accesses_by_history, after_mdic_events-append}
+use Rattle.eeprom_phy.specs.Phy.{PhyState, counted, is_counting, is_running, new_phy}
+use Rattle.eeprom_phy.specs.Phy as phy
 use Rattle.adapter.specs.declared.register.Register.{Register}
 use Rattle.adapter.specs.declared.register.Register.TheVariants.{Ctrl, Eerd, Mdic, Icr}
 use Rattle.adapter.specs.declared.step.StepKind.TheVariants.{TxTake, TxPut, RxData, RxDone, EepromTick, PhyTick}
@@ -34,13 +34,11 @@ use Rattle.adapter.specs.TableLaws.{register_at-only, register_at-there}
 abbrev both_of : AdapterState → MdicAndPhy
 both_of state = record { mdic = state.mdic; phy = state.phy }
 
--- If no command is pending, a tick doesn't change MDIC.
 mdic-idle : (pending : Option Operation) (value : ℕ) (state : PhyState) → is_some pending ≡ false
     → mdic_after_tick (record { value = value; pending = pending }) state ≡ record { value = value; pending = pending }
 mdic-idle (Some operation) value state none = absurd (true≢false none)
 mdic-idle None value state none = refl
 
--- If no countdown is running, a tick of the PHY doesn't change the negotiation.
 negotiation-still : (negotiation : Negotiation) → is_running negotiation ≡ false → counted negotiation ≡ negotiation
 negotiation-still NotStarted still = refl
 negotiation-still (Running left) still = absurd (true≢false still)
@@ -52,9 +50,9 @@ phy-idle (Some operation) value state none still = absurd (true≢false none)
 phy-idle None value state none still =
     ap (λ (negotiation : Negotiation). record state { negotiation = negotiation }) (negotiation-still state.negotiation still)
 
--- A tick of the PHY at the adapter is a tick of MDIC, even if it has nothing to do.
+-- A step `PhyTick` changes MDIC and the PHY as a `Tick` event of MDIC does, even if the step has nothing to do.
 both-ticked : (state : AdapterState)
-    → both_of (after_phy_tick state) ≡ after_mdic_events (Rattle.mdic_phy.specs.MdicHistory.Tick ∷ []) (both_of state)
+    → both_of (after_phy_tick state) ≡ after_mdic_events (Rattle.eeprom_phy.specs.MdicHistory.Tick ∷ []) (both_of state)
 both-ticked state = by_test (mdi.has_work state.mdic state.phy) (λ none. none)
   where
     what : Ticked
@@ -80,7 +78,7 @@ both-written Ctrl value state = by_test (is_reset Ctrl value)
   where
     by_test : (test : Bool)
         → both_of (if test then after_reset state else by_row (row_of Ctrl).kept Ctrl value state)
-        ≡ after_mdic_events (if test then Rattle.mdic_phy.specs.MdicHistory.Write 0 ∷ [] else []) (both_of state)
+        ≡ after_mdic_events (if test then Rattle.eeprom_phy.specs.MdicHistory.Write 0 ∷ [] else []) (both_of state)
     by_test true = refl
     by_test false = refl
 both-written _ value state = refl
@@ -89,7 +87,6 @@ both-read : (register : Register) (state : AdapterState) → both_of (read_of re
 both-read Icr state = refl
 both-read _ state = refl
 
--- A change for which `LeavesParts` holds changes neither MDIC nor the PHY.
 both-left : (before after : AdapterState) → LeavesParts before after → both_of after ≡ both_of before
 both-left before after left = rw (left.mdic, left.phy) refl
 

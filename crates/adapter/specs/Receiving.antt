@@ -1,5 +1,5 @@
--- The reception of a frame ("3.2 Packet Reception"). The frame arrives, and data steps move it to memory piece by piece. After a data step
--- has moved a piece, a done step writes back the piece's descriptor, if the descriptor is inside memory.
+-- The reception of a frame ("3.2 Packet Reception"). The frame arrives, and data steps move the frame to memory piece by piece. After a
+-- data step has moved a piece, a done step writes back the piece's descriptor, if the descriptor is inside memory.
 use Rattle.std.specs.Prelude.{◌≡◌, ◌+◌, ◌*◌, ◌==◌}
 use Rattle.std.specs.Prelude.{ℕ, Bool, true, false, List, Option, None, Some, length, if◌then◌else◌}
 use Rattle.dma_memory.specs.Areas.{ChangesOnly, area_at}
@@ -31,8 +31,7 @@ use Rattle.adapter.specs.Transmitting.{moved_on}
 abbrev pub room : AdapterState → ℕ
 room state = state.receive_kilobytes * 1024
 
--- RCTL.EN is set, and the frame is legal and passes the receive filter. The frame is then stored if the packet buffer has room for it,
--- else missed.
+-- RCTL.EN is set, and the frame is legal and passes the receive filter.
 abbrev pub GetsIn : AdapterState → List ℕ → Type 0
 GetsIn state frame = IsAccepted state.filter frame
 
@@ -44,7 +43,7 @@ IsFate state frame Filtered = HasBit state.filter.rctl rctl_en × IsLegal frame 
 IsFate state frame Missed = GetsIn state frame × LacksRoomFor (room state) state.receiver.buffer frame
 IsFate state frame Stored = GetsIn state frame × HasRoomFor (room state) state.receiver.buffer frame
 
--- RNBC after a frame is stored or missed: it counts the frame if RDH equals RDT (our choice).
+-- RNBC after a frame is stored or missed: RNBC counts the frame if RDH equals RDT (our choice).
 abbrev pub no_buffers_counted : AdapterState → ℕ
 no_buffers_counted state = if state.receive_ring.head == state.receive_ring.tail then one_more state.no_receive_buffers
     else state.no_receive_buffers
@@ -74,7 +73,7 @@ piece_size state = length (next_piece state.filter.rctl state.receiver)
 abbrev pub is_last_piece : AdapterState → Bool
 is_last_piece state = is_last state.filter.rctl state.receiver
 
--- The next piece of the oldest frame can be moved: RDH and RDT are slots of the ring, and RCTL.BSEX is 0. The descriptor at RDH is inside
+-- The next piece of the oldest frame can be moved: RDH and RDT are indices of slots, and RCTL.BSEX is 0. The descriptor at RDH is inside
 -- memory, and so are the bytes of its buffer that the piece fills.
 abbrev pub CanMovePiece : List ℕ → AdapterState → Type 0
 CanMovePiece memory state = CanMove state.filter.rctl (ring_of state.receive_ring) memory (piece_size state)
@@ -87,8 +86,8 @@ DataAnswers memory state Part = HasFrameAndDescriptor state × CanMovePiece memo
 DataAnswers memory state Moved = HasFrameAndDescriptor state × CanMovePiece memory state × (is_last_piece state ≡ true)
 DataAnswers memory state _ = ⊥
 
--- The causes that a data step that moves a piece records: RXDMT0, bit 4, if half of the ring's descriptors are then offered (13.4.17;
--- 13.4.22, RDMTS 00).
+-- The causes that a data step records if it moves a piece: RXDMT0, bit 4, if exactly half of the ring's descriptors are offered after the
+-- step (13.4.17; 13.4.22, RDMTS 00).
 abbrev pub causes_of_moving : RingRegisters → ℕ
 causes_of_moving ring = if is_half_offered (ring_of (moved_on ring)) then alone rxdmt0 else 0
 
@@ -101,8 +100,8 @@ after_move answer state =
     })
 
 -- The adapter after a data step with this outcome. After `Part` or `Moved`, a piece of the oldest frame is in progress, RDH has advanced,
--- and the causes of `causes_of_moving` are recorded. After `Moved`, the frame is removed from the packet buffer. After `Fault`, data steps
--- are stopped.
+-- and the causes of `causes_of_moving` are recorded. `Moved` also removes the frame from the packet buffer. After `Fault`, data steps are
+-- stopped. Any other outcome changes nothing.
 abbrev pub after_data : FrameOutcome → AdapterState → AdapterState
 after_data Part state = after_move (answers.Part (is_half_offered (ring_of (moved_on state.receive_ring)))) state
 after_data Moved state = after_move (answers.Moved (is_half_offered (ring_of (moved_on state.receive_ring)))) state
@@ -121,7 +120,7 @@ memory_after_data_step Moved memory state =
     state.filter.rctl (ring_of state.receive_ring) state.receiver memory
 memory_after_data_step _ memory state = memory
 
--- A data step changes memory at most in the bytes of the piece, in the buffer that the descriptor at RDH points to.
+-- The two memories differ at most in the bytes that the next piece fills, in the buffer that the descriptor at RDH points to.
 abbrev pub DataChangesOnly : AdapterState → List ℕ → List ℕ → Type 0
 DataChangesOnly state memory memory' =
     ChangesOnly memory memory'
@@ -134,7 +133,7 @@ DoneAnswers state Nothing = state.receiver.work ≡ None
 DoneAnswers state Done = ¬ (state.receiver.work ≡ None)
 DoneAnswers state _ = ⊥
 
--- Whether the piece in progress is the last piece of its frame.
+-- Whether a piece is in progress, and is the last piece of its frame.
 abbrev pub is_ending : Option Work → Bool
 is_ending None = false
 is_ending (Some work) = work.ends
@@ -143,28 +142,28 @@ is_ending (Some work) = work.ends
 abbrev pub causes_of_finishing : Option Work → ℕ
 causes_of_finishing work = if is_ending work then alone rxt0 else 0
 
--- GPRC after a done step: GPRC counts a frame if the piece in progress is the last of the frame (our choice).
+-- GPRC after a done step: GPRC counts a frame if the last piece of this frame was in progress (our choice).
 abbrev pub received_counted : AdapterState → ℕ
 received_counted state = if is_ending state.receiver.work then one_more state.received_packets else state.received_packets
 
 -- The adapter after a done step with this outcome. After `Done`, no piece is in progress. If the piece that was in progress is the last of
--- its frame, RXT0 is recorded, and GPRC counts the frame.
+-- its frame, RXT0 is recorded, and GPRC counts the frame. Any other outcome changes nothing.
 abbrev pub after_done : FrameOutcome → AdapterState → AdapterState
 after_done Done state =
     with_causes (causes_of_finishing state.receiver.work)
     (record state { receiver = engine_after_done state.receiver; received_packets = received_counted state })
 after_done _ state = state
 
--- The memory after a done step: bytes 8 to 15 of the descriptor of the piece in progress are written, if the whole descriptor is inside
--- memory.
+-- The memory after a done step. If a piece is in progress, and its whole descriptor is inside memory, bytes 8 to 15 of this descriptor are
+-- written. Otherwise memory doesn't change.
 abbrev pub memory_after_done_step : List ℕ → AdapterState → List ℕ
 memory_after_done_step memory state = memory_after_done state.receiver.work memory
 
--- If a piece is in progress, memory differs at most in bytes 8 to 15 of its descriptor. Otherwise no byte differs.
+-- If a piece is in progress, the two memories differ at most in bytes 8 to 15 of the piece's descriptor. Otherwise they are equal.
 abbrev pub ChangesDescriptorOf : Option Work → List ℕ → List ℕ → Type 0
 ChangesDescriptorOf None memory memory' = memory' ≡ memory
 ChangesDescriptorOf (Some work) memory memory' = ChangesOnly memory memory' (area_at (work.descriptor + 8) 8)
 
--- A done step changes at most bytes 8 to 15 of the descriptor of the piece in progress.
+-- The two memories differ at most in bytes 8 to 15 of the descriptor of the adapter's piece in progress, if there is one.
 abbrev pub DoneChangesOnly : AdapterState → List ℕ → List ℕ → Type 0
 DoneChangesOnly state memory memory' = ChangesDescriptorOf state.receiver.work memory memory'

@@ -8,6 +8,6 @@ use Rattle.adapter.specs.State.{AdapterState}
 abbrev pub with_causes : ℕ → AdapterState → AdapterState
 with_causes causes state = record state { causes = record state.causes { recorded = union state.causes.recorded causes } }
 
--- A count increased by 1, or the greatest value of a counter, if the count is already this value.
+-- The count plus 1, but at most the greatest value of a counter.
 abbrev pub one_more : ℕ → ℕ
 one_more count = min (count + 1) greatest_count

@@ -1,10 +1,11 @@
--- Proofs of the effect of accesses, resets and power-on on later reads.
+-- Proofs of the laws of accesses, resets and power-on: `PlainReadsBack`, `OthersStayAtWrite`, `OthersStayAtRead`, `TouchedByWrites`,
+-- `ResetByTable` and `PowerOnByTable`.
 use Rattle.std.proofs.Common.{◌≡◌, ◌≢◌, ◌/◌, ◌%◌, ◌^◌, ◌<◌, ◌==◌, ◌&&◌, ℕ, zero, suc, Bool, true, false, List, ◌∷◌, Option, Some, bit_and}
 use Rattle.std.proofs.Common.{replicate, slice_index, refl, sym, ◌∙◌, ap, subst, if◌then◌else◌, arith}
 use Rattle.std.proofs.lemmas.Bool.{ne_eqb}
 use Rattle.std.proofs.lemmas.List.{get_or-replicate, get_or-set_other, get_or-set_same}
 use Rattle.std.proofs.lemmas.Nat.Bits.{bit_at_and, bit_at-lt}
-use Rattle.mdic_phy.specs.Phy.{PhyState, link_is_up, new_phy}
+use Rattle.eeprom_phy.specs.Phy.{PhyState, link_is_up, new_phy}
 use Rattle.registers.specs.Kept.{status_of_link_up}
 use Rattle.adapter.specs.declared.register.RingRegister.{RingRegister}
 use Rattle.adapter.specs.declared.register.RingRegister.TheVariants.{BaseLow, BaseHigh, Length, Head, Tail}
@@ -19,7 +20,7 @@ use Rattle.adapter.specs.Rings.{new_ring, ring_answer, with_ring}
 use Rattle.adapter.specs.State.{AdapterState, HasRegisters}
 use Rattle.adapter.specs.Table.{IsInTable, row_of}
 
--- A write that is no reset has the effect of the table's row.
+-- A write that is no reset has the effect of the register's row (`by_row`).
 pub write_of-row : (register : Register) (value : ℕ) (state : AdapterState) → is_reset register value ≡ false
     → write_of register value state ≡ by_row (row_of register).kept register value state
 write_of-row register value state none = rw none refl
@@ -47,7 +48,7 @@ ring-new Length = refl
 ring-new Head = refl
 ring-new Tail = refl
 
--- A register whose kept bits are its whole rule reads the number that `with_register` stored.
+-- A register whose row has kept bits reads the number that `with_register` stored.
 pub with_register-same : (register : Register) (kept number : ℕ) (state : AdapterState)
     → HasRegisters state → IsInTable register → (row_of register).kept ≡ Some kept
     → answer register (with_register register number state) ≡ number
@@ -118,7 +119,6 @@ others_stay_at_read Gptc Gptc state differ = absurd (differ refl)
 others_stay_at_read Rnbc Rnbc state differ = absurd (differ refl)
 others_stay_at_read _ _ state differ = refl
 
--- CTRL stores SLU.
 slu-kept : (value : ℕ) → bit_and value 0x40000061 / 2 ^ 6 % 2 ≡ value / 2 ^ 6 % 2
 slu-kept value =
     let both = bit_at_and value 0x40000061 6 in
@@ -134,14 +134,12 @@ touched_by_writes value state = record {
   mask_cleared = refl;
 }
 
--- An entry of an array of 16 entries: entry 0 is `first`, and the others are 0.
 entry-at_reset : (first entry : ℕ) → entry < 16 → slice_index (first ∷ replicate 15 0) entry ≡ (if entry == 0 then first else 0)
 entry-at_reset first zero within = refl
 entry-at_reset first (suc entry) within =
     let other : (suc entry == 0) ≡ false = ne_eqb (suc entry) 0 (λ same. omega arith) in
     get_or-replicate 15 entry 0 0 (omega arith) ∙ ap (λ (test : Bool). if test then first else 0) (sym other)
 
--- STATUS shows no link while CTRL.SLU is 0.
 no_link : (up : Bool) → (if up && false then status_of_link_up else 0) ≡ 0
 no_link true = refl
 no_link false = refl
@@ -159,7 +157,6 @@ answer-at_reset (Rah entry) words phy kilobytes within differ = entry-at_reset _
 answer-at_reset (Vfta word) words phy kilobytes within differ = get_or-replicate 128 word 0 0 within
 answer-at_reset _ words phy kilobytes within differ = refl
 
--- A reset has the effect that `IsReset` states.
 is_reset-after : (before after : AdapterState) → after ≡ after_reset before → IsReset before after
 is_reset-after before after same =
     subst (λ (state : AdapterState). IsReset before state) (sym same) (record {

@@ -1,11 +1,11 @@
--- The value that a read of a register returns, and the state after a read, a write and a reset.
+-- The value that a read of a register returns, and the state after power-on, a reset, a read and a write.
 use Rattle.std.specs.Prelude.{◌&&◌, ℕ, Bool, false, List, ◌∷◌, Option, Some, None, bit_and, replicate, slice_index, slice_set}
 use Rattle.std.specs.Prelude.{if◌then◌else◌}
-use Rattle.eeprom.specs.declared.eerd.ReadState.TheVariants.{Idle}
-use Rattle.eeprom.specs.Eerd as eeprom
-use Rattle.mdic_phy.specs.declared.phy.Link.{Link}
-use Rattle.mdic_phy.specs.Mdic as mdi
-use Rattle.mdic_phy.specs.Phy.{PhyState, link_is_up, new_phy}
+use Rattle.eeprom_phy.specs.declared.eerd.ReadState.TheVariants.{Idle}
+use Rattle.eeprom_phy.specs.Eerd as eeprom
+use Rattle.eeprom_phy.specs.declared.phy.Link.{Link}
+use Rattle.eeprom_phy.specs.Mdic as mdi
+use Rattle.eeprom_phy.specs.Phy.{PhyState, link_is_up, new_phy}
 use Rattle.registers.specs.Bits.{is_set, union, difference}
 use Rattle.registers.specs.Kept.{causes_of, status_of_link_up}
 use Rattle.registers.specs.Places.{ctrl_rst, ctrl_slu}
@@ -21,8 +21,8 @@ use Rattle.adapter.specs.State.{AdapterState}
 use Rattle.adapter.specs.Table.{row_of, register_at, address_low_at_reset, address_high_at_reset}
 use Rattle.rx_engine.specs.declared.filter.TheConstants.{VLAN_TYPE}
 
--- The receive filter after a reset: the first of the 16 receive addresses is the address in the EEPROM, and VET is the VLAN type of IEEE
--- 802.1Q. RCTL, MTA, VFTA and the other receive addresses are 0.
+-- The receive filter after a reset: RAL(0) and RAH(0) contain the address in the EEPROM, with AV, and VET is the VLAN type of IEEE 802.1Q.
+-- The other entries of RAL and RAH, and RCTL, MTA and VFTA, are 0.
 abbrev pub filter_at_reset : List ℕ → FilterRegisters
 filter_at_reset words = record {
   ral = address_low_at_reset 0 words ∷ replicate 15 0;
@@ -55,8 +55,8 @@ adapter_at_reset words phy kilobytes = record {
   transmitter = new_transmitter;
 }
 
--- An adapter after power-on: its registers have their reset values, its PHY is new, and its packet buffer has 48 kilobytes for frames that
--- are received.
+-- An adapter after power-on, by the words of its EEPROM and the setting of its link. The registers have their reset values, RXA is 48, and
+-- the PHY is new.
 abbrev pub new_adapter : List ℕ → Link → AdapterState
 new_adapter words link = adapter_at_reset words (new_phy link) 48
 
@@ -103,7 +103,7 @@ read_of Gptc state = record state { transmitted_packets = 0 }
 read_of Rnbc state = record state { no_receive_buffers = 0 }
 read_of register state = state
 
--- The state in which a register whose kept bits are its whole rule has this value. For any other register, the state is the same.
+-- The state after this number is stored in a register whose row has kept bits. For any other register, the state doesn't change.
 abbrev pub with_register : Register → ℕ → AdapterState → AdapterState
 with_register Ctrl number state = record state { device_control = number }
 with_register Vet number state = record state { filter = record state.filter { vet = number } }
@@ -117,7 +117,8 @@ with_register (Rah entry) number state = record state { filter = record state.fi
 with_register (Vfta word) number state = record state { filter = record state.filter { vfta = slice_set state.filter.vfta word number } }
 with_register register number state = state
 
--- The state after a write of a register whose kept bits aren't its whole rule. STATUS and the counters ignore the write.
+-- The state after a write of a register whose row has no kept bits. STATUS and the counters ignore the write, and a register with kept bits
+-- doesn't change.
 abbrev pub by_rule : Register → ℕ → AdapterState → AdapterState
 by_rule Eerd value state = record state { eerd = eeprom.after_write value state.eerd }
 by_rule Mdic value state = record state { mdic = mdi.after_write value }
@@ -138,24 +139,24 @@ abbrev pub by_row : Option ℕ → Register → ℕ → AdapterState → Adapter
 by_row (Some kept) register value state = with_register register (bit_and value kept) state
 by_row None register value state = by_rule register value state
 
--- The state after a write of a register.
+-- The state after a write of a register: after a reset if the write is a reset, else by the register's row.
 abbrev pub write_of : Register → ℕ → AdapterState → AdapterState
 write_of register value state =
     if is_reset register value then after_reset state else by_row (row_of register).kept register value state
 
 -- Accesses by offset. If no register is at an offset, a read returns 0, and neither a read nor a write changes anything (our choice).
 
--- What a read returns: the register's value, or 0 if there is no register.
+-- What a read of a register returns, or 0 if there is no register.
 abbrev pub answer_of : Option Register → AdapterState → ℕ
 answer_of (Some register) state = answer register state
 answer_of None state = 0
 
--- The state after a read of a register, or the same state if there is no register.
+-- The state after a read of a register, or the unchanged state if there is no register.
 abbrev pub left_by_read : Option Register → AdapterState → AdapterState
 left_by_read (Some register) state = read_of register state
 left_by_read None state = state
 
--- The state after a write of a register, or the same state if there is no register.
+-- The state after a write of a register, or the unchanged state if there is no register.
 abbrev pub left_by_write : Option Register → ℕ → AdapterState → AdapterState
 left_by_write (Some register) value state = write_of register value state
 left_by_write None value state = state

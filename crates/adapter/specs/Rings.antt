@@ -22,7 +22,7 @@ ring_kept Length = 0x000FFF80
 ring_kept Head = 0x0000FFFF
 ring_kept Tail = 0x0000FFFF
 
--- The registers of a ring after a reset.
+-- The registers of a ring after a reset: each is 0.
 abbrev pub new_ring : RingRegisters
 new_ring = record { base_low = 0; base_high = 0; length_bytes = 0; head = 0; tail = 0 }
 
@@ -34,7 +34,7 @@ ring_answer Length ring = ring.length_bytes
 ring_answer Head ring = ring.head
 ring_answer Tail ring = ring.tail
 
--- The registers of a ring after this number is stored in one of them.
+-- The registers of a ring after this number is stored in the named register.
 abbrev pub with_ring : RingRegister → ℕ → RingRegisters → RingRegisters
 with_ring BaseLow number ring = record ring { base_low = number }
 with_ring BaseHigh number ring = record ring { base_high = number }
@@ -42,7 +42,7 @@ with_ring Length number ring = record ring { length_bytes = number }
 with_ring Head number ring = record ring { head = number }
 with_ring Tail number ring = record ring { tail = number }
 
--- The registers of a ring after a write of a word to one of them.
+-- The registers of a ring after a write of this value to the named register, which stores the kept bits of the value.
 abbrev pub ring_written : RingRegister → ℕ → RingRegisters → RingRegisters
 ring_written register value ring = with_ring register (bit_and value (ring_kept register)) ring
 

@@ -7,11 +7,11 @@ use Rattle.tx_engine.specs.Fetching.{IsTransmittable, descriptor_at}
 use Rattle.adapter.specs.Slots.{offered}
 use Rattle.adapter.specs.World.{World, receive_ring, transmit_ring}
 
--- The descriptor at an address can be transmitted: it has EOP and the legacy format, and points to 1 to 1,518 bytes inside memory.
+-- The descriptor at an address can be transmitted: EOP is set, DEXT is clear, and the descriptor points to 1 to 1,518 bytes inside memory.
 abbrev pub CanTransmit : List ℕ → ℕ → Type 0
 CanTransmit memory descriptor = IsTransmittable memory (descriptor_at memory descriptor)
 
--- The engines can run: no fault has stopped an engine, and if `Sound` also holds for the world, no step of an engine is a fault.
+-- The engines can run: no fault has stopped an engine. If `Sound` also holds for the world, no step of an engine is a fault.
 pub record CanRun (world : World) : Type 0 where
   -- No fault has stopped the receive engine.
   pub receiver_runs : world.adapter.receiver.stopped ≡ false
@@ -26,6 +26,6 @@ pub record CanRun (world : World) : Type 0 where
   -- Each offered transmit descriptor can be transmitted.
   pub transmittable : All (CanTransmit world.memory) (offered (transmit_ring world))
 
--- If the engines can run in the first world, they can run in the second.
+-- If the engines can run in the world `a`, they can run in the world `b`.
 abbrev pub GoOn : World → World → Type 0
 GoOn a b = CanRun a → CanRun b

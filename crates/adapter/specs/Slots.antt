@@ -9,11 +9,11 @@ use Rattle.tx_engine.specs.Transmitter.{Queued}
 use Rattle.adapter.specs.World.{World, receive_ring, transmit_ring}
 
 -- From slot `oldest` on, the outstanding slots of the ring are first finished slots, then the slots of `taken`, then the offered slots.
--- Slots of `taken` and offered slots don't have DD. Slot `oldest` is a slot of the ring, or no slot is outstanding.
+-- Slots of `taken` and offered slots don't have DD. `oldest` is the index of a slot of the ring, or no slot is outstanding.
 pub record IsDealt (memory : List ℕ) (ring : Ring) (oldest : ℕ) (taken : List ℕ) : Type 0 where
-  -- The oldest slot is a slot of the ring, or no slot is outstanding.
+  -- `oldest` is the index of a slot of the ring, or no slot is outstanding.
   pub slot : (oldest < count_of ring) ⊎ (outstanding ring oldest ≡ [])
-  -- The outstanding slots are the finished ones, then those of `taken`, then the offered ones.
+  -- The outstanding slots are first the finished slots, then the slots of `taken`, then the offered slots.
   pub classes : outstanding ring oldest ≡ done_slots memory ring oldest ++ (taken ++ offered ring)
   -- No slot of `taken` and no offered slot has DD set.
   pub not_done : All (λ descriptor. is_done memory descriptor ≡ false) (taken ++ offered ring)
@@ -27,7 +27,7 @@ slot_of_work (Some work) = work.descriptor ∷ []
 abbrev pub in_work : World → List ℕ
 in_work world = slot_of_work world.adapter.receiver.work
 
--- The slots of the frames in the transmit packet buffer.
+-- The slots of the frames in the transmit packet buffer, in the order of the frames.
 abbrev pub buffered : World → List ℕ
 buffered world = map (λ (queued : Queued). queued.descriptor) world.adapter.transmitter.buffer
 

@@ -1,8 +1,8 @@
 -- The state of an adapter, as plain data.
 use Rattle.std.specs.Prelude.{◌≡◌, ◌≤◌, ℕ, List, length}
-use Rattle.eeprom.specs.declared.eerd.ReadState.{ReadState}
-use Rattle.mdic_phy.specs.Mdic.{MdicState}
-use Rattle.mdic_phy.specs.Phy.{PhyState}
+use Rattle.eeprom_phy.specs.declared.eerd.ReadState.{ReadState}
+use Rattle.eeprom_phy.specs.Mdic.{MdicState}
+use Rattle.eeprom_phy.specs.Phy.{PhyState}
 use Rattle.registers.specs.Bits.{IsSubset}
 use Rattle.registers.specs.Kept.{all_causes}
 use Rattle.registers.specs.Counting.{greatest_count}
@@ -19,7 +19,7 @@ pub record AdapterState : Type 0 where
   pub image : List ℕ
   -- The state of the PHY.
   pub phy : PhyState
-  -- PBA: the kilobytes of the packet buffer's receive part, RXA.
+  -- PBA.RXA: the size of the receive packet buffer in kilobytes.
   pub receive_kilobytes : ℕ
   -- The value of CTRL.
   pub device_control : ℕ
@@ -51,7 +51,7 @@ pub record AdapterState : Type 0 where
   -- The transmit packet buffer, and whether a fault has stopped `TxTake`.
   pub transmitter : Transmitter
 
--- The sizes of the filter's tables.
+-- The four lists have the lengths of the tables RAL, RAH, MTA and VFTA.
 pub record HasTables (ral rah mta vfta : List ℕ) : Type 0 where
   -- RAL has 16 entries.
   pub ral_entries : length ral ≡ 16
@@ -73,29 +73,29 @@ pub record CountersFit (mpc gprc gptc rnbc : ℕ) : Type 0 where
   -- RNBC fits into 32 bits.
   pub no_buffers : rnbc ≤ greatest_count
 
--- Only bits of interrupt causes are recorded, and only such bits are in the mask.
+-- Each bit that is 1 in `recorded` or in `mask` is the bit of an interrupt cause (`all_causes`).
 pub record CausesAlone (recorded mask : ℕ) : Type 0 where
-  -- ICR contains only interrupt causes.
+  -- Each bit that is 1 in ICR is the bit of a cause.
   pub recorded_causes : IsSubset recorded all_causes
-  -- IMS contains only interrupt causes.
+  -- Each bit that is 1 in IMS is the bit of a cause.
   pub masked_causes : IsSubset mask all_causes
 
 -- The invariant of an adapter's registers.
 pub record HasRegisters (state : AdapterState) : Type 0 where
-  -- The tables of the receive filter have their sizes.
+  -- The tables of the receive filter have their sizes (`HasTables`).
   pub tables : HasTables state.filter.ral state.filter.rah state.filter.mta state.filter.vfta
-  -- RXA of PBA is even, and from 2 to 48.
+  -- PBA.RXA is an even number from 2 to 48.
   pub allocation : IsAllocation state.receive_kilobytes
-  -- ICR and IMS contain only interrupt causes.
+  -- Each bit that is 1 in ICR or in IMS is the bit of a cause.
   pub causes : CausesAlone state.causes.recorded state.causes.mask
   -- The counters fit into 32 bits.
   pub counters : CountersFit state.missed_packets state.received_packets state.transmitted_packets state.no_receive_buffers
 
 -- The invariant of every adapter: of its registers, of its receive engine, and of its EEPROM, which has 64 words.
 pub record IsAdapter (state : AdapterState) : Type 0 where
-  -- The registers meet their invariant.
+  -- The registers meet their invariant (`HasRegisters`).
   pub registers : HasRegisters state
-  -- The receive engine meets its invariant.
+  -- The receive engine meets its invariant (`IsReceiver`).
   pub receiver : IsReceiver state.receiver
   -- The EEPROM has 64 words.
   pub image : length state.image ≡ 64

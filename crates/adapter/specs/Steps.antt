@@ -1,8 +1,8 @@
 -- The steps of an adapter: what each one changes, and which outcome it has.
 use Rattle.std.specs.Prelude.{◌≡◌, ◌≢◌, ◌↔◌, ℕ, List, Bool, IsTrue, Option, Some, None, if◌then◌else◌}
-use Rattle.eeprom.specs.Eerd as eeprom
-use Rattle.mdic_phy.specs.declared.mdic.Ticked.{Ticked}
-use Rattle.mdic_phy.specs.Mdic as mdi
+use Rattle.eeprom_phy.specs.Eerd as eeprom
+use Rattle.eeprom_phy.specs.declared.mdic.Ticked.{Ticked}
+use Rattle.eeprom_phy.specs.Mdic as mdi
 use Rattle.registers.specs.Bits.{union}
 use Rattle.adapter.specs.declared.step.StepKind.{StepKind}
 use Rattle.adapter.specs.declared.step.StepKind.TheVariants.{TxTake, TxPut, RxData, RxDone, EepromTick, PhyTick}
@@ -25,7 +25,7 @@ after_eeprom_tick state = record state { eerd = eeprom.after_tick state.image st
 abbrev pub causes_told : Ticked → ℕ
 causes_told ticked = union (if ticked.link_changed then alone lsc else 0) (if ticked.access_complete then alone mdac else 0)
 
--- The adapter after a tick of the PHY with this result: `None` if the tick had nothing to do.
+-- The adapter after a tick of the PHY with this result. `None` stands for a tick that had nothing to do: the adapter doesn't change.
 abbrev pub after_phy_told : Option Ticked → AdapterState → AdapterState
 after_phy_told (Some ticked) state =
     with_causes (causes_told ticked)
@@ -50,7 +50,8 @@ Answers RxDone wire_free memory state answer = DoneAnswers state answer
 Answers EepromTick wire_free memory state answer = answer ≡ ticked (eeprom.is_pending state.eerd)
 Answers PhyTick wire_free memory state answer = answer ≡ ticked (mdi.has_work state.mdic state.phy)
 
--- `works` is whether a step of this kind has something to do: its outcome isn't `Nothing`, whatever is in memory and on the wire.
+-- `works` is true if and only if the outcome of a step of this kind isn't `Nothing`. This holds for each memory, and whether the wire has
+-- room or not.
 abbrev pub TellsWork : StepKind → Bool → AdapterState → Type 0
 TellsWork kind works state =
     (wire_free : Bool) (memory : List ℕ) (answer : FrameOutcome) → Answers kind wire_free memory state answer

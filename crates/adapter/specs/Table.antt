@@ -16,17 +16,16 @@ use Rattle.rx_engine.specs.Registers.{address_high_mask}
 pub record Row : Type 0 where
   -- The offset in bytes.
   pub offset : ℕ
-  -- The bits that a write stores and a read returns, if these bits are the register's whole rule. Otherwise `None`: the register has
-  -- another rule.
+  -- The bits that a write stores and a read returns, if the register has no other rule except RST of CTRL. Otherwise `None`.
   pub kept : Option ℕ
   -- The value after power-on and, except for PBA, after a reset, by the words of the EEPROM.
   pub reset : List ℕ → ℕ
 
--- The row of a register whose kept bits are its whole rule. Its reset value is the same for each EEPROM.
+-- The row of a register with these kept bits. Its reset value is the same for each EEPROM.
 abbrev pub plain : ℕ → ℕ → ℕ → Row
 plain offset kept reset = record { offset = offset; kept = Some kept; reset = λ words. reset }
 
--- The row of a register whose kept bits aren't its whole rule. Its reset value is the same for each EEPROM.
+-- The row of a register that has no kept bits, but another rule. Its reset value is the same for each EEPROM.
 abbrev pub ruled : ℕ → ℕ → Row
 ruled offset reset = record { offset = offset; kept = None; reset = λ words. reset }
 
@@ -45,9 +44,9 @@ abbrev pub row_of : Register → Row
 row_of Ctrl = plain 0x0000 control_mask 0
 -- read only: 0x83 while the PHY's link is up and CTRL.SLU is set, else 0
 row_of Status = ruled 0x0008 0
--- reads a word of the EEPROM (crate `eeprom`)
+-- reads a word of the EEPROM (crate `eeprom_phy`)
 row_of Eerd = ruled 0x0014 0
--- reads and writes registers of the PHY (crate `mdic_phy`)
+-- reads and writes registers of the PHY (crate `eeprom_phy`)
 row_of Mdic = ruled 0x0020 0
 row_of Vet = plain 0x0038 0x0000FFFF 0x8100
 -- causes 0x2D7; a read clears all causes, and a write clears each cause whose bit is written as 1
@@ -85,7 +84,7 @@ IsInTable (Rah entry) = entry < 16
 IsInTable (Vfta word) = word < 128
 IsInTable register = Unit {0}
 
--- The register is at this offset.
+-- The register exists, and is at this offset.
 pub record StandsAt (offset : ℕ) (register : Register) : Type 0 where
   -- The register exists.
   pub in_table : IsInTable register
@@ -108,7 +107,7 @@ array_register first count step register offset =
     then Some (register ((offset - first) / step))
     else None
 
--- The first argument if it is a register, else the second.
+-- The first argument if it is `Some`, else the second.
 abbrev pub or_else : Option Register → Option Register → Option Register
 or_else (Some register) other = Some register
 or_else None other = other

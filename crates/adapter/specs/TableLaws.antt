@@ -1,4 +1,4 @@
--- Proofs about the register at an offset.
+-- Proofs of the laws of offsets: `OffsetsByTable`, `AccessesByOffset` and `OutsideIsIgnored`.
 use Rattle.std.proofs.Common.{◌≡◌, ◌+◌, ◌-◌, ◌*◌, ◌/◌, ◌%◌, ◌<◌, ◌≤◌, ◌==◌, ◌&&◌, ℕ, Bool, true, false, List, [], ◌∷◌, Option, Some, None}
 use Rattle.std.proofs.Common.{cond, refl, ap, subst, find, inl, inr, ◌⊎◌, arith, rules, ltb, leb}
 use Rattle.std.proofs.lemmas.Bool.{and_parts, eqb-true, leb-true, ltb-true}
@@ -11,7 +11,6 @@ use Rattle.adapter.specs.AccessLaws.{AccessesByOffset, OffsetsByTable, OutsideIs
 use Rattle.adapter.specs.Registers.{answer_of, left_by_read, left_by_write}
 use Rattle.adapter.specs.Table.{IsInTable, StandsAt, array_register, array_register_at, or_else, register_at, row_of, single_registers}
 
--- Each register of an array is found at its offset.
 pub register_at-mta : (word : ℕ) → word < 128 → register_at (0x5200 + 4 * word) ≡ Some (Mta word)
 unfolding register_at array_register_at
 register_at-mta word within = grind (arith, nat_tests)
@@ -95,7 +94,6 @@ offset-below (Rah entry) within = omega arith
 offset-below (Vfta word) within = omega arith
 offset-below _ within = omega arith
 
--- The result of `or_else` is one of its arguments.
 or_else-cases : (first second : Option Register) (register : Register) → or_else first second ≡ Some register
     → (first ≡ Some register) ⊎ (second ≡ Some register)
 or_else-cases (Some register') second register found = inl found
@@ -106,7 +104,6 @@ abbrev AllInTable : List Register → Type 0
 AllInTable [] = Unit {0}
 AllInTable (register ∷ others) = IsInTable register × AllInTable others
 
--- If a search by offset in a list of registers of the table finds a register, this register is at the offset.
 found_stands : (offset : ℕ) (registers : List Register) (register : Register)
     → AllInTable registers → find (λ r. (row_of r).offset == offset) registers ≡ Some register → StandsAt offset register
 found_stands offset [] register all found = cc
@@ -121,7 +118,7 @@ found_stands offset (first ∷ others) register all found =
         subst (λ (r : Register). StandsAt offset r) same (record { in_table = all.0; there = equal refl })
     by_test false equal later is = later is
 
--- If a search in an array of registers of the table finds a register, this register is at the offset.
+-- If each register of an array is at its offset, and the array has a register at `offset`, this register is at `offset`.
 array_stands : (first count step : ℕ) (word : ℕ → Register) (offset : ℕ) (register : Register)
     → ((n : ℕ) → n < count → StandsAt (first + step * n) (word n))
     → ((distance : ℕ) → distance % step ≡ 0 → step * (distance / step) ≡ distance)
@@ -180,7 +177,6 @@ accesses_by_offset offset register state stands =
       written = λ value. ap (λ (found : Option Register). left_by_write found value state) found;
     }
 
--- If no register is at an offset, the search finds no register.
 none_found : (offset : ℕ) → ((register : Register) → ¬ (StandsAt offset register)) → register_at offset ≡ None
 none_found offset none = by_case (register_at offset) (λ register found. none register (register_at-only offset register found))
   where

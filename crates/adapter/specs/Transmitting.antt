@@ -16,7 +16,7 @@ use Rattle.adapter.specs.State.{AdapterState}
 abbrev pub HasNothingToTake : AdapterState → Type 0
 HasNothingToTake state = HasNoFrameToTake state.transmit_control state.transmitter (ring_of state.transmit_ring)
 
--- The descriptor at TDH can be taken: TDH and TDT are slots of the ring, and the descriptor is inside memory and can be transmitted
+-- The descriptor at TDH can be taken: TDH and TDT are indices of slots, and the descriptor is inside memory and can be transmitted
 -- (`IsTransmittable`).
 abbrev pub CanTake : List ℕ → AdapterState → Type 0
 CanTake memory state = IsFetchable memory (ring_of state.transmit_ring)
@@ -37,7 +37,7 @@ abbrev pub causes_of_taking : RingRegisters → ℕ
 causes_of_taking ring = if (moved_on ring).head == ring.tail then alone txqe else 0
 
 -- The adapter after TxTake with this outcome. After `Took`, the frame is the last one in the packet buffer, TDH has advanced, and the
--- causes of `causes_of_taking` are recorded. After `Fault`, TxTake is stopped.
+-- causes of `causes_of_taking` are recorded. After `Fault`, TxTake is stopped. Any other outcome changes nothing.
 abbrev pub after_take : FrameOutcome → List ℕ → AdapterState → AdapterState
 after_take Took memory state =
     with_causes (causes_of_taking state.transmit_ring) (record state {
@@ -82,22 +82,24 @@ abbrev pub after_put : FrameOutcome → AdapterState → AdapterState
 after_put (Put frame) state = without_oldest state
 after_put _ state = state
 
--- Memory after the oldest frame of a packet buffer is put onto the wire. If the packet buffer is empty, memory doesn't change.
+-- Memory after the oldest frame of a packet buffer is put onto the wire (`written_back`). If the packet buffer is empty, memory doesn't
+-- change.
 abbrev pub reported : List Queued → List ℕ → List ℕ
 reported [] memory = memory
 reported (queued ∷ later) memory = written_back memory queued
 
--- The memory after TxPut with this outcome. If a frame was put, and its descriptor asks for a report, byte 12 of this descriptor is 0x01
--- (DD), unless memory ends before this byte.
+-- The memory after TxPut with this outcome. If a frame was put whose descriptor asks for a report, byte 12 of this descriptor is 0x01 (DD),
+-- if memory contains this byte. Otherwise memory doesn't change.
 abbrev pub memory_after_put : FrameOutcome → List ℕ → AdapterState → List ℕ
 memory_after_put (Put frame) memory state = reported state.transmitter.buffer memory
 memory_after_put _ memory state = memory
 
--- If a frame is in the packet buffer, memory differs at most in byte 12 of the oldest frame's descriptor. Otherwise no byte differs.
+-- If a frame is in the packet buffer, the two memories differ at most in byte 12 of the oldest frame's descriptor. Otherwise they are
+-- equal.
 abbrev pub ChangesStatusOfOldest : List Queued → List ℕ → List ℕ → Type 0
 ChangesStatusOfOldest [] memory memory' = memory' ≡ memory
 ChangesStatusOfOldest (queued ∷ later) memory memory' = DiffersAtMostAt (status_place queued) memory memory'
 
--- TxPut changes at most byte 12 of the descriptor of the oldest frame.
+-- The two memories differ at most in byte 12 of the descriptor of the oldest frame in the transmit packet buffer, if there is one.
 abbrev pub PutChangesOnly : AdapterState → List ℕ → List ℕ → Type 0
 PutChangesOnly state memory memory' = ChangesStatusOfOldest state.transmitter.buffer memory memory'

@@ -2,8 +2,8 @@
 use Rattle.std.specs.Prelude.{ℕ, List}
 use Rattle.adapter.specs.declared.adapter.Adapter.TheInside.{Inside}
 use Rattle.adapter.specs.declared.register_file.RegisterFile.{RegisterFile}
-use Rattle.eeprom.specs.declared.eerd.ReadState.TheVariants.{Idle}
-use Rattle.mdic_phy.specs.Mdic.{new_mdic}
+use Rattle.eeprom_phy.specs.declared.eerd.ReadState.TheVariants.{Idle}
+use Rattle.eeprom_phy.specs.Mdic.{new_mdic}
 use Rattle.adapter.specs.Registers.{filter_at_reset}
 use Rattle.adapter.specs.Rings.{new_ring}
 use Rattle.adapter.specs.State.{AdapterState, IsAdapter}
@@ -30,7 +30,7 @@ state_of inside = record {
   transmitter = inside.transmitter;
 }
 
--- The plain data of an adapter with this register file: the registers that a reset sets.
+-- The state in which these registers, which are those that a reset sets, replace the adapter's. The other fields don't change.
 abbrev pub with_file : RegisterFile → AdapterState → AdapterState
 with_file file state = record state {
   device_control = file.ctrl.0;
@@ -47,7 +47,7 @@ with_file file state = record state {
   no_receive_buffers = file.rnbc;
 }
 
--- The invariant of the fields.
+-- The plain data of the fields meets the invariant of an adapter.
 abbrev pub IsConsistent : Inside → Type 0
 IsConsistent inside = IsAdapter (state_of inside)
 

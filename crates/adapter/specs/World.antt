@@ -21,14 +21,14 @@ receive_ring world = ring_of world.adapter.receive_ring
 abbrev pub transmit_ring : World → Ring
 transmit_ring world = ring_of world.adapter.transmit_ring
 
--- The world after a register read, by the register's offset.
+-- The world after a read at this register offset. Memory doesn't change.
 abbrev pub world_after_read : ℕ → World → World
 world_after_read offset world = record world { adapter = after_read offset world.adapter }
 
--- The world after a register write, by the register's offset.
+-- The world after a write of this value at this register offset. Memory doesn't change.
 abbrev pub world_after_write : ℕ → ℕ → World → World
 world_after_write offset value world = record world { adapter = after_write offset value world.adapter }
 
--- The world after these bytes are stored in memory, from this address on.
+-- The world after these bytes are stored in memory, from this address on. The adapter doesn't change.
 abbrev pub world_after_store : ℕ → List ℕ → World → World
 world_after_store address bytes world = record world { memory = with_bytes world.memory address bytes }

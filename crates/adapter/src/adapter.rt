@@ -11,8 +11,7 @@ use crate::register_file::RegisterFile;
 use crate::step::StepKind;
 use bitflags::Flags;
 use dma_memory::HostMemory;
-use eeprom::Image;
-use mdic_phy::{Link, Phy, Ticked};
+use eeprom_phy::{Image, Link, Phy, Ticked};
 use registers::{Cause, Ctrl, PacketBufferAllocation, Status};
 use rx_engine::RxEngine;
 use std::alloc::{AllocError, Global};
@@ -23,10 +22,10 @@ use tx_engine::TxEngine;
 /// An 82540EM: its registers, its EEPROM and PHY, and the two engines that move frames between its
 /// wire and a host's memory.
 ///
-/// In contracts, the value is an `AdapterState`, plain data that `specs/State.antt` defines. Each register access has
-/// the effect in the table of [`offsets`](crate::offsets). The adapter does all other work in steps and arrivals: one
-/// call of [`step`](Adapter::step) is one step, and one call of [`arrive`](Adapter::arrive) is the arrival of one
-/// frame.
+/// In contracts, the value is an `AdapterState`, plain data that `specs/State.antt` defines. The table of
+/// [`offsets`](crate::offsets) states the effect of each register access. The adapter does all other work in steps and
+/// arrivals. One call of [`step`](Adapter::step) is one step, and one call of [`arrive`](Adapter::arrive) is the
+/// arrival of one frame.
 #[derive(Drop)]
 pub struct Adapter {
     image: Image,
@@ -79,11 +78,11 @@ impl Adapter {
     ghost use Rattle.adapter.specs.State.{IsAdapter};
     ghost use Rattle.adapter.specs.Steps.{Answers, ChangesAtMost, after_step, memory_after_step};
     ghost use Rattle.adapter.specs.declared.outcome.Outcome.TheVariants.{Fault, Nothing};
-    ghost use Rattle.eeprom.specs.Eerd.{is_pending};
-    ghost use Rattle.mdic_phy.specs.Mdic.{has_work};
+    ghost use Rattle.eeprom_phy.specs.Eerd.{is_pending};
+    ghost use Rattle.eeprom_phy.specs.Mdic.{has_work};
 
-    /// Returns an adapter after power-on, with this EEPROM. `link` states how many ticks of the PHY negotiation takes
-    /// until the link is up, if it ever is. Both packet buffers are empty. This call allocates their memory, and no
+    /// Returns an adapter after power-on, with this EEPROM. `link` is the number of ticks of the PHY that negotiation
+    /// takes until the link is up, or `Never`. Both packet buffers are empty. This call allocates their memory, and no
     /// later call except `clone` allocates memory.
     ///
     /// # Errors
@@ -137,8 +136,7 @@ impl Adapter {
         let _ = &self.image;
     }
 
-    /// Returns whether the interrupt line is asserted: exactly while a recorded cause is in the mask (our choice: no
-    /// throttling).
+    /// Returns whether the interrupt line is asserted: some recorded cause is in the mask (our choice: no throttling).
     pub fn line(&self) -> bool
         ensures line { IsTrue result ↔ Meet self.now.causes.recorded self.now.causes.mask }
         ensures adapter { IsAdapter self.now }
@@ -146,15 +144,15 @@ impl Adapter {
         self.file.causes.line()
     }
 
-    /// Returns whether a step of the EEPROM would end a read.
+    /// Returns whether a read of EERD is pending, which the next `EepromTick` would end.
     pub fn eeprom_has_work(&self) -> bool
         ensures { result ≡ is_pending self.now.eerd }
     {
         self.file.eerd.is_pending()
     }
 
-    /// Returns whether a step of the PHY would change the PHY or MDIC: a link countdown is running, or a command of
-    /// MDIC is pending.
+    /// Returns whether `PhyTick` would have something to do: a link countdown is running, or a command of MDIC is
+    /// pending.
     pub fn phy_has_work(&self) -> bool
         ensures { result ≡ has_work self.now.mdic self.now.phy }
     {
@@ -178,8 +176,7 @@ impl Adapter {
     ///
     /// Only `TxTake` and `RxData` can return `Fault`. A fault changes neither memory nor a register of a ring (our
     /// choice). After a fault, steps of the same kind return `Nothing` until a write of CTRL with RST, as the contract
-    /// of [`write`](Adapter::write) states. Steps of other kinds don't depend on the fault. Nor do arrivals, as the
-    /// contract of [`arrive`](Adapter::arrive) states.
+    /// of [`write`](Adapter::write) states. Neither steps of other kinds nor arrivals depend on the fault.
     ///
     /// A step changes at most these bytes of memory:
     /// - [`RxData`](StepKind::RxData): the bytes of the piece, in the buffer that the receive descriptor at RDH points
@@ -188,7 +185,8 @@ impl Adapter {
     /// - [`TxPut`](StepKind::TxPut): byte 12 of the descriptor of the frame that is put on the wire.
     ///
     /// `RxDone` writes nothing if the descriptor isn't inside memory, and `TxPut` writes nothing if byte 12 of the
-    /// descriptor isn't. Both cases occur only if the memory is smaller than in the step that fetched the descriptor.
+    /// descriptor isn't inside memory. Both cases occur only if the memory is smaller than in the step that fetched the
+    /// descriptor.
     #[inline(always)]
     pub fn step(&mut self, kind: StepKind, memory: &mut HostMemory, wire_free: bool) -> Outcome<()>
         ensures answer { Answers kind wire_free memory.old self.old (framed result self.old) }
@@ -218,8 +216,8 @@ impl Adapter {
     ghost use Rattle.adapter.specs.State.{IsAdapter};
     ghost use Rattle.adapter.specs.declared.outcome.Outcome.TheVariants as outcome;
     ghost use Rattle.adapter.specs.Outcomes.{framed};
-    ghost use Rattle.eeprom.specs.Eerd.{is_pending};
-    ghost use Rattle.mdic_phy.specs.Mdic.{has_work};
+    ghost use Rattle.eeprom_phy.specs.Eerd.{is_pending};
+    ghost use Rattle.eeprom_phy.specs.Mdic.{has_work};
     ghost use Rattle.adapter.specs.Steps.{after_eeprom_tick, after_phy_tick, ticked};
     ghost use Rattle.adapter.specs.Table.{IsInTable};
 
@@ -240,7 +238,7 @@ impl Adapter {
         }
     }
 
-    /// Returns the value of a register, or 0 for `None`.
+    /// Returns the value that a read of this register would return, or 0 for `None`.
     #[inline(always)]
     fn value_of(&self, register: Option<Register>) -> u32
         requires { IfSome register IsInTable }
@@ -256,7 +254,7 @@ impl Adapter {
         }
     }
 
-    /// Writes a register. For `None`, nothing changes.
+    /// Writes a register: a write of CTRL with RST resets the adapter. For `None`, nothing changes.
     #[inline(always)]
     fn write_register(&mut self, register: Option<Register>, value: u32)
         requires { IfSome register IsInTable }
@@ -274,7 +272,8 @@ impl Adapter {
         }
     }
 
-    /// Resets the adapter with its packet buffers and engines, but not PBA, the PHY and the image of the EEPROM.
+    /// Sets all registers except PBA to their reset values, empties both packet buffers, drops the piece in progress,
+    /// and restarts both engines. PBA, the PHY and the image of the EEPROM don't change.
     fn reset(&mut self)
         ensures { self.new ≡ after_reset self.old }
     {
@@ -291,7 +290,7 @@ impl Adapter {
         Status::of_link(self.phy.link_is_up() && self.file.ctrl.sets_link_up())
     }
 
-    /// Ends a pending read of the EEPROM. Returns `Nothing` if no read is pending.
+    /// Ends a pending read of EERD, and returns `Ticked`. Returns `Nothing` if no read is pending.
     fn tick_eeprom(&mut self) -> Outcome<()>
         ensures state { self.new ≡ after_eeprom_tick self.old }
         ensures answer { framed result self.old ≡ ticked (is_pending self.old.eerd) }
@@ -306,7 +305,7 @@ impl Adapter {
     }
 
     /// Plays a tick of the PHY. Records LSC if the link changed to up, and MDAC if a command with bit I set has ended.
-    /// Returns `Nothing` if the tick had nothing to do.
+    /// Returns `Ticked`, or `Nothing` if no link countdown was running and no command was pending.
     fn tick_phy(&mut self) -> Outcome<()>
         ensures state { self.new ≡ after_phy_tick self.old }
         ensures answer { framed result self.old ≡ ticked (has_work self.old.mdic self.old.phy) }
@@ -338,7 +337,7 @@ fn asks_for_reset(value: u32) -> bool
     Ctrl::written(value).resets()
 }
 
-/// Returns the outcome of a tick of the PHY with this result.
+/// Returns the outcome of a tick of the PHY with this result: `Nothing` for `None`, else `Ticked`.
 fn outcome_of_tick(told: Option<Ticked>) -> Outcome<()>
     ensures { result ≡ outcome_of_tick told }
 {
@@ -349,7 +348,7 @@ fn outcome_of_tick(told: Option<Ticked>) -> Outcome<()>
 }
 
 /// Returns the causes that a tick of the PHY with this result records: LSC if the link changed to up, and MDAC if a
-/// command with bit I set has ended.
+/// command with bit I set has ended. For `None`, returns no cause.
 fn causes_of_tick(told: Option<Ticked>) -> Cause
     ensures { result.0 ≡ causes_of_tick told }
 {

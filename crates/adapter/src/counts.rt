@@ -1,9 +1,9 @@
-// The frame counts of an adapter.
+// The statistics registers of an adapter, and the numbers of frames in its packet buffers.
 
 use crate::Adapter;
 use registers::Counter;
 
-/// The values of an adapter's statistics registers, which count since their last read or the last reset (13.7
+/// The values of an adapter's statistics registers. Each register counts since its last read or the last reset (13.7
 /// "Statistics Registers").
 #[derive(Clone, Copy)]
 pub struct FrameCounts {
@@ -17,13 +17,14 @@ pub struct FrameCounts {
     pub transmitted: u32,
 }
 
-/// The numbers of frames that wait in the two packet buffers of an adapter.
+/// The numbers of frames in the two packet buffers of an adapter.
 #[derive(Clone, Copy)]
 pub struct WaitingFrames {
     /// The number of frames in the receive packet buffer. A frame is counted until its last piece is written to
     /// memory.
     pub received: u16,
-    /// The number of frames in the transmit packet buffer: they were taken from the ring, and aren't on the wire yet.
+    /// The number of frames in the transmit packet buffer: these frames were taken from the ring, and aren't on the
+    /// wire yet.
     pub transmit: u8,
 }
 
@@ -46,7 +47,7 @@ impl Adapter {
         }
     }
 
-    /// Returns the numbers of frames that wait in the packet buffers.
+    /// Returns the numbers of frames in the two packet buffers.
     pub fn waiting(&self) -> WaitingFrames
         ensures received { result.received ≡ length self.now.receiver.buffer }
         ensures transmit { result.transmit ≡ length self.now.transmitter.buffer }
@@ -57,8 +58,8 @@ impl Adapter {
         }
     }
 
-    /// Sets MPC to `count`, as if this number of frames had been missed since the last read of MPC. A test uses this
-    /// call to bring MPC near 0xFFFF_FFFF, at which MPC saturates.
+    /// Sets MPC to `count`, and changes nothing else. A test uses this call to set MPC close to 0xFFFF_FFFF, at which
+    /// MPC saturates.
     pub fn set_missed(&mut self, count: u32)
         ensures state { self.new ≡ record self.old { missed_packets = count } }
         ensures adapter { IsAdapter self.new }

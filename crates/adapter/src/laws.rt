@@ -18,8 +18,7 @@ pub fn offsets_by_table()
 {}
 
 /// The effect of accesses on registers, by the table, in every state of the adapter:
-/// - right after a write that is no reset, a register whose kept bits are its whole rule reads these bits of the
-///   written value;
+/// - right after a write that is no reset, a register whose row has kept bits reads the kept bits of the written value;
 /// - a write of one register doesn't change what other registers read. The exceptions: a write of CTRL with RST resets
 ///   the adapter, CTRL.SLU changes STATUS, ICS changes ICR, and IMC changes IMS;
 /// - a read of one register doesn't change what any other register reads.
@@ -38,16 +37,16 @@ pub fn resets_by_table()
     ensures reset { ResetByTable }
 {}
 
-/// The value of a register whose kept bits are its whole rule, after any list of accesses, steps and arrivals since
+/// The value of a register whose row in the table has kept bits, after any list of accesses, steps and arrivals since
 /// power-on. If the register was written after the last reset, it reads the kept bits of the last written value.
-/// Otherwise it reads its reset value. RDH and TDH read this value until a step advances the head.
+/// Otherwise it reads its reset value. RDH and TDH read this value only until a step advances the head.
 pub fn plain_by_history()
     ensures { PlainByHistory }
 {}
 
-/// The laws of the crates `eeprom` and `mdic_phy` apply to an adapter's EERD, MDIC and PHY after any list of accesses,
-/// steps and arrivals since power-on. A reset by CTRL.RST sets EERD to its value after power-on. For MDIC, the reset
-/// counts as a write of 0, which contains no command.
+/// The laws of the crate `eeprom_phy` apply to EERD, MDIC and the PHY, after any accesses, steps and arrivals since
+/// power-on. A reset by CTRL.RST sets EERD to its value after power-on. For MDIC, the reset counts as a write of 0,
+/// which contains no command.
 pub fn parts_have_their_laws()
     ensures { PartsHaveTheirLaws }
 {}
@@ -60,8 +59,9 @@ pub fn parts_have_their_laws()
 ///   joined. The frames in the receive packet buffer follow. A stored frame is added at the end. `RxData` doesn't
 ///   change these frames. `RxDone` makes the piece in progress a finished piece.
 ///
-/// The laws of steps that write to memory require that the written bytes don't overlap the descriptors and frames
-/// still to be read.
+/// The laws of steps that write to memory require that the written bytes don't overlap the descriptors and frames still
+/// to be read. The laws of the frames held require that the slots contain the moved bytes of the oldest frame
+/// (`HasBegun`).
 pub fn frames_by_steps()
     ensures taking { TakingLeavesFrames }
     ensures putting { PuttingTakesFirst }

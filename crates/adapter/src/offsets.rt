@@ -1,14 +1,14 @@
 //! The offsets of the registers, in bytes (chapter 13, "Register Descriptions").
 //!
-//! This is the table of registers. "Kept" are the bits that a write stores and a read returns; the other bits read 0.
-//! "Reset" is the value in a new adapter and, for every register except PBA, after CTRL.RST.
+//! In this table, "Kept" are the bits that a write stores and a read returns; the other bits read 0. "Reset" is the
+//! value after power-on and, for every register except PBA, after a write of CTRL with RST.
 //!
 //! | Offset | Register | Kept bits, or rule | Reset |
 //! |---|---|---|---|
 //! | 0x0000 | CTRL | 0x40000061; RST, bit 26, resets and reads 0 | 0 |
 //! | 0x0008 | STATUS | read only: 0x83 while the PHY's link is up and CTRL.SLU is set, else 0 | 0 |
-//! | 0x0014 | EERD | reads a word of the EEPROM (crate `eeprom`) | 0 |
-//! | 0x0020 | MDIC | reads and writes registers of the PHY (crate `mdic_phy`) | 0 |
+//! | 0x0014 | EERD | reads a word of the EEPROM (crate `eeprom_phy`) | 0 |
+//! | 0x0020 | MDIC | reads and writes registers of the PHY (crate `eeprom_phy`) | 0 |
 //! | 0x0038 | VET | 0x0000FFFF | 0x8100 |
 //! | 0x00C0 | ICR | causes 0x2D7; a read clears all causes, a write clears each cause whose bit is written as 1 | 0 |
 //! | 0x00C8 | ICS | a write records causes; reads 0 | 0 |
@@ -72,13 +72,13 @@ pub const TCTL: u32 = 0x0400;
 /// PBA, packet buffer allocation (13.4.16).
 pub const PBA: u32 = 0x1000;
 
-/// RDBAL, receive descriptor base address, its low word (13.4.25).
+/// RDBAL, the low word of the receive descriptor base address (13.4.25).
 pub const RDBAL: u32 = 0x2800;
 
-/// RDBAH, receive descriptor base address, its high word (13.4.26).
+/// RDBAH, the high word of the receive descriptor base address (13.4.26).
 pub const RDBAH: u32 = 0x2804;
 
-/// RDLEN, receive descriptor length in bytes (13.4.27).
+/// RDLEN, receive descriptor length: the ring's length in bytes (13.4.27).
 pub const RDLEN: u32 = 0x2808;
 
 /// RDH, receive descriptor head (13.4.28).
@@ -87,13 +87,13 @@ pub const RDH: u32 = 0x2810;
 /// RDT, receive descriptor tail (13.4.29).
 pub const RDT: u32 = 0x2818;
 
-/// TDBAL, transmit descriptor base address, its low word (13.4.36).
+/// TDBAL, the low word of the transmit descriptor base address (13.4.36).
 pub const TDBAL: u32 = 0x3800;
 
-/// TDBAH, transmit descriptor base address, its high word (13.4.37).
+/// TDBAH, the high word of the transmit descriptor base address (13.4.37).
 pub const TDBAH: u32 = 0x3804;
 
-/// TDLEN, transmit descriptor length in bytes (13.4.38).
+/// TDLEN, transmit descriptor length: the ring's length in bytes (13.4.38).
 pub const TDLEN: u32 = 0x3808;
 
 /// TDH, transmit descriptor head (13.4.39).
@@ -120,10 +120,10 @@ pub const MTA: u32 = 0x5200;
 /// The offset of the last word of MTA.
 pub const MTA_LAST: u32 = 0x53FC;
 
-/// RAL(0), receive address low, the first of 16 (13.5.2). RAH(n) follows RAL(n).
+/// RAL(0), receive address low, the first of 16 (13.5.2). RAH(n) is 4 bytes after RAL(n).
 pub const RAL: u32 = 0x5400;
 
-/// RAH(15), the last receive address high (13.5.3).
+/// The offset of RAH(15), the last receive address high (13.5.3).
 pub const RAH_LAST: u32 = 0x547C;
 
 /// The number of bytes from one pair of RAL and RAH to the next.

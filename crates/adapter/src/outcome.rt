@@ -10,11 +10,11 @@ use std::alloc::AllocError;
 /// Contracts that compare outcomes use the bytes of the frame (`FrameOutcome`).
 #[derive(Debug, Drop, PartialEq, Eq)]
 pub enum Outcome<F> {
-    /// A frame was taken from the transmit ring.
+    /// A frame was copied from memory into the transmit packet buffer, and TDH advanced.
     Took,
     /// This frame was put onto the wire.
     Put(F),
-    /// The wire has no room for the frame that is to be put. Nothing changed.
+    /// The wire has no room for the oldest frame of the transmit packet buffer. Neither the adapter nor memory changed.
     WireFull,
     /// A piece of a received frame was written to memory, and more pieces of the frame follow. The piece's descriptor
     /// isn't written back yet.
@@ -23,15 +23,15 @@ pub enum Outcome<F> {
     Moved,
     /// The adapter is done with a receive descriptor. The descriptor was written back, if it is inside memory.
     Done,
-    /// This frame was delivered, and had this fate.
+    /// This frame arrived at the adapter from the wire, and had this fate.
     Delivered(F, Fate),
     /// A tick ended a read of the EEPROM, or changed the PHY or MDIC.
     Ticked,
-    /// There was nothing to do. Nothing changed.
+    /// The step or the delivery had nothing to do, and changed nothing.
     Nothing,
-    /// The ring, the descriptor or the memory that the descriptor points to can't be used, or RCTL.BSEX is set for
-    /// `RxData`. Memory and the registers of the rings are unchanged. Steps of this kind return `Nothing` until a
-    /// write of CTRL with RST.
+    /// `TxTake` or `RxData` can't use the ring, the descriptor, or the memory that the descriptor points to. For
+    /// `RxData`, this is also the outcome if there is a piece to move while RCTL.BSEX is set. Memory and the registers
+    /// of the rings are unchanged. Steps of this kind return `Nothing` until a write of CTRL with RST.
     Fault,
 }
 
@@ -54,7 +54,7 @@ impl<F> Outcome<F> {
     ghost use Rattle.std.specs.Prelude.{◌≡◌};
     ghost use Rattle.adapter.specs.Outcomes.{with_frame};
 
-    /// Returns the same outcome, with this frame if the outcome contains a frame.
+    /// Returns the same outcome, but with `frame` in place of the frame in `Put` and `Delivered`.
     pub fn with_frame<G>(self, frame: G) -> Outcome<G>
     where
         F: Drop,

@@ -1,4 +1,4 @@
-// The frames that a host and its adapter hold.
+// The frames that a host and its adapter hold, and the frames still to be sent.
 
 ghost use Rattle.std.specs.Prelude.{◌≡◌, ◌≤◌, ◌<◌, ◌+◌, ◌++◌, ◌∷◌, [], IfSome, IsSome, length, map, true, vec_capacity};
 ghost use Rattle.std.specs.Option.{ForSome};
@@ -18,12 +18,12 @@ use tx_engine::{TxEngine, append_queued};
 
 impl Adapter {
     /// Appends the frames still to be sent to `sending`: first those in the transmit packet buffer, then those of the
-    /// offered transmit descriptors, padded to 60 bytes whether TCTL.PSP is set or not.
+    /// offered transmit descriptors. The frames of descriptors are padded to 60 bytes, whether TCTL.PSP is set or not.
     ///
-    /// Appends the frames that the host holds to `holding`. First come the frames that end in finished slots or in the
-    /// piece in progress, from slot `oldest` of the receive ring on. The frames in the receive packet buffer follow.
-    /// The rings and the bytes of these frames must be inside memory, and no frame may exceed 1,518 bytes
-    /// (`specs/Pending.antt`). Both lists must have room for these frames: the call allocates no memory.
+    /// Appends the frames held to `holding`. First come the frames that end in finished slots, from slot `oldest` of
+    /// the receive ring on, or in the slot in progress. The frames in the receive packet buffer follow. The rings and
+    /// the bytes of these frames must be inside memory, and no frame may exceed 1,518 bytes (`specs/Pending.antt`).
+    /// Both lists must have room for these frames: the call allocates no memory.
     pub fn pending(
         &self,
         memory: &HostMemory,
@@ -49,7 +49,7 @@ impl Adapter {
         append_buffered(&self.receiver, holding);
     }
 
-    /// Appends the frames that end in finished slots or in the piece in progress, from slot `oldest` on.
+    /// Appends to `holding` the frames that end in finished slots, from slot `oldest` on, or in the slot in progress.
     fn append_in_slots(&self, memory: &HostMemory, oldest: u16, holding: &mut Vec<Frame>)
         requires can { CanReadHeld oldest (record { memory = memory.now; adapter = self.now }) }
         requires room { length holding.old.items
@@ -70,7 +70,7 @@ impl Adapter {
     }
 }
 
-/// Appends the frames of the transmit packet buffer.
+/// Appends the frames in the transmit packet buffer, oldest first.
 fn append_to_put(engine: &TxEngine, frames: &mut Vec<Frame>)
     requires room { length frames.old.items + length engine.now.buffer ≤ vec_capacity frames.old }
     ensures frames { frames.new.items ≡ frames.old.items ++ map (λ queued. queued.frame) engine.now.buffer }
@@ -81,7 +81,7 @@ fn append_to_put(engine: &TxEngine, frames: &mut Vec<Frame>)
     }
 }
 
-/// Appends the frames of the receive packet buffer.
+/// Appends the frames in the receive packet buffer, oldest first.
 fn append_buffered(engine: &RxEngine, frames: &mut Vec<Frame>)
     requires room { length frames.old.items + length engine.now.buffer ≤ vec_capacity frames.old }
     ensures frames { frames.new.items ≡ frames.old.items ++ engine.now.buffer }

@@ -17,11 +17,12 @@ use rx_engine::{Data, Done, Fate, RxEngine, arrive, rx_data, rx_done};
 
 impl Adapter {
     /// Delivers a frame from the wire, and returns its fate: the first variant of [`Fate`] that applies. The fate
-    /// depends on RCTL, on the receive filter, and on the room in the packet buffer, whose size PBA selects.
+    /// depends on the frame's length, on RCTL, on the receive filter, and on the room in the packet buffer, whose size
+    /// PBA selects.
     ///
     /// If the frame is missed, MPC counts it, and RXO is recorded. If the frame is stored or missed while RDH equals
     /// RDT, RNBC counts it (our choice). If a write of PBA makes the packet buffer smaller, the frames in the buffer
-    /// remain. A frame that would be stored is then missed while the buffer has no room for it.
+    /// remain. While the buffer has no room for a frame that would otherwise be stored, this frame is missed.
     pub fn arrive(&mut self, frame: &[u8]) -> Fate
         ensures fate { IsFate self.old frame.now result }
         ensures state { self.new ≡ after_arrive result frame.now self.old }
@@ -33,8 +34,9 @@ impl Adapter {
         fate
     }
 
-    /// Performs a data step: writes the next piece of the packet buffer's oldest frame to memory. If a piece was
-    /// written, and half of the ring's descriptors are now offered, RXDMT0 is recorded.
+    /// Performs a data step, which writes the next piece of the packet buffer's oldest frame to memory, does nothing,
+    /// or is a fault. If a piece was written, and exactly half of the ring's descriptors are now offered, RXDMT0 is
+    /// recorded.
     pub(crate) fn move_piece(&mut self, memory: &mut HostMemory) -> Outcome<()>
         ensures answer { DataAnswers memory.old self.old (framed result self.old) }
         ensures state { self.new ≡ after_data (framed result self.old) self.old }
@@ -52,7 +54,8 @@ impl Adapter {
     }
 
     /// Performs a done step: writes back the descriptor of the piece in progress, if the descriptor is inside memory.
-    /// If the frame ends in this piece, the step records RXT0, and GPRC counts the frame.
+    /// If the frame ends in this piece, the step records RXT0, and GPRC counts the frame. Returns `Nothing` if no piece
+    /// is in progress.
     pub(crate) fn finish_piece(&mut self, memory: &mut HostMemory) -> Outcome<()>
         ensures answer { DoneAnswers self.old (framed result self.old) }
         ensures state { self.new ≡ after_done (framed result self.old) self.old }
@@ -100,8 +103,8 @@ fn outcome_of(answer: Data) -> Outcome<()>
     }
 }
 
-/// Returns the causes that a data step with this answer of the engine records: RXDMT0 if a piece was written, and half
-/// of the ring's descriptors are now offered.
+/// Returns the causes that a data step with this answer of the engine records: RXDMT0 if a piece was written, and
+/// exactly half of the ring's descriptors are now offered.
 fn causes_of_answer(answer: Data) -> Cause
     ensures { result.0 ≡ causes_of_answer answer }
 {

@@ -59,13 +59,13 @@ pub enum Register {
     Gptc,
     /// RNBC, receive no buffers count.
     Rnbc,
-    /// MTA, a word of the multicast table array, 0 to 127.
+    /// MTA, the word with this index, 0 to 127, of the multicast table array.
     Mta(u8),
-    /// RAL, receive address low of an entry, 0 to 15.
+    /// RAL, receive address low of the entry with this index, 0 to 15.
     Ral(u8),
-    /// RAH, receive address high of an entry, 0 to 15.
+    /// RAH, receive address high of the entry with this index, 0 to 15.
     Rah(u8),
-    /// VFTA, a word of the VLAN filter table array, 0 to 127.
+    /// VFTA, the word with this index, 0 to 127, of the VLAN filter table array.
     Vfta(u8),
 }
 
@@ -117,7 +117,8 @@ impl Register {
     }
 }
 
-/// Returns the register `distance` bytes after RAL(0): a RAL if `distance` is a multiple of 8, else a RAH.
+/// Returns the register `distance` bytes after RAL(0): RAL of entry `distance / 8` if `distance` is a multiple of 8,
+/// else RAH of this entry.
 fn address_register(distance: u32) -> Register
     requires { distance < 128 }
     ensures even { distance % 8 ≡ 0 → result ≡ Register.Ral (distance / 8) }

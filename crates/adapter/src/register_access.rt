@@ -65,8 +65,8 @@ impl RegisterFile {
         }
     }
 
-    /// Writes a register. A write of CTRL stores the kept bits of the value, and ignores RST. A write of STATUS, of
-    /// PBA or of a counter changes nothing.
+    /// Writes a register, by the kept bits of its row or by its other rule. A write of CTRL ignores RST. A write of
+    /// STATUS, of PBA or of a counter changes nothing.
     #[inline(always)]
     pub(crate) fn write(&mut self, register: Register, value: u32)
         requires { IsInTable register }

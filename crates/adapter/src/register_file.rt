@@ -10,8 +10,7 @@ ghost use Rattle.adapter.specs.Table.{address_high_at_reset, address_low_at_rese
 
 use crate::ring::RingRegisters;
 use bitflags::Flags;
-use eeprom::{Eerd, Image};
-use mdic_phy::Mdic;
+use eeprom_phy::{Eerd, Image, Mdic};
 use registers::{Cause, Causes, Counter, Ctrl, Tctl};
 use rx_engine::{Fate, Filter, VLAN_TYPE};
 use std::alloc::AllocError;
@@ -24,8 +23,8 @@ const WORD_BITS: u32 = 16;
 /// AV, bit 31 of RAH: the address is valid.
 const ADDRESS_VALID: u32 = 1 << 31;
 
-/// The registers that a reset sets: all except PBA and those of the PHY. STATUS isn't stored. The filter contains RAL,
-/// RAH, MTA, VFTA, RCTL and VET.
+/// The registers that a reset sets: all registers except PBA and the PHY's registers. STATUS isn't stored. The filter
+/// contains RAL, RAH, MTA, VFTA, RCTL and VET.
 #[derive(Drop)]
 pub(crate) struct RegisterFile {
     pub(crate) ctrl: Ctrl,
@@ -115,7 +114,7 @@ impl RegisterFile {
         }
     }
 
-    /// RNBC counts a stored or missed frame, if RDH equals RDT.
+    /// Counts a stored or missed frame in RNBC if RDH equals RDT. Otherwise nothing changes.
     fn count_no_buffers(&mut self)
         ensures { self.new ≡ record self.old {
           rnbc = (if self.old.receive_ring.head == self.old.receive_ring.tail then one_more self.old.rnbc
@@ -127,8 +126,8 @@ impl RegisterFile {
         }
     }
 
-    /// If `ends` is true, records the end of a received frame: RXT0 is recorded, and GPRC counts the frame. If `ends`
-    /// is false, nothing changes.
+    /// If `ends` is true, a received frame has ended: RXT0 is recorded, and GPRC counts the frame. If `ends` is false,
+    /// nothing changes.
     pub(crate) fn note_finished(&mut self, ends: bool)
         ensures { self.new ≡ record self.old {
           causes = record self.old.causes {
@@ -157,7 +156,7 @@ impl RegisterFile {
     }
 
     /// If a step `TxPut` with this answer of the engine put a frame onto the wire, GPTC counts the frame. If the
-    /// frame's descriptor asks for a report, TXDW is recorded.
+    /// frame's descriptor asks for a report, TXDW is recorded. With any other answer, nothing changes.
     pub(crate) fn note_put(&mut self, answer: Put)
         ensures { self.new ≡ file_after_put answer self.old }
     {
@@ -189,8 +188,8 @@ impl RegisterFile {
     }
 }
 
-/// Returns the filter after a reset: the first receive address is the address in the EEPROM, and VET is the VLAN type
-/// of IEEE 802.1Q (our choice). The other registers of the filter are 0.
+/// Returns the filter after a reset: RAL(0) and RAH(0) contain the address in the EEPROM, with AV, and VET is the VLAN
+/// type of IEEE 802.1Q (our choice). The other registers of the filter are 0.
 #[tactic(auto, using(crate::proofs::Words::and_address_high))]
 fn filter_at_reset(image: &Image) -> Filter
     ensures filter { result ≡ filter_at_reset image.now }

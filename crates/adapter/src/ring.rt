@@ -48,7 +48,7 @@ impl RingRegisters {
         }
     }
 
-    /// Returns the value of a register.
+    /// Returns the value of this register of the ring.
     pub(crate) fn read(&self, register: RingRegister) -> u32
         ensures { result ≡ ring_answer register self.now }
     {
@@ -61,7 +61,7 @@ impl RingRegisters {
         }
     }
 
-    /// Writes a register: stores the register's kept bits of the value.
+    /// Writes a register: stores those bits of `value` that this register keeps.
     pub(crate) fn write(&mut self, register: RingRegister, value: u32)
         ensures { self.new ≡ ring_written register value self.old }
     {

@@ -1,4 +1,4 @@
-// Steps of transmission, and the frame that the next one puts onto the wire.
+// The steps `TxTake` and `TxPut`, and the frame that the next `TxPut` puts onto the wire.
 
 ghost use Rattle.std.specs.Prelude.{◌≡◌, ◌≤◌, ◌↔◌, [], length};
 ghost use Rattle.std.specs.Prelude.{IfSome, IsNone};
@@ -17,8 +17,8 @@ use registers::Cause;
 use tx_engine::{Put, Take, put, take};
 
 impl Adapter {
-    /// Copies the frame that the transmit descriptor at TDH points to into the packet buffer. If a frame was copied,
-    /// and TDH now equals TDT, TXQE is recorded.
+    /// Performs a step `TxTake`, which copies the frame that the descriptor at TDH points to into the packet buffer,
+    /// does nothing, or is a fault. If a frame was copied, and TDH now equals TDT, TXQE is recorded.
     pub(crate) fn take_frame(&mut self, memory: &HostMemory) -> Outcome<()>
         ensures answer { TakeAnswers memory.now self.old (framed result self.old) }
         ensures state { self.new ≡ after_take (framed result self.old) memory.now self.old }
@@ -32,9 +32,9 @@ impl Adapter {
         outcome_of_take(answer)
     }
 
-    /// Returns the frame that a step [`TxPut`](crate::StepKind::TxPut) puts onto a wire with room, with its padding.
-    /// The frame is the oldest one in the transmit packet buffer, and has at most 1,518 bytes. Returns `None` if and
-    /// only if the packet buffer is empty.
+    /// Returns the frame, with its padding, that the next [`TxPut`](crate::StepKind::TxPut) puts onto the wire if the
+    /// wire has room. The frame is the oldest one in the transmit packet buffer, and has at most 1,518 bytes. Returns
+    /// `None` if and only if the packet buffer is empty.
     pub fn to_put(&self) -> Option<&[u8]>
         ensures none { IsNone result ↔ (self.now.transmitter.buffer ≡ []) }
         ensures oldest { IfSome result (λ frame. frame.now ≡ oldest self.now.transmitter.buffer) }
@@ -71,8 +71,8 @@ fn outcome_of_take(answer: Take) -> Outcome<()>
     }
 }
 
-/// Returns the causes that a step `TxTake` with this answer of the engine records: TXQE if a frame was taken, and head
-/// now equals tail.
+/// Returns the causes that a step `TxTake` with this answer of the engine records: TXQE if a frame was taken, and TDH
+/// now equals TDT.
 fn causes_of_take(answer: Take) -> Cause
     ensures { result.0 ≡ causes_of_take answer }
 {

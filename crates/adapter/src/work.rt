@@ -37,7 +37,7 @@ impl Adapter {
         )
     }
 
-    /// Returns whether a frame waits in the transmit packet buffer.
+    /// Returns whether a frame is in the transmit packet buffer.
     fn has_frame_to_put(&self) -> bool
         ensures { IsTrue result ↔ (self.now.transmitter.buffer ≢ []) }
     {

@@ -1,4 +1,4 @@
--- Two calls of a pool.
+-- Lemmas about the numbers in two equal pools after the same call of `give` or of `take`.
 use Rattle.std.proofs.Common.{◌≡◌, ◌∷◌, ℕ, List, Option, Some, None, IfSome, IfNone, sym, ap, subst, ◌∙◌, arith}
 use Rattle.dma_memory.specs.Numbers.{Numbers}
 use Rattle.dma_memory.specs.Owners.{HaveSameNumbers, copies}
@@ -7,7 +7,6 @@ use Rattle.dma_memory.specs.OwnersLaws.{copies-cons}
 given_twice : (old left others : List ℕ) → HaveSameNumbers old left → HaveSameNumbers old others → HaveSameNumbers left others
 given_twice old left others given given' k = sym (given k) ∙ given' k
 
--- Both pools have the old numbers and the number that was given.
 pub given_to_both : (one other : Numbers) (number another : ℕ) (left others : List ℕ) → one ≡ other → number ≡ another
     → HaveSameNumbers (number ∷ one.free) left → HaveSameNumbers (another ∷ other.free) others → HaveSameNumbers left others
 given_to_both one other number another left others same same_number given given' =
@@ -31,7 +30,7 @@ taken_from_one old left others None taken stays taken' stays' k =
 taken_from_one old left others (Some number) taken stays taken' stays' k =
     taken_twice old.free left.free others.free number taken taken' k
 
--- Both pools have the old numbers but the one that was taken.
+-- Both pools contain the earlier numbers without the number that was taken, if there was one.
 pub taken_from_both : (one other left others : Numbers) (number another : Option ℕ) → one ≡ other → number ≡ another
     → IfSome number (λ number. HaveSameNumbers one.free (number ∷ left.free)) → IfNone number (left ≡ one)
     → IfSome another (λ number. HaveSameNumbers other.free (number ∷ others.free)) → IfNone another (others ≡ other)

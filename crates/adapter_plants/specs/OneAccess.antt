@@ -1,4 +1,4 @@
--- An access over a solo bus has one answer, and leads to one state.
+-- An access over a solo bus in one state has one answer, and leads to one state.
 use Rattle.std.proofs.Common.{◌≡◌, ◌+◌, ◌++◌, ◌∷◌, [], List, sym, ap, subst, length, ◌∙◌}
 use Rattle.std.specs.Prelude.{map, min}
 use Rattle.adapter_plants.specs.OneTrail.{AreSameRequests, IsSameRequest, courses_one, trail_end}
@@ -11,7 +11,7 @@ use Rattle.bus.specs.declared.event.Event.{Event}
 use Rattle.solo_bus.specs.SoloBuses.{Recounts, SoloState, is_go, lively_ticks, solo_tick_of}
 use Rattle.solo_bus.specs.declared.solo_bus.SoloTick.TheVariants.{Go}
 
--- Both states are equal, but all numbers of accesses from 2^64 - 1 on count as equal.
+-- The two states are equal, except that all numbers of accesses from 2^64 - 1 on count as equal.
 pub record AreOneState (b c : SoloState) : Type 0 where
   pub world : b.world ≡ c.world
   pub waiting : b.waiting ≡ c.waiting
@@ -49,11 +49,11 @@ module _ (a b c : SoloState) (past other : Past) (x y : Access) (has : past.acce
   pasts_are_one : past ≡ other
   pasts_are_one = p.past_is ∙ ap past_of events_are_one ∙ sym q.past_is
 
-  -- Both accesses have the same answer.
+  -- Two accesses that make the same request in the same state have the same answer.
   pub answer_one : x ≡ y
   answer_one = cc (has, had, ap (λ (it : Past). it.accesses) pasts_are_one)
 
-  -- Both accesses lead to equal states.
+  -- Both accesses lead to equal states (`AreOneState`).
   pub state_one : AreOneState b c
   state_one = record {
     world = trail_end p.events a.world b.world c.world p.trail

@@ -1,4 +1,4 @@
--- A step has one outcome.
+-- A step of one kind, of one adapter on one memory, with a wire that has room or not, has one outcome.
 use Rattle.std.proofs.Common.{◌≡◌, ◌∷◌, [], ℕ, List, Bool, true, false, refl, sym, ap, arith, ◌∙◌}
 use Rattle.adapter.specs.Outcomes.{FrameOutcome, framed}
 use Rattle.adapter.specs.Receiving.{DataAnswers, DoneAnswers}
@@ -94,7 +94,7 @@ tick_one state false Nothing Nothing p q = refl
 tick_one state false Nothing _ p q = absurd (cc)
 tick_one state false _ b p q = absurd (cc)
 
--- Two outcomes of a step of this kind, from one state, are equal, including their frames.
+-- Two outcomes of the same step of the same adapter on the same memory are equal, including their frames.
 pub answers_are_one : (kind : StepKind) (wire_free : Bool) (memory : List ℕ) (state : AdapterState) (a b : FrameOutcome)
     → Answers kind wire_free memory state a → Answers kind wire_free memory state b → a ≡ b
 answers_are_one TxTake wire_free memory state a b p q = take_one memory state a b p q
@@ -104,7 +104,6 @@ answers_are_one RxDone wire_free memory state a b p q = done_one state a b p q
 answers_are_one EepromTick wire_free memory state a b p q = tick_one state _ a b p q
 answers_are_one PhyTick wire_free memory state a b p q = tick_one state _ a b p q
 
--- If two outcomes are equal after the same frame is added to each, they are equal without the frame.
 framed_one : (state : AdapterState) (a b : Outcome (Unit {0})) → framed a state ≡ framed b state → a ≡ b
 framed_one state Took Took same = refl
 framed_one state Took _ same = absurd (cc)
@@ -127,7 +126,7 @@ framed_one state (Put x) _ same = absurd (cc)
 framed_one state (Delivered x fate) (Delivered y other) same = grind (arith, same)
 framed_one state (Delivered x fate) _ same = absurd (cc)
 
--- Two outcomes of a step of this kind, from one state, are equal.
+-- Two outcomes, without their frames, of the same step of the same adapter on the same memory are equal.
 pub one_answer : (kind : StepKind) (wire_free : Bool) (memory : List ℕ) (state : AdapterState) (a b : Outcome (Unit {0}))
     → Answers kind wire_free memory state (framed a state) → Answers kind wire_free memory state (framed b state) → a ≡ b
 one_answer kind wire_free memory state a b p q =

@@ -51,7 +51,7 @@ same_told n x y xs ys is is' ticks outcomes rest =
     ∙ ap (λ (told : List TickTold). tick_told (tick_of y) n (step_outcome y) ∷ told) rest
     ∙ sym (told_first n y ys is')
 
--- Two runs of the same ticks end in one state, and both observers are told the same outcomes.
+-- The states `new` and `other` are equal, and after both lists of steps the observers were told the same outcomes.
 record EndAsOne (n : ℕ) (steps others : List AtomicStep) (new other : List StationState) : Type 0 where
   states : new ≡ other
   told : steps_told n steps ≡ steps_told n others
@@ -72,14 +72,14 @@ ends_one caller n (x ∷ xs) (y ∷ ys) old new other are are' same p q =
     (subst (λ (s : List StationState). LeadsTo caller ys s other) (sym one.states) q.2) in
     record { states = later.states; told = same_told n x y xs ys is is' first one.outcomes later.told }
 
--- The same ticks were played from two states: the states after them are equal, and both observers were told the same outcomes.
+-- The stations of `new` and `other` are equal, and from `old` to `new` and from `old'` to `other`, the observers were told the same
+-- outcomes.
 pub record AreOneEnd {O : Type 0} (observers : OfObserver O) (old old' new other : Watched O) : Type 0 where
   pub states : new.stations ≡ other.stations
   pub told : List TickTold
   pub heard : observers.heard old.observer new.observer told
   pub other_heard : observers.heard old'.observer other.observer told
 
--- If the same ticks are played from one state, the states after them are equal, and the same outcomes are told.
 ticks_one : {O : Type 0} (observers : OfObserver O) (ticks : List Tick) (accesses : ℕ) (old old' new other : Watched O)
     → old.stations ≡ old'.stations → PlaysTicks observers ticks accesses old new → PlaysTicks observers ticks accesses old' other
     → AreOneEnd observers old old' new other
@@ -93,7 +93,8 @@ ticks_one observers ticks accesses old old' new other same p q =
       other_heard = subst (λ (told : List TickTold). observers.heard old'.observer other.observer told) (sym one.told) q.heard;
     }
 
--- If two lent buses have the same stations, ticks and count of accesses, they finish in the same way.
+-- If two lent buses have the same stations, ticks and count of accesses, `finish` results in equal stations, and reports the same outcomes
+-- to both observers.
 pub finished_one : {O : Type 0} {g : OfObserver O} (a b c d : LentBus O g) → a.stations.now ≡ c.stations.now → a.ticks.now ≡ c.ticks.now
     → a.accesses ≡ c.accesses → Finished a b → Finished c d → AreOneEnd g (watched_by a) (watched_by c) (watched_by b) (watched_by d)
 finished_one {O} {g} a b c d stations ticks accesses p q =

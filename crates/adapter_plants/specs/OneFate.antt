@@ -1,11 +1,11 @@
--- A frame that arrives has one fate.
+-- A frame that arrives at an adapter in one state has one fate.
 use Rattle.std.proofs.Common.{◌≡◌, ℕ, List, refl, arith}
 use Rattle.adapter.specs.Receiving.{IsFate}
 use Rattle.adapter.specs.State.{AdapterState}
 use Rattle.rx_engine.specs.declared.arrival.Fate.{Fate}
 use Rattle.rx_engine.specs.declared.arrival.Fate.TheVariants.{Off, Illegal, Filtered, Missed, Stored}
 
--- Two fates of a frame, in one state, are equal.
+-- Two fates of the same frame at the same adapter are equal.
 pub one_fate : (state : AdapterState) (frame : List ℕ) (a b : Fate) → IsFate state frame a → IsFate state frame b → a ≡ b
 one_fate state frame Off Off p q = refl
 one_fate state frame Off Illegal p q = absurd (p q.0)

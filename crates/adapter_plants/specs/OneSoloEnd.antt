@@ -1,4 +1,4 @@
--- The ticks that wait at a solo bus lead to one state.
+-- The same ticks, played at a solo bus from one state, lead to one state.
 use Rattle.std.proofs.Common.{◌≡◌, ◌++◌, ◌∷◌, [], ℕ, List, Bool, refl, sym, ap, subst, length, ◌∙◌}
 use Rattle.std.specs.List.{All}
 use Rattle.std.proofs.lemmas.List.Elements.{All-head, All-tail}
@@ -45,7 +45,7 @@ module _ (ticks left : List SoloTick) (a b c : SoloState) (p : PlaysSoloTicks ti
         other_trail = q.trail;
       })
 
-  -- Both runs of the ticks end in one state.
+  -- Two runs of the same ticks from one state end in one state.
   pub solo_end_one : b ≡ c
   solo_end_one =
       same_solo b c

@@ -1,4 +1,4 @@
--- A tick that is played on stations has one outcome, and leads to one state.
+-- A tick that is played on the same stations has one outcome, and leads to the same stations.
 use Rattle.std.proofs.Common.{◌≡◌, ◌∷◌, [], ℕ, suc, List, Bool, true, false, Option, Some, None, refl, sym, ap, subst, ◌∙◌}
 use Rattle.std.specs.Prelude.{◌↔◌, IsTrue, slice_get}
 use Rattle.adapter.specs.Outcomes.{FrameOutcome}
@@ -24,7 +24,7 @@ same_free true false P p q = absurd (cc (q.1 (p.0 refl)))
 same_free false true P p q = absurd (cc (p.1 (q.0 refl)))
 same_free false false P p q = refl
 
--- Whether the wire is free matters only for TxPut.
+-- The outcome of a step depends on whether the wire is free only if the step is TxPut.
 step_one : (kind : StepKind) (free other : Bool) (memory : List ℕ) (state : AdapterState) (a b : FrameOutcome)
     → (kind ≡ TxPut → free ≡ other) → Answers kind free memory state a → Answers kind other memory state b → a ≡ b
 step_one TxTake free other memory state a b same p q = answers_are_one TxTake free memory state a b p q
@@ -43,7 +43,6 @@ each_same change other same k (station ∷ later) =
     ap (λ (x : StationState). x ∷ at_each change (suc k) later) (same k station)
     ∙ ap (λ (xs : List StationState). other k station ∷ xs) (each_same change other same (suc k) later)
 
--- The state after a step with this outcome doesn't depend on whether the wire was free.
 found_after : (found : Option StationState) (host : ℕ) (kind : StepKind) (free other : Bool) (answer : FrameOutcome)
     (stations : List StationState) → all_after found host (Steps kind free answer) stations
     ≡ all_after found host (Steps kind other answer) stations
@@ -60,7 +59,7 @@ none_waits : (waiting : List (List ℕ)) (frame : List ℕ) → waiting ≡ [] �
 none_waits [] frame none some = absurd (cc)
 none_waits (first ∷ later) frame none some = absurd (cc)
 
--- Two outcomes are equal, and so are the stations after them.
+-- The two outcomes are equal, and so are the two lists of stations.
 pub record AreOne (outcome other : FrameOutcome) (stations others : List StationState) : Type 0 where
   pub outcomes : outcome ≡ other
   pub states : stations ≡ others
@@ -127,7 +126,7 @@ finds_something host (Steps kind free a) stations x p none = is_elsewhere (slice
 finds_something host (Arrives frame fate) stations x p none = none_waits (backlog_at stations host) frame none p.suits_wire
 finds_something host (Accesses access) stations x p none = x
 
--- Two atomic steps of the same tick are equal.
+-- Two atomic steps of the same tick that can happen from the same stations have the same outcome, and lead to the same stations.
 pub atoms_one : (a b : AtomicStep) (stations : List StationState) → IsNoAccess a → IsNoAccess b → tick_of a ≡ tick_of b
     → CanHappen a stations → CanHappen b stations
     → AreOne (step_outcome a) (step_outcome b) (after a stations) (after b stations)
@@ -144,7 +143,7 @@ atoms_one (Idles tick) (At host b) stations x y same p q =
     absurd (finds_something host b stations y q (subst (λ (t : Tick). FindsNothing t stations) same p))
 atoms_one (Idles tick) (Idles other) stations x y same p q = record { outcomes = refl; states = refl }
 
--- A tick that is played has one outcome, and leads to one state.
+-- A tick that is played from the same stations has one outcome, and leads to the same stations.
 pub plays_one : (old new other : List StationState) (tick : Tick) (outcome another : FrameOutcome) → PlaysTick old tick outcome new
     → PlaysTick old tick another other → AreOne outcome another new other
 plays_one old new other tick outcome another p q =

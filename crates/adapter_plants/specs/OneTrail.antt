@@ -16,7 +16,7 @@ use Rattle.bus.specs.declared.event.Event.TheVariants.{Accesses, Arrives, Steps}
 use Rattle.rx_engine.specs.declared.arrival.Fate.{Fate}
 use Rattle.solo_bus.specs.SoloBuses.{AreFree, solo_tick_of}
 
--- Both accesses are the same, except for the value that a read returned.
+-- The two accesses are equal, except for the values that reads returned.
 abbrev pub IsSameRequest : Access → Access → Type 0
 IsSameRequest (Reads offset value) (Reads at other) = offset ≡ at
 IsSameRequest (Writes offset value) (Writes at other) = (offset ≡ at) × (value ≡ other)
@@ -24,7 +24,7 @@ IsSameRequest (Loads address size) (Loads at other) = (address ≡ at) × (size 
 IsSameRequest (Stores address bytes) (Stores at other) = (address ≡ at) × (bytes ≡ other)
 IsSameRequest _ _ = ⊥
 
--- Both lists have the same accesses, except for the values that reads returned.
+-- The two lists contain the same accesses in the same order, except for the values that reads returned.
 abbrev pub AreSameRequests : List Access → List Access → Type 0
 AreSameRequests [] [] = ⊤
 AreSameRequests (x ∷ xs) (y ∷ ys) = IsSameRequest x y × AreSameRequests xs ys
@@ -56,7 +56,8 @@ pub trail_end : (events : List Event) (a b c : World) → Trail events a b → T
 trail_end [] a b c p q = p ∙ sym q
 trail_end (event ∷ later) a b c p q = trail_end later (world_after event a) b c p.1 q.1
 
--- Two lists of events from one state, with the same ticks and the same requests.
+-- Two lists of events that can happen from the world `a`, with the same ticks and the same requests. The first leads to `b`, and the second
+-- to `c`.
 pub record Courses (xs ys : List Event) (a b c : World) (frames : ℕ) : Type 0 where
   pub ticks : map solo_tick_of xs ≡ map solo_tick_of ys
   pub free : AreFree xs frames
@@ -65,7 +66,7 @@ pub record Courses (xs ys : List Event) (a b c : World) (frames : ℕ) : Type 0 
   pub trail : Trail xs a b
   pub other_trail : Trail ys a c
 
--- Two such lists are equal.
+-- Two lists of events for which `Courses` holds are equal.
 pub courses_one : (xs ys : List Event) (a b c : World) (frames : ℕ) → Courses xs ys a b c frames → xs ≡ ys
 courses_one [] [] a b c frames p = refl
 courses_one [] (y ∷ ys) a b c frames p = absurd (cc (p.ticks))

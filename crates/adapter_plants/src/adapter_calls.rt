@@ -1,4 +1,5 @@
-//! The calls of `Adapter`, each made twice. Only `has_work` is made once, before the step whose outcome it states.
+//! Calls of `Adapter`, each made twice. Only `has_work` is called once, before a step: it states whether the step's
+//! outcome is `Nothing`.
 
 ghost use Rattle.std.specs.Prelude.{◌≡◌, ◌≢◌, ◌↔◌, IfSome, IsNone, IsTrue};
 ghost use Rattle.adapter.specs.declared.outcome.Outcome.TheVariants.{Nothing};
@@ -82,7 +83,8 @@ pub fn to_put<'a>(one: &'a Adapter, other: &'a Adapter) -> (Option<&'a [u8]>, Op
     (one.to_put(), other.to_put())
 }
 
-/// Calls [`Adapter::has_work`], and then the [`Adapter::step`] whose outcome it states.
+/// Calls [`Adapter::has_work`], and then [`Adapter::step`]: the result of the first call is true if and only if the
+/// outcome isn't `Nothing`.
 pub fn has_work(
     adapter: &mut Adapter,
     kind: StepKind,

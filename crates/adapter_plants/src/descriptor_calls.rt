@@ -1,4 +1,4 @@
-//! The calls of `descriptors`.
+//! Calls of `descriptors`, each made twice.
 
 ghost use Rattle.std.specs.Prelude.{◌≡◌, ◌<◌};
 ghost use Rattle.descriptors.specs.Ring.{count_of};

@@ -1,8 +1,8 @@
-//! The calls of `eeprom`.
+//! Calls of EERD and the EEPROM, each made twice.
 
 ghost use Rattle.std.specs.Prelude.{◌≡◌};
 
-use eeprom::{Eerd, Image};
+use eeprom_phy::{Eerd, Image};
 
 /// Calls [`Image::address`] twice.
 pub fn address(one: &Image, other: &Image) -> ([u8; 6], [u8; 6])
@@ -12,12 +12,12 @@ pub fn address(one: &Image, other: &Image) -> ([u8; 6], [u8; 6])
     (one.address(), other.address())
 }
 
-/// Calls [`eeprom::checksum_ok`] twice.
+/// Calls [`eeprom_phy::checksum_ok`] twice.
 pub fn checksum_ok(one: &Image, other: &Image) -> (bool, bool)
     requires { one.now ≡ other.now }
     ensures { result.0 ≡ result.1 }
 {
-    (eeprom::checksum_ok(one), eeprom::checksum_ok(other))
+    (eeprom_phy::checksum_ok(one), eeprom_phy::checksum_ok(other))
 }
 
 /// Calls [`Eerd::write`] twice.

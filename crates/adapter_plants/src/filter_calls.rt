@@ -1,4 +1,4 @@
-//! The calls of the receive filter of `rx_engine`.
+//! Calls of the receive filter of `rx_engine`, each made twice.
 
 ghost use Rattle.std.specs.Prelude.{◌≡◌, ◌≤◌, length};
 

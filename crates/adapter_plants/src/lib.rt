@@ -2,9 +2,8 @@
 //! determine the outcome.
 //!
 //! Most functions of this crate make one call twice, from equal states and with equal arguments. Their clauses state
-//! that both outcomes are equal. The prover knows only the clauses of the call. So the call's clauses exclude every
-//! body whose outcome differs in what the function compares. Most functions compare the outcomes of calls that
-//! succeed.
+//! that both outcomes are equal. The prover knows only the clauses of the call. So the call's clauses determine the
+//! values that the function compares. Most functions compare the outcomes of calls that succeed.
 #![tactic(auto)]
 
 pub mod adapter_calls;

@@ -1,4 +1,4 @@
-//! The calls of `dma_memory`.
+//! Calls of `dma_memory`, each made twice.
 
 ghost use Rattle.std.specs.Prelude.{◌≡◌, ◌<◌, ◌↔◌, IfOk, IsNone, IsOk};
 ghost use Rattle.dma_memory.specs.Owners.{HaveSameNumbers, copies};
@@ -86,7 +86,8 @@ pub fn size(one: &Layout, other: &Layout) -> (u64, u64)
     (one.size(), other.size())
 }
 
-/// Calls [`Pool::take`] twice. The contract doesn't state which number `take` returns; this number determines the rest.
+/// Calls [`Pool::take`] twice. The contract doesn't state which number `take` returns. This number determines which
+/// numbers remain in the pool.
 pub fn take(one: &mut Pool, other: &mut Pool) -> (Option<BufId>, Option<BufId>)
     requires { one.old ≡ other.old }
     ensures outcome { IsNone result.0 ↔ IsNone result.1 }
@@ -96,7 +97,7 @@ pub fn take(one: &mut Pool, other: &mut Pool) -> (Option<BufId>, Option<BufId>)
     (one.take(), other.take())
 }
 
-/// Calls [`Pool::give`] twice. The contract doesn't state the order of the numbers.
+/// Calls [`Pool::give`] twice. The contract doesn't state the order of the numbers in the pool.
 pub fn give(one: &mut Pool, other: &mut Pool, buffer: BufId, other_buffer: BufId)
     requires pool { one.old ≡ other.old }
     requires buffer { buffer ≡ other_buffer }

@@ -1,8 +1,8 @@
-//! The calls of `pci_function`.
+//! Calls of a PCI function, each made twice.
 
 ghost use Rattle.std.specs.Prelude.{◌≡◌};
 
-use pci_function::{PciFunction, PortWidth};
+use registers::{PciFunction, PortWidth};
 
 /// Calls [`PciFunction::read_port`] twice.
 pub fn read_port(

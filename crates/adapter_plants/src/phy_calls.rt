@@ -1,8 +1,8 @@
-//! The calls of `mdic_phy`.
+//! Calls of MDIC and the PHY, each made twice.
 
 ghost use Rattle.std.specs.Prelude.{◌≡◌};
 
-use mdic_phy::{Link, Mdic, Phy, Ticked};
+use eeprom_phy::{Link, Mdic, Phy, Ticked};
 
 /// Calls [`Phy::new`] twice.
 pub fn new(link: Link) -> (Phy, Phy)

@@ -1,8 +1,8 @@
-//! The calls of `frame_queue`.
+//! Calls of queues of frames, each made twice.
 
 ghost use Rattle.std.specs.Prelude.{◌≡◌, ◌+◌, ◌<◌, ◌≤◌, ◌↔◌, IfSome, IsNone, length, sum_by};
 
-use frame_queue::{FrameQueue, PLACE_BYTES, PackedQueue};
+use descriptors::{FrameQueue, PLACE_BYTES, PackedQueue};
 use std::hash::Hasher;
 
 /// Calls [`FrameQueue::front`] twice.

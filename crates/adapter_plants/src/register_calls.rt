@@ -1,4 +1,4 @@
-//! The calls of `registers`.
+//! Calls of `registers`, each made twice.
 
 ghost use Rattle.std.specs.Prelude.{◌≡◌};
 

@@ -1,4 +1,4 @@
-//! The calls of `SoloBus`, and its accesses as a `Bus`, each made twice.
+//! Calls of `SoloBus`, and its accesses as a `Bus`, each made twice.
 
 ghost use Rattle.std.specs.Prelude.{◌≡◌, ◌+◌, ◌≤◌, IfOk, length};
 ghost use Rattle.adapter_plants.specs.OneAccess.{AreOneState};

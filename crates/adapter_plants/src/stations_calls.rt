@@ -49,7 +49,7 @@ pub fn finish<'a, 't, O: Observer>(one: &mut LentBus<'a, 't, O>, other: &mut Len
     other.finish();
 }
 
-/// A twin of [`Bus::read`] of `LentBus`, which the edits change.
+/// A twin of [`Bus::read`] of `LentBus`, with the same contract. The edits in `must-fail` change its body.
 pub fn read<'a, 't, O: Observer>(bus: &mut LentBus<'a, 't, O>, offset: u32) -> u32
     ensures keeps { Keeps ⟦<LentBus<'a, 't, O> as Bus>⟧ bus.old bus.new }
     ensures acts { ⟦<LentBus<'a, 't, O> as Bus>⟧.honest bus.old

@@ -1,4 +1,5 @@
--- What accesses don't change.
+-- Quiet accesses don't change the adapter. Accesses that meet `LeavesCauses` don't change the recorded causes, and those that meet
+-- `LeavesMask` don't change the mask.
 use Rattle.std.proofs.Common.{◌≡◌, ◌≢◌, ℕ, Bool, Option, Some, None, refl, sym, ap, subst, ◌∙◌, cond}
 use Rattle.std.specs.Prelude.{IfSome}
 use Rattle.adapter.specs.Registers.{after_reset, by_row, left_by_read, left_by_write, read_of, write_of}
@@ -16,7 +17,6 @@ use Rattle.bus.specs.declared.event.Access.{Access}
 use Rattle.bus.specs.declared.event.Access.TheVariants.{Loads, Reads, Stores, Writes}
 use Rattle.bus.specs.Trails.{world_after_access}
 
--- A fact of a register holds for the register that is at its offset.
 pub at_offset : (P : Register → Type 0) (register : Register) → IsInTable register → P register
     → IfSome (register_at (row_of register).offset) P
 at_offset P register within is = subst (λ (found : Option Register). IfSome found P) (sym (register_at-there register within)) is
@@ -50,7 +50,6 @@ quiet_leaves_world (Writes offset value) world quiet other = absurd quiet
 quiet_leaves_world (Loads address size) world quiet other = refl
 quiet_leaves_world (Stores address bytes) world quiet other = absurd (other tt)
 
--- a register that a read doesn't clear isn't ICR
 not-icr : (found : Option Register) → IfSome found StaysAtRead → found ≢ Some Icr
 not-icr found stays is =
     let of_icr : IfSome (Some Icr) StaysAtRead = subst (λ (f : Option Register). IfSome f StaysAtRead) is stays in
@@ -62,7 +61,7 @@ quiet_leaves_interrupts (Writes offset value) quiet = absurd quiet
 quiet_leaves_interrupts (Loads address size) quiet = record { no_reset = tt; causes = tt; mask = tt }
 quiet_leaves_interrupts (Stores address bytes) quiet = record { no_reset = tt; causes = tt; mask = tt }
 
--- Writes.
+-- Writes of registers.
 
 pub write_leaves_interrupts : (register : Register) (value : ℕ)
     → IsInTable register → WriteLeavesCauses value register → WriteLeavesMask value register
@@ -80,7 +79,6 @@ ring_writes_leave_interrupts (Transmit part) value of_ring =
     write_leaves_interrupts (Transmit part) value tt ((λ no. no), refl) ((λ no. no), refl)
 ring_writes_leave_interrupts _ value of_ring = absurd of_ring
 
--- a write without a reset is a write by the register's row
 pub by-row : (register : Register) (value : ℕ) (state : AdapterState) → ResetsNothing value register
     → write_of register value state ≡ by_row (row_of register).kept register value state
 by-row register value state keeps =
@@ -110,7 +108,7 @@ written-mask None value state leaves = refl
 written-mask (Some register) value state leaves =
     ap (λ (s : AdapterState). s.causes.mask) (by-row register value state leaves.1) ∙ row-mask register value state leaves.0
 
--- Reads.
+-- Reads of registers.
 
 register-causes : (register : Register) (state : AdapterState) → register ≢ Icr
     → (read_of register state).causes.recorded ≡ state.causes.recorded
@@ -138,7 +136,7 @@ found-mask : (found : Option Register) (state : AdapterState) → (left_by_read 
 found-mask None state = refl
 found-mask (Some register) state = register-mask register state
 
--- Each access.
+-- Any access.
 
 pub access_leaves_causes : (access : Access) (world : World) → LeavesCauses access
     → (world_after_access access world).adapter.causes.recorded ≡ world.adapter.causes.recorded

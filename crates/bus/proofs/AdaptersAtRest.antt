@@ -57,9 +57,8 @@ pub rest_after_reset : RestAfterReset
 rest_after_reset world = record
     { rings = (idle_after_reset world).rings; receiver = refl; transmitter = refl; control = refl; none_missed = refl }
 
--- What happens.
+-- What happens between two accesses.
 
--- An adapter at rest holds no frame, and no frame is to be sent.
 none-held : (world : World) → IsAtRest world → frames_held world.adapter.receive_ring.tail world ≡ []
 none-held world rest =
     let ring = receive_ring world in
@@ -82,7 +81,6 @@ new-again : (receiver : Receiver) → receiver.buffer ≡ [] → receiver.moved 
     → receiver ≡ new_receiver
 new-again receiver buffer moved work stopped = rw (buffer, moved, work, stopped) refl
 
--- If the packet buffer is empty, no byte of its oldest frame is moved.
 none-moved : (receiver : Receiver) → receiver.moved ≤ length (oldest receiver.buffer) - 1 → receiver.buffer ≡ [] → receiver.moved ≡ 0
 none-moved receiver begun none =
     let most = subst (λ (frames : List (List ℕ)). receiver.moved ≤ length (oldest frames) - 1) none begun in omega (arith, most)
@@ -114,9 +112,8 @@ happenings_keep_rest a b past happens is rest =
       record { none_put = sent.0; none_stored = off.0; none_missed = off.1 },
     )
 
--- Accesses.
+-- Accesses of a driver.
 
--- An idle adapter with the engines and RCTL of an adapter at rest, and with MPC 0, is at rest.
 rest-by : (world : World) (b : AdapterState) → IsIdle (record world { adapter = b }) → b.receiver ≡ world.adapter.receiver
     → b.transmitter ≡ world.adapter.transmitter → b.filter.rctl ≡ world.adapter.filter.rctl → b.missed_packets ≡ 0
     → IsAtRest world → IsAtRest (record world { adapter = b })

@@ -5,7 +5,6 @@ use Rattle.dma_memory.specs.AreaLaws.{apart-inside, inside-apart, lies-inside}
 use Rattle.dma_memory.specs.HostMemory.{LiesIn}
 use Rattle.bus.proofs.Lists.{all-replaced, all-without, all-weaker, pairs-replaced, pairs-without}
 
--- Separate areas, in a memory of the same size.
 pub separate-same : (memory memory' : List ℕ) (areas areas' : List Area) → length memory' ≡ length memory → areas' ≡ areas
     → AreSeparate memory areas → AreSeparate memory' areas'
 separate-same memory memory' areas areas' size same separate = rw same (record {
@@ -14,7 +13,6 @@ separate-same memory memory' areas areas' size same separate = rw same (record {
   apart = separate.apart;
 })
 
--- Without one of the areas.
 pub separate-without : (memory : List ℕ) (front : List Area) (area : Area) (behind : List Area)
     → AreSeparate memory (front ++ area ∷ behind) → AreSeparate memory (front ++ behind)
 separate-without memory front area behind separate = record {
@@ -22,7 +20,6 @@ separate-without memory front area behind separate = record {
   apart = pairs-without AreApart front area behind separate.apart;
 }
 
--- With the beginning of one of the areas in its place.
 pub separate-shorter : (memory : List ℕ) (front : List Area) (address size shorter : ℕ) (behind : List Area) → shorter ≤ size
     → AreSeparate memory (front ++ record { address = address; size = size } ∷ behind)
     → AreSeparate memory (front ++ record { address = address; size = shorter } ∷ behind)

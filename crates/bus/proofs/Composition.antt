@@ -1,10 +1,10 @@
--- What may happen between two accesses composes, and it may be that nothing happens.
+-- What may happen in two consecutive intervals may happen in the joined interval, and an interval may be empty.
 use Rattle.std.proofs.Common.{◌≡◌, ◌⊎◌, ◌+◌, ℕ, zero, suc, List, [], ◌++◌, refl, sym, ap, subst, ◌∙◌, inl, inr, append_assoc}
 use Rattle.std.proofs.Common.{arith, length-append}
 use Rattle.std.proofs.lemmas.List.{append-nil}
 use Rattle.std.specs.Fn.{iterate}
 use Rattle.std.specs.List.{All}
-use Rattle.eeprom.specs.Eerd as eeprom
+use Rattle.eeprom_phy.specs.Eerd as eeprom
 use Rattle.registers.specs.Bits.{HasBit}
 use Rattle.registers.specs.Places.{rxt0}
 use Rattle.rx_engine.specs.Pieces.{IsPart, Piece}
@@ -22,16 +22,14 @@ use Rattle.adapter.specs.Rings.{ring_of}
 use Rattle.std.proofs.lemmas.List.Elements.{All-append}
 use Rattle.bus.proofs.Lists.{all-none}
 
--- To iterate by a sum of two numbers is to iterate by the first, and then by the second.
 pub iterate-add : {A : Type 0} (h : A → A) (m n : ℕ) (x : A) → iterate h (m + n) x ≡ iterate h n (iterate h m x)
 iterate-add h zero n x = let none : 0 + n ≡ n = omega arith in ap (λ (k : ℕ). iterate h k x) none
 iterate-add h (suc m) n x =
     let moved : suc m + n ≡ suc (m + n) = omega arith in
     ap (λ (k : ℕ). iterate h k x) moved ∙ iterate-add h m n (h x)
 
--- Registers.
+-- The facts about registers (`Steady`).
 
--- A head that moved in neither interval didn't move in both together, and a head that moved is a slot.
 head_trans : (a b c : RingRegisters) → OnlyHeadMoves a b → OnlyHeadMoves b c → OnlyHeadMoves a c
 head_trans a b c one two = record {
   others = two.others ∙ ap (λ (ring : RingRegisters). let moved : RingRegisters = record ring { head = c.head } in moved) one.others;
@@ -97,7 +95,7 @@ steady_refl a = record {
   ticks = record { eerd = refl; management = refl };
 }
 
--- Frames.
+-- The facts about frames (`Between`).
 
 -- If a frame ends in the new pieces of either interval, RXT0 is recorded after both, because recorded causes remain recorded.
 told-joined : (first later : List Piece) (b c : World) → All IsPart first ⊎ HasBit b.adapter.causes.recorded rxt0
@@ -169,7 +167,7 @@ between_refl o p a sound = record {
   sound = sound;
 }
 
--- Both.
+-- Both facts together (`Happens`).
 
 pub happens_trans : (a b c : World) (first later : Past) → Happens a b first → Happens b c later → Happens a c (joined first later)
 happens_trans a b c first later one two = record {

@@ -1,4 +1,4 @@
--- Frames cut into pieces: one piece more, the next of its frame.
+-- Pieces of legal frames, cut into buffers of one size, remain so with one more piece, the next piece of the frame that hasn't ended.
 use Rattle.std.proofs.Common.{◌≡◌, ◌<◌, ◌+◌, ◌-◌, ◌∷◌, ◌++◌, [], Bool, true, false, nat_le, ℕ, List, length, length-drop}
 use Rattle.std.proofs.Common.{length-take, take, drop, sym, ap, subst, ◌∙◌, arith}
 use Rattle.std.specs.List.{All}
@@ -26,7 +26,6 @@ pub record CutPieces (size : ℕ) (pieces : List Piece) : Type 0 where
   pub legal : All IsLegal (frames_of pieces)
   pub short : length (begun_of pieces) < longest_frame
 
--- The next piece of a frame is cut in the same way as the others: it fills its buffer, or it is the last piece.
 next-cut : (ends : Bool) (size moved : ℕ) (frame : List ℕ) → nat_le (length frame - moved) size ≡ ends → moved < length frame
     → IsCut size (piece_of ends (take size (drop moved frame)))
 next-cut true size moved frame last below =
@@ -72,7 +71,7 @@ next-piece ends size moved frame pieces ends_is is below begun before = record {
   short = next-short ends size moved frame pieces ends_is is begun;
 }
 
--- slots whose descriptors report no errors
+-- the descriptors of these slots report no errors
 abbrev pub HaveNoErrors : List ℕ → List ℕ → Type 0
 HaveNoErrors memory slots = All (λ slot. (descriptor_at memory slot).errors ≡ 0) slots
 
@@ -80,7 +79,6 @@ pub errors-kept : (memory memory' slots : List ℕ) → SameDescriptors memory m
     → HaveNoErrors memory' slots
 errors-kept memory memory' slots same none = λ k d below. ap (λ (desc : RxDesc). desc.errors) (same k d below) ∙ none k d below
 
--- Pieces in slots that are cut in this way, without errors.
 pub are-cut : (size o : ℕ) (world : World) → (HasBit world.adapter.filter.rctl rctl_en → buffer_size world ≡ size)
     → HaveNoErrors world.memory (finished o world) → CutPieces size (pieces_in_slots o world) → AreCut size o world
 are-cut size o world sized errors pieces = record

@@ -31,7 +31,6 @@ use Rattle.bus.proofs.WrittenAreas.{named-same}
 use Rattle.bus.proofs.Lists.{all-head, all-left, all-none, all-right, all-tail, all-unmapped, map-same, pairs-head, pairs-right, pairs-tail}
 use Rattle.bus.proofs.Rings.{dealt-left, dealt-right, each-outstanding, far-apart, outstanding-apart, outstanding-inside, slot-inside}
 
--- Each of the first elements with each of the later ones.
 pairs-across : {X : Type 0} (R : X → X → Type 0) (xs ys : List X) → AllPairs R (xs ++ ys) → All (λ x. All (R x) ys) xs
 pairs-across R [] ys pairs = all-none (λ x. All (R x) ys)
 pairs-across R (x ∷ xs) ys pairs =
@@ -52,7 +51,6 @@ half-inside r d inside = record { from = omega (arith, inside.from); to = omega 
 byte-inside : (t : Area) (d : ℕ) → IsInside (descriptor_area d) t → IsInside (status_byte d) t
 byte-inside t d inside = record { from = omega (arith, inside.from); to = omega (arith, inside.to) }
 
--- A descriptor that is apart from another one is apart from bytes 8 to 15 of the other one.
 half-apart : (x y : ℕ) → AreApart (descriptor_area x) (descriptor_area y) → AreApart (descriptor_area x) (reported_half y)
 half-apart x y apart = inside-apart (descriptor_area x) (reported_half y) (descriptor_area y)
     (half-inside (descriptor_area y) y (record { from = omega arith; to = omega arith })) apart
@@ -82,7 +80,6 @@ parts-of o p a sound =
           (λ k d below. byte-inside t _ (sent k d below));
     }
 
--- A fact of all areas of frames holds for the offered buffers, which are the last of these areas.
 last-buffers : (P : Area → Type 0) (o : ℕ) (a : World) → All P (frame_areas o a) → All P (offered_buffers a)
 last-buffers P o a all =
     let names = map (named a.memory) (finished o a) in
@@ -91,7 +88,6 @@ last-buffers P o a all =
     (all-right P names (work ++ offered_buffers a)
     (all-right P (map (data_of a.memory) (offered (transmit_ring a))) (names ++ (work ++ offered_buffers a)) all))
 
--- The adapter may not write an area of the receive ring that is apart from bytes 8 to 15 of each descriptor in progress or offered.
 foreign-in_ring : (o p : ℕ) (a : World) (area : Area) → Sound o p a → IsInside area (ring_area (receive_ring a))
     → All (λ d. AreApart area (reported_half d)) (in_work a ++ offered (receive_ring a)) → IsForeign a area
 foreign-in_ring o p a area sound inside apart =
@@ -107,7 +103,6 @@ foreign-in_ring o p a area sound inside apart =
     (All-map (AreApart area) reported_half (in_work a ++ offered (receive_ring a)) apart)
     (All-append (AreApart area) (map status_byte (buffered a ++ offered (transmit_ring a))) (offered_buffers a) bytes buffers)
 
--- The adapter may not write the descriptors of finished slots.
 foreign-finished : (o p : ℕ) (a : World) → Sound o p a → All (λ d. IsForeign a (descriptor_area d)) (finished o a)
 foreign-finished o p a sound =
     let ring = receive_ring a in
@@ -123,7 +118,6 @@ foreign-finished o p a sound =
     let inside = all-left (λ d. IsInside (descriptor_area d) (ring_area ring)) (finished o a) behind whole in
     λ k d below. foreign-in_ring o p a _ sound (inside k d below) (λ j e within. half-apart _ _ (across k d below j e within))
 
--- The adapter may not write the pieces in finished slots.
 pub foreign-named : (o p : ℕ) (a : World) → Sound o p a → All (λ d. IsForeign a (named a.memory d)) (finished o a)
 foreign-named o p a sound =
     let parts = parts-of o p a sound in
@@ -149,7 +143,6 @@ foreign-named o p a sound =
     (all-right (AreApart _) work (offered_buffers a) (across k d below))) in
     all-unmapped (λ area. IsForeign a area) (named a.memory) (finished o a) each
 
--- The adapter may not write an area of the transmit ring that is apart from the status byte of each descriptor that is buffered or offered.
 foreign-in_transmit : (o p : ℕ) (a : World) (area : Area) → Sound o p a → IsInside area (ring_area (transmit_ring a))
     → All (λ d. AreApart area (status_byte d)) (buffered a ++ offered (transmit_ring a)) → IsForeign a area
 foreign-in_transmit o p a area sound inside apart =
@@ -167,7 +160,6 @@ foreign-in_transmit o p a area sound inside apart =
     (All-map (AreApart area) status_byte (buffered a ++ offered (transmit_ring a)) apart)
     buffers)
 
--- The adapter may not write the descriptors of written-back slots.
 foreign-written : (o p : ℕ) (a : World) → Sound o p a → All (λ d. IsForeign a (descriptor_area d)) (written_back p a)
 foreign-written o p a sound =
     let ring = transmit_ring a in
@@ -183,7 +175,6 @@ foreign-written o p a sound =
 
 -- The driver's slots, and the addresses in descriptors.
 
--- A slot of the driver is apart from the outstanding slots.
 pub own-apart : (ring : Ring) (oldest slot : ℕ) → (oldest < count_of ring) ⊎ (outstanding ring oldest ≡ []) → IsDriversSlot ring oldest slot
     → All (λ d. AreApart (descriptor_area (address_of ring slot)) (descriptor_area d)) (outstanding ring oldest)
 own-apart ring oldest slot dealt own =
@@ -216,13 +207,12 @@ foreign-address o p a slot sound below =
     (dealt-right a.memory ring o (in_work a) Apart sound.receive_slots
     (each-outstanding ring o Apart sound.receive_slots.slot (λ other within. front-apart ring.base slot other)))
 
--- The address that a descriptor names is in its first eight bytes.
 address-front : (memory : List ℕ) (at : ℕ) → receive.named_address memory at ≡ little_number 8 (bytes_at memory at 8)
 unfolding rx_desc_of
 address-front memory at = little_from-take 0 8 16 (drop at memory) (omega arith)
     ∙ sym (little_from-take 0 8 8 (drop at memory) (omega arith))
 
--- The same of the transmit ring.
+-- The driver's transmit slots, and the bytes of transmit descriptors except the status.
 
 pub foreign-transmit_slot : (o p : ℕ) (a : World) (slot : ℕ) → Sound o p a → IsDriversSlot (transmit_ring a) p slot
     → IsForeign a (descriptor_area (address_of (transmit_ring a) slot))
@@ -234,7 +224,6 @@ foreign-transmit_slot o p a slot sound own =
     foreign-in_transmit o p a (descriptor_area at) sound (slot-inside ring.base (count_of ring) slot 16 own.below (omega arith))
     (dealt-right a.memory ring p (buffered a) Apart sound.transmit_slots (λ k d within. byte-apart at _ (apart k d within)))
 
--- The bytes of a descriptor before its status, and after it.
 front-status : (base slot other : ℕ) → AreApart (record { address = base + 16 * slot; size = 12 }) (status_byte (base + 16 * other))
 front-status base slot other = ⊎_elim (λ (less : other < slot). inr (omega (arith, less)))
     (λ (more : slot ≤ other). inl (omega (arith, more))) (cases_lt other slot)
@@ -283,7 +272,6 @@ same_fields : (address address' size size' cso cso' : ℕ) (command command' : T
 same_fields address address' size size' cso cso' command command' status css css' special special' e1 e2 e3 e4 e5 e6 = rw
     (e1, e2, e3, e4, e5, e6) refl
 
--- Transmit descriptors whose bytes agree except for byte 12 agree except for the status.
 fields-same : (xs ys : List ℕ) → ((i : ℕ) → i < 12 → slice_index xs i ≡ slice_index ys i)
     → ((i : ℕ) → i < 3 → slice_index xs (13 + i) ≡ slice_index ys (13 + i))
     → tx_desc_of xs ≡ record (tx_desc_of ys) { status = (tx_desc_of xs).status }
@@ -302,7 +290,7 @@ fields-same xs ys front back =
     place : (j : ℕ) → 14 + j ≡ 13 + (1 + j)
     place j = omega arith
 
--- Between two accesses.
+-- What doesn't change between two accesses.
 
 pub drivers_side_stays : DriversSideStaysAlways
 drivers_side_stays o p a b past sound happens =

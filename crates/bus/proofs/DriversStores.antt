@@ -19,7 +19,6 @@ use Rattle.bus.proofs.TxPutSteps.{areas-same}
 use Rattle.bus.proofs.RunningEngines.{transmittable-kept}
 use Rattle.bus.proofs.Rings.{dealt-right}
 
--- The offered buffers are the same.
 buffers-stay : (o p : ℕ) (a : World) (address : ℕ) (bytes : List ℕ) → Sound o p a → LiesIn a.memory address (length bytes)
     → IsDriversArea o p a (record { address = address; size = length bytes })
     → offered_buffers (world_after_store address bytes a) ≡ offered_buffers a
@@ -91,7 +90,6 @@ drivers_stores_leave_frames o p a address bytes sound lies own =
       };
     }
 
--- After the store, the adapter may not write an area that it might not write before.
 pub drivers_stores_leave_foreign : DriversStoresLeaveForeign
 drivers_stores_leave_foreign o p a address bytes sound lies own area foreign =
     subst (λ (buffers : List Area). All (AreApart area) (map reported_half (in_work a ++ offered (receive_ring a))

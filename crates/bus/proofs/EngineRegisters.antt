@@ -1,7 +1,7 @@
 -- Registers, causes and counters after a step of an engine.
 use Rattle.std.proofs.Common.{◌⊎◌, [], ◌≡◌, ◌+◌, ℕ, List, length, max, min, refl, sym, ap, inl}
 use Rattle.std.specs.Fn.{iterate}
-use Rattle.eeprom.specs.Eerd as eeprom
+use Rattle.eeprom_phy.specs.Eerd as eeprom
 use Rattle.registers.specs.Bits.{HasBit, union}
 use Rattle.registers.specs.Counting.{greatest_count}
 use Rattle.registers.specs.Laws.{HasBit-union}
@@ -16,11 +16,10 @@ use Rattle.descriptors.specs.Frames.{IsLegal}
 use Rattle.descriptors.specs.Ring.{HasValidIndices}
 use Rattle.adapter.specs.Rings.{ring_of}
 
--- A cause that is recorded remains recorded if others are added.
 pub added : (recorded causes place : ℕ) → HasBit recorded place → HasBit (union recorded causes) place
 added recorded causes place set = (HasBit-union recorded causes place).1 (inl set)
 
--- what the engines may change of an adapter
+-- the parts of an adapter that a step of an engine may change
 pub record Moves : Type 0 where
   pub recorded : ℕ
   pub receive_head : ℕ
@@ -45,7 +44,7 @@ moved m adapter = record adapter {
   transmitter = m.transmitter;
 }
 
--- the moves that change nothing
+-- the adapter's own values, with which `moved` changes nothing
 abbrev pub still : AdapterState → Moves
 still adapter = record {
   recorded = adapter.causes.recorded;

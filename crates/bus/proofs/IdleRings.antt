@@ -38,7 +38,6 @@ use Rattle.bus.proofs.RegisterWrites.{row-leaves}
 
 -- Rings whose head is their tail.
 
--- Such a ring offers nothing, and nothing is outstanding from there on.
 pub offered-none : (ring : Ring) → ring.head ≡ ring.tail → offered ring ≡ []
 offered-none ring same = ap (map (address_of ring)) (places-none ring same)
 
@@ -60,7 +59,6 @@ buffers-none : (on : Bool) (f : ℕ → Area) (slots : List ℕ) → slots ≡ [
 buffers-none true f slots none = ap (map f) none
 buffers-none false f slots none = refl
 
--- If an adapter is idle, the conditions of the law name only the areas of both rings.
 pub idle-areas : (world : World) → IsIdle world
     → areas world.adapter.receive_ring.tail world ≡ ring_area (receive_ring world) ∷ ring_area (transmit_ring world) ∷ []
 idle-areas world idle =
@@ -72,7 +70,6 @@ idle-areas world idle =
     areas-same _ _ [] _ [] _ [] _ [] _ (ap (map (data_of memory)) unsent) (ap (map (named memory)) unfinished)
     (ap (work_areas memory) idle.work) (buffers-none _ (buffer_of world) (offered ring) unoffered)
 
--- If no slot is finished and no piece is in progress, there are no pieces in slots.
 pub no-pieces : (memory : List ℕ) (finished : List Piece) (receiver : Receiver) → finished ≡ [] → receiver.work ≡ None
     → engine.in_slots memory finished receiver ≡ []
 no-pieces memory finished receiver none free =
@@ -100,7 +97,6 @@ idle_rings_are_sound world idle =
 
 -- Power-on and reset.
 
--- Two rings without descriptors are separate areas.
 empty_rings : (memory : List ℕ) → AreSeparate memory (record { address = 0; size = 0 } ∷ record { address = 0; size = 0 } ∷ [])
 empty_rings memory =
     let e : Area = record { address = 0; size = 0 } in
@@ -133,7 +129,6 @@ work-empty : (work : Option Work) → slot_of_work work ≡ [] → work ≡ None
 work-empty None none = refl
 work-empty (Some work) none = absurd (cc)
 
--- No slot is taken or offered if no slot is outstanding.
 pub none-dealt : (memory : List ℕ) (ring : Ring) (oldest : ℕ) (taken : List ℕ) → oldest ≡ ring.tail → IsDealt memory ring oldest taken
     → (taken ≡ []) × (offered ring ≡ [])
 none-dealt memory ring oldest taken same dealt =
@@ -141,13 +136,11 @@ none-dealt memory ring oldest taken same dealt =
     let all = append-empty (done_slots memory ring oldest) (taken ++ offered ring) (sym dealt.classes ∙ clear) in
     append-empty taken (offered ring) all.1
 
--- A ring that offers nothing has its head at its tail, if head and tail are slots.
 head-is-tail : (ring : Ring) → HasValidIndices ring → offered ring ≡ [] → ring.head ≡ ring.tail
 head-is-tail ring slots none =
     ⊎_elim (λ (same : ring.head ≡ ring.tail). same)
     (λ (differ : ¬ (ring.head ≡ ring.tail)). let first = offered-head ring slots differ in absurd (cc)) (cases_eq ring.head ring.tail)
 
--- If the head was at the tail, and no slot is offered after the head may have moved, the head is at the tail.
 pub still-idle : (a b : RingRegisters) → OnlyHeadMoves a b → a.head ≡ a.tail → offered (ring_of b) ≡ [] → b.head ≡ b.tail
 still-idle a b moves idle none =
     ⊎_elim
@@ -192,7 +185,6 @@ happenings_keep_idle a b past happens idle =
 
 -- Idle rings are idle after accesses.
 
--- Whether an adapter is idle depends only on the size of memory, the receive engine, the transmit packet buffer and the rings.
 idle-same : (memory memory' : List ℕ) (a b : AdapterState) → length memory' ≡ length memory → b.receiver ≡ a.receiver
     → b.transmitter.buffer ≡ a.transmitter.buffer → b.receive_ring ≡ a.receive_ring → b.transmit_ring ≡ a.transmit_ring
     → IsIdle (record { memory = memory; adapter = a }) → IsIdle (record { memory = memory'; adapter = b })

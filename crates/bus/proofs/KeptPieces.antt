@@ -1,4 +1,5 @@
--- If the pieces in slots are the same, the frames of these pieces are the same.
+-- Let finished slots, their descriptors and the pieces in slots be the same. Then frames that are cut into buffers of some size are still
+-- cut in this way.
 use Rattle.std.proofs.Common.{◌≡◌, ◌<◌, ℕ, List, length, sym, ap, subst, ◌∙◌}
 use Rattle.std.specs.List.{All}
 use Rattle.descriptors.specs.Frames.{IsLegal, longest_frame}
@@ -17,7 +18,6 @@ use Rattle.adapter.specs.World.{World}
 abbrev pub SameDescriptors : List ℕ → List ℕ → List ℕ → Type 0
 SameDescriptors memory memory' slots = All (λ slot. descriptor_at memory' slot ≡ descriptor_at memory slot) slots
 
--- Frames that are cut into buffers of one size still are.
 pub cut-kept : (size o : ℕ) (a b : World) → (HasBit b.adapter.filter.rctl rctl_en → buffer_size b ≡ size) → finished o b ≡ finished o a
     → SameDescriptors a.memory b.memory (finished o a) → pieces_in_slots o b ≡ pieces_in_slots o a → AreCut size o a
     → AreCut size o b

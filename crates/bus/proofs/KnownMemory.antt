@@ -1,4 +1,4 @@
--- Whatever happens, a driver's rings have the same addresses, and memory that no outstanding slot uses doesn't change.
+-- Whatever happens between two accesses, a driver's rings have the same base and size, and spare memory remains spare.
 use Rattle.std.proofs.Common.{◌≡◌, ℕ, List, sym, ap, subst}
 use Rattle.std.specs.List.{All}
 use Rattle.dma_memory.specs.Areas.{AreApart, Area, area_at}
@@ -16,7 +16,7 @@ use Rattle.bus.proofs.DriversSlots.{drivers_side_stays}
 use Rattle.bus.proofs.Rings.{each-outstanding}
 use Rattle.bus.proofs.SpareMemory.{spare-apart, spare-foreign}
 
--- Rings that are the same but for their heads.
+-- Rings that are the same except for their heads.
 
 same_ring_area : (a b : RingRegisters) → b ≡ record a { head = b.head } → ring_area (ring_of b) ≡ ring_area (ring_of a)
 same_ring_area a b same = ap (λ (registers : RingRegisters). ring_area (ring_of registers)) same

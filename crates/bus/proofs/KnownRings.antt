@@ -1,4 +1,4 @@
--- What a driver knows of its rings still holds, and what a write of RDT or TDT doesn't change.
+-- What a driver knows of its rings still holds, and a write of RDT or TDT changes only this register.
 use Rattle.std.proofs.Common.{◌≡◌, ◌<◌, ⊎_elim, ℕ, Option, sym, ap, subst, ◌∙◌, arith, bit_and}
 use Rattle.std.proofs.lemmas.Nat.{and_mask}
 use Rattle.descriptors.specs.Ring.{HasValidIndices, count_of}
@@ -14,7 +14,6 @@ use Rattle.adapter.specs.World.{receive_ring, transmit_ring, World}
 use Rattle.bus.specs.Law.{OnlyHeadMoves}
 use Rattle.bus.specs.KnownRings.{KnownRingStays, ReceiveTailMoves, TransmitTailMoves}
 
--- A head that doesn't change, or that is a slot, is a slot if it was one before.
 head-slot : (a b : RingRegisters) → OnlyHeadMoves a b → a.head < count_of (ring_of a) → b.head < count_of (ring_of a)
 head-slot a b moves below =
     let count : count_of (ring_of b) ≡ count_of (ring_of a) =
@@ -24,7 +23,6 @@ head-slot a b moves below =
     (λ (slot : HasValidIndices (ring_of b)). subst (λ (n : ℕ). b.head < n) count slot.head)
     moves.head
 
--- What the driver knows of its ring still holds if only the head has moved.
 pub knows-carried : (a b : RingRegisters) (base count tail : ℕ) → OnlyHeadMoves a b
     → KnowsRing (ring_of a) base count tail → KnowsRing (ring_of b) base count tail
 knows-carried a b base count tail moves knows = record {
@@ -43,7 +41,7 @@ pub known_transmit_ring_stays : KnownRingStays transmit_ring
 known_transmit_ring_stays a b past base count tail steady knows =
     knows-carried a.adapter.transmit_ring b.adapter.transmit_ring base count tail steady.transmit_ring knows
 
--- Writes.
+-- Writes of RDT and of TDT.
 
 index-kept : (value : ℕ) → value < 65536 → bit_and value 65535 ≡ value
 index-kept value below = and_mask value 16 ∙ omega (arith, below)

@@ -3,11 +3,11 @@ use Rattle.std.proofs.Common.{◌≡◌, [], ℕ, zero, suc, Bool, true, false, 
 use Rattle.std.specs.Fn.{iterate}
 use Rattle.std.specs.List.{All}
 use Rattle.std.proofs.lemmas.Bool.{false≢true}
-use Rattle.mdic_phy.specs.declared.mdic.Operation.{Operation}
-use Rattle.mdic_phy.specs.declared.phy.Negotiation.{Negotiation}
-use Rattle.mdic_phy.specs.declared.phy.Negotiation.TheVariants.{NotStarted, Running, Complete}
-use Rattle.mdic_phy.specs.Mdic.{has_work, mdic_after_tick, phy_after_tick, phy_ended}
-use Rattle.mdic_phy.specs.Phy.{after_tick, counted, is_complete, link_is_up}
+use Rattle.eeprom_phy.specs.declared.mdic.Operation.{Operation}
+use Rattle.eeprom_phy.specs.declared.phy.Negotiation.{Negotiation}
+use Rattle.eeprom_phy.specs.declared.phy.Negotiation.TheVariants.{NotStarted, Running, Complete}
+use Rattle.eeprom_phy.specs.Mdic.{has_work, mdic_after_tick, phy_after_tick, phy_ended}
+use Rattle.eeprom_phy.specs.Phy.{after_tick, counted, is_complete, link_is_up}
 use Rattle.adapter.specs.Registers.{after_read, after_write, left_by_read, left_by_write, read_of, write_of}
 use Rattle.adapter.specs.State.{AdapterState}
 use Rattle.adapter.specs.Table.{register_at}
@@ -21,7 +21,7 @@ use Rattle.bus.specs.declared.event.Access.TheVariants.{Loads, Reads, Stores, Wr
 use Rattle.bus.proofs.Lists.{all-head, all-left, all-right}
 use Rattle.bus.proofs.Settings.{writes-append}
 
--- Ticks.
+-- The link after ticks.
 
 -- The link is up, and no command is pending.
 record IsUp (management : Management) : Type 0 where
@@ -56,16 +56,14 @@ ticks-keep : (n : ℕ) (management : Management) → IsUp management → IsUp (i
 ticks-keep zero management is = is
 ticks-keep (suc n) management is = ticks-keep n (phy_ticked management) (tick-keeps management is)
 
--- Whatever happens.
 pub happenings_keep_link : HappeningsKeepLink
 happenings_keep_link a b past happens link =
     let before : IsUp (management_of a.adapter) = record { up = link.up; no_command = link.no_command } in
     let behind = subst IsUp (sym happens.steady.ticks.management) (ticks-keep past.phy_ticks (management_of a.adapter) before) in
     record { up = behind.up; no_command = behind.no_command }
 
--- Accesses.
+-- The link after accesses.
 
--- If MDIC and the PHY are unchanged, a link that is up remains up.
 same-management : (a b : World) → management_of b.adapter ≡ management_of a.adapter → HasLink a → HasLink b
 same-management a b same link =
     let before : IsUp (management_of a.adapter) = record { up = link.up; no_command = link.no_command } in
@@ -109,7 +107,6 @@ accesses_keep_link (Writes offset value) world leaves link =
 accesses_keep_link (Loads address size) world leaves link = link
 accesses_keep_link (Stores address bytes) world leaves link = record { up = link.up; no_command = link.no_command }
 
--- Two intervals.
 pub link_intervals_join : LinkIntervalsJoin
 link_intervals_join a b c first later one two = λ leaves link.
     let writes = subst (All LeavesPhy) (writes-append first.accesses later.accesses) leaves in

@@ -5,7 +5,7 @@ use Rattle.std.proofs.lemmas.List.Elements.{All-cons, All-append, All-map}
 use Rattle.std.proofs.lemmas.List.Kept.{AllPairs-cons}
 use Rattle.std.proofs.lemmas.List.Sums.{take_while-cons}
 
--- Each element.
+-- Facts of each element.
 
 pub all-none : {X : Type 0} (P : X → Type 0) → All P []
 all-none P k d below = absurd (omega arith)
@@ -41,7 +41,6 @@ all-unmapped P f [] all = all-none (λ x. P (f x))
 all-unmapped P f (x ∷ xs) all = All-cons (λ y. P (f y)) x xs (all-head P (f x) (map f xs) all)
     (all-unmapped P f xs (all-tail P (f x) (map f xs) all))
 
--- Functions that agree on each element map alike.
 pub map-same : {X Y : Type 0} (f g : X → Y) (xs : List X) → All (λ x. f x ≡ g x) xs → map f xs ≡ map g xs
 map-same f g [] same = refl
 map-same f g (x ∷ xs) same =
@@ -59,7 +58,7 @@ pub map-empty : {X Y : Type 0} (f : X → Y) (xs : List X) → map f xs ≡ [] �
 map-empty f [] none = refl
 map-empty f (x ∷ xs) none = absurd (cc)
 
--- Each pair.
+-- Facts of each pair of elements.
 
 pub pairs-none : {X : Type 0} (R : X → X → Type 0) → AllPairs R []
 pairs-none R i j d before below = absurd (omega arith)
@@ -70,7 +69,6 @@ pairs-head R x xs pairs k d below = pairs 0 (suc k) d (omega arith) (omega arith
 pub pairs-tail : {X : Type 0} (R : X → X → Type 0) (x : X) (xs : List X) → AllPairs R (x ∷ xs) → AllPairs R xs
 pairs-tail R x xs pairs i j d before below = pairs (suc i) (suc j) d (omega arith) (omega arith)
 
--- The elements before an element.
 pub pairs-before : {X : Type 0} (R : X → X → Type 0) (xs : List X) (y : X) (ys : List X) → AllPairs R (xs ++ y ∷ ys) → All (λ x. R x y) xs
 pairs-before R [] y ys pairs = all-none (λ x. R x y)
 pairs-before R (x ∷ xs) y ys pairs =
@@ -78,7 +76,6 @@ pairs-before R (x ∷ xs) y ys pairs =
     (all-head (R x) y ys (all-right (R x) xs (y ∷ ys) (pairs-head R x (xs ++ y ∷ ys) pairs)))
     (pairs-before R xs y ys (pairs-tail R x (xs ++ y ∷ ys) pairs))
 
--- The elements after an element.
 pub pairs-right : {X : Type 0} (R : X → X → Type 0) (xs ys : List X) → AllPairs R (xs ++ ys) → AllPairs R ys
 pairs-right R [] ys pairs = pairs
 pairs-right R (x ∷ xs) ys pairs = pairs-right R xs ys (pairs-tail R x (xs ++ ys) pairs)
@@ -111,9 +108,8 @@ pairs-mapped R f (x ∷ xs) pairs =
     (All-map (R (f x)) f xs (pairs-head (λ a b. R (f a) (f b)) x xs pairs))
     (pairs-mapped R f xs (pairs-tail (λ a b. R (f a) (f b)) x xs pairs))
 
--- The first elements.
+-- The elements before the first element that fails a test.
 
--- The first elements pass the test.
 pub take_while-passes : {X : Type 0} (p : X → Bool) (xs : List X) → All (λ x. p x ≡ true) (take_while p xs)
 take_while-passes p [] = all-none (λ x. p x ≡ true)
 take_while-passes {X} p (x ∷ xs) =
@@ -125,7 +121,6 @@ take_while-passes {X} p (x ∷ xs) =
     by-test true is rest = All-cons (λ y. p y ≡ true) x (take_while p xs) is rest
     by-test false is rest = all-none (λ y. p y ≡ true)
 
--- Elements that pass, before those that don't.
 pub take_while-split : {X : Type 0} (p : X → Bool) (xs ys : List X) → All (λ x. p x ≡ true) xs → All (λ y. p y ≡ false) ys
     → take_while p (xs ++ ys) ≡ xs
 take_while-split p [] [] pass fail = refl
@@ -137,7 +132,6 @@ take_while-split p (x ∷ xs) ys pass fail =
     let rest : take_while p (xs ++ ys) ≡ xs = take_while-split p xs ys (all-tail (λ z. p z ≡ true) x xs pass) fail in
     take_while-cons p x (xs ++ ys) ∙ rw (yes, rest) refl
 
--- Tests that agree on each element.
 pub take_while-same : {X : Type 0} (p q : X → Bool) (xs : List X) → All (λ x. q x ≡ p x) xs → take_while q xs ≡ take_while p xs
 take_while-same p q [] same = refl
 take_while-same p q (x ∷ xs) same =

@@ -1,4 +1,4 @@
--- An access over a lively bus, after both steps.
+-- An access over a lively bus, after the steps of the EEPROM and the PHY.
 use Rattle.std.proofs.Common.{◌≡◌, ◌++◌, ◌∷◌, [], All, true, refl, ◌∙◌, arith}
 use Rattle.std.specs.Bool.{⊤}
 use Rattle.std.proofs.lemmas.List.Elements.{All-append, All-cons}
@@ -66,7 +66,6 @@ lively-acts a p b access effect prepared is adapter does =
       effect_is = does;
     }
 
--- Neither step changes the size of memory.
 pub size-prepared : (a p : LivelyBus) → IsPrepared a p → machine_bytes p ≡ machine_bytes a
 size-prepared a p prepared =
     (trail_happens (both_ticks prepared.eeprom prepared.phy) (machine_world a) (machine_world p) (are-steps a p prepared)

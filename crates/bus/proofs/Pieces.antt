@@ -1,4 +1,4 @@
--- Pieces of legal frames that are cut to buffers of one size: in large buffers no frame is cut.
+-- Pieces of legal frames that are cut into buffers of one size: in large buffers no frame is cut.
 use Rattle.std.proofs.Common.{◌≡◌, ◌≤◌, ◌<◌, Bool, true, false, ℕ, List, [], ◌∷◌, ◌++◌, length, length-append, refl, arith}
 use Rattle.std.specs.List.{All}
 use Rattle.std.proofs.lemmas.List.Elements.{All-cons}
@@ -10,12 +10,11 @@ use Rattle.bus.specs.LargeBuffers.{LargeBuffersTakeFrames}
 use Rattle.adapter.specs.HostFrames.{pieces_in_slots}
 use Rattle.bus.proofs.Lists.{all-head, all-none, all-tail}
 
--- If a piece is a last piece, its frame ends in this piece.
 pub last-ends : (ends : Bool) (bytes : List ℕ) → IsLast (piece_of ends bytes) → ends ≡ true
 last-ends true bytes last = refl
 last-ends false bytes last = absurd last
 
--- The bytes before some pieces belong to a frame that ends in these pieces, or to the frame that doesn't end yet.
+-- The bytes before these pieces belong to a frame that ends in the pieces or hasn't ended yet, so the longest frame has more bytes.
 run-short : (size : ℕ) (begun : List ℕ) (pieces : List Piece) → All (IsCut size) pieces → All IsLegal (frames_from begun pieces)
     → length (begun_from begun pieces) < longest_frame → length begun < longest_frame
 run-short size begun [] cut legal short = short

@@ -1,4 +1,4 @@
--- Accesses that keep the conditions of the law.
+-- Writes and reads of registers after which the conditions of the law hold.
 use Rattle.std.proofs.Common.{◌≡◌, ◌≤◌, ◌<◌, ◌+◌, ◌%◌, ◌++◌, ◌∷◌, [], true, false, ℕ, Bool, List, Option, None, Some, zero, suc}
 use Rattle.std.proofs.Common.{if◌then◌else◌, map, refl, sym, ap, subst, ◌∙◌, append_assoc, arith}
 use Rattle.std.specs.Fn.{iterate}
@@ -7,7 +7,7 @@ use Rattle.std.proofs.lemmas.List.{append-nil}
 use Rattle.std.proofs.Math.Nat.{mod-add-mod, mod-eq_of_lt}
 use Rattle.descriptors.specs.Ring.{address_of, count_of, next_of, offered_places, slots_from}
 use Rattle.descriptors.specs.RingLaws.{next-below, places-none}
-use Rattle.mdic_phy.specs.declared.phy.Link.TheVariants.{Never}
+use Rattle.eeprom_phy.specs.declared.phy.Link.TheVariants.{Never}
 use Rattle.registers.specs.Bits.{HasBit, field}
 use Rattle.registers.specs.Places.{rctl_en}
 use Rattle.registers.specs.ReceiveControl.{buffer_size_of}
@@ -36,7 +36,7 @@ use Rattle.bus.proofs.Lists.{all-none}
 use Rattle.bus.proofs.SlotOffers.{slots_can_be_offered}
 use Rattle.bus.proofs.RegisterWrites.{row-leaves}
 
--- Controls and the transmit ring.
+-- Writes of RCTL, of TCTL, and of the registers of the transmit ring.
 
 pub receiver_can_be_set : ReceiverCanBeSet
 receiver_can_be_set o p control world sound separate = record {
@@ -138,7 +138,7 @@ transmit_ring_can_be_set o p ring world sound none same separate =
       };
     }
 
--- Other accesses.
+-- Writes of other registers, and reads.
 
 -- A world of these parts. The conditions, slots and frames depend on no other part.
 abbrev of_parts : List ℕ → RingRegisters → RingRegisters → Receiver → Transmitter → ℕ → ℕ → World
@@ -261,7 +261,7 @@ other_writes_leave_frames o p register value world sound other none = by_test (i
         let rings = leaves.rings controls.no_ring in
         by-parts o p world _ (rw (leaves.receiver, leaves.transmitter, rings.0, rings.1, controls.receive, controls.transmit) refl) sound
 
--- Many slots.
+-- Several slots are offered by one write.
 
 same_trans : (o p : ℕ) (a b d : World) → b.adapter.filter ≡ a.adapter.filter → SameFrames o p a b → SameFrames o p b d → SameFrames o p a d
 same_trans o p a b d filter one two = record {
@@ -279,7 +279,6 @@ same_trans o p a b d filter one two = record {
       (sym filter) fit.large) fit);
 }
 
--- each slot in turn
 offered_each : (o p k : ℕ) (world : World) → Sound o p world → CanOfferMany o k world → OfferedMany o p k world (iterate offering k world)
 offered_each o p zero world sound can = record
     { same = (by-parts o p world world refl sound).same; runs = λ can. can; last = sym (append-nil (outstanding (receive_ring world) o)) }

@@ -1,4 +1,4 @@
--- What a write of a register doesn't change in the adapter, if the write is no reset.
+-- What a write of a register doesn't change in the adapter, if the write isn't a reset.
 use Rattle.std.proofs.Common.{◌≡◌, ℕ, refl}
 use Rattle.adapter.specs.declared.register.Register.{Register}
 use Rattle.adapter.specs.declared.register.Register.TheVariants.{Rctl, Tctl, Receive, Transmit}
@@ -22,7 +22,6 @@ pub record Leaves (register : Register) (a b : AdapterState) : Type 0 where
   pub rings : ¬ (IsOfRing register) → (b.receive_ring ≡ a.receive_ring) × (b.transmit_ring ≡ a.transmit_ring)
   pub controls : ¬ (IsOfConditions register) → KeepsControls register a b
 
--- a register that is neither of a ring nor RCTL or TCTL
 leaves-all : (register : Register) (a b : AdapterState) → ¬ (IsOfRing register) → b.receiver ≡ a.receiver → b.transmitter ≡ a.transmitter
     → b.receive_ring ≡ a.receive_ring → b.transmit_ring ≡ a.transmit_ring → b.filter.rctl ≡ a.filter.rctl
     → b.transmit_control ≡ a.transmit_control → Leaves register a b

@@ -1,4 +1,4 @@
--- The slots of a ring from the driver's oldest on, and what the engines' steps make of their classes.
+-- The slots of a ring from the driver's oldest on, and how the engines' steps change which of these slots are done, taken and offered.
 use Rattle.std.proofs.Common.{◌≡◌, ⊎_elim, ◌≤◌, ◌<◌, ◌+◌, ◌-◌, ◌*◌, ◌%◌, ◌⊎◌, inl, inr, ◌++◌, ◌∷◌, [], true, false, ℕ, zero, suc, List, map}
 use Rattle.std.proofs.Common.{sym, ap, subst, ◌∙◌, append_assoc, arith}
 use Rattle.std.specs.List.{All, AllPairs, take_while}
@@ -16,14 +16,13 @@ use Rattle.adapter.specs.Slots.{done_slots, is_done, IsDealt, offered, outstandi
 use Rattle.bus.proofs.Lists.{all-left, all-none, all-right, all-tail, pairs-before, pairs-behind, pairs-mapped, pairs-none}
 use Rattle.bus.proofs.Lists.{take_while-passes, take_while-same, take_while-split}
 
--- Slots by number.
+-- Slots by index.
 
 pub slots-below : (n i k : ℕ) → i < n → All (λ slot. slot < n) (slots_from n i k)
 slots-below n i zero below = all-none (λ slot. slot < n)
 slots-below n i (suc k) below = All-cons (λ slot. slot < n) i (slots_from n ((i + 1) % n) k) below
     (slots-below n ((i + 1) % n) k (next-below n i below))
 
--- A slot isn't among the slots before it.
 pub slots-other : (n i k x : ℕ) → i < n → x < n → k ≤ (x + n - i) % n → All (λ slot. ¬ (slot ≡ x)) (slots_from n i k)
 slots-other n i zero x below within far = all-none (λ slot. ¬ (slot ≡ x))
 slots-other n i (suc k) x below within far =
@@ -33,7 +32,6 @@ slots-other n i (suc k) x below within far =
     All-cons (λ slot. ¬ (slot ≡ x)) i (slots_from n ((i + 1) % n) k) differ
     (slots-other n ((i + 1) % n) k x (next-below n i below) within (omega (arith, step, far)))
 
--- From the slot after another slot, the distance to that other slot is one less than the number of slots.
 pub distance-whole : (n i : ℕ) → i < n → (i + n - (i + 1) % n) % n ≡ n - 1
 distance-whole n i below =
     ⊎_elim
@@ -53,7 +51,6 @@ slots-distinct n i (suc k) below fits =
 
 -- Slots by address.
 
--- A fact of each slot of the ring holds for each outstanding slot.
 pub each-outstanding : (ring : Ring) (oldest : ℕ) (P : ℕ → Type 0) → (oldest < count_of ring) ⊎ (outstanding ring oldest ≡ [])
     → ((slot : ℕ) → slot < count_of ring → P (address_of ring slot)) → All P (outstanding ring oldest)
 unfolding offered_places
@@ -63,12 +60,10 @@ each-outstanding ring oldest P (inl below) fact =
     let k = distance_of ring oldest ring.tail in
     All-map P (address_of ring) (slots_from n oldest k) (λ i d inside. fact _ (slots-below n oldest k below i d inside))
 
--- The first bytes of a slot, at most 16, are in the ring.
 pub slot-inside : (base n slot size : ℕ) → slot < n → size ≤ 16
     → IsInside (record { address = base + 16 * slot; size = size }) (record { address = base; size = 16 * n })
 slot-inside base n slot size below fits = record { from = omega arith; to = omega (arith, below, fits) }
 
--- The outstanding slots are in the ring.
 pub outstanding-inside : (ring : Ring) (oldest : ℕ) → (oldest < count_of ring) ⊎ (outstanding ring oldest ≡ [])
     → All (λ descriptor. IsInside (descriptor_area descriptor) (ring_area ring)) (outstanding ring oldest)
 outstanding-inside ring oldest first =
@@ -79,7 +74,6 @@ pub far-apart : (base a b : ℕ) → ¬ (b ≡ a)
     → AreApart (record { address = base + 16 * a; size = 16 }) (record { address = base + 16 * b; size = 16 })
 far-apart base a b differ = grind arith
 
--- The outstanding slots are apart from one another.
 pub outstanding-apart : (ring : Ring) (oldest : ℕ) → (oldest < count_of ring) ⊎ (outstanding ring oldest ≡ [])
     → AllPairs (λ a b. AreApart (descriptor_area a) (descriptor_area b)) (outstanding ring oldest)
 unfolding offered_places
@@ -91,27 +85,23 @@ outstanding-apart ring oldest (inl below) =
     pairs-mapped (λ a b. AreApart (descriptor_area a) (descriptor_area b)) (address_of ring) (slots_from n oldest k)
     (λ i j d before inside. far-apart ring.base _ _ (slots-distinct n oldest k below (omega (arith, short)) i j d before inside))
 
--- Classes.
+-- Done, taken and offered slots.
 
--- What is taken or offered is outstanding.
 pub dealt-right : (memory : List ℕ) (ring : Ring) (oldest : ℕ) (taken : List ℕ) (P : ℕ → Type 0) → IsDealt memory ring oldest taken
     → All P (outstanding ring oldest) → All P (taken ++ offered ring)
 dealt-right memory ring oldest taken P dealt all =
     all-right P (done_slots memory ring oldest) (taken ++ offered ring) (subst (λ (slots : List ℕ). All P slots) dealt.classes all)
 
--- What is done is outstanding.
 pub dealt-left : (memory : List ℕ) (ring : Ring) (oldest : ℕ) (taken : List ℕ) (P : ℕ → Type 0) → IsDealt memory ring oldest taken
     → All P (outstanding ring oldest) → All P (done_slots memory ring oldest)
 dealt-left memory ring oldest taken P dealt all =
     all-left P (done_slots memory ring oldest) (taken ++ offered ring) (subst (λ (slots : List ℕ). All P slots) dealt.classes all)
 
--- If DD changes in no outstanding slot, the done slots are the same.
 pub done-same : (memory memory' : List ℕ) (ring : Ring) (oldest : ℕ)
     → All (λ d. is_done memory' d ≡ is_done memory d) (outstanding ring oldest)
     → done_slots memory' ring oldest ≡ done_slots memory ring oldest
 done-same memory memory' ring oldest same = take_while-same (is_done memory) (is_done memory') (outstanding ring oldest) same
 
--- If DD changes in no outstanding slot, the slots are still dealt in the same way.
 pub dealt-same : (memory memory' : List ℕ) (ring : Ring) (oldest : ℕ) (taken : List ℕ)
     → All (λ d. is_done memory' d ≡ is_done memory d) (outstanding ring oldest) → IsDealt memory ring oldest taken
     → IsDealt memory' ring oldest taken
@@ -123,12 +113,10 @@ dealt-same memory memory' ring oldest taken same dealt =
       not_done = λ k d below. rest k d below ∙ dealt.not_done k d below;
     }
 
--- If head differs from tail, the slot at the head is the first offered slot.
 pub offered-head : (ring : Ring) → HasValidIndices ring → ¬ (ring.head ≡ ring.tail)
     → offered ring ≡ address_of ring ring.head ∷ offered (record ring { head = next_of ring ring.head })
 offered-head ring sound apart = ap (map (address_of ring)) (places-head ring sound apart)
 
--- The head moves on: the slot at the head is taken.
 pub dealt-moved : (memory : List ℕ) (ring : Ring) (oldest : ℕ) (taken : List ℕ) → HasValidIndices ring → ¬ (ring.head ≡ ring.tail)
     → IsDealt memory ring oldest taken
     → IsDealt memory (record ring { head = next_of ring ring.head }) oldest (taken ++ address_of ring ring.head ∷ [])
@@ -180,7 +168,6 @@ dealt-reported memory memory' ring oldest descriptor taken dealt others done =
       grown = grown;
     }
 
--- The first slot that is taken is apart from all others that are outstanding.
 pub dealt-others : (memory : List ℕ) (ring : Ring) (oldest descriptor : ℕ) (taken : List ℕ)
     → IsDealt memory ring oldest (descriptor ∷ taken)
     → All (λ other. AreApart (descriptor_area descriptor) (descriptor_area other)) (done_slots memory ring oldest)

@@ -30,13 +30,12 @@ use Rattle.bus.proofs.WrittenAreas.{IsSame}
 use Rattle.bus.proofs.Lists.{all-head, all-right}
 use Rattle.bus.proofs.Rings.{dealt-right, offered-head, outstanding-inside}
 
--- No fault.
+-- No step of an engine that can run is a fault.
 
--- an area lies in memory
+-- the area is inside memory
 abbrev pub Lies : List ℕ → Area → Type 0
 Lies memory area = LiesIn memory area.address area.size
 
--- If the engines can run, a take step that has something to take can take the descriptor at TDH.
 pub can_take : (o p : ℕ) (a : World) → Sound o p a → CanRun a → ¬ (HasNothingToTake a.adapter) → CanTake a.memory a.adapter
 can_take o p a sound can not_idle =
     let ring = transmit_ring a in
@@ -58,11 +57,9 @@ can_take o p a sound can not_idle =
           (subst (λ (list : List ℕ). All (CanTransmit a.memory) list) first can.transmittable);
     }
 
--- The next piece fits into a buffer.
 pub piece-fits : (control : ℕ) (engine : Receiver) → length (next_piece control engine) ≤ buffer_bytes control
 piece-fits control engine = omega (arith, length-take (buffer_bytes control) (drop engine.moved (oldest engine.buffer)))
 
--- If the engines can run, a data step that has something to do can move the next piece.
 pub can_move : (o p : ℕ) (a : World) → Sound o p a → CanRun a → HasFrameAndDescriptor a.adapter → CanMovePiece a.memory a.adapter
 can_move o p a sound can has =
     let ring = receive_ring a in
@@ -90,7 +87,6 @@ can_move o p a sound can has =
       not_extended = can.not_extended;
     }
 
--- A tick is no fault.
 tick-no_fault : (works : Bool) → Fault ≢ ticked works
 tick-no_fault true same = absurd (cc)
 tick-no_fault false same = absurd (cc)
@@ -108,9 +104,8 @@ pub faults_never_come : FaultsNeverCome
 faults_never_come o p a kind wire_free answer sound can answers same =
     no_fault o p a kind wire_free sound can (subst (λ (given : FrameOutcome). Answers kind wire_free a.memory a.adapter given) same answers)
 
--- What doesn't change.
+-- Descriptors that could be transmitted still can be transmitted if their bytes don't change
 
--- Descriptors that don't change can still be transmitted, in a memory of the same size.
 pub transmittable-kept : (memory memory' : List ℕ) (slots : List ℕ) → length memory' ≡ length memory → All (IsSame memory memory') slots
     → All (CanTransmit memory) slots → All (CanTransmit memory') slots
 transmittable-kept memory memory' slots size same can = λ k d below.

@@ -1,4 +1,4 @@
--- A driver counts the slot after a run of finished ones as its oldest.
+-- A driver counts the slot after a run of finished slots as its oldest slot.
 use Rattle.std.proofs.Common.{◌≡◌, ◌≢◌, ◌<◌, ◌++◌, ◌∷◌, [], ◌∙◌}
 use Rattle.std.proofs.Common.{Bool, true, false, ℕ, List, length, map, refl, sym, ap, subst}
 use Rattle.std.proofs.Common.{append_assoc}
@@ -29,7 +29,7 @@ use Rattle.bus.proofs.DriversSlots.{foreign-named}
 use Rattle.bus.proofs.Lists.{all-head, all-left, all-none, all-right, all-tail}
 use Rattle.bus.proofs.TakingSlots.{behind_oldest_receive, passed}
 
--- Pieces that begin with a run.
+-- The frame of a run, and the frames of the pieces after it
 
 pub record RunFirst (all : List Piece) (seen : List (List ℕ)) (last : List ℕ) (rest : List Piece) : Type 0 where
   pub frames : frames_of all ≡ (concat seen ++ last) ∷ frames_of rest
@@ -79,7 +79,7 @@ sizes-named a (slot ∷ run) lie =
     length-bytes_at a.memory (named a.memory slot).address (named a.memory slot).size (all-head Lies slot run lie) in
     rw (here, sizes-named a run (all-tail Lies slot run lie)) refl
 
--- A run of finished slots, whatever they contain.
+-- The slots of the ring after a driver passed a run of finished slots
 
 pub record RunPassed (o : ℕ) (a : World) (run later : List ℕ) : Type 0 where
   pub stand : run ≡ map (address_of (receive_ring a)) (places_of_run o run a)

@@ -65,14 +65,14 @@ moved_engine ends buffer moved world = record world.adapter.receiver {
   work = Some (work_at world.adapter.filter.rctl (receive_ring world) world.adapter.receiver ends);
 }
 
--- the world after a data step that moved a piece, with that engine: the rest of it is the same for each piece of a frame
+-- the world after a data step that moved a piece, with the receive engine `moved_engine`; the other parts are the same for each piece
 abbrev pub moved_world : Bool → List (List ℕ) → ℕ → World → World
 moved_world ends buffer moved world = record {
   memory = (world_after_step RxData Moved world).memory;
   adapter = record (world_after_step RxData Moved world).adapter { receiver = moved_engine ends buffer moved world };
 }
 
--- the step doesn't change the frames held
+-- if `MovesApart` holds, the step doesn't change the frames held
 abbrev pub KeepsHeld : Bool → List (List ℕ) → ℕ → ℕ → World → Type 0
 KeepsHeld ends buffer moved o a =
     MovesApart a.adapter.filter.rctl (receive_ring a) a.adapter.receiver a.memory ends
@@ -83,7 +83,6 @@ oldest-legal : (buffer : List (List ℕ)) → buffer ≢ [] → All IsLegal buff
 oldest-legal [] some legal = absurd (some refl)
 oldest-legal (frame ∷ later) some legal = all-head IsLegal frame later legal
 
--- The finished pieces and the next piece of the oldest frame are cut in the same way.
 cut-moved : (ends : Bool) (size o : ℕ) (a : World) → buffer_size a ≡ size → a.adapter.receiver.work ≡ None → a.adapter.receiver.buffer ≢ []
     → IsReceiver a.adapter.receiver → is_last_piece a.adapter ≡ ends
     → HasBegun a.memory (finished_pieces o a) a.adapter.receiver → AreCut size o a
@@ -252,7 +251,6 @@ between_moved ends buffer moved o p a0 has can last_is is keeps_held sound =
       };
     }
 
--- A piece is moved.
 data_moved : (ends : Bool) (buffer : List (List ℕ)) (moved : ℕ) (a : World) → IsAdapter a.adapter → HasFrameAndDescriptor a.adapter
     → CanMovePiece a.memory a.adapter → is_last_piece a.adapter ≡ ends
     → ((o : ℕ) → HasBegun a.memory (finished_pieces o a) (with_work None a).adapter.receiver
@@ -279,7 +277,6 @@ data_moved ends buffer moved a running has can last keeps_held = record {
       (between_moved ends buffer moved o p a has_free can last is (keeps_held o before.begun) before);
 }
 
--- Any answer of a data step.
 pub data_happens : (a : World) (answer : FrameOutcome) → IsAdapter a.adapter → DataAnswers a.memory a.adapter answer
     → Happens a (world_after_step RxData answer a) nothing
 data_happens a Part running says =

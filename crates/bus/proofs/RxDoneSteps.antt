@@ -51,19 +51,17 @@ use Rattle.bus.proofs.RunningEngines.{transmittable-kept}
 use Rattle.bus.proofs.Rings.{dealt-others, dealt-reported, dealt-right, outstanding-inside}
 use Rattle.descriptors.specs.Frames.{IsLegal}
 
--- A finished descriptor is done.
 is_done-finished : (memory : List ℕ) (descriptor : ℕ) (ends : Bool) (piece : List ℕ) → IsFinished memory descriptor ends piece
     → is_done memory descriptor ≡ true
 unfolding rx_desc_of
 is_done-finished memory descriptor ends piece finishes = eq-eqb _ _ finishes.done
 
--- If a frame ends in the piece, RXT0 is recorded.
 told-of : (ends : Bool) (recorded : ℕ) (bytes : List ℕ)
     → All IsPart (piece_of ends bytes ∷ []) ⊎ HasBit (union recorded (if ends then alone rxt0 else 0)) rxt0
 told-of true recorded bytes = inr ((HasBit-union recorded (alone rxt0) rxt0).1 (inr refl))
 told-of false recorded bytes = inl (All-cons IsPart (Part bytes) [] tt (all-none IsPart))
 
--- the adapter after a step that wrote back
+-- the adapter after a done step that wrote back the descriptor
 abbrev pub done_adapter : World → AdapterState
 done_adapter world = after_done Done world.adapter
 
@@ -246,7 +244,6 @@ between_done o p work a0 most sound =
         → r ∷ t ∷ (d' ++ (f' ++ b')) ≡ r ∷ t ∷ (d ++ (f ++ (w ∷ b)))
     same-lists r t d d' f f' b' w b same_d same_f same_b = rw (same_d, same_f, same_b, append_assoc f (w ∷ []) b) refl
 
--- In any state, the size of memory doesn't change.
 length-back : (memory : List ℕ) (work : Work) → length (memory_after_done (Some work) memory) ≡ length memory
 length-back memory work = by-test (nat_le (work.descriptor + 16) (length memory)) refl
   where
@@ -280,7 +277,6 @@ done_work (Some work) a running answers =
           (sym (memory_after_done-lies w.memory work stand.lies)) there;
     }
 
--- Any answer of a done step.
 pub done_happens : (a : World) (answer : FrameOutcome) → IsAdapter a.adapter → DoneAnswers a.adapter answer
     → Happens a (world_after_step RxDone answer a) nothing
 done_happens a Done running answers = done_work a.adapter.receiver.work a running answers

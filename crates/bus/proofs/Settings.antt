@@ -1,4 +1,4 @@
--- Only a driver's writes change what it has set.
+-- Only a driver's writes change the settings.
 use Rattle.std.proofs.Common.{Bool, List, None, Option, Some, [], ap, false, if◌then◌else◌, refl, subst, sym, true, ℕ, ◌++◌, ◌∙◌, ◌∷◌, ◌≡◌}
 use Rattle.std.specs.List.{All}
 use Rattle.registers.specs.Bits.{HasBit}
@@ -21,7 +21,6 @@ use Rattle.bus.specs.Settings.{adapter_with, AreSet, HappeningsLeaveSettings, Is
 use Rattle.bus.specs.Settings.{Settings, settings_after, settings_after_all, settings_of, SettingsJoin, StaysOff, WhileOff, Write}
 use Rattle.bus.specs.Settings.{writes_in, WritesSet}
 
--- Equal parts are equal settings.
 same-settings : (a b : AdapterState) → b.image ≡ a.image → b.phy.link ≡ a.phy.link → b.receive_kilobytes ≡ a.receive_kilobytes
     → b.device_control ≡ a.device_control → b.causes.mask ≡ a.causes.mask
     → b.filter ≡ a.filter → b.transmit_control ≡ a.transmit_control → b.receive_ring ≡ record a.receive_ring { head = b.receive_ring.head }
@@ -38,7 +37,6 @@ happenings_leave_settings a b past happens =
     ∙ link-ticks past.phy_ticks (management_of a.adapter)) stay.allocation stay.device_control stay.mask stay.filter
     stay.transmit_control steady.receive_ring.others steady.transmit_ring.others
 
--- A read doesn't change the settings.
 read-leaves : (register : Register) (adapter : AdapterState) → settings_of (read_of register adapter) ≡ settings_of adapter
 read-leaves Icr adapter = refl
 read-leaves Mpc adapter = refl
@@ -54,7 +52,6 @@ reads-leave offset adapter = by_case (register_at offset)
     by_case None = refl
     by_case (Some register) = read-leaves register adapter
 
--- A write changes the settings as it does in an adapter after a reset that has the same settings.
 row-sets : (register : Register) (value : ℕ) (adapter : AdapterState)
     → settings_of (by_row (row_of register).kept register value adapter)
     ≡ settings_of (by_row (row_of register).kept register value (adapter_with (settings_of adapter)))
@@ -86,7 +83,6 @@ writes-set offset value adapter = by_case (register_at offset)
     by_case None = refl
     by_case (Some register) = by_test register (is_reset register value)
 
--- Intervals join.
 pub settings-append : (first later : List Write) (settings : Settings)
     → settings_after_all (first ++ later) settings ≡ settings_after_all later (settings_after_all first settings)
 settings-append [] later settings = refl
@@ -136,11 +132,9 @@ stays-off (write ∷ later) settings leaves off =
     stays-off later (settings_after write settings) (all-tail LeavesReceiver write later leaves)
     (stays-off-once write settings (all-head LeavesReceiver write later leaves) off)
 
--- Whatever happens.
 pub happens-off : (a b : World) (past : Past) → Happens a b past → IsOff a → NoArrival past
 happens-off a b past happens off = let none = happens.steady.arrivals.off off in record { none_stored = none.0; none_missed = none.1 }
 
--- Two intervals.
 pub while_off-joins : (a b : World) (first later : Past) → AreSet a b first → WhileOff a first → WhileOff b later
     → WhileOff a (joined first later)
 while_off-joins a b first later set one two = λ off leaves.

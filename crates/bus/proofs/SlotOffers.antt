@@ -35,12 +35,10 @@ use Rattle.tx_engine.specs.Laws.{to_send-offer}
 use Rattle.tx_engine.specs.Transmitter.{Queued}
 use Rattle.bus.proofs.Rings.{distance-whole}
 
--- A mapped list has the length of the list.
 length-map : (f : ℕ → ℕ) (xs : List ℕ) → length (map f xs) ≡ length xs
 length-map f [] = refl
 length-map f (x ∷ xs) = ap suc (length-map f xs)
 
--- If the slot after the tail isn't the oldest, it isn't the head.
 not-head : (memory : List ℕ) (ring : Ring) (oldest : ℕ) (taken : List ℕ) → IsDealt memory ring oldest taken → HasValidIndices ring
     → oldest < count_of ring → next_of ring ring.tail ≢ oldest → next_of ring ring.tail ≢ ring.head
 not-head memory ring oldest taken dealt in_ring below room same =
@@ -106,13 +104,11 @@ dealt-offered memory ring oldest taken dealt in_ring below room fresh =
       offered_grown = off;
     }
 
--- The offered buffers grow by one, or, if the adapter doesn't receive, there are none.
 buffers-grown : (on : Bool) (f : ℕ → Area) (xs ys : List ℕ) (x : ℕ) → ys ≡ xs ++ x ∷ []
     → ((on ≡ true) × (cond on (map f ys) [] ≡ cond on (map f xs) [] ++ f x ∷ [])) ⊎ (cond on (map f ys) [] ≡ cond on (map f xs) [])
 buffers-grown true f xs ys x grown = inl (refl, ap (map f) grown ∙ map-append f xs (x ∷ []))
 buffers-grown false f xs ys x grown = inr refl
 
--- One area more, apart from the others.
 separate-more : (memory : List ℕ) (list : List Area) (area : Area) → LiesIn memory area.address area.size
     → All (λ other. AreApart other area) list → AreSeparate memory list → AreSeparate memory (list ++ area ∷ [])
 separate-more memory list area lies apart separate =
@@ -122,7 +118,6 @@ separate-more memory list area lies apart separate =
       apart = all_pairs_push AreApart list area separate.apart apart;
     }
 
--- The last of the areas.
 areas-more : (r t : Area) (d n n' w b b' : List Area) (area : Area) → n' ≡ n → b' ≡ b ++ area ∷ []
     → r ∷ t ∷ (d ++ (n' ++ (w ++ b'))) ≡ (r ∷ t ∷ (d ++ (n ++ (w ++ b)))) ++ area ∷ []
 areas-more r t d n n' w b b' area same_n more =
@@ -135,7 +130,6 @@ areas-more r t d n n' w b b' area same_n more =
 areas-still : (r t : Area) (d n n' w b b' : List Area) → n' ≡ n → b' ≡ b → r ∷ t ∷ (d ++ (n' ++ (w ++ b'))) ≡ r ∷ t ∷ (d ++ (n ++ (w ++ b)))
 areas-still r t d n n' w b b' same_n same_b = rw (same_n, same_b) refl
 
--- A fact of each taken and each offered slot, and of one more slot, holds for all slots after this slot is offered.
 all-grown : (P : Area → Type 0) (f : ℕ → Area) (taken xs ys : List ℕ) (x : ℕ) → ys ≡ xs ++ x ∷ [] → All P (map f (taken ++ xs)) → P (f x)
     → All P (map f (taken ++ ys))
 all-grown P f taken xs ys x grown all new =
@@ -236,7 +230,7 @@ slots_can_be_offered o p a sound can =
       foreign = λ area foreign half buffer. foreign-offered a area grown.offered_grown foreign half buffer;
     }
 
--- A transmit slot.
+-- A transmit slot is offered.
 
 all-inserted : {X : Type 0} (P : X → Type 0) (xs : List X) (y : X) (ys : List X) → P y → All P (xs ++ ys) → All P (xs ++ y ∷ ys)
 all-inserted P xs y ys new all = All-append P xs (y ∷ ys) (all-left P xs ys all) (All-cons P y ys new (all-right P xs ys all))

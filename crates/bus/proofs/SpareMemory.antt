@@ -1,4 +1,4 @@
--- Memory that no outstanding slot uses is apart from all that the conditions name, and remains so.
+-- Memory that no outstanding slot uses is apart from all areas that the conditions name, and remains so.
 use Rattle.std.proofs.lemmas.Bool.{eqb-true}
 use Rattle.std.proofs.Common.{refl, ◌≡◌, ◌≤◌, ◌++◌, [], Bool, true, false, cond, ℕ, List, Option, Some, None, map, arith}
 use Rattle.std.specs.List.{All}
@@ -21,9 +21,8 @@ use Rattle.bus.proofs.Lists.{all-head, all-left, all-none, all-right}
 use Rattle.bus.proofs.DriversSlots.{parts-of}
 use Rattle.bus.proofs.Rings.{dealt-left, dealt-right}
 
--- Apart from the areas.
+-- A spare area is apart from the areas that the conditions name.
 
--- The piece in progress is in its buffer.
 work-apart : (memory : List ℕ) (work : Option Work) (size : ℕ) (area : Area)
     → All (λ d. AreApart (record { address = receive.named_address memory d; size = size }) area) (slot_of_work work)
     → All (λ place. place.size ≤ size) (work_areas memory work) → All (λ other. AreApart other area) (work_areas memory work)
@@ -39,7 +38,6 @@ work-apart memory (Some work) size area apart fit =
     (all-head (λ d. AreApart (record { address = receive.named_address memory d; size = size }) area) work.descriptor [] apart))
     (all-none (λ other. AreApart other area))
 
--- A finished frame is in its buffer.
 name-apart : (memory : List ℕ) (size d : ℕ) (area : Area) → (named memory d).size ≤ size
     → AreApart (record { address = receive.named_address memory d; size = size }) area → AreApart (named memory d) area
 name-apart memory size d area fit apart =
@@ -47,7 +45,6 @@ name-apart memory size d area fit apart =
     let inside : IsInside (named memory d) whole = record { from = omega arith; to = omega (arith, fit) } in
     apart-inside (named memory d) whole area inside apart
 
--- The buffers of offered slots, which count while RCTL.EN is set.
 offered-apart : (a : World) (size : ℕ) (area : Area) → (HasBit a.adapter.filter.rctl rctl_en → buffer_size a ≤ size)
     → All (λ d. AreApart (area_at (receive.named_address a.memory d) size) area) (offered (receive_ring a))
     → All (λ other. AreApart other area) (offered_buffers a)
@@ -82,7 +79,6 @@ spare-apart size o p a area sound fit spare =
       buffers = offered-apart a size area fit.large (all-right Away (in_work a) (offered (receive_ring a)) behind);
     })
 
--- The adapter doesn't write this memory.
 pub spare-foreign : (size o p : ℕ) (a : World) (area : Area) → Sound o p a → FitBuffers size o a → IsSpare size o p a area
     → IsForeign a area
 spare-foreign size o p a area sound fit spare =

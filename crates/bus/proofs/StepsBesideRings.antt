@@ -3,13 +3,13 @@ use Rattle.std.specs.Fn.{iterate}
 use Rattle.std.proofs.Common.{◌≡◌, ◌≤◌, ◌++◌, [], inl, Bool, true, false, ℕ, List, Option, Some, None, length, refl, sym, ap, arith}
 use Rattle.std.proofs.lemmas.List.{append-nil}
 use Rattle.std.proofs.Common.{cond}
-use Rattle.eeprom.specs.Eerd as eeprom
-use Rattle.eeprom.specs.declared.eerd.ReadState.{ReadState}
-use Rattle.mdic_phy.specs.Mdic.{MdicState, has_work, mdic_after_tick, phy_after_tick, told}
-use Rattle.mdic_phy.specs.Mdic as mdi
-use Rattle.mdic_phy.specs.Phy.{PhyState}
-use Rattle.mdic_phy.specs.Phy as phy
-use Rattle.mdic_phy.specs.declared.mdic.Ticked.{Ticked as Told}
+use Rattle.eeprom_phy.specs.Eerd as eeprom
+use Rattle.eeprom_phy.specs.declared.eerd.ReadState.{ReadState}
+use Rattle.eeprom_phy.specs.Mdic.{MdicState, has_work, mdic_after_tick, phy_after_tick, told}
+use Rattle.eeprom_phy.specs.Mdic as mdi
+use Rattle.eeprom_phy.specs.Phy.{PhyState}
+use Rattle.eeprom_phy.specs.Phy as phy
+use Rattle.eeprom_phy.specs.declared.mdic.Ticked.{Ticked as Told}
 use Rattle.registers.specs.Bits.{HasBit, union}
 use Rattle.registers.specs.Counting.{greatest_count}
 use Rattle.rx_engine.specs.Held.{Holds, held}
@@ -39,7 +39,7 @@ use Rattle.std.proofs.lemmas.List.Elements.{All-cons}
 use Rattle.bus.proofs.KeptPieces.{cut-kept}
 use Rattle.bus.proofs.Lists.{all-none}
 
--- what such a step may change of an adapter
+-- the parts of an adapter that such a step may change
 pub record Changes : Type 0 where
   pub recorded : ℕ
   pub missed : ℕ
@@ -63,7 +63,7 @@ changed c adapter = record adapter {
   transmitter = record adapter.transmitter { stopped = c.transmitter_stopped };
 }
 
--- the changes that change nothing
+-- the adapter's own values, with which `changed` changes nothing
 abbrev pub unchanged : AdapterState → Changes
 unchanged adapter = record {
   recorded = adapter.causes.recorded;
@@ -85,13 +85,12 @@ pub record GoOn (receiver_stopped transmitter_stopped : Bool) : Type 0 where
 pub going : (a : World) → CanRun a → GoOn a.adapter.receiver.stopped a.adapter.transmitter.stopped
 going a can = record { receiver_runs = can.receiver_runs; transmitter_runs = can.transmitter_runs }
 
--- with the changed packet buffer the same frames are held, and then those stored
+-- With the packet buffer `buffer`, the frames held are those held before, and then the frames `stored`.
 abbrev pub HoldsQuietly : ℕ → World → List (List ℕ) → List (List ℕ) → Type 0
 HoldsQuietly o a buffer stored = Holds (frames_held o a)
     (held a.memory (finished_pieces o a) (record a.adapter.receiver { buffer = buffer })) stored
     a.memory (finished_pieces o a) (record a.adapter.receiver { buffer = buffer })
 
--- With an unchanged packet buffer, the same frames are held.
 pub holds-same : (o p : ℕ) (a : World) → Sound o p a → HoldsQuietly o a a.adapter.receiver.buffer []
 holds-same o p a sound = record { frames = sym (append-nil (frames_held o a)); begun = sound.begun }
 
@@ -138,7 +137,7 @@ between_quiet o p a c past no_put holds goes sound =
       };
     }
 
--- A fault.
+-- A step with the outcome `Fault` changes only which engines are stopped. `CanRun` doesn't hold before this step.
 pub between_stopped : (o p : ℕ) (a : World) (receiver transmitter : Bool) → ¬ (CanRun a) → Sound o p a
     → Between o p a (record a
     { adapter = changed (record (unchanged a.adapter) { receiver_stopped = receiver; transmitter_stopped = transmitter }) a.adapter })
@@ -147,9 +146,9 @@ between_stopped o p a receiver transmitter cannot sound =
     between_quiet o p a (record (unchanged a.adapter) { receiver_stopped = receiver; transmitter_stopped = transmitter }) nothing refl
     (holds-same o p a sound) (λ can. absurd (cannot can)) sound
 
--- Ticks.
+-- Ticks of the EEPROM and of the PHY.
 
--- this number of ticks moves EERD, MDIC and the PHY, and may record causes
+-- ticks of the EEPROM and the PHY change only EERD, MDIC, the PHY and the recorded causes
 steady_ticked : (a : World) (recorded : ℕ) (eerd : ReadState) (management : Management) (eeprom_ticks phy_ticks : ℕ)
     → a.adapter.missed_packets ≤ greatest_count → ((place : ℕ) → HasBit a.adapter.causes.recorded place → HasBit recorded place)
     → eerd ≡ iterate (eeprom.after_tick a.adapter.image) eeprom_ticks a.adapter.eerd
@@ -188,7 +187,6 @@ eeprom_tick_happens a answer running =
           (record nothing { eeprom_ticks = 1 }) refl (holds-same o p a sound) (going a) sound;
     }
 
--- the PHY's tick, by what it reports
 tick_told : (a : World) (tells : Option Told) (answer : FrameOutcome) → told a.adapter.mdic a.adapter.phy ≡ tells → IsAdapter a.adapter
     → (management_of (after_phy_told tells a.adapter) ≡ phy_ticked (management_of a.adapter))
     → Happens a (record a { adapter = after_phy_told tells a.adapter }) (past_of_step PhyTick answer)
@@ -225,7 +223,7 @@ phy_tick_happens a answer running =
     (management_told a.adapter (has_work a.adapter.mdic a.adapter.phy)
     (record { link_changed = phy.comes_up a.adapter.phy; access_complete = mdi.tells_end a.adapter.mdic }))
 
--- Arrivals.
+-- Arrivals of frames.
 
 pub arrival_happens : (a : World) (fate : Fate) (frame : List ℕ) → IsAdapter a.adapter → IsFate a.adapter frame fate
     → Happens a (world_after_arrival fate frame a) (past_of_arrival fate frame)

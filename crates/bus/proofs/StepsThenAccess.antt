@@ -13,7 +13,6 @@ use Rattle.bus.specs.declared.event.Event.{Event}
 use Rattle.bus.specs.declared.event.Event.TheVariants.{Accesses, Arrives, Steps}
 use Rattle.bus.proofs.Lists.{all-head, all-tail}
 
--- Whether an interval may happen doesn't depend on the accesses in its past.
 pub happens_accesses : (a b : World) (past : Past) (accesses : List Access) → Happens a b past
     → Happens a b (record past { accesses = accesses })
 happens_accesses a b past accesses happens =
@@ -55,7 +54,6 @@ happens_accesses a b past accesses happens =
           };
     }
 
--- No access happens in a step or a delivery.
 event-no_access : (event : Event) → IsStep event → (past_of_event event).accesses ≡ []
 event-no_access (Steps TxTake wire_free answer) is = refl
 event-no_access (Steps TxPut wire_free answer) is = refl
@@ -72,7 +70,6 @@ no_access (event ∷ later) are =
     ap (λ (accesses : List Access). accesses ++ (past_of later).accesses) (event-no_access event (all-head IsStep event later are))
     ∙ no_access later (all-tail IsStep event later are)
 
--- Steps, and then an access.
 pub past-with_access : (events : List Event) (access : Access) → All IsStep events
     → record (past_of events) { accesses = access ∷ [] } ≡ past_of (events ++ Accesses access ∷ [])
 past-with_access events access are =

@@ -1,4 +1,4 @@
--- A driver counts the slot after its oldest as its oldest.
+-- A driver counts the slot after its oldest slot as its new oldest slot.
 use Rattle.std.proofs.Common.{◌≡◌, ◌≢◌, ◌≤◌, ◌<◌, ◌+◌, ◌-◌, ◌%◌, ⊎_elim, ◌++◌, ◌∷◌, []}
 use Rattle.std.proofs.Common.{inl, inr, true, ℕ, zero, suc, List}
 use Rattle.std.proofs.Common.{length, map, refl, sym, ap, subst, ◌∙◌, arith}
@@ -23,9 +23,8 @@ use Rattle.bus.proofs.Areas.{separate-without}
 use Rattle.bus.proofs.Lists.{all-head, all-right, all-tail, all-weaker, pairs-head, take_while-passes}
 use Rattle.bus.proofs.Rings.{outstanding-apart}
 
--- The way from a slot.
+-- The distance from a slot.
 
--- If the distance to the next number isn't 0, the distance from it is one less.
 mod-before : (n m d : ℕ) → 0 < n → suc m % n ≡ suc d → m % n ≡ d
 mod-before n m d some next =
     let below = mod_below m n some in
@@ -39,7 +38,6 @@ mod-before n m d some next =
     omega (arith, same, step))
     (cases_eq (suc (m % n)) n)
 
--- From the next slot, the distance is shorter by one.
 way-shorter : (n from to d : ℕ) → from < n → (to + n - from) % n ≡ suc d → (to + n - (from + 1) % n) % n ≡ d
 way-shorter n from to d below way =
     ⊎_elim
@@ -63,7 +61,6 @@ way-shorter n from to d below way =
 list-some : (x : ℕ) (xs : List ℕ) → ¬ (x ∷ xs ≡ [])
 list-some x xs same = let none : suc (length xs) ≡ 0 = ap length same in absurd (omega (arith, none))
 
--- If a slot is outstanding, the first one is at the oldest place, and the others are from the next place on.
 outstanding-first : (ring : Ring) (oldest slot : ℕ) (later : List ℕ) → oldest < count_of ring → outstanding ring oldest ≡ slot ∷ later
     → outstanding ring oldest ≡ address_of ring oldest ∷ outstanding ring (next_of ring oldest)
 unfolding offered_places
@@ -79,7 +76,7 @@ outstanding-first ring oldest slot later below some = by-way (distance_of ring o
         ap (λ (k : ℕ). map (address_of ring) (slots_from (count_of ring) oldest k)) way
         ∙ ap (λ (k : ℕ). address_of ring oldest ∷ map (address_of ring) (slots_from (count_of ring) (next_of ring oldest) k)) (sym shorter)
 
--- A ring whose slots are dealt, with the next slot as the oldest one.
+-- If the slot after the oldest slot, `slot`, is counted as the oldest, `slot` is the driver's, and the done slots are then `later`.
 pub record Ahead (memory : List ℕ) (ring : Ring) (oldest : ℕ) (taken : List ℕ) (slot : ℕ) (later : List ℕ) : Type 0 where
   pub stands : slot ≡ address_of ring oldest
   pub first : outstanding ring oldest ≡ slot ∷ outstanding ring (next_of ring oldest)
@@ -144,7 +141,7 @@ dealt-ahead memory ring oldest taken slot later dealt done =
     other-place d other place is (inl before) same = absurd (omega (arith, is, before, same))
     other-place d other place is (inr after) same = absurd (omega (arith, is, after, same))
 
--- Both rings.
+-- The receive ring and the transmit ring.
 
 -- the receive slot after the oldest
 abbrev pub behind_oldest_receive : ℕ → World → ℕ

@@ -1,12 +1,12 @@
--- Which causes a trail records.
+-- Which causes a trail records, and which trails don't change the mask.
 use Rattle.std.proofs.Common.{◌≡◌, ℕ, Bool, true, Option, Some, None, List, [], ◌∷◌, cond, bit_or, ◌==◌}
 use Rattle.std.proofs.Common.{refl, sym, ap, subst, ◌∙◌, inl, inr, arith}
 use Rattle.std.proofs.lemmas.Bool.{eq-eqb}
 use Rattle.std.specs.Int.Bits.{or_zero_r}
 use Rattle.std.specs.List.{All}
 use Rattle.std.proofs.lemmas.Nat.Bits.{bit_at_or, same_from_bits}
-use Rattle.mdic_phy.specs.Mdic.{told}
-use Rattle.mdic_phy.specs.declared.mdic.Ticked.{Ticked}
+use Rattle.eeprom_phy.specs.Mdic.{told}
+use Rattle.eeprom_phy.specs.declared.mdic.Ticked.{Ticked}
 use Rattle.registers.specs.Bits.{HasBit, union}
 use Rattle.registers.specs.Laws.{HasBit-union}
 use Rattle.rx_engine.specs.Moving.{is_half_offered}
@@ -43,11 +43,10 @@ union-assoc a b c = same_from_bits (union (union a b) c) (union a (union b c)) (
     let last = bit_at_or b c place in
     omega arith)
 
--- nothing more is recorded
 none : (recorded : ℕ) → recorded ≡ union recorded 0
 none recorded = sym (or_zero_r recorded)
 
--- Each event.
+-- The causes that one event records, and the mask after it.
 
 told-records : (tells : Option Ticked) (a : AdapterState)
     → (after_phy_told tells a).causes.recorded ≡ union a.causes.recorded (causes_by_tick tells)
@@ -115,7 +114,7 @@ event_leaves_mask (Steps kind wire_free answer) world leaves = step-mask kind an
 event_leaves_mask (Arrives frame fate) world leaves = arrival-mask fate frame world.adapter
 event_leaves_mask (Accesses access) world leaves = access_leaves_mask access world (all-head LeavesMask access [] leaves)
 
--- Trails.
+-- The recorded causes and the mask after a trail.
 
 pub causes_are_those_of_steps : CausesAreThoseOfSteps
 causes_are_those_of_steps [] a b leaves trail = ap (λ (w : World). w.adapter.causes.recorded) trail ∙ none a.adapter.causes.recorded
@@ -142,7 +141,6 @@ cause_stays later a b place leaves trail set =
     subst (λ (n : ℕ). HasBit n place) (sym (causes_are_those_of_steps later a b leaves trail))
     ((HasBit-union a.adapter.causes.recorded (causes_in later a) place).1 (inl set))
 
--- what a step or an arrival records is still there at the end of the rest
 pub first_is_recorded : (event : Event) (later : List Event) (a b : World) (place causes : ℕ)
     → All LeavesCauses (past_of later).accesses → Trail (event ∷ later) a b
     → (world_after event a).adapter.causes.recorded ≡ union a.adapter.causes.recorded causes → HasBit causes place
@@ -151,7 +149,6 @@ first_is_recorded event later a b place causes leaves trail records set =
     cause_stays later (world_after event a) b place leaves trail.1
     (subst (λ (n : ℕ). HasBit n place) (sym records) ((HasBit-union a.adapter.causes.recorded causes place).1 (inr set)))
 
--- a cause that a test chooses
 chosen : (test : Bool) (cause place : ℕ) → HasBit cause place → test ≡ true → HasBit (cond test cause 0) place
 chosen test cause place set is = subst (λ (t : Bool). HasBit (cond t cause 0) place) (sym is) set
 

@@ -3,9 +3,9 @@ use Rattle.std.proofs.Common.{◌≡◌, ◌⊎◌, ℕ, Bool, true, false, inl,
 use Rattle.std.specs.List.{All}
 use Rattle.std.specs.Prelude.{IfSome}
 use Rattle.std.proofs.lemmas.List.Elements.{All-cons}
-use Rattle.eeprom.specs.Eerd.{is_pending}
-use Rattle.mdic_phy.specs.Mdic.{has_work, told}
-use Rattle.mdic_phy.specs.declared.mdic.Ticked.{Ticked}
+use Rattle.eeprom_phy.specs.Eerd.{is_pending}
+use Rattle.eeprom_phy.specs.Mdic.{has_work, told}
+use Rattle.eeprom_phy.specs.declared.mdic.Ticked.{Ticked}
 use Rattle.rx_engine.specs.declared.arrival.Fate.{Fate}
 use Rattle.rx_engine.specs.declared.arrival.Fate.TheVariants.{Missed, Stored}
 use Rattle.adapter.specs.Receiving.{after_arrive}
@@ -124,7 +124,6 @@ fault_stops RxDone wire_free world answers = absurd answers
 fault_stops EepromTick wire_free world answers = absurd (no-tick (is_pending world.adapter.eerd) answers)
 fault_stops PhyTick wire_free world answers = absurd (no-tick (has_work world.adapter.mdic world.adapter.phy) answers)
 
--- no engine is both stopped and running
 both : (stopped : Bool) → stopped ≡ true → stopped ≡ false → ⊥
 both true stands runs = absurd (cc)
 both false stands runs = absurd (cc)

@@ -1,4 +1,4 @@
--- A put step: a frame is put onto the wire, and DD is set in its descriptor, if RS is set and the status byte is inside memory.
+-- A put step: a frame is put onto the wire. DD is set in its descriptor, if RS is set and the status byte is inside memory.
 use Rattle.std.proofs.Common.{◌≡◌, ◌<◌, ◌+◌, ◌&&◌, inl, ◌++◌, ◌∷◌, [], Bool, true, false, cond, nat_lt, ℕ, List, length, map, slice_index}
 use Rattle.std.proofs.Common.{refl, sym, ap, subst, ◌∙◌, arith}
 use Rattle.std.specs.List.{All}
@@ -41,7 +41,6 @@ use Rattle.descriptors.specs.Frames.{IsLegal}
 use Rattle.bus.proofs.Lists.{all-none}
 use Rattle.bus.proofs.RunningEngines.{transmittable-kept}
 
--- A descriptor whose byte 12 is written as 1 is done.
 pub is_done-reported : (memory : List ℕ) (descriptor : ℕ) → LiesIn memory descriptor 16 → LiesIn memory (descriptor + 12) 1
     → is_done (with_bytes memory (descriptor + 12) (1 ∷ [])) descriptor ≡ true
 is_done-reported memory descriptor lies fits =
@@ -59,7 +58,6 @@ is_done-reported memory descriptor lies fits =
     ∙ get_or-append_right front (1 ∷ behind) 12 12 0 twelve (omega arith) in
     ap (λ (byte : ℕ). is_set byte 0) is
 
--- the same lists of areas
 pub areas-same : (r t : Area) (d d' f f' w w' b b' : List Area) → d' ≡ d → f' ≡ f → w' ≡ w → b' ≡ b
     → r ∷ t ∷ (d' ++ (f' ++ (w' ++ b'))) ≡ r ∷ t ∷ (d ++ (f ++ (w ++ b)))
 areas-same r t d d' f f' w w' b b' same_d same_f same_w same_b = rw (same_d, same_f, same_w, same_b) refl
@@ -202,14 +200,12 @@ between_put o p queued later a0 sound =
       };
     }
 
--- If a frame asks for a report, and the status byte of its descriptor is inside memory, the report is written.
 report-written : (memory : List ℕ) (queued : Queued) → queued.report ≡ true → LiesIn memory (queued.descriptor + 12) 1
     → reported_in memory queued ≡ with_bytes memory (queued.descriptor + 12) (1 ∷ [])
 report-written memory queued asks lies =
     let fits : nat_lt (queued.descriptor + 12) (length memory) ≡ true = grind (arith, nat_tests) in
     rw (asks, fits) refl
 
--- In any state, a report doesn't change the size of memory.
 length-reported : (memory : List ℕ) (queued : Queued) → length (reported_in memory queued) ≡ length memory
 length-reported memory queued = by-tests queued.report (nat_lt (queued.descriptor + 12) (length memory)) refl
   where
@@ -248,7 +244,6 @@ put_queue (queued ∷ later) a wire_free frame running answers =
           (record nothing { put = f ∷ [] })) answers.1 there;
     }
 
--- Any answer of a step that puts.
 pub put_happens : (a : World) (wire_free : Bool) (answer : FrameOutcome) → IsAdapter a.adapter → PutAnswers wire_free a.adapter answer
     → Happens a (world_after_step TxPut answer a) (past_of_step TxPut answer)
 put_happens a wire_free (Put frame) running answers = put_queue a.adapter.transmitter.buffer a wire_free frame running answers

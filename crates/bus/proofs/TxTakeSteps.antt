@@ -49,7 +49,7 @@ taken pad world = record world {
   });
 }
 
--- The frame at the head goes to the packet buffer's end, and its slot from the offered to the taken ones.
+-- The frame at the head is moved to the end of the packet buffer. Its slot, which was offered, is then taken.
 pub between_padded : (o p : ℕ) (a : World) → HasValidIndices (transmit_ring a)
     → ¬ (a.adapter.transmit_ring.head ≡ a.adapter.transmit_ring.tail)
     → Sound o p a → Between o p a (taken true a) nothing
@@ -123,7 +123,6 @@ between_taken o p a not_idle can sound =
     let padded : pads a.adapter.transmit_control ≡ true = eq-eqb _ _ (sound.pads differ) in
     subst (λ (pad : Bool). Between o p a (taken pad a) nothing) (sym padded) (between_padded o p a can.sound differ sound)
 
--- Any answer of a step that takes.
 pub take_happens : (a : World) (answer : FrameOutcome) → IsAdapter a.adapter → TakeAnswers a.memory a.adapter answer
     → Happens a (world_after_step TxTake answer a) nothing
 take_happens a Took running answers = record {

@@ -44,7 +44,6 @@ no_work-held : (memory : List ℕ) (work : Option Work) → engine.in_work memor
 no_work-held memory None none = refl
 no_work-held memory (Some work) none = absurd (cc)
 
--- Pieces in which no frame ends join to at least what was begun.
 begun-grows : (begun : List ℕ) (pieces : List Piece) → frames_from begun pieces ≡ [] → length begun ≤ length (begun_from begun pieces)
 begun-grows begun [] none = omega arith
 begun-grows begun (Part bytes ∷ later) none =
@@ -52,7 +51,7 @@ begun-grows begun (Part bytes ∷ later) none =
     omega (arith, rest, length-append begun bytes)
 begun-grows begun (Last bytes ∷ later) none = absurd (cc)
 
--- If no frame ends in pieces and they join to no bytes, there are none: a part isn't empty.
+-- If no frame ends in pieces and the pieces join to no bytes, there is no piece, because a part isn't empty.
 no-pieces-cut : (size : ℕ) (pieces : List Piece) → 1 ≤ size → All (IsCut size) pieces → frames_of pieces ≡ [] → begun_of pieces ≡ []
     → pieces ≡ []
 no-pieces-cut size [] some cut none nothing = refl
@@ -63,7 +62,6 @@ no-pieces-cut size (Part bytes ∷ later) some cut none nothing =
     absurd (omega (arith, some, full, grows, empty))
 no-pieces-cut size (Last bytes ∷ later) some cut none nothing = absurd (cc)
 
--- If no frame is held, no slot is finished, and no piece is in progress.
 pub holds-none : (size o p : ℕ) (world : World) → Sound o p world → 1 ≤ size → AreCut size o world
     → frames_held o world ≡ [] → HoldsNone o world
 holds-none size o p world sound some cut none =
@@ -78,7 +76,6 @@ holds-none size o p world sound some cut none =
       no_work = no_work-held world.memory receiver.work parts.1;
     }
 
--- If no slot is finished and no piece is in progress, all outstanding slots are offered.
 pub all-offered : (o p : ℕ) (world : World) → Sound o p world → HoldsNone o world
     → outstanding (receive_ring world) o ≡ offered (receive_ring world)
 all-offered o p world sound none =

@@ -53,7 +53,6 @@ drivers_transmit_slots_can_be_written o p slot a sound own =
       foreign = foreign-transmit_slot o p a slot sound own;
     }
 
--- Two places of a ring that are different have different addresses.
 other-address : (base slot other : ℕ) → ¬ (other ≡ slot) → base + 16 * other ≢ base + 16 * slot
 other-address base slot other differ same = differ (omega (arith, same))
 

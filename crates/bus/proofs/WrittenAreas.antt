@@ -33,7 +33,7 @@ use Rattle.bus.proofs.Rings.{dealt-left, dealt-right, dealt-same, done-same, out
 
 -- One descriptor.
 
--- its sixteen bytes are as they were
+-- the descriptor's sixteen bytes are the same in both memories
 abbrev pub IsSame : List ℕ → List ℕ → ℕ → Type 0
 IsSame memory memory' descriptor = bytes_at memory' descriptor 16 ≡ bytes_at memory descriptor 16
 
@@ -74,13 +74,12 @@ fetched-same memory memory' area descriptor keeps same apart =
     { frame = as_sent true bytes; descriptor = descriptor; report = is_set (command_bits desc.command) 3 } in queued)
     (keeps.others (data_of memory descriptor) apart)
 
--- Descriptors.
+-- Lists of descriptors.
 
 pub same-apart : (memory memory' : List ℕ) (area : Area) (slots : List ℕ) → ChangesOnly memory memory' area
     → All (λ d. AreApart area (descriptor_area d)) slots → All (IsSame memory memory') slots
 same-apart memory memory' area slots keeps apart = λ k d below. keeps.others _ (apart k d below)
 
--- The outstanding descriptors of a ring that is apart from the written area don't change.
 pub same-outstanding : (memory memory' : List ℕ) (area : Area) (ring : Ring) (oldest : ℕ) (taken : List ℕ) → ChangesOnly memory memory' area
     → AreApart area (ring_area ring) → IsDealt memory ring oldest taken → All (IsSame memory memory') (outstanding ring oldest)
 same-outstanding memory memory' area ring oldest taken keeps apart dealt =
@@ -103,7 +102,7 @@ pieces-kept memory memory' area slots keeps same apart =
 pub descriptors-kept : (memory memory' : List ℕ) (slots : List ℕ) → All (IsSame memory memory') slots → SameDescriptors memory memory' slots
 descriptors-kept memory memory' slots same = λ k d below. ap rx_desc_of (same k d below)
 
--- the frames that these finished slots name have at most this number of bytes
+-- the pieces that these finished slots name have at most this number of bytes
 abbrev pub NamesFit : List ℕ → ℕ → List ℕ → Type 0
 NamesFit memory size slots = All (λ slot. (named memory slot).size ≤ size) slots
 
@@ -167,7 +166,7 @@ to_send-kept memory memory' ring buffer same =
     (offered_places ring)
     (λ k d below. ap (λ (queued : Queued). queued.frame) (each k d below)))
 
--- The transmit side, if the written area is apart from the transmit ring and its data.
+-- What doesn't change on the transmit side if the written area is apart from the transmit ring and its data.
 
 pub record TransmitKept (world : World) (memory' : List ℕ) (oldest : ℕ) : Type 0 where
   pub same_offered : All (IsSame world.memory memory') (offered (transmit_ring world))
@@ -205,7 +204,8 @@ transmit_kept world memory' oldest area keeps dealt apart data_apart =
     transmit_kept_by_slots world memory' oldest area keeps dealt
     (same-outstanding world.memory memory' area (transmit_ring world) oldest (buffered world) keeps apart dealt) data_apart
 
--- The receive side, if the written area is apart from the receive ring and from the bytes of finished slots and of the piece in progress.
+-- Let the written area be apart from the receive ring, and from the bytes of finished slots and of the piece in progress. Then these facts
+-- hold of the receive side.
 
 pub record ReceiveKept (world : World) (memory' : List ℕ) (oldest : ℕ) : Type 0 where
   pub same_offered : All (IsSame world.memory memory') (offered (receive_ring world))

@@ -10,7 +10,7 @@ use Rattle.bus.specs.declared.event.Access.{Access}
 use Rattle.bus.specs.declared.event.Access.TheVariants.{Loads, Reads, Stores, Writes}
 use Rattle.bus.specs.Trails.{world_after_access}
 
--- The register is ICR, MPC, GPRC, GPTC or RNBC: a read clears it.
+-- The register is ICR, MPC, GPRC, GPTC or RNBC: a read of this register clears it.
 abbrev pub IsClearedByRead : Register → Type 0
 IsClearedByRead Icr = ⊤
 IsClearedByRead Mpc = ⊤
@@ -19,6 +19,7 @@ IsClearedByRead Gptc = ⊤
 IsClearedByRead Rnbc = ⊤
 IsClearedByRead register = ⊥
 
+-- A read of the register doesn't clear it.
 abbrev pub StaysAtRead : Register → Type 0
 StaysAtRead register = ¬ (IsClearedByRead register)
 
@@ -29,6 +30,7 @@ IsQuiet (Writes offset value) = ⊥
 IsQuiet (Loads address size) = ⊤
 IsQuiet (Stores address bytes) = ⊤
 
+-- The access is a store.
 abbrev pub IsStore : Access → Type 0
 IsStore (Reads offset value) = ⊥
 IsStore (Writes offset value) = ⊥
@@ -39,23 +41,23 @@ IsStore (Stores address bytes) = ⊤
 abbrev pub QuietAccessesLeaveAdapters : Type 0
 QuietAccessesLeaveAdapters = (access : Access) (world : World) → IsQuiet access → (world_after_access access world).adapter ≡ world.adapter
 
--- A quiet access that is no store changes neither the adapter nor memory.
+-- A quiet access that isn't a store changes neither the adapter nor memory.
 abbrev pub QuietAccessesLeaveWorlds : Type 0
 QuietAccessesLeaveWorlds = (access : Access) (world : World) → IsQuiet access → ¬ (IsStore access) → world_after_access access world ≡ world
 
--- The register is ICR or ICS: a write of it can change the recorded causes.
+-- The register is ICR or ICS: a write of this register can change the recorded causes.
 abbrev pub MovesCauses : Register → Type 0
 MovesCauses Icr = ⊤
 MovesCauses Ics = ⊤
 MovesCauses register = ⊥
 
--- The register is IMS or IMC: a write of it can change the mask.
+-- The register is IMS or IMC: a write of this register can change the mask.
 abbrev pub MovesMask : Register → Type 0
 MovesMask Ims = ⊤
 MovesMask Imc = ⊤
 MovesMask register = ⊥
 
--- A write of this word to the register is no reset.
+-- A write of this word to the register isn't a reset.
 abbrev pub ResetsNothing : ℕ → Register → Type 0
 ResetsNothing value register = is_reset register value ≡ false
 
@@ -94,10 +96,10 @@ pub record LeavesInterrupts (access : Access) : Type 0 where
   pub causes : LeavesCauses access
   pub mask : LeavesMask access
 
--- Each quiet access obeys `LeavesInterrupts`.
+-- Each quiet access meets `LeavesInterrupts`.
 abbrev pub QuietAccessesLeaveInterrupts : Type 0
 QuietAccessesLeaveInterrupts = (access : Access) → IsQuiet access → LeavesInterrupts access
 
--- Each write of a ring's register, also of RDT or TDT, obeys `LeavesInterrupts`.
+-- Each write of a ring's register, also of RDT or TDT, meets `LeavesInterrupts`.
 abbrev pub RingWritesLeaveInterrupts : Type 0
 RingWritesLeaveInterrupts = (register : Register) (value : ℕ) → IsOfRing register → LeavesInterrupts (Writes (row_of register).offset value)

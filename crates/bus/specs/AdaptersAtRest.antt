@@ -1,4 +1,4 @@
--- An adapter at rest (our choice): after a reset, and while a driver sets it up, until the driver writes RCTL or a register of a ring.
+-- An adapter at rest (our choice). After a reset, an adapter is at rest until its driver writes RCTL or a register of a ring.
 use Rattle.std.specs.Prelude.{⊤, ◌≡◌, [], Option, Some, length}
 use Rattle.rx_engine.specs.Receiver.{new_receiver}
 use Rattle.tx_engine.specs.Transmitter.{new_transmitter}
@@ -50,7 +50,7 @@ pub record NoFrame (past : Past) : Type 0 where
 abbrev pub HappeningsKeepRest : Type 0
 HappeningsKeepRest = (a b : World) (past : Past) → Happens a b past → IsAdapter b.adapter → IsAtRest a → IsAtRest b × NoFrame past
 
--- A register other than RCTL and the registers of the rings.
+-- No register, or a register other than RCTL and the registers of the rings.
 abbrev pub IsElsewhere : Option Register → Type 0
 IsElsewhere (Some Rctl) = ⊥
 IsElsewhere (Some (Receive part)) = ⊥

@@ -5,7 +5,7 @@ use Rattle.std.specs.Hash.DefaultHasher as sip
 use Rattle.adapter.specs.Hashed.{adapter_writes}
 use Rattle.adapter.specs.World.{World}
 
--- What the adapter feeds, followed by the bytes of memory.
+-- What the adapter writes to a hasher, followed by the bytes of memory.
 abbrev pub world_writes : World → HashWrites
 world_writes world = adapter_writes world.adapter ++ world.memory ∷ []
 

@@ -1,5 +1,5 @@
--- What doesn't change between two accesses of a driver: what finished slots, written-back slots and the driver's own slots contain, and
--- what the driver wrote into descriptors.
+-- What doesn't change between two accesses: the contents of finished slots, written-back slots and the driver's own slots, and what the
+-- driver wrote into descriptors.
 use Rattle.std.specs.Prelude.{◌≡◌, ◌≢◌, ◌<◌, ◌+◌, ℕ, List, All, map}
 use Rattle.dma_memory.specs.Areas.{bytes_in, descriptor_area}
 use Rattle.descriptors.specs.declared.ring.Ring.{Ring}

@@ -37,6 +37,7 @@ pub record LeavesFrames (oldest_receive oldest_transmit : ℕ) (a b : World) : T
   pub same : SameFrames oldest_receive oldest_transmit a b
   pub runs : GoOn a b
 
+-- After a store to an area of memory that meets `IsDriversArea`, `LeavesFrames` holds.
 abbrev pub DriversStoresLeaveFrames : Type 0
 DriversStoresLeaveFrames =
     (oldest_receive oldest_transmit : ℕ) (world : World) (address : ℕ) (bytes : List ℕ)
@@ -44,7 +45,7 @@ DriversStoresLeaveFrames =
     → IsDriversArea oldest_receive oldest_transmit world (record { address = address; size = length bytes })
     → LeavesFrames oldest_receive oldest_transmit world (world_after_store address bytes world)
 
--- An area that the adapter may not write remains such an area after this store.
+-- After a store to an area of memory that meets `IsDriversArea`, an area that the adapter may not write remains such an area.
 abbrev pub DriversStoresLeaveForeign : Type 0
 DriversStoresLeaveForeign =
     (oldest_receive oldest_transmit : ℕ) (world : World) (address : ℕ) (bytes : List ℕ)

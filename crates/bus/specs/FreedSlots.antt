@@ -1,4 +1,4 @@
--- A driver frees its oldest written-back transmit slot: it then counts the next slot as its oldest.
+-- A driver frees its oldest written-back transmit slot: the driver then counts the next slot as its oldest.
 use Rattle.std.specs.Prelude.{◌≡◌, ◌∷◌, ℕ, List}
 use Rattle.descriptors.specs.Ring.{address_of, next_of}
 use Rattle.adapter.specs.Slots.{outstanding, written_back}

@@ -1,8 +1,8 @@
--- Rings without an offered or taken slot (our choice): after power-on, after a reset, and in each state of initialization before the first
--- slot is offered ("14.4 Receive Initialization", "14.5 Transmit Initialization").
+-- Rings without an offered or taken slot (our choice): after power-on, after a reset, and in initialization before the first slot is
+-- offered ("14.4 Receive Initialization", "14.5 Transmit Initialization").
 use Rattle.std.specs.Prelude.{⊤, ◌≡◌, ℕ, List, [], ◌∷◌, None, length, take}
 use Rattle.dma_memory.specs.Areas.{AreSeparate}
-use Rattle.mdic_phy.specs.declared.phy.Link.{Link}
+use Rattle.eeprom_phy.specs.declared.phy.Link.{Link}
 use Rattle.rx_engine.specs.Receiver.{Receiver, oldest}
 use Rattle.adapter.specs.Registers.{after_reset, new_adapter, write_of}
 use Rattle.adapter.specs.declared.register.Register.{Register}
@@ -70,7 +70,7 @@ OtherWritesKeepIdle =
     (register : Register) (value : ℕ) (world : World)
     → ¬ (IsOfRing register) → IsIdle world → IsIdle (record world { adapter = write_of register value world.adapter })
 
--- After a write of any register, an idle adapter is still idle if its rings are.
+-- After a write of any register, an idle adapter is still idle if its rings are then idle.
 abbrev pub WritesKeepIdle : Type 0
 WritesKeepIdle =
     (offset value : ℕ) (world : World) → IsIdle world → HasIdleRings (world_after_write offset value world)

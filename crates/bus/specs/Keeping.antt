@@ -4,8 +4,8 @@ use Rattle.bus.specs.BusMembers.{StaysWhole}
 use Rattle.bus.specs.Law.{BusView}
 use Rattle.bus.specs.declared.bus.Bus.{Ghosts}
 
--- The size of the bus's memory doesn't change, nor do the values that a caller lent to the bus. If the bus obeyed the law, it still does.
--- If it was lively, it still is. The fields are `extent`, `lent_stays`, `honest` and `lively`.
+-- The size of the bus's memory doesn't change, nor do the values that a caller lent to the bus. A bus that obeyed the law still obeys it,
+-- and a bus that was lively still is. The fields are `extent`, `lent_stays`, `honest` and `lively`.
 abbrev pub Keeps : {B : Type 0} → Ghosts B → B → B → Type 0
 Keeps bus old new = StaysWhole bus.extent bus.lent_stays bus.honest bus.lively old new
 

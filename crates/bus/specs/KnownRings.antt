@@ -18,13 +18,14 @@ KnownRingStays ring =
 abbrev pub index_limit : ℕ
 index_limit = 65536
 
--- A write of RDT, or of TDT, of an index that fits the register changes only the tail.
+-- A write of an index below this limit to RDT changes only RDT.
 abbrev pub ReceiveTailMoves : Type 0
 ReceiveTailMoves =
     (index : ℕ) (world : World) → index < index_limit
     → world_after_write RDT index world
     ≡ record world { adapter = record world.adapter { receive_ring = record world.adapter.receive_ring { tail = index } } }
 
+-- A write of an index below this limit to TDT changes only TDT.
 abbrev pub TransmitTailMoves : Type 0
 TransmitTailMoves =
     (index : ℕ) (world : World) → index < index_limit

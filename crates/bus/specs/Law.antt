@@ -2,9 +2,9 @@
 use Rattle.std.specs.Prelude.{◌≡◌, ◌≤◌, ◌+◌, ◌⊎◌, ◌++◌, ℕ, List, [], ◌∷◌, All, length, max, min, if◌then◌else◌}
 use Rattle.std.specs.Fn.{iterate}
 use Rattle.dma_memory.specs.Areas.{Area, bytes_in}
-use Rattle.eeprom.specs.Eerd as eeprom
-use Rattle.mdic_phy.specs.Mdic.{MdicState, has_work, mdic_after_tick, phy_after_tick}
-use Rattle.mdic_phy.specs.Phy.{PhyState}
+use Rattle.eeprom_phy.specs.Eerd as eeprom
+use Rattle.eeprom_phy.specs.Mdic.{MdicState, has_work, mdic_after_tick, phy_after_tick}
+use Rattle.eeprom_phy.specs.Phy.{PhyState}
 use Rattle.registers.specs.Bits.{HasBit}
 use Rattle.registers.specs.Counting.{greatest_count}
 use Rattle.descriptors.specs.Frames.{IsLegal}
@@ -38,7 +38,7 @@ phy_ticked management =
     then record { mdic = mdic_after_tick management.mdic management.phy; phy = phy_after_tick management.mdic management.phy }
     else management
 
--- Registers that only a driver's accesses change.
+-- Registers that only a driver's accesses change are the same in both states.
 pub record RegistersStay (a b : AdapterState) : Type 0 where
   -- IMS doesn't change.
   pub mask : b.causes.mask ≡ a.causes.mask
@@ -58,7 +58,7 @@ pub record OnlyHeadMoves (a b : RingRegisters) : Type 0 where
   -- If the head changes, it is the index of a slot of its ring, and so is the tail.
   pub head : (b.head ≡ a.head) ⊎ HasValidIndices (ring_of b)
 
--- The frames that were stored or missed.
+-- What is known of the frames that were stored or missed.
 pub record CountsArrivals (a b : World) (past : Past) : Type 0 where
   -- MPC grows by the number of missed frames, and saturates at its greatest value.
   pub missed : b.adapter.missed_packets ≡ max a.adapter.missed_packets (min (a.adapter.missed_packets + past.missed) greatest_count)
@@ -87,7 +87,7 @@ pub record Steady (a b : World) (past : Past) : Type 0 where
   pub arrivals : CountsArrivals a b past
   pub ticks : MovesByTicks a b past
 
--- The frames that were put on the wire.
+-- The frames that were put on the wire, and the slots that report them.
 pub record PutsInOrder (oldest_transmit : ℕ) (a b : World) (past : Past) : Type 0 where
   -- The frames to be sent are put on the wire in order, each exactly once.
   pub sends : past.put ++ frames_to_send b ≡ frames_to_send a

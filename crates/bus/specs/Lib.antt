@@ -30,3 +30,13 @@ pub mod AdaptersAtRest
 pub mod Link
 pub mod BusMembers
 pub mod Keeping
+pub mod DriverState
+pub mod ReadyDrivers
+pub mod Calls
+pub mod Beginnings
+pub mod RegisterReadings
+pub mod TransmitSteps
+pub mod ReceiveSteps
+pub mod OldestSlot
+pub mod ControlWrites
+pub mod Resets

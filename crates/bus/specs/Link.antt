@@ -1,6 +1,6 @@
 -- A link that is up remains up while a driver sets the adapter up (our choice).
 use Rattle.std.specs.Prelude.{⊤, ◌≡◌, true, [], ◌∷◌, All, Option, Some, None}
-use Rattle.mdic_phy.specs.Phy.{link_is_up}
+use Rattle.eeprom_phy.specs.Phy.{link_is_up}
 use Rattle.adapter.specs.Table.{register_at}
 use Rattle.adapter.specs.World.{World}
 use Rattle.adapter.specs.declared.register.Register.{Register}
@@ -28,15 +28,15 @@ IsNotOfPhy _ = ⊤
 abbrev pub LeavesPhy : Write → Type 0
 LeavesPhy write = IsNotOfPhy (register_at write.offset)
 
--- If neither CTRL nor MDIC is written in an interval, a link that is up before it is up after it.
+-- If neither CTRL nor MDIC is written in an interval, and `HasLink` holds before the interval, `HasLink` holds after it.
 abbrev pub KeepsLink : World → World → Past → Type 0
 KeepsLink a b past = All LeavesPhy (writes_in past.accesses) → HasLink a → HasLink b
 
--- Whatever happens between two accesses, a link that is up remains up.
+-- `HasLink` remains true, whatever happens between two accesses.
 abbrev pub HappeningsKeepLink : Type 0
 HappeningsKeepLink = (a b : World) (past : Past) → Happens a b past → HasLink a → HasLink b
 
--- At an access that writes neither CTRL nor MDIC, a link that is up remains up.
+-- `HasLink` remains true after an access that writes neither CTRL nor MDIC.
 abbrev pub AccessesKeepLink : Type 0
 AccessesKeepLink =
     (access : Access) (world : World) → All LeavesPhy (writes_in (access ∷ [])) → HasLink world → HasLink (world_after_access access world)

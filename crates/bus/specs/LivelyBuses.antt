@@ -31,8 +31,8 @@ IsQuietEvent (Steps kind wire_free outcome) = ⊥
 IsQuietEvent (Arrives frame fate) = ⊥
 IsQuietEvent (Accesses access) = ⊤
 
--- From one state to another, the same machine is lent, and only accesses, steps of the EEPROM and steps of the PHY happened, the same
--- number of each. The accesses are counted, up to the greatest u64.
+-- The same machine is lent in both states. Between them, only accesses, steps of the EEPROM and steps of the PHY happened, the same number
+-- of each. The accesses are counted, up to the greatest u64.
 pub record Lives (a b : LivelyBus) (past : Past) : Type 0 where
   pub lent : IsSameMachine a b
   pub events : List Event
@@ -47,7 +47,7 @@ pub record Lives (a b : LivelyBus) (past : Past) : Type 0 where
 abbrev pub both_ticks : (eeprom phy : FrameOutcome) → List Event
 both_ticks eeprom phy = Steps EepromTick true eeprom ∷ Steps PhyTick true phy ∷ []
 
--- Before an access, both steps are played, and the access is counted.
+-- Before an access, a step of the EEPROM and a step of the PHY are played. The access is counted, up to the greatest u64.
 pub record IsPrepared (a b : LivelyBus) : Type 0 where
   pub lent : IsSameMachine a b
   pub eeprom : FrameOutcome

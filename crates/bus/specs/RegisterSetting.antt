@@ -1,5 +1,4 @@
--- Other accesses of a driver while the conditions of the law hold: writes and reads of registers, as in initialization after the first slot
--- is offered (our choice).
+-- Writes and reads of registers while the conditions of the law hold, as in initialization after the first slot is offered (our choice).
 use Rattle.std.specs.Prelude.{⊤, ◌≡◌, ◌≤◌, ◌<◌, ◌+◌, ◌%◌, ◌++◌, ℕ, zero, suc, [], false, All, None, map}
 use Rattle.dma_memory.specs.Areas.{AreSeparate}
 use Rattle.registers.specs.Bits.{HasBit}
@@ -21,7 +20,7 @@ use Rattle.bus.specs.Pasts.{Past}
 use Rattle.adapter.specs.Running.{GoOn}
 use Rattle.adapter.specs.World.{receive_ring, transmit_ring, World, world_after_read}
 
--- This number of slots can be offered, one after the other.
+-- This number of receive slots can be offered, one after the other.
 abbrev pub CanOfferMany : ℕ → ℕ → World → Type 0
 CanOfferMany oldest zero world = ⊤
 CanOfferMany oldest (suc k) world = CanOffer oldest world × CanOfferMany oldest k (offering world)
@@ -54,7 +53,7 @@ abbrev pub with_receive_control : ℕ → World → World
 with_receive_control control world = record world
     { adapter = record world.adapter { filter = record world.adapter.filter { rctl = control } } }
 
--- The conditions hold, and frames are the same. If BSEX is 0, engines that could run still can run.
+-- After a write of RCTL, the conditions hold, and slots and frames are the same. If BSEX is 0, engines that could run still can run.
 pub record ReceiverSet (oldest_receive oldest_transmit : ℕ) (a b : World) : Type 0 where
   pub same : SameFrames oldest_receive oldest_transmit a b
   pub runs : ¬ (HasBit b.adapter.filter.rctl rctl_bsex) → GoOn a b
@@ -92,8 +91,8 @@ pub record TransmitRingSet (oldest_receive : ℕ) (a b : World) : Type 0 where
   pub fits : (size : ℕ) → FitBuffers size oldest_receive a → FitBuffers size oldest_receive b
   pub runs : GoOn a b
 
--- The transmit ring may be set up while no frame is in the transmit packet buffer. TDH must equal TDT, and the ring must be apart from all
--- other areas.
+-- The transmit ring may be set up while no frame is in the transmit packet buffer. TDH must equal TDT, and the ring must be inside memory,
+-- apart from all other areas.
 abbrev pub TransmitRingCanBeSet : Type 0
 TransmitRingCanBeSet =
     (oldest_receive oldest_transmit : ℕ) (ring : RingRegisters) (world : World) → Sound oldest_receive oldest_transmit world
@@ -127,13 +126,14 @@ pub record IsTransmitIdle (world : World) : Type 0 where
   pub buffer : world.adapter.transmitter.buffer ≡ []
   pub ring : world.adapter.transmit_ring.head ≡ world.adapter.transmit_ring.tail
 
--- A transmit ring without outstanding slots remains without outstanding slots, while frames may be received.
+-- A transmit ring whose head and tail are at the driver's oldest slot remains idle, whatever happens between two accesses.
 abbrev pub TransmitStaysIdle : Type 0
 TransmitStaysIdle =
     (oldest_receive : ℕ) (a b : World) (past : Past) → Sound oldest_receive a.adapter.transmit_ring.tail a
     → a.adapter.transmit_ring.head ≡ a.adapter.transmit_ring.tail → Happens a b past → IsTransmitIdle b
 
--- No receive slot is finished, and no piece is in progress. The offered slots and the addresses of their buffers don't change.
+-- In the second world, no receive slot is finished, and no piece is in progress. The offered slots and the addresses of their buffers are
+-- the same in both worlds.
 pub record OffersStay (oldest_receive : ℕ) (a b : World) : Type 0 where
   pub none_finished : finished oldest_receive b ≡ []
   pub no_work : b.adapter.receiver.work ≡ None

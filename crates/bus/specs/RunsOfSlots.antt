@@ -1,5 +1,5 @@
--- A driver may take a run of its oldest finished receive slots, if a frame ends in the last slot of the run, and in no other slot. Then
--- the slot after the run is the oldest one.
+-- A driver takes a run of its oldest finished receive slots, of which only the last contains the end of a frame. Then the slot after the
+-- run is the oldest one.
 use Rattle.std.specs.Prelude.{◌≡◌, ◌++◌, ℕ, List, [], ◌∷◌, All, length, map}
 use Rattle.std.specs.List.{concat}
 use Rattle.descriptors.specs.Frames.{IsLegal}
@@ -23,8 +23,8 @@ places_of_run oldest run world = slots_from (count_of (receive_ring world)) olde
 abbrev pub after_run : ℕ → List ℕ → World → ℕ
 after_run oldest run world = place (count_of (receive_ring world)) oldest (length run)
 
--- The frame of a run, if frames are cut into buffers of one size. The frame is legal, its parts fill their buffers, and no descriptor of
--- the run reports an error. The frames in the other slots are cut in the same way.
+-- The frame of a run, if frames are cut into buffers of one size. The frame is legal, its parts fill their buffers, its last piece fits
+-- into a buffer, and no descriptor of the run reports an error. The frames in the other slots are cut in the same way.
 pub record IsCutRun (size oldest_receive : ℕ) (world : World) (run : List ℕ) (seen : List (List ℕ)) (last : List ℕ) : Type 0 where
   pub legal : IsLegal (concat seen ++ last)
   pub full : All (λ bytes. length bytes ≡ size) seen

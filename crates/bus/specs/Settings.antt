@@ -1,8 +1,8 @@
 -- The settings of an adapter: the registers that only a driver's writes change, and values that never change (our choice).
 use Rattle.std.specs.Prelude.{⊤, ◌≡◌, ℕ, List, [], ◌∷◌, All, Option, Some}
 use Rattle.registers.specs.Bits.{HasBit}
-use Rattle.mdic_phy.specs.Phy.{new_phy}
-use Rattle.mdic_phy.specs.declared.phy.Link.{Link}
+use Rattle.eeprom_phy.specs.Phy.{new_phy}
+use Rattle.eeprom_phy.specs.declared.phy.Link.{Link}
 use Rattle.registers.specs.Places.{rctl_en}
 use Rattle.rx_engine.specs.Registers.{FilterRegisters}
 use Rattle.adapter.specs.declared.ring.RingRegisters.{RingRegisters}
@@ -78,7 +78,7 @@ writes_in (Writes offset value ∷ later) = record { offset = offset; value = va
 writes_in (Loads address size ∷ later) = writes_in later
 writes_in (Stores address bytes ∷ later) = writes_in later
 
--- The settings after a write.
+-- The settings after a write: those of an adapter that had these settings before the write.
 abbrev pub settings_after : Write → Settings → Settings
 settings_after write settings = settings_of (after_write write.offset write.value (adapter_with settings))
 

@@ -35,7 +35,7 @@ pub record HasRoom (oldest : ℕ) (registers : RingRegisters) : Type 0 where
   -- The slot after the tail isn't the oldest slot.
   pub room : next_of (ring_of registers) registers.tail ≢ oldest
 
--- The slot at RDT can be offered. The conditions name its buffer, of the size that RCTL.BSIZE selects, only while RCTL.EN is set.
+-- The slot at RDT can be offered. The conditions name the slot's buffer, of the size that RCTL.BSIZE selects, only while RCTL.EN is set.
 pub record CanOffer (oldest : ℕ) (world : World) : Type 0 where
   pub ring : HasRoom oldest world.adapter.receive_ring
   -- The slot's descriptor isn't done.
@@ -92,7 +92,7 @@ pub record CanSend (oldest_receive oldest_transmit : ℕ) (world : World) : Type
   pub apart : All (λ area. AreApart area (data_of world.memory (address_of (transmit_ring world) world.adapter.transmit_ring.tail)))
       (areas oldest_receive world)
 
--- Received frames, their slots and their pieces are the same.
+-- Received frames, finished slots and their pieces are the same.
 pub record SameReceived (oldest_receive : ℕ) (a b : World) : Type 0 where
   pub held : frames_held oldest_receive b ≡ frames_held oldest_receive a
   pub finished_same : finished oldest_receive b ≡ finished oldest_receive a

@@ -1,4 +1,4 @@
--- Memory that no outstanding slot uses (our choice).
+-- Memory apart from both rings, and from the buffers and the data of outstanding slots (our choice).
 use Rattle.std.specs.Prelude.{ℕ, All}
 use Rattle.dma_memory.specs.Areas.{AreApart, Area, area_at}
 use Rattle.rx_engine.specs.Descriptors.{named_address}
@@ -9,8 +9,7 @@ use Rattle.bus.specs.Pasts.{Past}
 use Rattle.adapter.specs.Slots.{outstanding}
 use Rattle.adapter.specs.World.{receive_ring, transmit_ring, World}
 
--- An area is apart from both rings, from the receive buffers of this size that outstanding slots point to, and from the data that
--- outstanding transmit slots point to.
+-- An area is apart from both rings, and from the receive buffers of this size and the data that outstanding slots point to.
 pub record IsSpare (size oldest_receive oldest_transmit : ℕ) (world : World) (area : Area) : Type 0 where
   pub receive_slots : AreApart (ring_area (receive_ring world)) area
   pub transmit_slots : AreApart (ring_area (transmit_ring world)) area

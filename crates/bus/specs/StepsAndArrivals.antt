@@ -1,4 +1,4 @@
--- Adapter steps and deliveries are what may happen between two accesses.
+-- Each adapter step and each delivery of a frame may happen between two accesses.
 use Rattle.std.specs.Prelude.{ℕ, Bool, List}
 use Rattle.rx_engine.specs.Arriving.{kept}
 use Rattle.rx_engine.specs.declared.arrival.Fate.{Fate}
@@ -46,14 +46,14 @@ past_of_arrival fate frame = record nothing { stored = kept fate frame; missed =
 abbrev pub world_after_arrival : Fate → List ℕ → World → World
 world_after_arrival fate frame world = record world { adapter = after_arrive fate frame world.adapter }
 
--- Each step of the adapter may happen between two accesses.
+-- Each step of the adapter, with an outcome that the adapter's contract allows, may happen between two accesses.
 abbrev pub StepsHappen : Type 0
 StepsHappen =
     (world : World) (kind : StepKind) (wire_free : Bool) (answer : FrameOutcome)
     → IsAdapter world.adapter → Answers kind wire_free world.memory world.adapter answer
     → Happens world (world_after_step kind answer world) (past_of_step kind answer)
 
--- Each delivery of a frame may happen between two accesses.
+-- Each delivery of a frame, with a fate that the adapter's contract allows, may happen between two accesses.
 abbrev pub ArrivalsHappen : Type 0
 ArrivalsHappen =
     (world : World) (fate : Fate) (frame : List ℕ)

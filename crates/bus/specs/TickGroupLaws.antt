@@ -23,7 +23,7 @@ played_joins {T} is_go go own (access ∷ first) later ticks =
     ap (λ (played : List T). before ++ go ∷ played) (played_joins is_go go own first later rest)
     ∙ sym (append_assoc before (go ∷ behind) (played_in is_go go own later (waiting_after is_go first rest)))
 
--- A count over the ticks of one access and of the later accesses.
+-- Let a Go count 0. Then what is played counts as much as the bus's own ticks, the next group and what is played later together.
 counts_more :
     {T : Type 0} (is_go : T → Bool) (go : T) (own : List T) (count : T → ℕ) (access : Access) (later : List Access) (ticks : List T)
     → count go ≡ 0
@@ -34,7 +34,8 @@ counts_more is_go go own count access later ticks none =
     let behind = played_in is_go go own later (behind_group is_go ticks) in
     omega (arith, none, sum_by-append count (own ++ group) (go ∷ behind), sum_by-append count own group, sum_by-cons count go behind)
 
--- A count over all that is played: the bus's own ticks, once or never for each access, and the groups of ticks.
+-- Let a Go count 0, and the bus's own ticks count 1 if `once` is true, and 0 otherwise. Then what is played counts as much as the groups of
+-- ticks, plus 1 for each access if `once` is true.
 pub played_counts :
     {T : Type 0} (is_go : T → Bool) (go : T) (own : List T) (count : T → ℕ) (once : Bool) (accesses : List Access) (ticks : List T)
     → count go ≡ 0 → sum_by count own ≡ (if once then 1 else 0)

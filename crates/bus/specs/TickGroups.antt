@@ -12,7 +12,7 @@ abbrev pub behind_group : {T : Type 0} → (T → Bool) → List T → List T
 behind_group is_go [] = []
 behind_group is_go (tick ∷ later) = if is_go tick then later else behind_group is_go later
 
--- All ticks except each Go.
+-- The ticks that aren't a Go.
 abbrev pub without_go : {T : Type 0} → (T → Bool) → List T → List T
 without_go is_go ticks = filter (λ tick. not (is_go tick)) ticks
 
@@ -26,7 +26,7 @@ abbrev pub groups_of : {T : Type 0} → (T → Bool) → List Access → List T 
 groups_of is_go [] ticks = []
 groups_of is_go (access ∷ later) ticks = group_of is_go ticks ++ groups_of is_go later (behind_group is_go ticks)
 
--- What is played in these accesses: for each access, first the bus's own ticks, then the next group, and then the access itself, as a Go.
+-- What is played in these accesses. For each access, these are the bus's own ticks, the next group, and then the access itself, as a Go.
 abbrev pub played_in : {T : Type 0} → (T → Bool) → T → List T → List Access → List T → List T
 played_in is_go go own [] ticks = []
 played_in is_go go own (access ∷ later) ticks =

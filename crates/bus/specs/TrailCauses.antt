@@ -1,8 +1,8 @@
 -- The interrupt causes that each event of a trail records (13.4.17 "Interrupt Cause Read Register"), and when recorded causes and the mask
 -- don't change otherwise.
 use Rattle.std.specs.Prelude.{◌≡◌, ℕ, Bool, true, List, [], ◌∷◌, Option, Some, None, All, if◌then◌else◌}
-use Rattle.mdic_phy.specs.declared.mdic.Ticked.{Ticked}
-use Rattle.mdic_phy.specs.Mdic.{told}
+use Rattle.eeprom_phy.specs.declared.mdic.Ticked.{Ticked}
+use Rattle.eeprom_phy.specs.Mdic.{told}
 use Rattle.registers.specs.Bits.{HasBit, union}
 use Rattle.registers.specs.Places.{alone, lsc, mdac, rxdmt0, rxo, rxt0, txdw, txqe}
 use Rattle.rx_engine.specs.Moving.{is_half_offered}
@@ -44,6 +44,7 @@ abbrev pub causes_by_arrival : Fate → ℕ
 causes_by_arrival Missed = alone rxo
 causes_by_arrival fate = 0
 
+-- The causes that an event in this world records. An access counts as recording no cause.
 abbrev pub causes_by : Event → World → ℕ
 causes_by (Steps kind wire_free answer) world = causes_by_step kind answer world.adapter
 causes_by (Arrives frame fate) world = causes_by_arrival fate

@@ -13,7 +13,7 @@ use Rattle.bus.specs.StepsAndArrivals.{past_of_arrival, past_of_step, world_afte
 use Rattle.adapter.specs.State.{IsAdapter}
 use Rattle.adapter.specs.World.{World, world_after_read, world_after_store, world_after_write}
 
--- The value that a read returned is the value of the register in the world before the access.
+-- If the access is a read, its value is that of the register in the world before the access.
 abbrev pub IsAnswered : Access → World → Type 0
 IsAnswered (Reads offset value) world = value ≡ answer_at offset world.adapter
 IsAnswered (Writes offset value) world = ⊤
@@ -27,7 +27,7 @@ world_after_access (Writes offset value) world = world_after_write offset value 
 world_after_access (Loads address size) world = world
 world_after_access (Stores address bytes) world = world_after_store address bytes world
 
--- The event can happen in this world.
+-- The event, with its outcome, its fate or the value that is read, can happen in this world.
 abbrev pub Occurs : Event → World → Type 0
 Occurs (Steps kind wire_free answer) world = IsAdapter world.adapter × Answers kind wire_free world.memory world.adapter answer
 Occurs (Arrives frame fate) world = IsAdapter world.adapter × IsFate world.adapter frame fate

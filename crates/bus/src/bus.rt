@@ -39,7 +39,7 @@ pub trait Bus {
     fn size(&self) -> u64
         ensures { result ≡ extent self.now };
 
-    /// Reads the register at an offset in bytes.
+    /// Reads the register at an offset in bytes, and returns its value.
     fn read(&mut self, offset: u32) -> u32
         ensures keeps { StaysWhole extent lent_stays honest lively self.old self.new }
         ensures acts { honest self.old → Acts (view world happened lively) self.old self.new (Reads offset result)

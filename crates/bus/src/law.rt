@@ -22,8 +22,8 @@ ghost use Rattle.bus.specs.FreedSlots.{WrittenSlotsCanBeFreed};
 ghost use Rattle.bus.specs.Trails.{TrailsHappen};
 
 /// The law of what may happen in consecutive intervals between two accesses.
-/// - `joins`: what happens in two consecutive intervals happens in the joined interval: the frames and accesses of both
-///   in order, and the sums of misses and of ticks.
+/// - `joins`: what happens in two consecutive intervals happens in the joined interval. Frames and accesses follow one
+///   another, and the numbers of misses and ticks are added.
 /// - `nothing`: an interval may be empty.
 /// - `sound`: if the conditions of the law hold before an interval, they hold after it, for the same oldest slots.
 pub fn between_composes()
@@ -61,8 +61,8 @@ pub fn drivers_side_stays()
     ensures { DriversSideStaysAlways }
 {}
 
-/// The effect of a driver's store to bytes inside memory that are apart from all outstanding descriptors, and from the
-/// frames and buffers that the conditions of the law name.
+/// The effect of a driver's store to bytes inside memory. The bytes must be apart from all outstanding descriptors, and
+/// from the frames and buffers that the conditions of the law name.
 /// - `frames`: the conditions still hold, and the slots, the frames held and the frames to be sent are the same. Frames
 ///   that are cut into buffers of some size are still cut in this way. Pieces that fit into such buffers still fit, and
 ///   engines that could run still can run.
@@ -95,26 +95,30 @@ pub fn tails_can_be_moved()
     ensures transmit { TransmitTailMoves }
 {}
 
-/// A driver may offer its next receive slot by advancing RDT by one. DD must be clear in the slot's descriptor. If
-/// RCTL.EN is set, the slot's buffer must be inside memory, apart from all areas that the conditions of the law name.
-/// After the offer, these conditions hold again, the frames held and to be sent are the same, and engines that could
-/// run still can run. An area that the adapter may not write remains such an area, if it is apart from bytes 8 to 15
-/// of the descriptor and from the buffer.
+/// A driver may offer its next receive slot by advancing RDT by one. The slot after it must not be the driver's oldest
+/// slot, and DD must be clear in the slot's descriptor. If RCTL.EN is set, the slot's buffer must be inside memory,
+/// apart from all areas that the conditions of the law name.
+///
+/// After the offer, these conditions hold again, and the frames held and to be sent are the same. Engines that could
+/// run still can run. An area that the adapter may not write remains such an area, if it is apart from bytes 8 to 15 of
+/// the descriptor. If RCTL.EN is set, the area must also be apart from the buffer.
 pub fn slots_can_be_offered()
     ensures { SlotsCanBeOffered }
 {}
 
-/// A driver may offer its next transmit slot by advancing TDT by one. TCTL.PSP must be set. The slot's descriptor must
-/// ask for a report, and its DD must be clear. The slot's data must be inside memory, apart from all areas that the
-/// conditions of the law name. After the offer, these conditions hold again, and the slot's frame, padded, is the last
-/// one to be sent. If the descriptor can be transmitted, engines that could run still can run. An area that the
-/// adapter may not write remains such an area, if it is apart from byte 12 of the descriptor.
+/// A driver may offer its next transmit slot by advancing TDT by one. The slot after it must not be the driver's oldest
+/// slot, and TCTL.PSP must be set. The slot's descriptor must ask for a report, and its DD must be clear. The slot's
+/// data must be inside memory, apart from all areas that the conditions of the law name.
+///
+/// After the offer, these conditions hold again, and the slot's frame, padded, is the last one to be sent. If the
+/// descriptor can be transmitted, engines that could run still can run. An area that the adapter may not write remains
+/// such an area, if it is apart from byte 12 of the descriptor.
 pub fn frames_can_be_offered()
     ensures { FramesCanBeOffered }
 {}
 
-/// If receive buffers have room for each legal frame, no frame is cut: each slot that is finished or in
-/// progress contains a complete frame.
+/// If frames are cut into receive buffers with room for each legal frame, no frame has more than one piece. Each slot
+/// that is finished or in progress then contains a complete frame.
 pub fn large_buffers_take_frames()
     ensures { LargeBuffersTakeFrames }
 {}
@@ -134,27 +138,27 @@ pub fn written_slots_can_be_freed()
 {}
 
 /// Spare memory is apart from both rings, and from all buffers and data that outstanding slots point to. Whatever
-/// happens, spare memory remains spare, is apart from all areas that the conditions of the law name, and may not be
-/// written by the adapter. The finished pieces and the piece in progress must fit into a receive buffer, and they
-/// still fit afterwards.
+/// happens, spare memory remains spare and apart from all areas that the conditions of the law name, and the adapter
+/// may not write it. The finished pieces and the piece in progress must fit into a receive buffer, and they still fit
+/// afterwards.
 pub fn areas_stay_apart()
     ensures { AreasStayApart }
 {}
 
-/// An adapter is idle if no piece is in progress, no byte of a frame in the receive packet buffer is moved, and no
-/// frame is to be sent. Its rings must offer no slot, and be in memory, apart from each other. An idle adapter meets
-/// the conditions of the law, with the tails as the driver's oldest slots. An adapter is idle after power-on and after
-/// a reset, with a memory of any size.
+/// An idle adapter has no piece in progress, no moved byte in the receive packet buffer, and no frame to be sent. Its
+/// rings offer no slot, and are in memory, apart from each other. An idle adapter meets the conditions of the law, with
+/// the tails as the driver's oldest slots. An adapter is idle after power-on and after a reset, with a memory of any
+/// size.
 pub fn idle_rings_are_sound()
     ensures sound { IdleRingsAreSound }
     ensures after_power_on { IdleAfterPowerOn }
     ensures after_reset { IdleAfterReset }
 {}
 
-/// Idle rings remain idle until a register of a ring is written. The rings remain idle whatever happens between two
-/// accesses, whatever is read or stored, and after a write of any other register, even after a reset. After a write of
-/// a ring's register, the rings are idle if head equals tail in each ring, and both rings are in memory, apart from
-/// each other. So the conditions of the law hold in each state of initialization up to the first offered slot.
+/// Idle rings remain idle until a register of a ring is written. They remain idle whatever happens between two
+/// accesses, whatever is read or stored, and after a write of any other register, even after a reset. They are idle
+/// after a write of a ring's register if head equals tail in each, and both are in memory, apart from each other. So
+/// the conditions of the law hold in each state of initialization up to the first offered slot.
 pub fn idle_rings_stay_idle()
     ensures happenings { HappeningsKeepIdle }
     ensures reads { ReadsKeepIdle }
@@ -163,18 +167,19 @@ pub fn idle_rings_stay_idle()
     ensures writes { WritesKeepIdle }
 {}
 
-/// A driver may offer many receive slots by one write of RDT, if each could be offered after the slot before it.
+/// A driver may offer several receive slots by one write of RDT, if each can be offered after the slot before it.
 pub fn many_slots_can_be_offered()
     ensures { ManySlotsCanBeOffered }
 {}
 
-/// Other accesses of a driver to registers. After them, the conditions of the law hold, and slots and frames are the
-/// same:
+/// Other accesses of a driver to registers. After them, the conditions of the law hold. Except for `transmit_ring`,
+/// slots and frames are the same.
 /// - `receive_control`: a write of RCTL, if all areas that the conditions then name are inside memory, apart from one
 ///   another.
 /// - `transmit_control`: a write of TCTL, if PSP is set in the written value or TDH equals TDT.
-/// - `transmit_ring`: the setup of a transmit ring while no frame is in the packet buffer. TDH must equal TDT, and the
-///   ring must be apart from all other areas. The conditions then hold with TDT as the oldest slot.
+/// - `transmit_ring`: the setup of a transmit ring while no frame is in the transmit packet buffer. TDH must equal TDT,
+///   and the ring must be inside memory, apart from all other areas. The conditions then hold with TDT as the oldest
+///   slot. No transmit slot is outstanding, no frame is to be sent, and received frames are the same.
 /// - `others`, `reads`: a write of any other register, without a reset; a read of any register.
 pub fn registers_can_be_set()
     ensures receive_control { ReceiverCanBeSet }

@@ -1,19 +1,30 @@
-//! The bus between a driver and its adapter, the bus law, and a machine: an adapter with its host's memory.
+//! The bus between a driver and its adapter, the bus law, the laws of a driver's actions, and a machine: an adapter with
+//! its host's memory.
+//!
+//! The laws of a driver's actions use what a driver knows of its adapter and memory, and what happens in an interval of
+//! its run.
 //!
 //! Section numbers are those of Intel's "PCI/PCI-X Family of Gigabit Ethernet Controllers Software
 //! Developer's Manual".
 #![tactic(auto)]
 
+mod beginning_law;
 mod bus;
+mod driver_law;
 mod event;
 mod law;
 mod link_law;
 mod lively_bus;
 mod machine;
+mod register_law;
+mod reset_law;
 mod settings_law;
 mod trail_law;
+mod transmit_law;
 
+pub use beginning_law::{drivers_begin, registers_are_set, rings_are_stored, rings_stay};
 pub use bus::{Bus, HonestBus};
+pub use driver_law::{drivers_go_on, intervals_join, receive_slots_go_round};
 pub use event::{Access, Event, StoredBytes};
 pub use law::{
     any_steps_may_happen, areas_stay_apart, between_composes, drivers_side_stays,
@@ -26,7 +37,10 @@ pub use law::{
 pub use link_law::links_stay_up;
 pub use lively_bus::LivelyBus;
 pub use machine::Machine;
+pub use register_law::{registers_are_read, registers_are_written};
+pub use reset_law::drivers_reset;
 pub use settings_law::{adapters_rest, writes_alone_set};
 pub use trail_law::{
     causes_are_those_of_steps, faults_stay_visible, quiet_accesses_leave_adapters,
 };
+pub use transmit_law::{frames_are_offered, slots_are_freed, transmit_slots_are_stored};

@@ -18,7 +18,8 @@ pub struct LivelyBus<'a> {
 impl<'a> LivelyBus<'a> {
     ghost use Rattle.bus.specs.LivelyBuses.{IsPrepared};
 
-    /// Plays both steps, and counts the access that follows.
+    /// Plays a step of the EEPROM and a step of the PHY, and counts the access that follows. The count saturates at the
+    /// greatest `u64`.
     fn prepare(&mut self)
         ensures { IsPrepared self.old self.new }
     {

@@ -12,8 +12,8 @@ ghost use Rattle.bus.specs.Trails.{Occurs};
 ghost use Rattle.bus.specs.Machines.{after_event, is_asserted};
 ghost use Rattle.bus.specs.declared.event.Access.TheVariants.{Reads, Stores, Writes};
 ghost use Rattle.bus.specs.declared.event.Event.TheVariants.{Accesses, Arrives, Steps};
-ghost use Rattle.eeprom.specs.Eerd.{is_pending};
-ghost use Rattle.mdic_phy.specs.Mdic.{has_work};
+ghost use Rattle.eeprom_phy.specs.Eerd.{is_pending};
+ghost use Rattle.eeprom_phy.specs.Mdic.{has_work};
 ghost use Rattle.descriptors.specs.Frames.{longest_frame};
 ghost use Rattle.dma_memory.specs.HostMemory.{bytes_at, LiesIn};
 
@@ -45,7 +45,7 @@ impl Model for Machine {
 }
 
 impl Machine {
-    /// Returns a machine with this adapter and this memory.
+    /// Returns a machine with this adapter and this memory. The current level of the interrupt line counts as reported.
     pub fn new(adapter: Adapter, memory: HostMemory) -> Machine
         ensures { result ≡ record {
           world = record { memory = memory; adapter = adapter };
@@ -60,7 +60,8 @@ impl Machine {
         }
     }
 
-    /// Plays one step of the adapter. `wire_free` is whether the wire has room for a frame.
+    /// Plays one step of the adapter, and returns its outcome. `wire_free` states whether the wire has room for a
+    /// frame.
     #[inline(always)]
     pub fn step(&mut self, kind: StepKind, wire_free: bool) -> Outcome<()>
         ensures occurs { Occurs (Steps kind wire_free (framed result self.old.world.adapter)) self.old.world }
@@ -89,7 +90,7 @@ impl Machine {
         self.adapter.arrive(frame)
     }
 
-    /// Reads the register at an offset in bytes.
+    /// Reads the register at an offset in bytes, and returns its value.
     #[inline(always)]
     pub fn read(&mut self, offset: u32) -> u32
         ensures occurs { Occurs (Accesses (Reads offset result)) self.old.world }
@@ -157,14 +158,14 @@ impl Machine {
         self.adapter.has_work(kind)
     }
 
-    /// Returns whether a step of the EEPROM would end a read.
+    /// Returns whether a read of the EEPROM is pending: a step of the EEPROM then ends this read.
     pub fn eeprom_has_work(&self) -> bool
         ensures { result ≡ is_pending self.now.world.adapter.eerd }
     {
         self.adapter.eeprom_has_work()
     }
 
-    /// Returns whether a step of the PHY would change the PHY or MDIC.
+    /// Returns whether a step of the PHY changes the PHY or MDIC.
     pub fn phy_has_work(&self) -> bool
         ensures { result ≡ has_work self.now.world.adapter.mdic self.now.world.adapter.phy }
     {
@@ -212,8 +213,8 @@ impl Machine {
         &self.adapter
     }
 
-    /// Appends the frames that are to be sent to `sending`, and the frames that are held to `holding`. See
-    /// [`Adapter::pending`].
+    /// Appends the frames that are to be sent to `sending`, and the frames that are held, from the receive slot
+    /// `oldest` on, to `holding`. Both lists must have room for these frames. See [`Adapter::pending`].
     pub fn pending(&self, oldest: u16, sending: &mut Vec<Frame>, holding: &mut Vec<Frame>)
         requires sending { CanReadSending self.now.world }
         requires holding { CanReadHeld oldest self.now.world }

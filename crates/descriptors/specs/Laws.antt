@@ -18,7 +18,6 @@ pub length-rx_desc_bytes : (desc : RxDesc) → length (rx_desc_bytes desc) ≡ 1
 unfolding rx_desc_bytes
 length-rx_desc_bytes desc = refl
 
--- A receive descriptor whose fields fit, converted to bytes and back, is the same descriptor.
 pub rx_desc_of-rx_desc_bytes : DescriptorsComeBack
 unfolding rx_desc_bytes rx_desc_of
 rx_desc_of-rx_desc_bytes desc fits =
@@ -28,7 +27,6 @@ rx_desc_of-rx_desc_bytes desc fits =
     let special = little_number-reads_back 2 desc.special [] fits.special in
     rw (address, length, checksum, special) refl
 
--- If a byte is added below a number, the bytes of the number move up by one place.
 div-above : (j b x : ℕ) → b < 256 → (b + 256 * x) / 256 ^ suc j ≡ x / 256 ^ j
 div-above j b x below =
     let low : (b + 256 * x) / 256 ≡ x = omega arith in
@@ -56,22 +54,18 @@ little_bytes-little_number (suc n) (b ∷ bytes) are fits =
     ∙ little_bytes-little_number n bytes (λ i. are (suc i)) (omega arith) in
     rw (moved, first, others) refl
 
--- The part of a list of bytes from a place on is a list of bytes.
 AreBytes-drop : (i : ℕ) (bytes : List ℕ) → AreBytes bytes → AreBytes (drop i bytes)
 AreBytes-drop i bytes are k = rw (get_or-drop i bytes k 0) (are (i + k))
 
--- The two bytes from a place on.
 take-two : (i : ℕ) (bytes : List ℕ) → suc i < length bytes → take 2 (drop i bytes) ≡ slice_index bytes i ∷ slice_index bytes (suc i) ∷ []
 take-two i bytes fits = ap (take 2) (drop-cons bytes i 0 (omega arith))
     ∙ ap (λ (rest : List ℕ). slice_index bytes i ∷ take 1 rest) (drop-cons bytes (suc i) 0 fits)
 
--- The number in the n bytes from a place on, converted to n bytes, is these bytes.
 little_bytes-drop : (n i : ℕ) (bytes : List ℕ) → AreBytes bytes → i + n ≤ length bytes
     → little_bytes n (little_number n (drop i bytes)) ≡ take n (drop i bytes)
 little_bytes-drop n i bytes are fits = little_bytes-little_number n (drop i bytes) (AreBytes-drop i bytes are)
     (omega (arith, length-drop i bytes))
 
--- Sixteen bytes are eight bytes, followed by four pairs of bytes.
 in_pieces : (bytes : List ℕ) → length bytes ≡ 16
     → take 8 bytes ++ take 2 (drop 8 bytes) ++ take 2 (drop 10 bytes) ++ take 2 (drop 12 bytes) ++ take 2 (drop 14 bytes) ≡ bytes
 in_pieces bytes size =
@@ -81,12 +75,10 @@ in_pieces bytes size =
     ∙ sym (take-add 14 2 bytes)
     ∙ take_all 16 bytes (omega arith)
 
--- If five pieces are equal, the joined pieces are equal.
 join-same : (a a' b b' c c' d d' e e' : List ℕ) → a ≡ a' → b ≡ b' → c ≡ c' → d ≡ d' → e ≡ e'
     → a ++ b ++ c ++ d ++ e ≡ a' ++ b' ++ c' ++ d' ++ e'
 join-same a a' b b' c c' d d' e e' same_a same_b same_c same_d same_e = rw (same_a, same_b, same_c, same_d, same_e) refl
 
--- Sixteen bytes that are converted to a receive descriptor and back are the same bytes.
 pub rx_desc_bytes-rx_desc_of : BytesComeBack
 unfolding rx_desc_bytes rx_desc_of
 rx_desc_bytes-rx_desc_of bytes are size =
@@ -102,7 +94,6 @@ pub length-tx_desc_bytes : (desc : TxDesc) → length (tx_desc_bytes desc) ≡ 1
 unfolding tx_desc_bytes
 length-tx_desc_bytes desc = refl
 
--- A transmit descriptor whose fields fit, converted to bytes and back, is the same descriptor.
 pub tx_desc_of-tx_desc_bytes : TxDescriptorsComeBack
 unfolding tx_desc_bytes tx_desc_of
 tx_desc_of-tx_desc_bytes desc fits =
@@ -111,7 +102,6 @@ tx_desc_of-tx_desc_bytes desc fits =
     let special = little_number-reads_back 2 desc.special [] fits.special in
     rw (address, length, special) refl
 
--- Sixteen bytes that are converted to a transmit descriptor and back are the same bytes.
 pub tx_desc_bytes-tx_desc_of : TxBytesComeBack
 unfolding tx_desc_bytes tx_desc_of
 tx_desc_bytes-tx_desc_of bytes are size =
@@ -122,7 +112,7 @@ tx_desc_bytes-tx_desc_of bytes are size =
     let special = little_bytes-drop 2 14 bytes are (omega arith) in
     join-same _ _ _ _ _ _ _ _ _ _ address length command status special ∙ in_pieces bytes size
 
--- A frame is sendable exactly if it has 14 to 1,518 bytes.
+-- A sendable frame has 14 to 1,518 bytes.
 pub is_sendable-bounds : (frame : List ℕ) → IsTrue (is_sendable frame) → (14 ≤ length frame) × (length frame ≤ 1518)
 is_sendable-bounds frame sendable = search rules
 

@@ -6,3 +6,9 @@ pub mod Ring
 pub mod Frames
 pub mod RingLaws
 pub mod Laws
+pub mod QueuedFrames
+pub mod HashedFrames
+pub mod QueueLaws
+pub mod Packed
+pub mod QueuePlaces
+pub mod WrappedPlaces

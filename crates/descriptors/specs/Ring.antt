@@ -9,18 +9,18 @@ use Rattle.descriptors.specs.declared.ring.Ring.{Ring}
 abbrev pub count_of : Ring → ℕ
 count_of ring = min (ring.bytes / 16) 65536
 
--- Head and tail are slots of the ring. A ring without descriptors has no slots.
+-- Head and tail are indices of slots of the ring. A ring without descriptors has no slots.
 pub record HasValidIndices (ring : Ring) : Type 0 where
   -- Head is the index of a slot.
   pub head : ring.head < count_of ring
   -- Tail is the index of a slot.
   pub tail : ring.tail < count_of ring
 
--- The slot after the slot with this index. After the last slot, this is the first slot.
+-- The index of the slot after the slot with this index: 0 after the last slot.
 abbrev pub next_of : Ring → ℕ → ℕ
 next_of ring index = (index + 1) % count_of ring
 
--- The number of steps from one index forward to another, with wrapping.
+-- The number of slots by which one index must advance to reach another, with wrapping.
 abbrev pub distance_of : Ring → ℕ → ℕ → ℕ
 distance_of ring from to = (to + count_of ring - from) % count_of ring
 
@@ -28,7 +28,7 @@ distance_of ring from to = (to + count_of ring - from) % count_of ring
 abbrev pub address_of : Ring → ℕ → ℕ
 address_of ring index = ring.base + 16 * index
 
--- The k slots from an index on, in a ring of n slots, with wrapping.
+-- The indices of k slots from an index on, in a ring of n slots, with wrapping.
 abbrev pub slots_from : ℕ → ℕ → ℕ → List ℕ
 slots_from n index zero = []
 slots_from n index (suc k) = index ∷ slots_from n ((index + 1) % n) k
@@ -38,7 +38,7 @@ slots_from n index (suc k) = index ∷ slots_from n ((index + 1) % n) k
 unfoldable pub offered_places : Ring → List ℕ
 offered_places ring = slots_from (count_of ring) ring.head (distance_of ring ring.head ring.tail)
 
--- Laws of rings. In the first and the last one, head and tail are slots.
+-- Laws of rings. The first and the last law require that head and tail are indices of slots.
 
 -- If head differs from tail, the first slot that the adapter owns is the one at the head. After the head advances by one slot, the adapter
 -- owns the same slots without this first slot.

@@ -6,7 +6,7 @@ use Rattle.std.proofs.Math.Nat.{mod-eq_of_lt, mod_self, add-mod_left}
 use Rattle.descriptors.specs.Ring.{count_of, distance_of, slots_from, offered_places, OfferedBeginAtHead, NoneIsOffered, OfferedAreDistance}
 use Rattle.descriptors.specs.Ring.{OfferedGrowAtTail}
 
--- The slot after a slot with number i has number i + 1, or 0 after the last one.
+-- The slot after the slot with index i has index i + 1, or 0 after the last slot.
 pub next-inner : (n i : ℕ) → i + 1 < n → (i + 1) % n ≡ i + 1
 next-inner n i inner = mod-eq_of_lt inner
 
@@ -17,8 +17,8 @@ next-last n i last = ap (λ (k : ℕ). k % n) last ∙ mod_self n
 pub next-below : (n i : ℕ) → i < n → (i + 1) % n < n
 next-below n i slot = mod_below (i + 1) n (omega arith)
 
--- The distance to a slot with the same or a greater number is the difference of the numbers. To a slot with a smaller number, the
--- distance wraps.
+-- The distance to a slot with the same or a greater index is the difference of the indices. To a slot with a smaller index, the distance
+-- wraps.
 pub distance-forward : (n from to : ℕ) → to < n → from ≤ to → (to + n - from) % n ≡ to - from
 distance-forward n from to slot forward =
     let moved : to + n - from ≡ n + (to - from) = omega arith in
@@ -27,7 +27,7 @@ distance-forward n from to slot forward =
 pub distance-around : (n from to : ℕ) → from < n → to < from → (to + n - from) % n ≡ to + n - from
 distance-around n from to slot around = mod-eq_of_lt (omega arith)
 
--- From the next slot on, the distance to another slot is shorter by one.
+-- If two slots differ, the distance from the slot after the first one to the second one is shorter by one.
 pub distance-step : (n from to : ℕ) → from < n → to < n → ¬ (from ≡ to) → (to + n - from) % n ≡ suc ((to + n - (from + 1) % n) % n)
 distance-step n from to slot_from slot_to apart =
     ⊎_elim
@@ -101,14 +101,11 @@ place-distance n (suc k) from to slot_from slot_to far =
     place-distance n k ((from + 1) % n) to (next-below n from slot_from) slot_to (omega arith))
     (cases_eq from to)
 
--- If head differs from tail, the first slot that the adapter owns is the one at the head. After the head advances by one slot, the
--- adapter owns the same slots without this first slot.
 pub places-head : OfferedBeginAtHead
 unfolding offered_places
 places-head ring sound apart = ap (slots_from (count_of ring) ring.head)
     (distance-step (count_of ring) ring.head ring.tail sound.head sound.tail apart)
 
--- If head equals tail, the adapter owns no slot.
 pub places-none : NoneIsOffered
 unfolding offered_places
 places-none ring same =
@@ -116,12 +113,10 @@ places-none ring same =
     let round : ring.tail + n - ring.head ≡ n = omega (arith, same) in
     ap (slots_from n ring.head) (ap (λ (k : ℕ). k % n) round ∙ mod_self n)
 
--- The number of slots that the adapter owns is the distance from head to tail.
 pub length-places : OfferedAreDistance
 unfolding offered_places
 length-places ring = length-slots_from (count_of ring) ring.head (distance_of ring ring.head ring.tail)
 
--- If the tail advances by one slot, but not to the head, the slot at the old tail becomes the last offered slot.
 pub places-tail : OfferedGrowAtTail
 unfolding offered_places
 places-tail ring sound apart =

@@ -13,7 +13,7 @@ pub const SHORTEST_LEGAL: usize = 60;
 pub const LONGEST_LEGAL: usize = 1518;
 
 /// The least number of bytes of a frame that can be sent: two addresses and the Length/Type field (IEEE 802.3, 3.1.1).
-/// After padding, the frame has [`SHORTEST_LEGAL`] bytes on the wire.
+/// After padding, such a frame has [`SHORTEST_LEGAL`] bytes on the wire.
 pub const SHORTEST_SENDABLE: usize = 14;
 
 /// The greatest number of bytes of a frame that can be sent.

@@ -21,10 +21,11 @@ pub fn transmit_descriptors_come_back()
     ensures bytes { TxBytesComeBack }
 {}
 
-/// Laws of rings whose head and tail are slots. If head differs from tail, the slots that the adapter owns begin at
-/// the head. After the head then advances by one slot, the adapter owns the same slots without the first. If head
-/// equals tail, the adapter owns no slot. The number of the adapter's slots is the distance from head to tail. If the
-/// tail advances by one slot, but not to the head, the slot at the old tail becomes the adapter's last slot.
+/// Laws of rings. If head and tail are indices of different slots, the slots that the adapter owns begin at the head.
+/// After the head then advances by one slot, the adapter owns the same slots without the first. If head equals tail,
+/// the adapter owns no slot. The number of the adapter's slots is the distance from head to tail. If the tail advances
+/// by one slot, but not to the head, the slot at the old tail becomes the adapter's last slot. This law also requires
+/// that head and tail are indices of slots.
 ///
 /// The function does nothing: its contract is the laws.
 pub fn offered_places_go_from_head_to_tail()

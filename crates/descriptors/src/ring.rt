@@ -17,9 +17,9 @@ pub struct Ring {
     pub base: u64,
     /// The length of the ring in bytes, sixteen for each descriptor.
     pub bytes: u32,
-    /// The slot that the adapter uses next.
+    /// The index of the slot that the adapter uses next.
     pub head: u16,
-    /// The slot after the last one that the adapter owns. If tail equals head, the adapter owns no slot.
+    /// The index of the slot after the last one that the adapter owns. If tail equals head, the adapter owns no slot.
     pub tail: u16,
 }
 
@@ -35,7 +35,7 @@ impl Ring {
         (self.bytes / DESCRIPTOR_BYTES).min(MOST_INDEXED)
     }
 
-    /// Returns whether head and tail are slots of the ring. A ring without descriptors has no slots.
+    /// Returns whether head and tail are indices of slots of the ring. A ring without descriptors has no slots.
     pub fn has_valid_indices(&self) -> bool
         ensures { IsTrue result ↔ HasValidIndices self.now }
     {
@@ -43,7 +43,7 @@ impl Ring {
         (self.head as u32) < count && (self.tail as u32) < count
     }
 
-    /// Returns the slot after the slot `index`. After the last slot, this is the first slot.
+    /// Returns the index of the slot after the slot `index`: 0 after the last slot.
     pub fn next(&self, index: u16) -> u16
         requires { index < count_of self.now }
         ensures { result ≡ next_of self.now index }
@@ -52,7 +52,7 @@ impl Ring {
         if next == self.count() { 0 } else { next as u16 }
     }
 
-    /// Returns the number of steps from one slot forward to another, with wrapping.
+    /// Returns the number of slots by which `from` must advance to reach `to`, with wrapping.
     pub fn distance(&self, from: u16, to: u16) -> u32
         requires from_slot { from < count_of self.now }
         requires to_slot { to < count_of self.now }
@@ -65,8 +65,8 @@ impl Ring {
         }
     }
 
-    /// Returns the address of a slot's descriptor, or `None` exactly if the address has more than 64 bits. Addresses
-    /// don't wrap.
+    /// Returns the address of the descriptor in the slot `index`, or `None` exactly if the address has more than 64
+    /// bits. Addresses don't wrap.
     pub fn descriptor(&self, index: u16) -> Option<u64>
         ensures in_range { IsSome result ↔ (address_of self.now index < 2 ^ 64) }
         ensures value { IfSome result (λ address. address ≡ address_of self.now index) }

@@ -17,7 +17,7 @@ pub struct RxDesc {
     pub length: u16,
     /// The packet checksum.
     pub checksum: u16,
-    /// Whether the adapter is done with the descriptor, and whether the packet ends in the descriptor's buffer.
+    /// DD: whether the adapter is done with the descriptor. EOP: whether the packet ends in the descriptor's buffer.
     pub status: RxStatus,
     /// The error bits; 0 if there was no error.
     pub errors: u8,

@@ -7,22 +7,22 @@ use byteorder::{ByteOrder, LittleEndian};
 /// The number of bytes of a transmit descriptor.
 pub const TX_DESC_BYTES: usize = 16;
 
-/// A transmit descriptor of the legacy format (Intel's manual, "3.3.3 Legacy Transmit Descriptor Format"): the address
-/// and length of a frame to be sent (by the manual, also of a part of a frame), the commands for the adapter, and
-/// whether the adapter is done with the descriptor.
+/// A transmit descriptor of the legacy format (Intel's manual, "3.3.3 Legacy Transmit Descriptor Format"). The
+/// descriptor contains the address and length of a frame to be sent (by the manual, also of a part of a frame). It also
+/// contains the commands for the adapter, and whether the adapter is done with the descriptor.
 #[derive(Clone, Copy, Debug, PartialEq, Eq)]
 pub struct TxDesc {
     /// The address of the frame's bytes in the host's memory.
     pub address: u64,
     /// The number of bytes of the frame.
     pub length: u16,
-    /// Checksum offset: at which byte a checksum would be inserted.
+    /// Checksum offset: the index of the byte at which a checksum would be inserted.
     pub cso: u8,
     /// The commands for the adapter.
     pub command: TxCommand,
     /// Whether the adapter is done with the descriptor.
     pub status: TxStatus,
-    /// Checksum start: at which byte the range of a checksum would begin.
+    /// Checksum start: the index of the first byte that a checksum would cover.
     pub css: u8,
     /// VLAN tag information.
     pub special: u16,

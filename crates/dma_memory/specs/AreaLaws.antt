@@ -1,4 +1,4 @@
--- Lemmas about areas that are apart or inside one another, and about what a store changes. Other crates use them, too.
+-- Lemmas about areas that are apart or inside one another, and about what a store changes. Other crates use these lemmas, too.
 use Rattle.std.proofs.Common.{inl, inr, ℕ, List, length, arith}
 use Rattle.dma_memory.specs.HostMemory.{with_bytes, LiesIn}
 use Rattle.dma_memory.specs.Areas.{Area, area_at, AreApart, IsInside, ChangesOnly}
@@ -21,7 +21,7 @@ pub lies-inside : (memory : List ℕ) (inner outer : Area) → IsInside inner ou
     → LiesIn memory inner.address inner.size
 lies-inside memory inner outer inside lies = omega (arith, inside.from, inside.to)
 
--- A store changes only the bytes that it writes.
+-- A store inside memory changes at most the bytes that it writes, and doesn't change the size.
 pub changes_only_stored : (memory bytes : List ℕ) (address : ℕ) → LiesIn memory address (length bytes)
     → ChangesOnly memory (with_bytes memory address bytes) (area_at address (length bytes))
 changes_only_stored memory bytes address lies = record {

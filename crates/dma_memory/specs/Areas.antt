@@ -21,15 +21,15 @@ descriptor_area address = area_at address 16
 abbrev pub bytes_in : List ℕ → Area → List ℕ
 bytes_in memory area = bytes_at memory area.address area.size
 
--- One of two areas ends at or before the start of the other, so no byte belongs to both areas.
+-- One of two areas ends at or before the start of the other.
 abbrev pub AreApart : Area → Area → Type 0
 AreApart a b = (a.address + a.size ≤ b.address) ⊎ (b.address + b.size ≤ a.address)
 
--- The first area begins and ends within the second.
+-- The area `inner` begins and ends within `outer`.
 pub record IsInside (inner outer : Area) : Type 0 where
-  -- The first area doesn't begin before the second.
+  -- The area `inner` doesn't begin before `outer`.
   pub from : outer.address ≤ inner.address
-  -- The first area doesn't end after the second.
+  -- The area `inner` doesn't end after `outer`.
   pub to : inner.address + inner.size ≤ outer.address + outer.size
 
 -- These areas are inside memory, and any two of them are apart.
@@ -39,9 +39,9 @@ pub record AreSeparate (memory : List ℕ) (areas : List Area) : Type 0 where
   -- Any two areas are apart.
   pub apart : AllPairs AreApart areas
 
--- The two memories differ at most in this area.
+-- The two memories have the same size, and differ at most in this area.
 pub record ChangesOnly (memory memory' : List ℕ) (area : Area) : Type 0 where
   -- The size of memory doesn't change.
   pub size : length memory' ≡ length memory
-  -- Every area that doesn't overlap this area has the same bytes in both memories.
+  -- Every area that is apart from this area has the same bytes in both memories.
   pub others : (other : Area) → AreApart area other → bytes_in memory' other ≡ bytes_in memory other

@@ -7,7 +7,7 @@ abbrev pub bytes_at : List ℕ → ℕ → ℕ → List ℕ
 bytes_at memory address n = take n (drop address memory)
 
 -- The memory in which these bytes replace the bytes from the address on. If there are no bytes, memory is unchanged, whatever the address.
--- If the bytes aren't inside memory, the result is longer than memory.
+-- If any of the bytes are outside memory, the result is longer than memory.
 abbrev pub with_bytes : List ℕ → ℕ → List ℕ → List ℕ
 with_bytes memory address bytes = take address memory ++ bytes ++ drop (address + length bytes) memory
 

@@ -14,14 +14,12 @@ with_bytes-none memory address =
     append_assoc (take address memory) [] (drop (address + 0) memory) ∙ ap (λ (end : ℕ). take address memory ++ drop end memory) none
     ∙ take-append-drop address memory
 
--- A range inside the first of two joined lists is a range of the first list.
 bytes_at-front : (front rest : List ℕ) (address n : ℕ) → address + n ≤ length front
     → bytes_at (front ++ rest) address n ≡ bytes_at front address n
 bytes_at-front front rest address n fits =
     ap (take n) (drop-append-le address front rest (omega arith))
     ∙ take-append-le n (drop address front) rest (omega (arith, length-drop address front))
 
--- A range that doesn't begin before the second of two joined lists is a range of the second list.
 bytes_at-rest : (front rest : List ℕ) (address n : ℕ) → length front ≤ address
     → bytes_at (front ++ rest) address n ≡ bytes_at rest (address - length front) n
 bytes_at-rest front rest address n past =
@@ -30,7 +28,7 @@ bytes_at-rest front rest address n past =
     ∙ ap (take n) (sym (drop-drop (address - length front) (length front) (front ++ rest))
     ∙ ap (drop (address - length front)) (drop_at front rest (length front) refl))
 
--- A store inside memory keeps the memory's size.
+-- A store inside memory doesn't change the size of memory.
 pub length-with_bytes : (memory bytes : List ℕ) (address : ℕ) → LiesIn memory address (length bytes)
     → length (with_bytes memory address bytes) ≡ length memory
 length-with_bytes memory [] address fits = ap length (with_bytes-none memory address)
@@ -58,7 +56,7 @@ bytes_at-stored memory (x ∷ xs) address fits =
     (length-take-le address memory (omega arith)))
     ∙ take_at bytes (drop (address + length bytes) memory) (length bytes) refl
 
--- A store doesn't change the bytes before it.
+-- A store doesn't change the bytes before its address.
 pub bytes_at-before : (memory bytes : List ℕ) (address i n : ℕ) → LiesIn memory address (length bytes) → i + n ≤ address
     → bytes_at (with_bytes memory address bytes) i n ≡ bytes_at memory i n
 bytes_at-before memory [] address i n fits before = ap (λ (m : List ℕ). bytes_at m i n) (with_bytes-none memory address)
@@ -70,7 +68,7 @@ bytes_at-before memory (x ∷ xs) address i n fits before =
     ∙ sym (bytes_at-front (take address memory) (drop address memory) i n (omega (arith, len)))
     ∙ ap (λ (m : List ℕ). bytes_at m i n) (take-append-drop address memory)
 
--- A store doesn't change the bytes after it.
+-- A store doesn't change the bytes after the last stored byte.
 pub bytes_at-after : (memory bytes : List ℕ) (address i n : ℕ) → LiesIn memory address (length bytes) → address + length bytes ≤ i
     → bytes_at (with_bytes memory address bytes) i n ≡ bytes_at memory i n
 bytes_at-after memory [] address i n fits after = ap (λ (m : List ℕ). bytes_at m i n) (with_bytes-none memory address)
@@ -83,14 +81,12 @@ bytes_at-after memory (x ∷ xs) address i n fits after =
     ∙ ap (take n) (drop-drop (i - length (take address memory ++ bytes)) (address + length bytes) memory)
     ∙ ap (λ (j : ℕ). take n (drop j memory)) k
 
--- A store doesn't change bytes that are apart from it.
+-- A store doesn't change bytes that are apart from the stored bytes.
 pub bytes_at-elsewhere : (memory bytes : List ℕ) (address i n : ℕ) → LiesIn memory address (length bytes)
     → AreApart (area_at address (length bytes)) (area_at i n) → bytes_at (with_bytes memory address bytes) i n ≡ bytes_at memory i n
 bytes_at-elsewhere memory bytes address i n fits (inl after) = bytes_at-after memory bytes address i n fits after
 bytes_at-elsewhere memory bytes address i n fits (inr before) = bytes_at-before memory bytes address i n fits before
 
--- Two stores to adjacent ranges have the same result as one store of the joined bytes, if the first range begins at or before the end of
--- memory.
 adjacent : (memory first second : List ℕ) (address : ℕ) → address ≤ length memory
     → with_bytes (with_bytes memory address first) (address + length first) second ≡ with_bytes memory address (first ++ second)
 adjacent memory first second address fits =

@@ -3,7 +3,7 @@ use Rattle.std.specs.Prelude.{◌≡◌, ◌≢◌, ◌≤◌, ◌<◌, ◌+◌,
 use Rattle.std.specs.Int.{next_multiple_of}
 use Rattle.dma_memory.specs.Areas.{Area, area_at, AreApart}
 
--- How many descriptors each ring has, and how many receive buffers there are.
+-- The numbers of descriptors of both rings, and the number of receive buffers.
 pub record Counts : Type 0 where
   -- The number of descriptors of the receive ring.
   pub rx : ℕ
@@ -22,11 +22,11 @@ pub record IsRingSize (n : ℕ) : Type 0 where
   -- The number is at most 4,096.
   pub most : n ≤ 4096
 
--- There is at least one buffer for each receive descriptor, and there are at most 8,192 buffers (our choice).
+-- There is at least one receive buffer for each receive descriptor, and there are at most 8,192 receive buffers (our choice).
 pub record IsBufferCount (rx buffers : ℕ) : Type 0 where
-  -- There is a buffer for each receive descriptor.
+  -- There is at least one receive buffer for each receive descriptor.
   pub least : rx ≤ buffers
-  -- There are at most 8,192 buffers.
+  -- There are at most 8,192 receive buffers.
   pub most : buffers ≤ 8192
 
 -- The counts of descriptors and receive buffers that a layout may have.
@@ -61,7 +61,8 @@ pub data Place : Type 0 where
   TransmitBuffer : ℕ → Place
   ReceiveBuffer : ℕ → Place
 
--- A layout has both rings, one transmit buffer for each transmit descriptor, and its receive buffers.
+-- The layout with these counts has this place: a ring, one of its transmit buffers (one for each transmit descriptor), or one of its
+-- receive buffers.
 abbrev pub HasPlace : Counts → Place → Type 0
 HasPlace counts ReceiveRing = Unit {0}
 HasPlace counts TransmitRing = Unit {0}
@@ -76,7 +77,7 @@ start_of counts TransmitRing = descriptor_bytes * counts.rx
 start_of counts (TransmitBuffer slot) = buffers_start counts + transmit_buffer_bytes * slot
 start_of counts (ReceiveBuffer number) = buffers_start counts + transmit_buffer_bytes * counts.tx + receive_buffer_bytes * number
 
--- The size of a place in bytes.
+-- The number of bytes of a place.
 abbrev pub bytes_of : Counts → Place → ℕ
 bytes_of counts ReceiveRing = descriptor_bytes * counts.rx
 bytes_of counts TransmitRing = descriptor_bytes * counts.tx
@@ -91,7 +92,7 @@ size_of counts = start_of counts (ReceiveBuffer counts.buffers)
 abbrev pub area_of : Counts → Place → Area
 area_of counts place = area_at (start_of counts place) (bytes_of counts place)
 
--- Any two places of a layout are apart.
+-- Any two different places of a layout are apart.
 abbrev pub PlacesAreApart : Type 0
 PlacesAreApart = (counts : Counts) (a b : Place) → HasPlace counts a → HasPlace counts b → a ≢ b
     → AreApart (area_of counts a) (area_of counts b)

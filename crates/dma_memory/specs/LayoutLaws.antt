@@ -5,18 +5,15 @@ use Rattle.dma_memory.specs.Areas.{area_at, AreApart}
 use Rattle.dma_memory.specs.Layout.{Counts, ReceiveRing, TransmitRing, TransmitBuffer, ReceiveBuffer, buffers_start, PlacesAreApart}
 use Rattle.dma_memory.specs.Layout.{PlacesLieBelowSize, BeginsAtNextMultiple}
 
--- The buffers begin at the first multiple of a transmit buffer's size at or after the end of both rings.
 pub begins : (counts : Counts) → BeginsAtNextMultiple counts
 begins counts = record { multiple = omega arith; behind_rings = omega arith; first = omega arith }
 
--- Each place ends at or before the end of the memory that the layout needs.
 pub place-below_size : PlacesLieBelowSize
 place-below_size counts ReceiveRing has = let b = (begins counts).behind_rings in omega arith
 place-below_size counts TransmitRing has = let b = (begins counts).behind_rings in omega arith
 place-below_size counts (TransmitBuffer slot) has = omega arith
 place-below_size counts (ReceiveBuffer number) has = omega arith
 
--- Two transmit buffers with different numbers are apart, and so are two receive buffers.
 transmit_apart : (from i j : ℕ) → i ≢ j → AreApart (area_at (from + 2048 * i) 2048) (area_at (from + 2048 * j) 2048)
 transmit_apart from i j differ = elim (cases_lt i j) as
     (λ _. AreApart (area_at (from + 2048 * i) 2048) (area_at (from + 2048 * j) 2048)) [
@@ -31,7 +28,6 @@ receive_apart from i j differ = elim (cases_lt i j) as
       | inr above ↦ inr (omega arith)
     ]
 
--- Two different places are apart.
 pub places-apart : PlacesAreApart
 places-apart counts ReceiveRing ReceiveRing has_a has_b differ = absurd (differ refl)
 places-apart counts ReceiveRing TransmitRing has_a has_b differ = inl (omega arith)

@@ -2,7 +2,7 @@
 -- lists, joined. A number has an owner for each place in the list at which it occurs.
 use Rattle.std.specs.Prelude.{◌≡◌, ◌≤◌, ◌<◌, ◌+◌, ◌↔◌, ◌==◌, ◌++◌, ◌∷◌, ℕ, List, Some, length, count_by, nat_lt, slice_get, if◌then◌else◌}
 
--- How many times a number occurs in a list.
+-- The number of times that a number occurs in a list.
 abbrev pub copies : ℕ → List ℕ → ℕ
 copies k numbers = count_by (λ number. k == number) numbers
 
@@ -28,7 +28,7 @@ pub record EachStandsOnce (n : ℕ) (numbers : List ℕ) : Type 0 where
 abbrev pub CountsArePlaces : Type 0
 CountsArePlaces = (n : ℕ) (numbers : List ℕ) → HasOneOwner n numbers ↔ EachStandsOnce n numbers
 
--- A number occurs in two joined lists as often as in the first and in the second together.
+-- The count of a number in two joined lists is the sum of its counts in the two lists.
 abbrev pub OwnersAddUp : Type 0
 OwnersAddUp = (k : ℕ) (xs ys : List ℕ) → copies k (xs ++ ys) ≡ copies k xs + copies k ys
 
@@ -37,7 +37,7 @@ abbrev pub MovesKeepOneOwner : Type 0
 MovesKeepOneOwner = (n number : ℕ) (giver giver' taker taker' : List ℕ) → HasOneOwner n (giver ++ taker)
     → HaveSameNumbers giver (number ∷ giver') → HaveSameNumbers (number ∷ taker) taker' → HasOneOwner n (giver' ++ taker')
 
--- If each number below n has one owner, a number that one owner has is below n, and no other owner has it.
+-- If each number below n has one owner in `xs` and `ys` joined, each number of `ys` is below n, and isn't in `xs`.
 abbrev pub OwnedIsNowhereElse : Type 0
 OwnedIsNowhereElse = (n number : ℕ) (xs ys : List ℕ) → HasOneOwner n (xs ++ ys) → 0 < copies number ys → (number < n)
     × (copies number xs ≡ 0)
@@ -50,7 +50,7 @@ OneOwnerCounts = (n : ℕ) (numbers : List ℕ) → HasOneOwner n numbers → le
 abbrev pub NoSecondOwnerBounds : Type 0
 NoSecondOwnerBounds = (n : ℕ) (numbers : List ℕ) → HasNoSecondOwner n numbers → length numbers ≤ n
 
--- If moreover a number below n is missing, the list has fewer than n numbers.
+-- If no number has a second owner (`HasNoSecondOwner`), and a number below n is missing, the list has fewer than n numbers.
 abbrev pub MissingLeavesRoom : Type 0
 MissingLeavesRoom = (n number : ℕ) (numbers : List ℕ) → HasNoSecondOwner n numbers → number < n → copies number numbers ≡ 0
     → length numbers < n

@@ -52,7 +52,6 @@ copies-push k x xs = sum_by_push (λ y. if k == y then 1 else 0) xs x
 pub copies-last : (k : ℕ) (xs : List ℕ) → copies k (xs ++ k ∷ []) ≡ copies k xs + 1
 copies-last k xs = omega (arith, copies-push k k xs, if_same-yes k k refl)
 
--- A number occurs in two joined lists as often as in both together.
 pub copies-append : OwnersAddUp
 copies-append k xs ys = sum_by-append (λ y. if k == y then 1 else 0) xs ys
 
@@ -74,7 +73,7 @@ known_from_no_second n number xs once some = below_from_if_below number n (omega
 pub once_from_no_second : (n number : ℕ) (xs : List ℕ) → HasNoSecondOwner n xs → copies number xs ≤ 1
 once_from_no_second n number xs once = omega (arith, once number, if_below-most number n)
 
--- If each number below n has one owner, the same is true of each list with the same numbers.
+-- If each number below n has one owner, each number below n has one owner in each list with the same numbers.
 pub one_owner-same : (n : ℕ) (xs ys : List ℕ) → HasOneOwner n xs → HaveSameNumbers xs ys → HasOneOwner n ys
 one_owner-same n xs ys one same k = omega (arith, one k, same k)
 
@@ -90,8 +89,8 @@ pub taken-last : (number : ℕ) (xs ys ys' : List ℕ) → HaveSameNumbers (numb
 taken-last number xs ys ys' same k =
     omega (arith, same k, copies-append k xs ys, copies-append k xs ys', copies-cons k number ys, copies-cons k number (xs ++ ys))
 
--- If no number has a second owner, the same is true after a number is removed from the list. The removed number is below n, and isn't in
--- the rest of the list.
+-- If no number has a second owner, no number has a second owner after a number is removed from the list. The removed number is below n, and
+-- isn't in the rest of the list.
 pub no_second-taken : (n number : ℕ) (xs xs' : List ℕ) → HasNoSecondOwner n xs → HaveSameNumbers xs (number ∷ xs') → HasNoSecondOwner n xs'
 no_second-taken n number xs xs' once taken k = omega (arith, once k, taken k, copies-cons k number xs')
 
@@ -106,14 +105,13 @@ out_from_taken n number xs xs' once taken =
 if_same-fits : (k x n m : ℕ) → m ≤ if_below k n → (k ≡ x → m ≡ 0) → x < n → if_same k x + m ≤ if_below k n
 if_same-fits k x n m once out known = grind (arith, nat_tests)
 
--- If no number has a second owner and a number below n is missing, no number has a second owner after the missing number is added.
+-- If no number has a second owner, this remains true after a number below n that isn't in the list is added.
 pub no_second-given : (n number : ℕ) (xs xs' : List ℕ) → HasNoSecondOwner n xs → number < n → copies number xs ≡ 0
     → HaveSameNumbers (number ∷ xs) xs' → HasNoSecondOwner n xs'
 no_second-given n number xs xs' once known out given k =
     let fits = if_same-fits k number n (copies k xs) (once k) (λ same. rw same out) known in
     omega (arith, given k, copies-cons k number xs)
 
--- If each number below n has one owner, this remains true after a number moves from one owner to another.
 pub one_owner-moved : MovesKeepOneOwner
 one_owner-moved n number giver giver' taker taker' one taken given k =
     omega (
@@ -127,7 +125,6 @@ one_owner-moved n number giver giver' taker taker' one taken given k =
       copies-cons k number taker,
     )
 
--- If each number below n has one owner, a number that one owner has is below n, and no other owner has it.
 pub owned-nowhere_else : OwnedIsNowhereElse
 owned-nowhere_else n number xs ys one some =
     let both = copies-append number xs ys in
@@ -146,7 +143,6 @@ places-cons : (n x : ℕ) (xs : List ℕ) → places n (x ∷ xs) ≡ if_below x
 places-cons zero x xs = omega (arith, if_below-no x 0 (omega arith))
 places-cons (suc n) x xs = omega (arith, places-cons n x xs, copies-cons n x xs, if_below-next x n (suc n) (omega arith), if_same-swap x n)
 
--- If no number has a second owner, the length of the list is the number of places at which there are numbers below n.
 length-places : (n : ℕ) (xs : List ℕ) → HasNoSecondOwner n xs → length xs ≡ places n xs
 length-places n [] once = sym (places-none n)
 length-places n (x ∷ xs) once =
@@ -154,7 +150,6 @@ length-places n (x ∷ xs) once =
     let rest = no_second-taken n x (x ∷ xs) xs once (λ k. refl) in
     omega (arith, if_below-yes x n known, length-places n xs rest, places-cons n x xs)
 
--- The numbers below m are at m places if each occurs once, and at most at m places if each occurs at most once.
 places-once : (m : ℕ) (xs : List ℕ) → ((k : ℕ) → k < m → copies k xs ≡ 1) → places m xs ≡ m
 places-once zero xs once = refl
 places-once (suc m) xs once =
@@ -164,7 +159,6 @@ places-most : (m : ℕ) (xs : List ℕ) → ((k : ℕ) → copies k xs ≤ 1) �
 places-most zero xs most = omega arith
 places-most (suc m) xs most = omega (arith, most m, places-most m xs most)
 
--- If each number below n has one owner, the list has n numbers.
 pub length-one_owner : OneOwnerCounts
 length-one_owner n xs one =
     omega (
@@ -174,7 +168,6 @@ length-one_owner n xs one =
           (λ k below. omega (arith, one k, if_below-yes k n below)),
     )
 
--- If no number has a second owner, the list has at most n numbers, and fewer if a number below n is missing.
 pub length-no_second : NoSecondOwnerBounds
 length-no_second n xs once =
     omega (arith, length-places n xs once, places-most n xs (λ k. once_from_no_second n k xs once))
@@ -183,7 +176,7 @@ pub length-missing : MissingLeavesRoom
 length-missing n number xs once known out =
     omega (arith, length-no_second n (number ∷ xs) (no_second-given n number xs (number ∷ xs) once known out (λ k. refl)))
 
--- If each number below n has one owner and an owner has a number, the list of the other owner has fewer than n numbers.
+-- If each number below n has one owner in `xs` and `ys` joined, and `xs` isn't empty, `ys` has fewer than n numbers.
 pub length-elsewhere : (n number : ℕ) (xs ys : List ℕ) → HasOneOwner n (xs ++ ys) → 0 < copies number xs → length ys < n
 length-elsewhere n number xs ys one some =
     let missing = owned-nowhere_else n number ys xs (one_owner-swap n xs ys one) some in

@@ -1,4 +1,4 @@
--- All numbers below n have one owner by counts if and only if they have one by places.
+-- The proof of `CountsArePlaces`.
 use Rattle.std.proofs.Common.{◌≡◌, ◌≤◌, ◌<◌, inl, inr, ◌∷◌, [], ℕ, zero, suc, List, Some, refl, sym, ap, arith}
 use Rattle.std.specs.Prelude.{slice_get}
 use Rattle.std.proofs.lemmas.Bool.{cases_eq, cases_lt}
@@ -6,13 +6,11 @@ use Rattle.dma_memory.specs.Owners.{copies, HasOneOwner, EachStandsOnce, CountsA
 use Rattle.dma_memory.specs.OwnersLaws.{if_below, copies-cons, if_same-yes, if_same-no, if_below-yes, if_below-no, if_below-most}
 use Rattle.dma_memory.specs.OwnersLaws.{below_from_if_below}
 
--- A number at a place of a list is counted.
 counted : (k i : ℕ) (xs : List ℕ) → slice_get xs i ≡ Some k → 0 < copies k xs
 counted k i [] at = absurd (cc)
 counted k zero (x ∷ xs) at = let same : k ≡ x = (cc) in omega (arith, if_same-yes k x same, copies-cons k x xs)
 counted k (suc i) (x ∷ xs) at = omega (arith, counted k i xs at, copies-cons k x xs)
 
--- A number that is counted is at a place of the list.
 place : (k : ℕ) (xs : List ℕ) → 0 < copies k xs → (i : ℕ) × (slice_get xs i ≡ Some k)
 place k [] some = absurd (omega arith)
 place k (x ∷ xs) some =
@@ -21,7 +19,6 @@ place k (x ∷ xs) some =
       | inr differ ↦ let later = place k xs (omega (arith, some, copies-cons k x xs, if_same-no k x differ)) in (suc later.0, later.1)
     ]
 
--- A number that is counted at most once is at no two places.
 one_place : (k i j : ℕ) (xs : List ℕ) → copies k xs ≤ 1 → slice_get xs i ≡ Some k → slice_get xs j ≡ Some k → i ≡ j
 one_place k i j [] most at also = absurd (cc)
 one_place k zero zero (x ∷ xs) most at also = refl
@@ -34,7 +31,6 @@ one_place k (suc i) zero (x ∷ xs) most at also =
 one_place k (suc i) (suc j) (x ∷ xs) most at also =
     ap suc (one_place k i j xs (omega (arith, most, copies-cons k x xs)) at also)
 
--- A number that is at no two places is counted at most once.
 counted_once : (k : ℕ) (xs : List ℕ) → ((i j : ℕ) → slice_get xs i ≡ Some k → slice_get xs j ≡ Some k → i ≡ j) → copies k xs ≤ 1
 counted_once k [] one = omega arith
 counted_once k (x ∷ xs) one =

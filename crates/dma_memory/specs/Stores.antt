@@ -4,26 +4,26 @@ use Rattle.std.specs.Prelude.{◌≡◌, ◌<◌, ◌+◌, ◌↔◌, ◌++◌, 
 use Rattle.dma_memory.specs.HostMemory.{bytes_at, with_bytes, LiesIn}
 use Rattle.dma_memory.specs.Areas.{Area, area_at, bytes_in, AreApart}
 
--- A range of bytes is inside a memory if and only if the address of each byte is below its size.
+-- A range of bytes is inside a memory if and only if the address of each byte in the range is below the memory's size.
 abbrev pub LieWhereEachLies : Type 0
 LieWhereEachLies = (memory : List ℕ) (address n : ℕ) → LiesIn memory address n ↔ ((i : ℕ) → i < n → address + i < length memory)
 
--- A store keeps the memory's size.
+-- A store doesn't change the size of memory.
 abbrev pub StoreKeepsSize : Type 0
 StoreKeepsSize = (memory bytes : List ℕ) (address : ℕ) → LiesIn memory address (length bytes)
     → length (with_bytes memory address bytes) ≡ length memory
 
--- A load at the address of a store returns the bytes that were stored.
+-- A load of the stored number of bytes at the address of a store returns the stored bytes.
 abbrev pub StoredIsLoaded : Type 0
 StoredIsLoaded = (memory bytes : List ℕ) (address : ℕ) → LiesIn memory address (length bytes)
     → bytes_at (with_bytes memory address bytes) address (length bytes) ≡ bytes
 
--- A store doesn't change bytes that are apart from it.
+-- A store doesn't change the bytes of an area that is apart from the stored bytes.
 abbrev pub OthersStay : Type 0
 OthersStay = (memory bytes : List ℕ) (address : ℕ) (other : Area) → LiesIn memory address (length bytes)
     → AreApart (area_at address (length bytes)) other → bytes_in (with_bytes memory address bytes) other ≡ bytes_in memory other
 
--- Two stores to adjacent ranges have the same result as one store of the joined bytes.
+-- Inside memory, two stores to adjacent ranges have the same result as one store of the joined bytes.
 abbrev pub AdjacentStoresAreOne : Type 0
 AdjacentStoresAreOne = (memory first second : List ℕ) (address : ℕ) → LiesIn memory address (length (first ++ second))
     → with_bytes (with_bytes memory address first) (address + length first) second ≡ with_bytes memory address (first ++ second)

@@ -5,7 +5,7 @@ use std::alloc::{AllocError, Global};
 use std::marker::Model;
 use thiserror::Error;
 
-/// The error of a load, a store or a view if the address of one of its bytes isn't below the memory's size. The text
+/// The error of a load, a store or a view if the address of a byte in the range isn't below the memory's size. The text
 /// of the error is `E1 OutOfRange`.
 #[derive(Clone, Copy, Debug, PartialEq, Eq, Error)]
 #[error("E1 OutOfRange")]

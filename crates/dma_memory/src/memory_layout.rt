@@ -139,7 +139,7 @@ impl Layout {
         self.receive_ring() + DESCRIPTOR_BYTES * u64::from(self.rx)
     }
 
-    /// Returns the address of the buffer that belongs to the transmit descriptor `slot`.
+    /// Returns the address of the buffer that belongs to the transmit descriptor with index `slot`.
     pub fn transmit_buffer(&self, slot: u16) -> u64
         requires { slot < self.now.tx }
         ensures start { result ≡ start_of self.now (TransmitBuffer slot) }

@@ -29,8 +29,8 @@ impl BufId {
     }
 }
 
-/// The numbers of the free receive buffers. A new pool contains all numbers below a count. Later each number is in the
-/// pool or in a [`BufId`], unless this `BufId` was dropped.
+/// The numbers of the free receive buffers. A new pool contains all numbers below the number of buffers. Later each
+/// number is in the pool or in a [`BufId`], unless this `BufId` was dropped.
 #[derive(Drop)]
 pub struct Pool {
     free: Vec<BufId>,
@@ -66,7 +66,7 @@ impl Pool {
         Ok(Pool { free, buffers })
     }
 
-    /// Returns how many numbers are in the pool.
+    /// Returns the number of free receive buffers: the count of the numbers in the pool.
     pub fn len(&self) -> u16
         ensures count { result ≡ length self.now.free }
         ensures most { result ≤ self.now.buffers }

@@ -1,4 +1,4 @@
--- The bits of a register: one bit, a field of several bits, and the bits that are 1 as a set of places, with laws of these sets. Places are
+-- The bits of a register: one bit, a field of several bits, and the set of the places whose bits are 1, with laws of these sets. Places are
 -- counted from 0, the lowest bit (our choice).
 use Rattle.std.specs.Prelude.{◌≡◌, ◌==◌, ◌<◌, ◌-◌, ◌/◌, ◌%◌, ◌^◌, ◌↔◌, ◌⊎◌, ℕ, Bool, bit_and, bit_or}
 
@@ -42,7 +42,7 @@ UnionByPlaces = (a b place : ℕ) → HasBit (union a b) place ↔ (HasBit a pla
 abbrev pub IntersectionByPlaces : Type 0
 IntersectionByPlaces = (a b place : ℕ) → HasBit (intersection a b) place ↔ (HasBit a place × HasBit b place)
 
--- In registers of 32 bits: a bit is 1 in the difference if and only if it is 1 in the first set and 0 in the second.
+-- In registers of 32 bits: a bit is 1 in the difference if and only if it is 1 in `a` and 0 in `b`.
 abbrev pub DifferenceByPlaces : Type 0
 DifferenceByPlaces =
     (a b place : ℕ) → a < 2 ^ 32 → b < 2 ^ 32

@@ -3,7 +3,7 @@
 -- bits read 0 (our choice).
 use Rattle.std.specs.Prelude.{ℕ, bit_and}
 
--- CTRL (13.4.1 "Device Control Register"): FD 0, ASDE 5, SLU 6, VME 30. RST 26 resets the adapter and isn't stored.
+-- CTRL (13.4.1 "Device Control Register"): FD 0, ASDE 5, SLU 6, VME 30. A write with RST 26 is a reset, and RST isn't stored.
 abbrev pub control_mask : ℕ
 control_mask = 0x40000061
 
@@ -20,8 +20,7 @@ receive_control_mask = 0x0607B33A
 abbrev pub transmit_control_mask : ℕ
 transmit_control_mask = 0x003FFFFA
 
--- ICR, ICS, IMS, IMC (13.4.17 to 13.4.21, "Interrupt Cause Read Register" and its neighbours): TXDW 0, TXQE 1, LSC 2,
--- RXDMT0 4, RXO 6, RXT0 7, MDAC 9.
+-- ICR, ICS, IMS and IMC (13.4.17 to 13.4.21): TXDW 0, TXQE 1, LSC 2, RXDMT0 4, RXO 6, RXT0 7, MDAC 9.
 abbrev pub all_causes : ℕ
 all_causes = 0x2D7
 
@@ -29,6 +28,7 @@ all_causes = 0x2D7
 abbrev pub causes_of : ℕ → ℕ
 causes_of written = bit_and written all_causes
 
--- STATUS (13.4.2 "Device Status Register") while the link is up: FD, LU, SPEED 10. While the link is down, STATUS reads 0 (our choice).
+-- STATUS (13.4.2 "Device Status Register") while the PHY's link is up and CTRL.SLU is set: FD, LU, and SPEED 10 in binary, 1000 Mb/s.
+-- Otherwise STATUS reads 0 (our choice).
 abbrev pub status_of_link_up : ℕ
 status_of_link_up = 0x83

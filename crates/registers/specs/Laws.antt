@@ -1,4 +1,4 @@
--- Lemmas about the bits of a register. Other crates use them, too.
+-- Lemmas about the bits of a register. Other crates use these lemmas, too.
 use Rattle.std.proofs.Common.{◌≡◌, ◌<◌, ◌^◌, ◌*◌, ◌-◌, ◌↔◌, ℕ, zero, suc, min, IsTrue, ◌==◌, bit_and, bit_or, refl, sym, ◌∙◌, ap, subst}
 use Rattle.std.proofs.Common.{inl, inr, arith}
 use Rattle.std.specs.Int.{bit_at, trailing_zeros, w32}
@@ -10,7 +10,6 @@ use Rattle.std.proofs.lemmas.Nat.Bits.{bit_at-trailing_zeros, same_from_bits}
 use Rattle.registers.specs.Bits.{HasBit, is_set, union, intersection, difference, IsSubset, UnionByPlaces, IntersectionByPlaces}
 use Rattle.registers.specs.Bits.{DifferenceByPlaces, MeetByPlaces, SubsetByPlaces, EmptyByPlaces, SameByPlaces}
 
--- If a bit times a positive number is this number, the bit is 1.
 bit_of_product : (bit power : ℕ) → bit < 2 → 0 < power → bit * power ≡ power → bit ≡ 1
 bit_of_product zero power below positive same = absurd (omega arith)
 bit_of_product (suc zero) power below positive same = refl
@@ -46,7 +45,6 @@ HasBit-intersection a b place =
       (λ both. omega arith),
     )
 
--- The bit of a difference at a place below 32.
 bit_at-difference : (a b place : ℕ) → b < 2 ^ 32 → place < 32 → bit_at (difference a b) place ≡ min (bit_at a place) (1 - bit_at b place)
 bit_at-difference a b place fits within =
     bit_at_and a (2 ^ 32 - 1 - b) place ∙ ap (λ bit. min (bit_at a place) bit) (bit_at_not w32 b place fits within)

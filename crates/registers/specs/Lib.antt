@@ -6,3 +6,6 @@ pub mod Laws
 pub mod PacketBuffer
 pub mod Places
 pub mod ReceiveControl
+pub mod Bytes
+pub mod ConfigSpace
+pub mod Ports

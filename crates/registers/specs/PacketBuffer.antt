@@ -14,7 +14,7 @@ pub record IsAllocation (kilobytes : ℕ) : Type 0 where
 abbrev pub is_allocation : ℕ → Bool
 is_allocation kilobytes = nat_le 2 kilobytes && (nat_le kilobytes 48 && kilobytes % 2 == 0)
 
--- RXA after a write of PBA: bits 15:0 of the value if RXA may have this value. Any other write is ignored (our choice).
+-- RXA after a write of PBA: bits 15:0 of the written value, if RXA may have this number. Any other write is ignored (our choice).
 abbrev pub allocation_written : ℕ → ℕ → ℕ
 allocation_written value kilobytes = if is_allocation (value % 65536) then value % 65536 else kilobytes
 

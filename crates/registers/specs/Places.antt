@@ -10,7 +10,7 @@ alone place = 2 ^ place
 abbrev pub ctrl_asde : ℕ
 ctrl_asde = 5
 
--- Set link up: while it is set, STATUS shows the link of the PHY.
+-- Set link up: while the bit is set, STATUS shows the link of the PHY. While the bit is clear, STATUS shows no link.
 abbrev pub ctrl_slu : ℕ
 ctrl_slu = 6
 
@@ -26,8 +26,7 @@ status_lu = 1
 abbrev pub status_speed : ℕ
 status_speed = 6
 
--- Receive enable: while it is 0, no frame is stored and no piece is moved. A bit of RCTL (13.4.22 "Receive Control
--- Register").
+-- Receive enable: while the bit is 0, no frame is stored and no piece is moved. A bit of RCTL (13.4.22 "Receive Control Register").
 abbrev pub rctl_en : ℕ
 rctl_en = 1
 
@@ -55,15 +54,15 @@ rctl_bsize = 16
 abbrev pub rctl_vfe : ℕ
 rctl_vfe = 18
 
--- Buffer size extension: while it is set, each RxData that has something to do is a fault (our choice).
+-- Buffer size extension: while the bit is set, each RxData that has something to do is a fault (our choice).
 abbrev pub rctl_bsex : ℕ
 rctl_bsex = 25
 
--- Strip the CRC, which has no effect in the model: its frames have no CRC.
+-- Strip the CRC, which has no effect in the model: frames in the model have no CRC.
 abbrev pub rctl_secrc : ℕ
 rctl_secrc = 26
 
--- Transmit enable: while it is 0, no frame is taken from the ring. A bit of TCTL (13.4.33 "Transmit Control Register").
+-- Transmit enable: while the bit is 0, no frame is taken from the ring. A bit of TCTL (13.4.33 "Transmit Control Register").
 abbrev pub tctl_en : ℕ
 tctl_en = 1
 
@@ -79,7 +78,7 @@ tctl_ct = 4
 abbrev pub tctl_cold : ℕ
 tctl_cold = 12
 
--- Address valid: the entry's address passes the filter. A bit of RAH (13.5.3 "Receive Address High").
+-- Address valid: the entry's address is a receive address, which the filter accepts. A bit of RAH (13.5.3 "Receive Address High").
 abbrev pub rah_av : ℕ
 rah_av = 31
 
@@ -95,7 +94,7 @@ txqe = 1
 abbrev pub lsc : ℕ
 lsc = 2
 
--- Receive descriptor minimum threshold: the number of offered descriptors decreased to half of the ring.
+-- Receive descriptor minimum threshold: the number of offered descriptors decreased to exactly half of the ring's descriptors.
 abbrev pub rxdmt0 : ℕ
 rxdmt0 = 4
 

@@ -7,8 +7,8 @@ ghost use Rattle.registers.specs.Kept.{all_causes, causes_of};
 use bitflags::{Flag, Flags, bitflag_items};
 use std::marker::Model;
 
-/// A set of interrupt causes. The bit of a cause has the same place in ICR, ICS, IMS and IMC (13.4.17). The field holds
-/// the register's 32 bits.
+/// A set of interrupt causes. The bit of a cause has the same place in ICR, ICS, IMS and IMC (13.4.17). The field
+/// contains 32 bits, as in these registers.
 #[derive(Clone, Copy, PartialEq, Eq, Debug)]
 pub struct Cause(pub u32);
 
@@ -96,7 +96,7 @@ impl Causes {
         }
     }
 
-    /// Records causes, whether they are in the mask or not. Bits of `cause` that aren't causes are ignored.
+    /// Records these causes, whether they are in the mask or not. Bits of `cause` that aren't causes are ignored.
     pub fn raise(&mut self, cause: Cause)
         ensures { self.new ≡ record self.old { recorded = union self.old.recorded (causes_of cause.0) } }
     {
@@ -158,7 +158,7 @@ impl Causes {
         self.mask.bits()
     }
 
-    /// Returns whether the interrupt line is asserted: exactly while a recorded cause is in the mask.
+    /// Returns whether the interrupt line is asserted: some recorded cause is in the mask.
     pub fn line(&self) -> bool
         ensures { IsTrue result ↔ Meet self.now.recorded self.now.mask }
     {

@@ -1,14 +1,21 @@
-//! Registers of the Intel 82540EM: the bits of CTRL, STATUS, RCTL and TCTL, PBA, the interrupt causes with their mask,
-//! and the statistics counters.
+//! Registers of the Intel 82540EM: CTRL, STATUS, RCTL, TCTL, PBA, interrupt causes, statistics counters, and the PCI
+//! configuration space with its I/O ports.
 //!
 //! Section numbers are those of Intel's "PCI/PCI-X Family of Gigabit Ethernet Controllers Software Developer's Manual".
+//! The configuration space is also that of "PCI Local Bus Specification", revision 2.2. A driver or firmware accesses
+//! it through the I/O ports CONFIG_ADDRESS and CONFIG_DATA.
 #![tactic(auto)]
 
+mod config_address;
+mod config_offsets;
 mod device_control;
 mod fields;
 mod interrupts;
 mod laws;
 mod packet_buffer;
+mod pci_command;
+mod pci_function;
+mod port_width;
 mod receive_control;
 mod statistics;
 mod transmit_control;
@@ -17,6 +24,8 @@ pub use device_control::{Ctrl, Speed, Status};
 pub use interrupts::{Cause, Causes};
 pub use laws::sets_of_places;
 pub use packet_buffer::PacketBufferAllocation;
+pub use pci_function::PciFunction;
+pub use port_width::PortWidth;
 pub use receive_control::{GroupOffset, Rctl};
 pub use statistics::Counter;
 pub use transmit_control::Tctl;

@@ -1,4 +1,4 @@
-// PBA: how the packet buffer is divided.
+// PBA: the sizes of the receive part and of the transmit part of the packet buffer.
 
 ghost use Rattle.std.specs.Prelude.{◌≡◌, ◌≤◌, ◌*◌};
 ghost use Rattle.registers.specs.PacketBuffer.{allocation_shown, allocation_written};

@@ -81,8 +81,8 @@ pub enum GroupOffset {
 impl GroupOffset {
     ghost use Rattle.registers.specs.ReceiveControl.{shift_of};
 
-    /// Returns the number of places by which bits 47:32 of the address are shifted down, so that the group's number is
-    /// in the low 12 bits.
+    /// Returns the number of places by which bits 47:32 of the address are shifted down. The group's number is then in
+    /// the low 12 bits.
     pub fn shift(self) -> u32
         ensures { result ≡ shift_of self }
     {
@@ -98,7 +98,7 @@ impl GroupOffset {
 impl Rctl {
     ghost use Rattle.registers.specs.ReceiveControl.{group_offset_of, buffer_size_of};
 
-    /// Returns the value of RCTL after a write of this word.
+    /// Returns the value of RCTL after a write of this word: the kept bits of the word.
     pub fn kept(value: u32) -> Rctl
         ensures { result.0 ≡ bit_and value receive_control_mask }
     {
@@ -119,7 +119,7 @@ impl Rctl {
         self.contains(Rctl::UPE)
     }
 
-    /// Returns whether MPE is set: every group address is accepted, broadcast among them.
+    /// Returns whether MPE is set: every group address is accepted, including the broadcast address.
     pub fn accepts_all_groups(self) -> bool
         ensures { IsTrue result ↔ HasBit self.0 rctl_mpe }
     {
@@ -140,7 +140,8 @@ impl Rctl {
         self.contains(Rctl::VFE)
     }
 
-    /// Returns whether BSEX is set. By the manual, BSIZE then selects larger buffers.
+    /// Returns whether BSEX is set. By the manual, BSIZE then selects larger buffers. In this model, RxData is then a
+    /// fault.
     pub fn extends_buffer_size(self) -> bool
         ensures { IsTrue result ↔ HasBit self.0 rctl_bsex }
     {

@@ -47,7 +47,7 @@ impl Flags for Tctl {
 }
 
 impl Tctl {
-    /// Returns the value of TCTL after a write of this word.
+    /// Returns the value of TCTL after a write of this word: the kept bits of the word.
     pub fn kept(value: u32) -> Tctl
         ensures { result.0 ≡ bit_and value transmit_control_mask }
     {

@@ -1,4 +1,4 @@
--- The answers of a data step, and what each of them states.
+-- The condition and the effect of each answer of a data step.
 use Rattle.std.proofs.Common.{◌≡◌, ◌↔◌, ℕ, Bool, true, false, List, length, take, drop, min, refl, ap, arith, ◌∙◌}
 use Rattle.std.proofs.lemmas.List.{take_min}
 use Rattle.dma_memory.specs.HostMemory.{with_bytes}
@@ -12,7 +12,7 @@ use Rattle.rx_engine.specs.declared.data.Data.{Data}
 use Rattle.rx_engine.specs.declared.data.Data.TheVariants as answers
 use Rattle.rx_engine.specs.declared.engine.Work.{Work}
 
--- When each answer is given.
+-- The condition under which a data step has each answer.
 pub record Answers (answer : Data) (control : ℕ) (ring : Ring) (engine : Receiver) (memory : List ℕ) : Type 0 where
   pub nothing : (answer ≡ answers.Nothing) ↔ (¬ (HasFrameToMove control ring engine))
   pub fault : (answer ≡ answers.Fault)
@@ -58,14 +58,13 @@ answers-moved control ring engine memory false low has can last = record {
   moved = ((λ is. absurd is), (λ all. absurd (cc (all.2, last))));
 }
 
--- The first bytes of the rest of a frame, as many as fit into a buffer, are the next piece.
 pub piece-is : (control size least : ℕ) (engine : Receiver) (left : List ℕ) → left ≡ drop engine.moved (oldest engine.buffer)
     → size ≡ buffer_bytes control → least ≡ min (length left) size → take least left ≡ next_piece control engine
 piece-is control size least engine left left_is size_is least_is =
     ap (λ (n : ℕ). take n left) (let turned : least ≡ min size (length left) = omega (arith, least_is) in turned) ∙ take_min size left
     ∙ ap (take size) left_is ∙ ap (λ (n : ℕ). take n (drop engine.moved (oldest engine.buffer))) size_is
 
--- What a step leaves that moved a piece.
+-- The engine, the ring and the memory after a data step with this answer, and whether exactly half of the ring's descriptors are offered.
 pub record Leaves (answer : Data) (control : ℕ) (ring : Ring) (engine engine' : Receiver) (next : ℕ) (half : Bool)
     (memory memory' : List ℕ) : Type 0 where
   pub engine_is : engine' ≡ engine_after_data answer control ring engine

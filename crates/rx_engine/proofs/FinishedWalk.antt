@@ -1,4 +1,4 @@
--- The walk over finished slots.
+-- The loop of `append_finished` over the finished slots of a ring.
 use Rattle.std.proofs.Common.{suc, zero, true, false, Bool, ◌≡◌, ◌<◌, ◌-◌, ◌++◌, ◌∷◌, [], ℕ}
 use Rattle.std.proofs.Common.{List, All, length, map, take_while, arith, refl, sym, ap, subst, ◌∙◌, if◌then◌else◌}
 use Rattle.std.proofs.lemmas.List.Sums.{take_while-cons}
@@ -44,7 +44,7 @@ done-none memory ring place (suc k) not_done =
     take_while-cons (is_done memory) (address_of ring place) rest
     ∙ ap (λ (b : Bool). if b then address_of ring place ∷ take_while (is_done memory) rest else []) not_done
 
--- One step of the walk: the piece at the place is the next one.
+-- One pass of the loop: the piece in the slot at `place` is the next one, and the facts about the later slots follow.
 pub record Walks (memory : List ℕ) (ring : Ring) (place left : ℕ) (begun : List ℕ) (piece : Piece) : Type 0 where
   pub lie : All (NamesMemory memory) (done_from memory ring (next_of ring place) (left - 1))
   pub first : AreShort begun (piece ∷ [])
@@ -77,7 +77,6 @@ walks memory ring place left begun some done lie short =
       frames = sym (frames-append begun (piece ∷ []) later) ∙ ap (frames_from begun) (sym pieces);
     }
 
--- the bytes that were loaded are the piece of the slot
 pub piece-is : (memory : List ℕ) (at : ℕ) (ends : Bool) (bytes : List ℕ)
     → bytes ≡ bytes_at memory (named memory at).address (named memory at).size
     → ends ≡ is_set (status_bits (descriptor_at memory at).status) eop

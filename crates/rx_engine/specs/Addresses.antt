@@ -10,7 +10,7 @@ destination frame = take 6 frame
 abbrev pub IsGroup : List ℕ → Type 0
 IsGroup address = slice_index address 0 % 2 ≡ 1
 
--- The low bit of byte 0 is 0, so the address is that of one host.
+-- The address is an individual address: the low bit of byte 0 is 0.
 abbrev pub IsIndividual : List ℕ → Type 0
 IsIndividual address = slice_index address 0 % 2 ≡ 0
 
@@ -18,19 +18,18 @@ IsIndividual address = slice_index address 0 % 2 ≡ 0
 abbrev pub broadcast : List ℕ
 broadcast = 255 ∷ 255 ∷ 255 ∷ 255 ∷ 255 ∷ 255 ∷ []
 
--- The number of an address in the group table: 12 bits of its last two bytes, the later byte the higher one (13.5.1 "Multicast Table
--- Array").
+-- The number of an address in the group table (13.5.1 "Multicast Table Array"): 12 bits, from bit `shift` on, of the last two bytes. The
+-- later byte is the higher one.
 abbrev pub group_number : ℕ → List ℕ → ℕ
 group_number shift address = (slice_index address 5 * 256 + slice_index address 4) / 2 ^ shift % 4096
 
--- The low word of an address in a receive address register pair: bytes 0 to 3, the earlier byte the lower one (13.5.2).
+-- The value of RAL for an address: bytes 0 to 3, the earlier byte the lower one (13.5.2).
 abbrev pub low_word : List ℕ → ℕ
 low_word address =
     slice_index address 0 + slice_index address 1 * 2 ^ 8 + slice_index address 2 * 2 ^ 16
     + slice_index address 3 * 2 ^ 24
 
--- The high word of an address in a receive address register pair: bytes 4 and 5, the earlier byte the lower one
--- (13.5.3).
+-- The value of RAH for an address, without AV: bytes 4 and 5, the earlier byte the lower one (13.5.3).
 abbrev pub high_word : List ℕ → ℕ
 high_word address = slice_index address 4 + slice_index address 5 * 2 ^ 8
 

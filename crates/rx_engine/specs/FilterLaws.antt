@@ -1,4 +1,5 @@
--- Lemmas about filters and their registers. Other crates use them, too.
+-- Lemmas about filters with the same sets, and about addresses and table bits in the registers of a filter. Other crates use these lemmas,
+-- too.
 use Rattle.std.proofs.Common.{◌≡◌, ◌+◌, ◌/◌, ◌%◌, ◌^◌, ◌<◌, ◌≤◌, ◌↔◌, ℕ, List, [], ◌∷◌, length, set, replicate, slice_index, refl, sym, ◌∙◌}
 use Rattle.std.proofs.Common.{ap, subst, inl, inr, arith}
 use Rattle.std.proofs.lemmas.Bool.{cases_eq, cases_lt}
@@ -14,13 +15,13 @@ use Rattle.rx_engine.specs.Writing.{with_number, NoAddressAtFirst, AddressIsAdde
 
 -- Filters with the same sets pass the same frames.
 
--- Two filters treat VLANs in the same way.
+-- Two filters have the same VLAN type and the same VLAN numbers below 4,096, and agree on whether frames of every VLAN pass.
 pub record SameVlans (a b : ReceiveFilter) : Type 0 where
   -- Both filters pass frames of every VLAN, or neither does.
   pub every_vlan : a.every_vlan ↔ b.every_vlan
   -- Both filters contain the same VLAN numbers below 4,096.
   pub numbers : (number : ℕ) → number < 4096 → a.vlans number ↔ b.vlans number
-  -- The same type marks a tagged frame.
+  -- Both filters have the same VLAN type.
   pub vlan_type : a.vlan_type ≡ b.vlan_type
 
 -- Two filters contain the same addresses and groups, compute group numbers and treat VLANs in the same way, and have the same modes.
@@ -31,7 +32,7 @@ pub record SameSets (a b : ReceiveFilter) : Type 0 where
   pub groups : (number : ℕ) → number < 4096 → a.groups number ↔ b.groups number
   -- Both filters take the same bits of an address as its group number.
   pub shift : a.shift ≡ b.shift
-  -- Both filters treat VLANs in the same way.
+  -- Both filters treat VLANs in the same way (`SameVlans`).
   pub vlans : SameVlans a b
   -- Both filters pass every individual address (UPE), or neither does.
   pub all_individuals : a.all_individuals ↔ b.all_individuals
@@ -110,7 +111,6 @@ pub HasTableBit-zeros : NoNumberAtFirst
 HasTableBit-zeros n number set =
     HasBit-zero (number % 32) (subst (λ (word : ℕ). HasBit word (number % 32)) (slice_index-zeros n (number / 32)) set)
 
--- In the number 2 ^ `power`, the bit at place `power` is 1, and every other bit is 0.
 HasBit-power : (power place : ℕ) → HasBit (2 ^ power) place ↔ (place ≡ power)
 HasBit-power power place = (
   (λ set. elim (cases_eq place power) [
@@ -164,7 +164,7 @@ six_items : (xs : List ℕ) → length xs ≡ 6
 six_items (a ∷ b ∷ c ∷ d ∷ e ∷ f ∷ []) size = refl
 six_items _ size = absurd (omega arith)
 
--- The entry with the two words of an address, and AV, contains the address.
+-- The entry whose RAL and RAH are the two words of an address, with AV, contains this address.
 pub entry_address-words : (address : List ℕ) → IsAddress address → entry_address (low_word address) (high_word address + 2 ^ 31) ≡ address
 entry_address-words address is =
     let b0 = is.bytes 0 in

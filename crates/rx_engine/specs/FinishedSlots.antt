@@ -1,4 +1,4 @@
--- The finished slots of a receive ring, from a slot on, their pieces, and whether both are inside memory.
+-- The finished slots of a receive ring, from a slot on, their pieces, and whether the ring and the pieces are inside memory.
 use Rattle.std.specs.Prelude.{◌*◌, ℕ, List, map, take_while}
 use Rattle.dma_memory.specs.Areas.{Area, bytes_in}
 use Rattle.dma_memory.specs.HostMemory.{LiesIn}
@@ -18,7 +18,8 @@ named memory descriptor = record {
   size = (descriptor_at memory descriptor).length;
 }
 
--- The piece in a finished slot. The piece is the last piece of its frame if and only if EOP is set (3.2.3.1).
+-- The piece that the finished descriptor at this address defines: the bytes of its area. The piece is the last one of its frame if and only
+-- if EOP is set (3.2.3.1).
 abbrev pub piece_in : List ℕ → ℕ → Piece
 piece_in memory descriptor =
     piece_of (is_set (status_bits (descriptor_at memory descriptor).status) eop) (bytes_in memory (named memory descriptor))
@@ -31,11 +32,11 @@ done_from memory ring place left = take_while (is_done memory) (map (address_of 
 abbrev pub pieces_from : List ℕ → Ring → ℕ → ℕ → List Piece
 pieces_from memory ring place left = map (piece_in memory) (done_from memory ring place left)
 
--- The number of outstanding slots.
+-- The number of outstanding slots: the slots from `oldest` up to, but not including, the tail.
 abbrev pub outstanding_count : Ring → ℕ → ℕ
 outstanding_count ring oldest = distance_of ring oldest ring.tail
 
--- The pieces in the finished slots, from the oldest slot on.
+-- The pieces in the finished slots, from slot `oldest` on.
 abbrev pub finished_in : List ℕ → Ring → ℕ → List Piece
 finished_in memory ring oldest = map (piece_in memory) (done_slots memory ring oldest)
 

@@ -41,7 +41,7 @@ pub record StandsApart (memory : List ℕ) (descriptor n : ℕ) : Type 0 where
   pub apart : AreApart (area_at (named_address memory descriptor) n) (descriptor_area descriptor)
 
 -- The descriptor at an address is finished with a piece of a frame. DD is set, EOP shows whether the frame ends in the piece, and there is
--- no error. The address and the length are those of the piece.
+-- no error. The area that the address and the length in the descriptor define contains the piece.
 pub record IsFinished (memory : List ℕ) (descriptor : ℕ) (ends : Bool) (piece : List ℕ) : Type 0 where
   -- DD is set (3.2.3.1).
   pub done : HasBit (status_bits (descriptor_at memory descriptor).status) dd
@@ -49,7 +49,7 @@ pub record IsFinished (memory : List ℕ) (descriptor : ℕ) (ends : Bool) (piec
   pub ended : is_set (status_bits (descriptor_at memory descriptor).status) eop ≡ ends
   -- The errors byte is 0.
   pub has_no_errors : (descriptor_at memory descriptor).errors ≡ 0
-  -- The length is the number of bytes of the piece.
+  -- The length in the descriptor is the number of bytes of the piece.
   pub length : (descriptor_at memory descriptor).length ≡ length piece
-  -- The bytes of this length at the descriptor's address are the piece.
+  -- The bytes of this length at the address in the descriptor are the piece.
   pub bytes : bytes_at memory (named_address memory descriptor) (descriptor_at memory descriptor).length ≡ piece

@@ -7,7 +7,7 @@ pub record Removes (group : List ℕ) (groups fewer : List (List ℕ)) : Type 0 
   pub before : List (List ℕ)
   -- The groups after this occurrence.
   pub after : List (List ℕ)
-  -- The list that contains the group.
+  -- `groups` is `before`, then `group`, then `after`.
   pub had : groups ≡ before ++ group ∷ after
-  -- The list without this occurrence.
+  -- `fewer` is `before`, then `after`.
   pub has : fewer ≡ before ++ after

@@ -1,7 +1,7 @@
 -- The values that the receive filter and the receive engine write to a hasher: their whole states (our choice).
 use Rattle.std.specs.Prelude.{◌++◌, true, false, Option, Some, None}
 use Rattle.std.specs.Hash.{HashWrites, bool, slice, u16, u32, u64}
-use Rattle.frame_queue.specs.Hashed.{frames_writes}
+use Rattle.descriptors.specs.HashedFrames.{frames_writes}
 use Rattle.rx_engine.specs.Receiver.{Receiver}
 use Rattle.rx_engine.specs.Registers.{FilterRegisters}
 use Rattle.rx_engine.specs.declared.engine.Work.{Work}

@@ -27,12 +27,12 @@ abbrev pub piece_of : Bool → List ℕ → Piece
 piece_of true bytes = Last bytes
 piece_of false bytes = Part bytes
 
--- The piece in progress, if there is one, as a list.
+-- The piece in progress, as a list of at most one piece.
 abbrev pub in_work : List ℕ → Option Work → List Piece
 in_work memory None = []
 in_work memory (Some work) = piece_of work.ends (bytes_of_work memory work) ∷ []
 
--- The pieces in slots: the finished ones, and then the piece in progress.
+-- The pieces in slots: the finished ones, and then the piece in progress, if there is one.
 abbrev pub in_slots : List ℕ → List Piece → Receiver → List Piece
 in_slots memory finished engine = finished ++ in_work memory engine.work
 
@@ -45,15 +45,16 @@ held memory finished engine = frames_of (in_slots memory finished engine) ++ eng
 abbrev pub HasBegun : List ℕ → List Piece → Receiver → Type 0
 HasBegun memory finished engine = begun_of (in_slots memory finished engine) ≡ take engine.moved (oldest engine.buffer)
 
--- The frames held afterwards are the earlier ones, followed by `more`. The slots meet `HasBegun`.
+-- The frames held afterwards are the earlier ones, followed by `more`, and `HasBegun` holds afterwards.
 pub record Holds (before after : List (List ℕ)) (more : List (List ℕ)) (memory : List ℕ) (finished : List Piece)
     (engine : Receiver) : Type 0 where
   -- The frames held afterwards are the earlier ones, followed by `more`.
   pub frames : after ≡ before ++ more
-  -- The pieces after the last end of a frame are the moved bytes of the oldest frame.
+  -- The pieces in slots after the last end of a frame, joined, are the moved bytes of the packet buffer's oldest frame (`HasBegun`).
   pub begun : HasBegun memory finished engine
 
--- A stored frame is added after the others. Any other fate doesn't change the frames held.
+-- If `IsReceiver` and `HasBegun` hold, a stored frame is added after the frames held. An arrival with another fate doesn't change the
+-- frames held. `HasBegun` holds after the arrival.
 abbrev pub ArrivalGrowsHeld : Type 0
 ArrivalGrowsHeld =
     (fate : Fate) (frame memory : List ℕ) (finished : List Piece) (engine : Receiver) → IsReceiver engine → HasBegun memory finished engine
@@ -80,9 +81,8 @@ MovesBy (answers.Part low) control ring engine memory = MovesApart control ring 
 MovesBy (answers.Moved low) control ring engine memory = MovesApart control ring engine memory true
 MovesBy answers.Fault control ring engine memory = Unit {0}
 
--- A data step doesn't change the frames held, if a piece that it moves is apart from the piece's descriptor. A moved piece of the packet
--- buffer's oldest frame becomes the piece in progress. After its last piece, the frame is removed from the packet buffer. The pieces in
--- finished slots are the same before and after.
+-- If `HasBegun` and `MovesBy` hold, a data step doesn't change the frames held, and `HasBegun` holds after the step. The pieces in finished
+-- slots are the same before and after the step.
 abbrev pub DataKeepsHeld : Type 0
 DataKeepsHeld =
     (control : ℕ) (ring : Ring) (engine : Receiver) (memory : List ℕ) (finished : List Piece) (answer : Data)
@@ -103,8 +103,8 @@ pub record Finishes (memory : List ℕ) (finished : List Piece) (engine : Receiv
       (engine_after_done engine))
       [] (memory_after_done engine.work memory) (finished ++ piece_of work.ends (bytes_of_work memory work) ∷ []) (engine_after_done engine)
 
--- If the piece in progress and its descriptor are inside memory and apart, a done step doesn't change the frames held. The piece is then
--- a finished piece.
+-- If `IsReceiver` and `HasBegun` hold, and the piece in progress and its descriptor are inside memory and apart, a done step finishes this
+-- piece (`Finishes`).
 abbrev pub DoneKeepsHeld : Type 0
 DoneKeepsHeld =
     (engine : Receiver) (memory : List ℕ) (finished : List Piece) → IsReceiver engine → HasBegun memory finished engine
@@ -118,7 +118,7 @@ pub record IsAwayFromWork (memory : List ℕ) (area : Area) (work : Work) : Type
   -- The area doesn't overlap the piece.
   pub piece : AreApart area (area_at (named_address memory work.descriptor) work.length)
 
--- A write apart from the piece in progress and its descriptor doesn't change the piece.
+-- A write inside memory that is apart from the piece in progress and its descriptor doesn't change the piece.
 abbrev pub OtherBytesLeaveSlots : Type 0
 OtherBytesLeaveSlots =
     (memory : List ℕ) (engine : Receiver) (place : ℕ) (bytes : List ℕ)

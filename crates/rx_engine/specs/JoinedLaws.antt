@@ -1,11 +1,11 @@
--- Lemmas about frames of pieces that have at most 1,518 bytes. Other crates use them, too.
+-- Lemmas about `AreShort`: lists of pieces whose frames have at most 1,518 bytes. Other crates use these lemmas, too.
 use Rattle.std.proofs.Common.{suc, zero, true, Bool, slice_index_or, ◌≡◌, ◌≤◌, ◌++◌, ◌∷◌, [], ℕ, List, All, length, arith, refl, ap, subst}
 use Rattle.std.proofs.lemmas.List.{length-append}
 use Rattle.rx_engine.specs.Pieces.{Piece, begun_from, frames_from}
 use Rattle.rx_engine.specs.Pieces.Piece.{Last, Part}
 use Rattle.rx_engine.specs.JoinedPieces.{AreShort, alone}
 
--- The beginning of the first frame has at most 1,518 bytes.
+-- If the frames of a list of pieces are short, the beginning of the first frame has at most 1,518 bytes.
 pub begun-short : (begun : List ℕ) (pieces : List Piece) → AreShort begun pieces → length begun ≤ 1518
 begun-short begun [] short = short.rest
 begun-short begun (Part bytes ∷ later) short =
@@ -14,7 +14,7 @@ begun-short begun (Part bytes ∷ later) short =
 begun-short begun (Last bytes ∷ later) short =
     omega (arith, short.frames 0 [] (omega arith), length-append begun bytes)
 
--- If the frames of a list of pieces are short, so are those of the first piece, and those of the pieces after it.
+-- If the frames of a list of pieces are short, the frames of the first piece and those of the later pieces are short.
 pub first-short : (begun : List ℕ) (piece : Piece) (later : List Piece) → AreShort begun (piece ∷ later) → AreShort begun (piece ∷ [])
 first-short begun (Part bytes) later short = record {
   frames = λ k d below. absurd (omega (arith, below));
@@ -35,7 +35,7 @@ later-short begun (Last bytes) later short = record {
   rest = short.rest;
 }
 
--- If the frames of a list of pieces are short, so are those of its first pieces, and those of the pieces after them.
+-- If the frames of two joined lists of pieces are short, the frames of the first list and those of the second list are short.
 pub front-short : (begun : List ℕ) (a b : List Piece) → AreShort begun (a ++ b) → AreShort begun a
 front-short begun [] b short = record { frames = λ k d below. absurd (omega (arith, below)); rest = begun-short begun b short }
 front-short begun (Part bytes ∷ a) b short =

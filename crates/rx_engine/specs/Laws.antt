@@ -1,4 +1,4 @@
--- Lemmas: the effect of the engine's steps on the frames that it holds, and on descriptors.
+-- Lemmas: the effect of arrivals, data steps and done steps on the frames held, and the effect of writes on descriptors.
 use Rattle.std.proofs.Common.{◌≡◌, ◌≤◌, ◌<◌, ◌+◌, ◌/◌, ◌%◌, ◌^◌, ◌++◌, ◌∷◌, []}
 use Rattle.std.proofs.Common.{inl, inr, Option, None, Some, ℕ, List, length, take, drop}
 use Rattle.std.proofs.Common.{◌-◌, true, false, append_assoc, length-take, length-drop}
@@ -43,12 +43,12 @@ pub descriptor_at-apart : (memory bytes : List ℕ) (at address : ℕ) → LiesI
 descriptor_at-apart memory bytes at address lies apart = descriptor_at-kept memory (with_bytes memory address bytes) at
     (bytes_at-elsewhere memory bytes address at 16 lies apart)
 
--- An area that is apart from a descriptor is apart from its bytes 8 to 15.
 apart_behind : (at : ℕ) (area : Area) → AreApart area (descriptor_area at) → AreApart (area_at (at + 8) 8) area
 apart_behind at area (inl before) = inr (omega arith)
 apart_behind at area (inr after) = inl (omega arith)
 
--- If a piece is written to the address in a descriptor, apart from this descriptor, the piece in progress has the bytes of the piece.
+-- If a piece is written inside memory to the address in a descriptor, apart from this descriptor, the piece in progress there has the
+-- written bytes.
 pub bytes_of_work-moved : (memory piece : List ℕ) (at : ℕ) (ends : Bool) → LiesIn memory (named_address memory at) (length piece)
     → AreApart (area_at (named_address memory at) (length piece)) (descriptor_area at)
     → bytes_of_work (with_bytes memory (named_address memory at) piece)
@@ -65,7 +65,6 @@ pub oldest-drop : (frames : List (List ℕ)) → ¬ (frames ≡ []) → oldest f
 oldest-drop [] some = absurd (some refl)
 oldest-drop (frame ∷ frames) some = refl
 
--- The arrival of a frame doesn't change which bytes of the oldest frame are moved.
 oldest-arrived : (frames : List (List ℕ)) (frame : List ℕ) (moved : ℕ) → moved ≤ length (oldest frames) - 1
     → take moved (oldest (frames ++ frame ∷ [])) ≡ take moved (oldest frames)
 oldest-arrived [] frame moved begun = let none : moved ≡ 0 = omega (arith, begun) in rw none refl
@@ -93,7 +92,7 @@ held-after_arrival Stored frame memory finished engine is begun = record {
   begun = begun ∙ sym (oldest-arrived engine.buffer frame engine.moved is.begun);
 }
 
--- The pieces in slots after a data step, if no piece was in progress before the step.
+-- The pieces in slots after a data step that moved a piece: the finished pieces, and then the moved piece.
 slots-moved : (control : ℕ) (ring : Ring) (engine : Receiver) (memory : List ℕ) (finished : List Piece) (ends : Bool)
     → MovesApart control ring engine memory ends
     → finished ++ in_work (with_bytes memory (named_address memory (address_of ring ring.head)) (next_piece control engine))
@@ -105,11 +104,9 @@ slots-moved control ring engine memory finished ends step =
 slots-free : (memory : List ℕ) (finished : List Piece) (work : Option Work) → work ≡ None → finished ++ in_work memory work ≡ finished
 slots-free memory finished work none = ap (λ (there : Option Work). finished ++ in_work memory there) none ∙ append-nil finished
 
--- If more bytes are left than fit into a buffer, the next piece fills the buffer.
 piece-full : (size moved : ℕ) (frame : List ℕ) → size < length frame - moved → length (take size (drop moved frame)) ≡ size
 piece-full size moved frame more = omega (arith, length-take size (drop moved frame), length-drop moved frame)
 
--- A data step doesn't change the frames held, if a piece that it moves is apart from the piece's descriptor.
 pub held-after_data : DataKeepsHeld
 held-after_data control ring engine memory finished Nothing begun moves = record {
   frames = sym (append-nil (held memory finished engine));
@@ -156,13 +153,12 @@ held-after_data control ring engine memory finished (Moved low) begun step =
       begun = ap begun_of there ∙ last-begun finished piece;
     }
 
--- Descriptors with equal fields are equal.
 same_fields : (a a' n n' c c' s s' e e' x x' : ℕ) → a ≡ a' → n ≡ n' → c ≡ c' → s ≡ s' → e ≡ e' → x ≡ x'
     → (let d : RxDesc = record { address = a; length = n; checksum = c; status = status_of s; errors = e; special = x } in d)
     ≡ record { address = a'; length = n'; checksum = c'; status = status_of s'; errors = e'; special = x' }
 same_fields a a' n n' c c' s s' e e' x x' ea en ec es ee ex = rw (ea, en, ec, es, ee, ex) refl
 
--- Eight bytes with the buffer's address, followed by bytes 8 to 15 of a finished descriptor, as a descriptor.
+-- The descriptor that the eight bytes of a buffer's address, followed by `finished_bytes`, encode.
 rx_desc_of-finished : (front : List ℕ) (n : ℕ) (ends : Bool) → length front ≡ 8 → n < 2 ^ 16
     → rx_desc_of (front ++ finished_bytes n ends)
     ≡ record {
@@ -187,13 +183,13 @@ rx_desc_of-finished front n ends eight short =
     let special : little_number 2 (drop 14 whole) ≡ 0 = ap (little_number 2) (sym (drop-drop 6 8 whole) ∙ ap (drop 6) behind) in
     same_fields _ _ _ _ _ _ _ _ _ _ _ _ address length checksum status errors special
 
--- The buffer address of a descriptor is in its first eight bytes.
 named_address-front : (memory : List ℕ) (at : ℕ) → named_address memory at ≡ little_number 8 (bytes_at memory at 8)
 unfolding rx_desc_of
 named_address-front memory at = little_from-take 0 8 16 (drop at memory) (omega arith)
     ∙ sym (little_from-take 0 8 8 (drop at memory) (omega arith))
 
--- After bytes 8 to 15 of a finished descriptor are written, its buffer address is the same, and its other fields are the written ones.
+-- After bytes 8 to 15 of a descriptor are written (`finished_bytes`), its buffer address is the same, and its other fields are the written
+-- ones.
 pub descriptor_at-finished : (memory : List ℕ) (at n : ℕ) (ends : Bool) → n < 2 ^ 16 → LiesIn memory at 16
     → descriptor_at (with_bytes memory (at + 8) (finished_bytes n ends)) at
     ≡ record {
@@ -216,7 +212,6 @@ descriptor_at-finished memory at n ends short lies =
     let count : length (bytes_at memory at 8) ≡ 8 = length-bytes_at memory at 8 (omega arith) in
     rw (whole, named_address-front memory at) (rx_desc_of-finished (bytes_at memory at 8) n ends count short)
 
--- The bits of a finished status.
 done-set : (ends : Bool) → finished_status ends / 2 ^ 0 % 2 ≡ 1
 done-set true = refl
 done-set false = refl
@@ -245,14 +240,13 @@ written_back-finished memory at n ends short lies stands =
       bytes = ap (λ (d : RxDesc). bytes_at memory' d.address d.length) desc ∙ kept;
     }
 
--- If the descriptor in progress is in memory, a done step writes bytes 8 to 15 of it.
+-- If the descriptor of the piece in progress is inside memory, a done step writes bytes 8 to 15 of this descriptor.
 pub memory_after_done-lies : (memory : List ℕ) (work : Work) → LiesIn memory work.descriptor 16
     → memory_after_done (Some work) memory ≡ with_bytes memory (work.descriptor + 8) (finished_bytes work.length work.ends)
 memory_after_done-lies memory work lies =
     ap (λ (test : Bool). if test then with_bytes memory (work.descriptor + 8) (finished_bytes work.length work.ends) else memory)
     (le-leb (work.descriptor + 16) (length memory) (omega arith))
 
--- If the piece in progress and its descriptor are inside memory and apart, a done step makes the piece a finished piece.
 pub held-after_done : DoneKeepsHeld
 held-after_done engine memory finished sound begun work is lies stands =
     let most : work.length ≤ 1518 = sound.most work is in
@@ -271,7 +265,6 @@ held-after_done engine memory finished sound begun work is lies stands =
       };
     }
 
--- A write apart from the piece in progress and its descriptor doesn't change the piece.
 bytes_of_work-away : (memory bytes : List ℕ) (place : ℕ) (work : Work) → LiesIn memory place (length bytes)
     → IsAwayFromWork memory (area_at place (length bytes)) work
     → bytes_of_work (with_bytes memory place bytes) work ≡ bytes_of_work memory work
@@ -292,7 +285,6 @@ in_work-away memory bytes place (Some work) lies away = ap (λ (piece : List ℕ
 pub slots-elsewhere : OtherBytesLeaveSlots
 slots-elsewhere memory engine place bytes lies away = in_work-away memory bytes place engine.work lies away
 
--- A finished descriptor remains finished while only bytes change that are apart from the descriptor and from its piece.
 pub finished-kept : FinishedStays
 finished-kept memory memory' area descriptor ends frame only apart away finished =
     let same = descriptor_at-kept memory memory' descriptor (only.others (descriptor_area descriptor) apart) in

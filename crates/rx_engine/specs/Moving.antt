@@ -26,7 +26,7 @@ pub record HasFrameToMove (control : ℕ) (ring : Ring) (engine : Receiver) : Ty
 abbrev pub IsOffered : ℕ → Ring → Type 0
 IsOffered control ring = HasBit control rctl_en × (ring.head ≢ ring.tail)
 
--- The size of a receive buffer in bytes, by RCTL.BSIZE.
+-- The size of a receive buffer in bytes, by BSIZE of this value of RCTL.
 abbrev pub buffer_bytes : ℕ → ℕ
 buffer_bytes control = buffer_size_of (field control rctl_bsize 2)
 
@@ -42,7 +42,7 @@ next_piece control engine = take (buffer_bytes control) (drop engine.moved (olde
 abbrev pub is_last : ℕ → Receiver → Bool
 is_last control engine = nat_le (left_bytes engine) (buffer_bytes control)
 
--- With this value of RCTL, a piece of n bytes can be moved. Otherwise the step is a fault (our choice).
+-- With this value of RCTL, a piece of n bytes can be moved. Otherwise a data step that has a piece to move is a fault (our choice).
 pub record CanMove (control : ℕ) (ring : Ring) (memory : List ℕ) (n : ℕ) : Type 0 where
   -- RDH and RDT are indices of descriptors in the ring.
   pub indices : HasValidIndices ring
@@ -83,20 +83,19 @@ IfMoved (Part low) fact = fact low
 IfMoved (Moved low) fact = fact low
 IfMoved Fault fact = ⊤
 
--- The next piece as the piece in progress, with the address of the descriptor at the head.
+-- The next piece as the piece in progress, with the address of the descriptor at the head. The flag is whether the frame ends in the piece.
 abbrev pub work_at : ℕ → Ring → Receiver → Bool → Work
 work_at control ring engine ends =
     record { descriptor = address_of ring ring.head; length = length (next_piece control engine); ends = ends }
 
 -- The engine after `work` has become the piece in progress. If the frame ends in the piece, the frame is removed from the packet buffer.
--- Otherwise the bytes of the piece are added to the moved bytes.
+-- Otherwise the length of the piece is added to the number of moved bytes.
 abbrev pub begun_with : Work → Receiver → Receiver
 begun_with work engine = if work.ends then record engine { buffer = drop 1 engine.buffer; moved = 0; work = Some work }
     else record engine { moved = engine.moved + work.length; work = Some work }
 
--- The engine after a step with this answer. After `Part` or `Moved`, the piece is in progress. After `Part`, its bytes are added to the
--- moved bytes. After `Moved`, its frame is removed from the packet buffer. After `Fault`, the data step is stopped. `Nothing` changes
--- nothing.
+-- The engine after a step with this answer. After `Part` or `Moved`, the piece is in progress. `Part` also adds its length to the number of
+-- moved bytes. `Moved` also removes its frame from the packet buffer. After `Fault`, the data step is stopped. `Nothing` changes nothing.
 abbrev pub engine_after_data : Data → ℕ → Ring → Receiver → Receiver
 engine_after_data Nothing control ring engine = engine
 engine_after_data (Part low) control ring engine = record engine {
@@ -110,14 +109,15 @@ engine_after_data (Moved low) control ring engine = record engine {
 }
 engine_after_data Fault control ring engine = record engine { stopped = true }
 
--- The ring after a step with this answer: if a piece was moved, head is the next slot.
+-- The ring after a step with this answer: if a piece was moved, the head has advanced by one slot. Otherwise the ring doesn't change.
 abbrev pub ring_after_data : Data → Ring → Ring
 ring_after_data Nothing ring = ring
 ring_after_data (Part low) ring = record ring { head = next_of ring ring.head }
 ring_after_data (Moved low) ring = record ring { head = next_of ring ring.head }
 ring_after_data Fault ring = ring
 
--- The memory after a step with this answer: a piece that was moved is in the buffer that the descriptor at the head points to.
+-- The memory after a step with this answer: a piece that was moved is in the buffer that the descriptor at the head points to. Otherwise
+-- memory doesn't change.
 abbrev pub memory_after_data : Data → ℕ → Ring → Receiver → List ℕ → List ℕ
 memory_after_data Nothing control ring engine memory = memory
 memory_after_data (Part low) control ring engine memory = with_bytes memory (named_address memory (address_of ring ring.head))

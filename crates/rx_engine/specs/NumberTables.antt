@@ -8,15 +8,15 @@ use Rattle.rx_engine.specs.Addresses.{group_number}
 use Rattle.rx_engine.specs.Registers.{HasTableBit}
 use Rattle.rx_engine.specs.declared.filter.TheConstants.{TABLE_WORDS}
 
--- The numbers of groups and VLANs have 12 bits, so they are below this number: a table has a bit for each.
+-- The number of bits of a table. The numbers of groups and VLANs have 12 bits, so each is below this number.
 abbrev pub table_numbers : ℕ
 table_numbers = 4096
 
--- In a table of 128 words, exactly the bits of these numbers are 1.
+-- The table has 128 words, and exactly the bits of these numbers are 1.
 pub record HasNumbers (table numbers : List ℕ) : Type 0 where
   -- The table has 128 words.
   pub words : length table ≡ TABLE_WORDS
-  -- The bit of a number is 1 if and only if the number is in the list.
+  -- The bit of a number below 4,096 is 1 if and only if the number is in the list.
   pub bits : (number : ℕ) → number < table_numbers → HasTableBit table number ↔ Contains numbers number
 
 -- The numbers of these groups in the group table, if RCTL.MO is 00.

@@ -1,4 +1,5 @@
--- The receive filter (3.2.1 "Packet Address Filtering" and chapter 9, "802.1q VLAN Support"), in sets.
+-- Which frames pass the receive filter (3.2.1 "Packet Address Filtering" and chapter 9, "802.1q VLAN Support"). The filter is given by sets
+-- of addresses, group numbers and VLAN numbers.
 use Rattle.std.specs.Prelude.{◌≡◌, ◌≢◌, ◌⊎◌, ℕ, List}
 use Rattle.rx_engine.specs.Addresses.{destination, IsGroup, IsIndividual, broadcast, group_number, ether_type, vlan_number}
 
@@ -8,13 +9,13 @@ pub record ReceiveFilter : Type 1 where
   pub addresses : List ℕ → Type 0
   -- The group numbers, each below 4,096.
   pub groups : ℕ → Type 0
-  -- The number of bits by which the last two bytes of an address are shifted for its group number.
+  -- The number of bits by which the last two bytes of an address are shifted right for its group number.
   pub shift : ℕ
   -- Frames of every VLAN pass: the VLAN filter is off (RCTL.VFE 0).
   pub every_vlan : Type 0
   -- The VLAN numbers that pass while the VLAN filter is on, each below 4,096.
   pub vlans : ℕ → Type 0
-  -- Bytes 12 and 13 of a tagged frame.
+  -- The number in bytes 12 and 13 of a tagged frame.
   pub vlan_type : ℕ
   -- Every individual address is accepted.
   pub all_individuals : Type 0
@@ -33,14 +34,14 @@ AcceptsAddress filter address =
     ⊎ ((IsGroup address × filter.all_groups)
     ⊎ ((address ≡ broadcast) × filter.broadcasts))))
 
--- The filter accepts a group address by MPE, BAM, or the group table.
+-- The filter accepts this group address by MPE, BAM, or the group table.
 unfoldable pub AcceptsGroup : ReceiveFilter → List ℕ → Type 0
 AcceptsGroup filter address =
     filter.all_groups
     ⊎ (((address ≡ broadcast) × filter.broadcasts)
     ⊎ filter.groups (group_number filter.shift address))
 
--- The filter accepts a frame if the VLAN filter is off, the frame has no tag, or the filter contains the frame's VLAN number.
+-- The filter accepts the frame's VLAN: the VLAN filter is off, the frame has no tag, or the filter contains the frame's VLAN number.
 unfoldable pub AcceptsVlan : ReceiveFilter → List ℕ → Type 0
 AcceptsVlan filter frame =
     filter.every_vlan

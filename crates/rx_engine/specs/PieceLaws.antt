@@ -20,7 +20,8 @@ begun-append begun [] later = refl
 begun-append begun (Part bytes ∷ first) later = begun-append (begun ++ bytes) first later
 begun-append begun (Last bytes ∷ first) later = begun-append [] first later
 
--- No frame ends in a list of parts. The bytes after the last end are those that the frame began with, and all bytes of the parts.
+-- No frame ends in a list of parts. The bytes that the frame began with, followed by the bytes of all parts, are then the bytes after the
+-- last end.
 pub frames-parts : (begun : List ℕ) (seen : List (List ℕ)) → frames_from begun (parts seen) ≡ []
 frames-parts begun [] = refl
 frames-parts begun (bytes ∷ seen) = frames-parts (begun ++ bytes) seen
@@ -38,7 +39,8 @@ take-next moved size frame =
     ∙ ap (λ (behind : List ℕ). take moved (take (moved + size) frame) ++ behind) (sym next)
     ∙ take-append-drop moved (take (moved + size) frame)
 
--- If a piece that isn't the last of its frame is added, no frame ends, and its bytes are added after the last end.
+-- If a piece that isn't the last of its frame is added at the end, the same frames end in the list. If the piece is the next one of the
+-- frame after the last end, it is added to the moved bytes of this frame.
 pub part-frames : (pieces : List Piece) (bytes : List ℕ) → frames_of (pieces ++ Part bytes ∷ []) ≡ frames_of pieces
 part-frames pieces bytes = frames-append [] pieces (Part bytes ∷ []) ∙ append-nil (frames_of pieces)
 
@@ -49,7 +51,7 @@ part-begun pieces frame moved size begun =
     ∙ ap (λ (bytes : List ℕ). bytes ++ take size (drop moved frame)) begun
     ∙ take-next moved size frame
 
--- If the last piece of a frame is added, the frame ends, and no bytes are after the last end.
+-- If the last piece of a frame is added at the end, the whole frame is added, and no bytes are after the last end.
 pub last-frames : (pieces : List Piece) (frame : List ℕ) (moved size : ℕ) → begun_of pieces ≡ take moved frame
     → length frame - moved ≤ size
     → frames_of (pieces ++ Last (take size (drop moved frame)) ∷ []) ≡ frames_of pieces ++ frame ∷ []

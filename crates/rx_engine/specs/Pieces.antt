@@ -15,7 +15,7 @@ frames_from begun [] = []
 frames_from begun (Part bytes ∷ later) = frames_from (begun ++ bytes) later
 frames_from begun (Last bytes ∷ later) = (begun ++ bytes) ∷ frames_from [] later
 
--- The bytes after the last end of a frame. If no frame ends in these pieces: `begun`, followed by their bytes.
+-- The bytes after the last end of a frame, joined. If no frame ends in these pieces: `begun`, followed by the bytes of all pieces.
 abbrev pub begun_from : List ℕ → List Piece → List ℕ
 begun_from begun [] = begun
 begun_from begun (Part bytes ∷ later) = begun_from (begun ++ bytes) later
@@ -29,12 +29,12 @@ frames_of pieces = frames_from [] pieces
 abbrev pub begun_of : List Piece → List ℕ
 begun_of pieces = begun_from [] pieces
 
--- Whether the frame of the piece continues in the next piece.
+-- The frame of the piece continues in the next piece.
 abbrev pub IsPart : Piece → Type 0
 IsPart (Part bytes) = ⊤
 IsPart (Last bytes) = ⊥
 
--- Whether a frame ends in the piece.
+-- A frame ends in the piece.
 abbrev pub IsLast : Piece → Type 0
 IsLast (Part bytes) = ⊥
 IsLast (Last bytes) = ⊤

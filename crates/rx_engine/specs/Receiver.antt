@@ -25,7 +25,7 @@ abbrev pub oldest : List (List ℕ) → List ℕ
 oldest [] = []
 oldest (frame ∷ frames) = frame
 
--- The engine has a next piece: no fault has stopped the data step, no piece is in progress, and a frame is in the packet buffer.
+-- The engine has a next piece: no fault has stopped the data step, no piece is in progress, and the packet buffer isn't empty.
 pub record IsReady (engine : Receiver) : Type 0 where
   -- No fault has stopped the data step.
   pub running : engine.stopped ≡ false

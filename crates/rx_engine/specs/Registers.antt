@@ -20,7 +20,7 @@ pub record FilterRegisters : Type 0 where
   -- VET, the VLAN type (13.4.11).
   pub vet : ℕ
 
--- The bits of RAH that a write stores: the address bits 15:0 and AV, bit 31.
+-- The bits of RAH that a write stores: bits 15:0, which contain address bytes 4 and 5, and AV, bit 31.
 abbrev pub address_high_mask : ℕ
 address_high_mask = 0x8000FFFF
 
@@ -28,7 +28,7 @@ address_high_mask = 0x8000FFFF
 abbrev pub byte : ℕ → ℕ → ℕ
 byte k number = number / 256 ^ k % 256
 
--- The address of an entry: bytes 0 to 3 in RAL, bytes 4 and 5 in RAH, the earlier byte the lower one.
+-- The address in an entry: bytes 0 to 3 are in RAL, and bytes 4 and 5 in bits 15:0 of RAH. The earlier byte is the lower one.
 abbrev pub entry_address : ℕ → ℕ → List ℕ
 entry_address low high = byte 0 low ∷ byte 1 low ∷ byte 2 low ∷ byte 3 low ∷ byte 0 high ∷ byte 1 high ∷ []
 
@@ -43,7 +43,7 @@ pub record HoldsAddress (low high : ℕ) (address : List ℕ) : Type 0 where
 abbrev pub HasEntry : List ℕ → List ℕ → List ℕ → Type 0
 HasEntry ral rah address = (n : ℕ) × (n < 16) × HoldsAddress (slice_index ral n) (slice_index rah n) address
 
--- A number's bit in a table of words of 32 bits is 1.
+-- In a table of words of 32 bits, the bit of this number is 1.
 abbrev pub HasTableBit : List ℕ → ℕ → Type 0
 HasTableBit table number = HasBit (slice_index table (number / 32)) (number % 32)
 

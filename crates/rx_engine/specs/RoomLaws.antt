@@ -1,4 +1,5 @@
--- Lemmas about the room in the receive packet buffer: how many frames fit, and how many bytes they have. Other crates use them, too.
+-- Lemmas about the room in the receive packet buffer: how many frames fit, and how many bytes they have. Other crates use these lemmas,
+-- too.
 use Rattle.std.proofs.Common.{◌≡◌, ◌≢◌, ◌≤◌, ◌+◌, ◌*◌, ◌++◌, ◌∷◌, [], ℕ, List, All, length, drop, refl, sym, ap, ◌∙◌, arith, suc}
 use Rattle.std.specs.Prelude.{sum_by, slice_get, Some}
 use Rattle.std.proofs.lemmas.List.Sums.{sum_by-append, sum_by-cons}
@@ -6,7 +7,7 @@ use Rattle.descriptors.specs.Frames.{IsLegal}
 use Rattle.rx_engine.specs.Receiver.{oldest}
 use Rattle.rx_engine.specs.Room.{cost, most_room, occupied_by}
 
--- A frame occupies at least as many bytes as it has, and a legal frame at least 80.
+-- A frame occupies at least its length in bytes, and a legal frame at least 80 bytes.
 pub bytes-cost : (frame : List ℕ) → length frame ≤ cost frame
 bytes-cost frame = omega arith
 
@@ -19,7 +20,7 @@ all-first P x xs all = all 0 x (omega arith)
 all-later : {T : Type 0} (P : T → Type 0) (x : T) (xs : List T) → All P (x ∷ xs) → All P xs
 all-later P x xs all = λ k d below. all (suc k) d (omega arith)
 
--- Frames occupy at least as many bytes as they have.
+-- Frames occupy at least the sum of their lengths in bytes.
 pub bytes-occupied : (frames : List (List ℕ)) → sum_by (λ (frame : List ℕ). length frame) frames ≤ occupied_by frames
 bytes-occupied [] = omega arith
 bytes-occupied (frame ∷ later) =
@@ -40,13 +41,13 @@ count-occupied (frame ∷ later) legal =
 pub count-fits : (frames : List (List ℕ)) → All IsLegal frames → occupied_by frames ≤ most_room → length frames ≤ 614
 count-fits frames legal room = omega (arith, count-occupied frames legal)
 
--- One more frame adds the bytes that it occupies.
+-- If a frame is added at the end, the number of occupied bytes increases by the number of bytes that this frame occupies.
 pub occupied-append : (frames : List (List ℕ)) (frame : List ℕ) → occupied_by (frames ++ frame ∷ []) ≡ occupied_by frames + cost frame
 occupied-append frames frame =
     sum_by-append cost frames (frame ∷ []) ∙ ap (λ (n : ℕ). occupied_by frames + n)
     (sum_by-cons cost frame [] ∙ (let e : cost frame + 0 ≡ cost frame = omega arith in e))
 
--- After the oldest frame is removed, the bytes that it occupied are free.
+-- The frames occupy the bytes that the first frame occupies, and those that the other frames occupy.
 pub occupied-first : (frames : List (List ℕ)) (frame : List ℕ) → slice_get frames 0 ≡ Some frame
     → cost frame + occupied_by (drop 1 frames) ≡ occupied_by frames
 occupied-first [] frame is = absurd (cc)
@@ -54,17 +55,17 @@ occupied-first (first ∷ later) frame is =
     let same : first ≡ frame = cc in
     ap (λ (f : List ℕ). cost f + occupied_by later) (sym same) ∙ sym (sum_by-cons cost first later)
 
--- If the packet buffer isn't empty and its oldest frame is removed, the bytes that this frame occupied are free.
+-- If the packet buffer isn't empty, the frames occupy the bytes that the oldest frame occupies, and those that the other frames occupy.
 pub occupied_oldest : (frames : List (List ℕ)) → frames ≢ [] → cost (oldest frames) + occupied_by (drop 1 frames) ≡ occupied_by frames
 occupied_oldest [] some = absurd (some refl)
 occupied_oldest (first ∷ later) some = sym (sum_by-cons cost first later)
 
--- The oldest frame is at most as long as the longest legal frame.
+-- If all frames are legal, the oldest one has at most 1,518 bytes.
 pub legal_oldest : (frames : List (List ℕ)) → All IsLegal frames → length (oldest frames) ≤ 1518
 legal_oldest [] legal = omega arith
 legal_oldest (first ∷ later) legal = omega (arith, (all-first IsLegal first later legal).most)
 
--- The frames after the oldest one have legal lengths, too.
+-- If all frames are legal, the frames after the oldest one are legal.
 pub legal_later : (frames : List (List ℕ)) → All IsLegal frames → All IsLegal (drop 1 frames)
 legal_later [] legal = legal
 legal_later (first ∷ later) legal = all-later IsLegal first later legal

@@ -11,7 +11,7 @@ use Rattle.descriptors.specs.RxStatus.{dd}
 abbrev pub offered : Ring → List ℕ
 offered ring = map (address_of ring) (offered_places ring)
 
--- The slots from the driver's oldest one up to, but not including, tail. All other slots are the driver's.
+-- The slots from slot `oldest`, the driver's oldest one, up to, but not including, tail.
 abbrev pub outstanding : Ring → ℕ → List ℕ
 outstanding ring oldest = offered (record ring { head = oldest })
 
@@ -19,6 +19,6 @@ outstanding ring oldest = offered (record ring { head = oldest })
 abbrev pub is_done : List ℕ → ℕ → Bool
 is_done memory descriptor = is_set (slice_index (bytes_at memory descriptor 16) 12) dd
 
--- The outstanding slots before the first one that isn't done, the oldest first.
+-- The outstanding slots before the first one that isn't done, the oldest first. If all are done: all outstanding slots.
 abbrev pub done_slots : List ℕ → Ring → ℕ → List ℕ
 done_slots memory ring oldest = take_while (is_done memory) (outstanding ring oldest)

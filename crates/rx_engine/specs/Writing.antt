@@ -1,4 +1,4 @@
--- The effect of a driver's usual writes on the filter's sets: the laws that `sets_of_registers` states.
+-- The effect of writes of addresses and of table bits on the filter's sets: the laws that `sets_of_registers` states.
 use Rattle.std.specs.Prelude.{◌≡◌, ◌+◌, ◌/◌, ◌%◌, ◌^◌, ◌<◌, ◌⊎◌, ◌↔◌, ℕ, List, length, replicate, slice_index, slice_set}
 use Rattle.registers.specs.Bits.{field, union}
 use Rattle.registers.specs.Places.{alone, rah_av}
@@ -14,7 +14,8 @@ with_number table number =
 abbrev pub NoAddressAtFirst : Type 0
 NoAddressAtFirst = (n : ℕ) (address : List ℕ) → ¬ (HasEntry (replicate n 0) (replicate n 0) address)
 
--- An address that is written, with AV, to an entry that isn't valid is added to the receive addresses.
+-- An address that is written, with AV, to one of the 16 entries that isn't valid is added to the receive addresses. No other address is
+-- added or removed.
 abbrev pub AddressIsAdded : Type 0
 AddressIsAdded =
     (ral rah : List ℕ) (n : ℕ) (address other : List ℕ)
@@ -26,7 +27,7 @@ AddressIsAdded =
 abbrev pub NoNumberAtFirst : Type 0
 NoNumberAtFirst = (n number : ℕ) → ¬ (HasTableBit (replicate n 0) number)
 
--- Setting the bit of a number adds this number, and no other, to the numbers of the table.
+-- Setting a bit that is inside the table adds the number of this bit, and no other, to the numbers of the table.
 abbrev pub NumberIsAdded : Type 0
 NumberIsAdded =
     (table : List ℕ) (number other : ℕ) → number / 32 < length table

@@ -28,7 +28,7 @@ pub struct AddressWords {
 }
 
 impl AddressWords {
-    /// Returns the words of the valid entry that contains an address.
+    /// Returns the words of an entry that contains this address, with AV set.
     pub fn of(address: &[u8; 6]) -> AddressWords
         ensures low { result.low ≡ low_word address.now }
         ensures high { result.high ≡ high_word address.now + alone rah_av }
@@ -52,7 +52,7 @@ pub fn hash_of(mo: GroupOffset, address: &[u8; 6]) -> u16
     (last >> mo.shift()) % NUMBERS
 }
 
-/// Returns the destination of a frame.
+/// Returns the destination of a frame of at least 16 bytes: bytes 0 to 5.
 pub(crate) fn destination_of(frame: &[u8]) -> [u8; 6]
     requires { 16 ≤ length frame.now }
     ensures { result ≡ destination frame.now }
@@ -98,7 +98,7 @@ pub(crate) fn has_entry(
     false
 }
 
-/// Returns the type of a frame: bytes 12 and 13, the higher one first.
+/// Returns the type of a frame of at least 16 bytes: bytes 12 and 13, the higher one first.
 pub(crate) fn ether_type_of(frame: &[u8]) -> u16
     requires { 16 ≤ length frame.now }
     ensures { result ≡ ether_type frame.now }
@@ -106,7 +106,8 @@ pub(crate) fn ether_type_of(frame: &[u8]) -> u16
     u16::from_be_bytes([frame[12], frame[13]])
 }
 
-/// Returns the low 12 bits of bytes 14 and 15, the higher byte first: the VLAN number of a tagged frame.
+/// Returns the VLAN number of a tagged frame: the low 12 bits of bytes 14 and 15, the higher byte first. The frame has
+/// at least 16 bytes.
 pub(crate) fn vlan_number_of(frame: &[u8]) -> u16
     requires { 16 ≤ length frame.now }
     ensures { result ≡ vlan_number frame.now }

@@ -21,7 +21,7 @@ use registers::Rctl;
 /// The result of a data step.
 #[derive(Clone, Copy, Debug, PartialEq, Eq)]
 pub enum Data {
-    /// There is nothing to do, and nothing changed.
+    /// There was nothing to do, and nothing changed.
     Nothing,
     /// A piece of the oldest frame is in memory and in progress. More pieces of this frame follow.
     Part {
@@ -56,12 +56,12 @@ impl Data {
 /// progress, and the head advances ("3.2.6 Receive Descriptor Queue Structure"). After its last piece, the frame is
 /// removed from the packet buffer.
 ///
-/// Returns `Nothing` if RCTL.EN is 0, a fault has stopped the engine, a piece is in progress, the packet buffer is
-/// empty, or head equals tail.
+/// Returns `Nothing` if RCTL.EN is 0, the engine is stopped, a piece is in progress, the packet buffer is empty, or
+/// head equals tail.
 ///
-/// Otherwise returns `Fault` if head or tail isn't a slot of the ring, or if RCTL.BSEX is set. Also returns `Fault` if
-/// the descriptor or the destination of the piece isn't inside memory. A fault changes neither memory nor ring nor
-/// packet buffer. After a fault, `rx_data` returns `Nothing` until a reset (our choice).
+/// Otherwise returns `Fault` if head or tail isn't the index of a slot, or if RCTL.BSEX is set. Also returns `Fault` if
+/// the descriptor or the destination of the piece isn't inside memory. A fault changes neither the memory, the ring,
+/// nor the packet buffer. After a fault, `rx_data` returns `Nothing` until a reset (our choice).
 pub fn rx_data(
     engine: &mut RxEngine,
     ring: &mut Ring,
@@ -135,8 +135,8 @@ fn is_last_piece(left: usize, size: usize) -> bool
     left <= size
 }
 
-/// Writes a piece to the buffer that the descriptor at the head points to. Returns the address of this descriptor, or
-/// `None` exactly if the step is a fault, which doesn't change memory.
+/// Writes a piece to the buffer that the descriptor at the head points to. Returns the address of this descriptor.
+/// Returns `None`, without a change of memory, if and only if the piece can't be moved, so that the step is a fault.
 fn store_piece(ring: &Ring, control: Rctl, memory: &mut HostMemory, piece: &[u8]) -> Option<u64>
     ensures can { IsSome result ↔ CanMove control.0 ring.now memory.old (length piece.now) }
     ensures descriptor { IfSome result (λ descriptor. descriptor ≡ address_of ring.now ring.now.head) }

@@ -1,4 +1,4 @@
-// The done step, which ends the piece in progress, and writes back its descriptor if this is inside memory.
+// The done step, which ends the piece in progress, and writes back its descriptor if the descriptor is inside memory.
 
 ghost use Rattle.std.specs.Prelude.{◌≡◌, ◌+◌, ◌↔◌, None, IfSome};
 ghost use Rattle.dma_memory.specs.Areas.{ChangesOnly, area_at};
@@ -28,11 +28,13 @@ pub enum Done {
     Done,
 }
 
-/// Ends the piece in progress, and writes back its descriptor ("3.2.3 Receive Descriptor Format"): the length of the
-/// piece, DD, no error, and EOP if the frame ends in this piece. Returns `Nothing` if no piece is in progress.
+/// Ends the piece in progress, and writes back its descriptor ("3.2.3 Receive Descriptor Format"). The descriptor then
+/// contains the length of the piece, DD, no error, and EOP if the frame ends in this piece. Returns `Nothing` if no
+/// piece is in progress.
 ///
-/// If memory ends before the end of the descriptor, nothing is written, but the piece is ended, too. This can't happen
-/// if `memory` has the same size as in the call of [`rx_data`](crate::rx_data) that moved the piece.
+/// If memory ends before the end of the descriptor, nothing is written. In this case, too, no piece is in progress
+/// after the call. This case doesn't occur if `memory` has the same size as in the call of [`rx_data`](crate::rx_data)
+/// that moved the piece.
 pub fn rx_done(engine: &mut RxEngine, memory: &mut HostMemory) -> Done
     ensures nothing { (result ≡ Done.Nothing) ↔ (engine.old.work ≡ None) }
     ensures engine { engine.new ≡ engine_after_done engine.old }
@@ -67,7 +69,8 @@ fn status(ends: bool) -> RxStatus
     }
 }
 
-/// Writes bytes 8 to 15 of the descriptor at an address. The descriptor is then finished with a piece of this length.
+/// Writes bytes 8 to 15 of the descriptor at an address: this length, DD, EOP if `ends` is true, and 0 in the other
+/// fields. The descriptor must be inside memory.
 fn write_back(memory: &mut HostMemory, descriptor: u64, length: u16, ends: bool)
     requires { LiesIn memory.old descriptor 16 }
     ensures memory { memory.new ≡ with_bytes memory.old (descriptor + 8) (finished_bytes length ends) }

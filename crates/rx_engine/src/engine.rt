@@ -7,7 +7,7 @@ ghost use Rattle.rx_engine.specs.Hashed.{work_writes};
 ghost use Rattle.descriptors.specs.Frames.{IsLegal};
 ghost use Rattle.rx_engine.specs.Room.{cost, cost_of_length, most_room, occupied_by};
 
-use frame_queue::PackedQueue;
+use descriptors::PackedQueue;
 use std::alloc::{AllocError, Global};
 use std::hash::{Hash, Hasher};
 use std::marker::Model;
@@ -15,8 +15,8 @@ use std::marker::Model;
 /// The maximum number of frames in the receive packet buffer: 48 kilobytes have room for 614 frames of 60 bytes.
 pub const MOST_FRAMES: u16 = 614;
 
-/// The number of bytes of memory for frames. This number is more than 48 kilobytes, so that a push seldom has to move
-/// frames.
+/// The number of bytes that are allocated for the frames in the packet buffer. This number is more than 48 kilobytes,
+/// so that a push seldom has to move frames.
 const QUEUE_BYTES: usize = 65_536;
 
 /// The number of bytes that a frame occupies is a multiple of this number.
@@ -34,13 +34,13 @@ pub struct Work {
 }
 
 /// The receive engine: its packet buffer, the number of moved bytes of the oldest frame, the piece in progress, and
-/// whether a fault has stopped the engine.
+/// whether the engine is stopped.
 #[derive(Clone, Drop)]
 pub struct RxEngine {
     buffer: PackedQueue,
     /// The number of bytes that the frames in `buffer` occupy.
     occupied: u32,
-    /// The number of bytes of the oldest frame that are moved to memory.
+    /// The number of bytes of the oldest frame that have been moved to memory.
     moved: u16,
     work: Option<Work>,
     stopped: bool,
@@ -63,7 +63,7 @@ impl RxEngine {
     ghost use Rattle.rx_engine.specs.Receiver.{new_receiver, IsReceiver, IsReady, oldest};
     ghost use Rattle.rx_engine.specs.Moving.{begun_with, left_bytes};
 
-    /// Returns an engine with an empty packet buffer and no piece in progress.
+    /// Returns an engine with an empty packet buffer and no piece in progress, which no fault has stopped.
     ///
     /// # Errors
     ///
@@ -138,7 +138,8 @@ impl RxEngine {
         self.buffer.feed(hasher);
     }
 
-    /// Appends a frame of a legal length to the packet buffer. The packet buffer must have room for the frame.
+    /// Appends a frame of a legal length to the packet buffer. A packet buffer of 49,152 bytes must have room for the
+    /// frame.
     pub(crate) fn store(&mut self, frame: &[u8])
         requires room { occupied_by self.old.buffer + cost frame.now ≤ most_room }
         requires legal { IsLegal frame.now }
@@ -166,8 +167,8 @@ impl RxEngine {
         Some(&frame[usize::from(self.moved)..])
     }
 
-    /// Records that a piece of the oldest frame is in progress. After its last piece, the frame is removed from the
-    /// packet buffer.
+    /// Records that a piece of the oldest frame is in progress. If the frame ends in the piece, removes the frame from
+    /// the packet buffer. Otherwise adds the piece's length to the number of moved bytes.
     #[tactic(auto, using(crate::specs::RoomLaws::legal_oldest))]
     pub(crate) fn begin(&mut self, work: Work)
         requires least { 1 ≤ work.length }
@@ -185,8 +186,8 @@ impl RxEngine {
         self.work = Some(work);
     }
 
-    /// Removes the oldest frame, which has `size` bytes, from the packet buffer. No byte of the next frame is moved
-    /// yet.
+    /// Removes the oldest frame, which has `size` bytes, from the packet buffer, and sets the number of moved bytes to
+    /// 0.
     #[tactic(auto, using(crate::specs::RoomLaws::occupied_oldest))]
     fn drop_oldest(&mut self, size: u16)
         requires some { self.old.buffer ≢ [] }
@@ -228,8 +229,8 @@ fn feed_work<H: Hasher>(work: Option<Work>, hasher: &mut H)
     }
 }
 
-/// Returns the number of bytes of the packet buffer that a frame of this length occupies (our choice): its length,
-/// rounded up to a multiple of 16, and 16 more.
+/// Returns the number of bytes of the packet buffer that a frame of this length occupies (our choice). This number is
+/// the length, rounded up to a multiple of 16, and 16 more.
 pub(crate) fn cost(length: usize) -> u32
     requires { length ≤ 65535 }
     ensures { result ≡ cost_of_length length }

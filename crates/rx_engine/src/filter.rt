@@ -187,7 +187,8 @@ impl Filter {
         self.accepts_address(&destination_of(frame)) && self.accepts_vlan(frame)
     }
 
-    /// Returns whether the filter accepts a destination address.
+    /// Returns whether the filter accepts a destination address: it is a receive address, or UPE, MPE, BAM or the group
+    /// table accepts it.
     fn accepts_address(&self, address: &[u8; 6]) -> bool
         ensures { IsTrue result ↔ AcceptsAddress (filter_of self.now) address.now }
     {
@@ -209,7 +210,7 @@ impl Filter {
             || has_table_bit(&self.mta, hash_of(self.rctl.group_offset(), address))
     }
 
-    /// Returns whether VFE is clear, the frame has no tag, or VFTA contains the frame's VLAN number.
+    /// Returns whether RCTL.VFE is clear, the frame has no tag (its type isn't VET), or VFTA contains its VLAN number.
     #[tactic(auto, unfolding(crate::specs::Registers::filter_of, crate::specs::Passing::AcceptsVlan))]
     fn accepts_vlan(&self, frame: &[u8]) -> bool
         requires { 16 ≤ length frame.now }

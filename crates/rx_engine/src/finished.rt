@@ -55,7 +55,7 @@ fn shows_end(desc: &RxDesc) -> bool
     desc.status.contains(RxStatus::EOP)
 }
 
-/// Returns the descriptor in a slot of a ring.
+/// Returns the descriptor in a slot of a ring. The whole ring must be inside memory, so the result is never `None`.
 fn descriptor_in(memory: &HostMemory, ring: &Ring, place: u16) -> Option<RxDesc>
     requires ring { LiesWhole memory.now ring.now }
     requires place { place < count_of ring.now }
@@ -72,8 +72,8 @@ fn descriptor_in(memory: &HostMemory, ring: &Ring, place: u16) -> Option<RxDesc>
     Some(RxDesc::from_bytes(&bytes))
 }
 
-/// Returns the bytes of the piece in a slot of a ring, and whether a frame ends in the piece; `None` if the slot isn't
-/// done.
+/// Returns the bytes of the piece in a slot of a ring, and whether a frame ends in the piece. Returns `None` if and
+/// only if the slot isn't done.
 fn finished_piece<'a>(memory: &'a HostMemory, ring: &Ring, place: u16) -> Option<(&'a [u8], bool)>
     requires ring { LiesWhole memory.now ring.now }
     requires place { place < count_of ring.now }
@@ -98,7 +98,7 @@ fn finished_piece<'a>(memory: &'a HostMemory, ring: &Ring, place: u16) -> Option
 }
 
 /// Returns the bytes of the piece in progress, at the address in its descriptor. The descriptor and the piece must be
-/// inside memory.
+/// inside memory, so the result is never `None`.
 pub fn bytes_in_progress<'a>(memory: &'a HostMemory, work: &Work) -> Option<&'a [u8]>
     requires descriptor { LiesIn memory.now work.now.descriptor 16 }
     requires piece { LiesIn memory.now (named_address memory.now work.now.descriptor) work.now.length }
@@ -113,7 +113,7 @@ pub fn bytes_in_progress<'a>(memory: &'a HostMemory, work: &Work) -> Option<&'a 
 
 /// Appends the frames that end in the finished slots of a ring, from slot `oldest` up to the first outstanding slot
 /// that isn't done. The first piece continues the frame whose beginning is in `begun`. Afterwards `begun` contains the
-/// beginning of the frame that doesn't end in these slots. `oldest` must be a slot of the ring, unless no slot is
+/// beginning of the frame that doesn't end in these slots. `oldest` must be the index of a slot, unless no slot is
 /// outstanding. The ring and its finished pieces must be inside memory. The list must have room for these frames, and
 /// each frame must have at most 1,518 bytes.
 pub fn append_finished(

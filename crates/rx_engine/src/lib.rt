@@ -1,8 +1,8 @@
 //! The receive engine of the Intel 82540EM: it stores frames from the wire, and writes them to a host's memory.
 //!
-//! Frames wait in the receive packet buffer, oldest first. A data step writes the next piece of the oldest frame to
-//! the buffer that the descriptor at the head of the receive ring points to. A done step then writes back this
-//! descriptor, if memory still contains it. Section numbers are those of Intel's "PCI/PCI-X Family of Gigabit Ethernet
+//! Frames wait in the receive packet buffer, oldest first. A data step writes the next piece of the oldest frame to the
+//! buffer that the descriptor at the head of the receive ring points to. A done step then writes back this descriptor,
+//! if the descriptor is inside memory. Section numbers are those of Intel's "PCI/PCI-X Family of Gigabit Ethernet
 //! Controllers Software Developer's Manual".
 //!
 //! The crate also contains the receive filter: receive addresses, the multicast table, and VLANs. The filter allocates

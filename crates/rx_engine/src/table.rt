@@ -15,7 +15,7 @@ const WORD_NUMBERS: u16 = 32;
 /// The place of a number's bit in MTA or VFTA.
 #[derive(Clone, Copy)]
 pub struct TableBit {
-    /// The word of the table, 0 to 127.
+    /// The index of the word in the table, 0 to 127.
     pub word: u8,
     /// A word in which only this bit is 1.
     pub mask: u32,
@@ -43,7 +43,7 @@ pub(crate) fn has_bit(word: u32, place: u32) -> bool
     (word >> place) % 2 == 1
 }
 
-/// Returns whether the bit of this number is 1 in a table of words of 32 bits.
+/// Returns whether the bit of this number, which is below 4,096, is 1 in MTA or VFTA.
 #[tactic(auto, using(registers::specs::Laws::contains_bit))]
 pub(crate) fn has_table_bit(table: &[u32; TABLE_WORDS], number: u16) -> bool
     requires { number < 4096 }

@@ -1,4 +1,4 @@
--- An access over a solo bus, after what comes before it.
+-- An access over a solo bus, with the ticks that precede it.
 use Rattle.std.proofs.Common.{◌≡◌, ◌+◌, ◌++◌, ◌∷◌, [], Bool, true, List, length, if◌then◌else◌, refl, ap, ◌∙◌, arith}
 use Rattle.std.specs.Bool.{⊤}
 use Rattle.std.proofs.lemmas.List.{map-append}
@@ -19,7 +19,6 @@ use Rattle.solo_bus.specs.declared.solo_bus.SoloTick.TheVariants.{Go}
 use Rattle.bus.proofs.StepsThenAccess.{happens_accesses, past-with_access}
 use Rattle.bus.proofs.Trails.{trail_happens}
 
--- The world of a solo bus.
 abbrev pub solo_world : SoloState → World
 solo_world solo = solo.world
 
@@ -69,11 +68,10 @@ acts_on a p b access effect prepared after answered adapter does =
       effect_is = does;
     }
 
--- The size of memory doesn't change while ticks are played.
 pub size_prepared : (a p : SoloState) → Prepared a p → length p.world.memory ≡ length a.world.memory
 size_prepared a p prepared = (trail_happens prepared.plays.events a.world p.world prepared.plays.are prepared.plays.trail).steady.size
 
--- The bus itself after an access and the ticks before it.
+-- An access, with the ticks that precede it, doesn't change what no access over a bus changes (`StaysWhole`).
 pub access_keeps : (a p b : SoloState) (w : World) → Prepared a p → b ≡ record p { world = w } → length w.memory ≡ length p.world.memory
     → StaysWhole (λ (bus : SoloState). length bus.world.memory) (λ (old new : SoloState). new.lively ≡ old.lively)
     (λ (bus : SoloState). ⊤) (λ (bus : SoloState). bus.lively ≡ true) a b

@@ -1,4 +1,4 @@
--- Ticks that a solo bus plays.
+-- Lemmas about `PlaysSoloTicks`: one tick, the loops over the ticks that wait, and what precedes an access.
 use Rattle.std.proofs.Common.{length-append, length, ◌≡◌, ◌+◌, ◌<◌, ◌++◌, ◌∷◌, [], Bool, true, false, ℕ, List, Option, Some, drop, get_or}
 use Rattle.std.proofs.Common.{map, min, slice_get, take, refl, sym, ap, subst, ◌∙◌, append_assoc}
 use Rattle.std.proofs.lemmas.List.{append-nil, map-append, take_more}
@@ -12,8 +12,8 @@ use Rattle.adapter.specs.declared.step.StepKind.{StepKind}
 use Rattle.adapter.specs.declared.step.StepKind.TheVariants.{TxTake, TxPut, RxData, RxDone, EepromTick, PhyTick}
 use Rattle.adapter.specs.Outcomes.{FrameOutcome}
 use Rattle.adapter.specs.declared.outcome.Outcome.TheVariants.{Put}
-use Rattle.eeprom.specs.Eerd.{is_pending}
-use Rattle.mdic_phy.specs.Mdic.{has_work}
+use Rattle.eeprom_phy.specs.Eerd.{is_pending}
+use Rattle.eeprom_phy.specs.Mdic.{has_work}
 use Rattle.bus.specs.TickGroups.{behind_group, group_of, without_go}
 use Rattle.bus.specs.Pasts.{Past}
 use Rattle.bus.specs.LivelyBuses.{most_accesses}
@@ -51,12 +51,10 @@ plays_trans first later left left' a b c one two = record {
   accesses = two.accesses ∙ one.accesses;
 }
 
--- A list is its first item, followed by the other items.
 front_rest : {X : Type 0} (xs : List X) (x : X) → slice_get xs 0 ≡ Some x → xs ≡ x ∷ drop 1 xs
 front_rest [] x is = absurd (cc)
 front_rest (y ∷ ys) x is = cc
 
--- The frame that a step puts is the only frame that was put in this step.
 put_alone : (kind : StepKind) (wire_free : Bool) (answer : FrameOutcome) (solo : SoloState)
     → Answers kind wire_free solo.world.memory solo.world.adapter answer → put_by answer ≡ (past_of (Steps kind wire_free answer ∷ [])).put
 put_alone TxPut wire_free answer solo answers = sym (append-nil (put_by answer))
@@ -77,7 +75,6 @@ put_alone PhyTick wire_free answer solo answers = ap put_by answers ∙ put_none
     put_none true = refl
     put_none false = refl
 
--- A step, with the ticks that wait after it.
 pub plays_step :
     (a : SoloState) (kind : StepKind) (answer : FrameOutcome) (left : List SoloTick) → IsAdapter a.world.adapter
     → Answers kind (has_room a) a.world.memory a.world.adapter answer
@@ -98,7 +95,6 @@ plays_step a kind answer left running answers =
       accesses = refl;
     }
 
--- A delivery.
 pub plays_arrival :
     (a : SoloState) (frame : List ℕ) (fate : Fate) (left : List SoloTick) → IsAdapter a.world.adapter
     → IsFate a.world.adapter frame fate → PlaysSoloTicks (Arrive frame ∷ []) left a (solo_after_arrival fate frame
@@ -116,15 +112,13 @@ plays_arrival a frame fate left running is =
       accesses = refl;
     }
 
--- A loop over the ticks that wait.
-
--- `plays` are the ticks to be played of a list, and `waits` are the ticks that wait afterwards. Each tick except Go is played, and no
--- longer waits.
+-- For a list of waiting ticks, a loop plays the ticks of `plays`, and those of `waits` wait afterwards. If the first tick isn't Go, it is
+-- played.
 pub record GoesOn (plays waits : List SoloTick → List SoloTick) : Type 0 where
   pub played : (tick : SoloTick) (later : List SoloTick) → is_go tick ≡ false → plays (tick ∷ later) ≡ tick ∷ plays later
   pub left : (tick : SoloTick) (later : List SoloTick) → is_go tick ≡ false → waits (tick ∷ later) ≡ waits later
 
--- Some ticks were played. The ticks to be played are these, followed by those to be played of the ticks that still wait.
+-- From `a` to `s`, the loop has played `ticks`. In all, it plays these ticks, and then those that it plays of the ticks waiting in `s`.
 pub record PlaysOn (plays waits : List SoloTick → List SoloTick) (a s : SoloState) : Type 0 where
   pub ticks : List SoloTick
   pub far : PlaysSoloTicks ticks s.waiting a s
@@ -144,7 +138,7 @@ group_goes_on = record { played = played; left = left }
     left (Step kind) later is = refl
     left (Arrive frame) later is = refl
 
--- if all ticks are played, none waits
+-- The ticks that wait after a loop that plays all ticks: no tick.
 abbrev pub none_left : List SoloTick → List SoloTick
 none_left ticks = []
 
@@ -157,7 +151,7 @@ all_go_on = record { played = played; left = λ tick later is. refl }
     played (Step kind) later is = refl
     played (Arrive frame) later is = refl
 
--- One more tick is played, which was the next one.
+-- The loop plays one more tick, the first one that waits.
 on_more :
     (plays waits : List SoloTick → List SoloTick) (a s b : SoloState) (tick : SoloTick) (left : List SoloTick) → GoesOn plays waits
     → PlaysOn plays waits a s → is_go tick ≡ false → s.waiting ≡ tick ∷ left → b.waiting ≡ left → PlaysSoloTicks (tick ∷ []) b.waiting s b
@@ -173,7 +167,7 @@ on_more plays waits a s b tick left on before isnt front behind one = record {
   to_wait = before.to_wait ∙ ap waits front ∙ on.left tick left isnt ∙ ap waits (sym behind);
 }
 
--- The bus after a step whose tick was the next one.
+-- The loop removes the first tick that waits, a step, and plays it.
 pub step_on :
     (plays waits : List SoloTick → List SoloTick) (a s s' b : SoloState) (kind : StepKind) (answer : FrameOutcome) (next : Option SoloTick)
     (tick : SoloTick)
@@ -207,7 +201,7 @@ arrive_on plays waits a s s' b frame bytes fate next tick on before is some take
     (on_more plays waits a s _ (Arrive frame) (drop 1 s.waiting) on before refl front refl
     (plays_arrival s frame fate (drop 1 s.waiting) running_s fates_s))
 
--- Steps of these kinds, one after the other.
+-- After the steps of the first `place` kinds, the step of the next kind is played.
 pub kinds_on :
     (kinds : List StepKind) (place : ℕ) (other : StepKind) (a s b : SoloState) (answer : FrameOutcome) → place < length kinds
     → PlaysSoloTicks (map Step (take place kinds)) a.waiting a s → IsAdapter s.world.adapter
@@ -225,7 +219,7 @@ kinds_on kinds place other a s b answer inside before running answers after =
     (subst (λ (left : List SoloTick). PlaysSoloTicks (first ++ Step kind ∷ []) left a
     (solo_after_step kind answer s)) before.waiting whole))
 
--- All that comes before an access.
+-- The bus's own ticks, then the next group, then the count: together they are `Prepared`.
 pub prepared_on :
     (a m g b : SoloState) → PlaysSoloTicks (lively_ticks a.lively) a.waiting a m
     → PlaysSoloTicks (group_of is_go m.waiting) (behind_group is_go m.waiting) m g

@@ -1,4 +1,4 @@
--- The buses of `src/sound_buses.rt`: the values of their registers, and that the laws apply to them.
+-- The worlds of `specs/SoundBuses`: the conditions hold in each of them, and the calls of `src/sound_buses.rt` result in them.
 use Rattle.std.proofs.Common.{◌≡◌, ◌≤◌, ◌+◌, false, inl, inr, ◌++◌, ◌∷◌, [], true, ℕ, Bool, List, length, replicate, slice_index, refl, sym}
 use Rattle.std.proofs.Common.{ap, subst, ◌∙◌, arith}
 use Rattle.std.specs.List.{All}
@@ -16,7 +16,7 @@ use Rattle.descriptors.specs.TxFields.{command_bits}
 use Rattle.tx_engine.specs.Fetching.{IsTransmittable, descriptor_at, fetched}
 use Rattle.tx_engine.specs.ToSend.{to_send}
 use Rattle.descriptors.specs.Frames.{IsLegal}
-use Rattle.mdic_phy.specs.declared.phy.Link.TheVariants.{Never}
+use Rattle.eeprom_phy.specs.declared.phy.Link.TheVariants.{Never}
 use Rattle.rx_engine.specs.declared.arrival.Fate.{Fate}
 use Rattle.rx_engine.specs.declared.arrival.Fate.TheVariants.{Off, Illegal, Filtered, Missed, Stored}
 use Rattle.rx_engine.specs.Passing.{AcceptsAddress, AcceptsVlan, Passes}
@@ -58,7 +58,7 @@ zeros-address : (size d : ℕ) → d + 16 ≤ size → receive.named_address (re
 unfolding rx_desc_of
 zeros-address size d fits = ap (λ (bytes : List ℕ). (rx_desc_of bytes).address) (zeros-at size d fits)
 
--- Six writes set up both rings.
+-- The world after the six writes that set up both rings.
 abbrev pub set_up : World → World
 set_up world =
     world_after_write 0x400 0xA (world_after_write 0x100 0x8002 (world_after_write 0x3808 128 (world_after_write 0x3800 2176
@@ -69,7 +69,7 @@ pub set_up-rests : (size : ℕ) (words : List ℕ)
 unfolding register_at array_register_at
 set_up-rests size words = refl
 
--- At rest.
+-- The world `resting`.
 
 pub resting-idle : (size : ℕ) (words : List ℕ) → 4096 ≤ size → IsIdle (resting size words)
 resting-idle size words fits =
@@ -96,7 +96,7 @@ resting-idle size words fits =
 pub resting-sound : (size : ℕ) (words : List ℕ) → 4096 ≤ size → Sound 0 0 (resting size words)
 resting-sound size words fits = idle_rings_are_sound (resting size words) (resting-idle size words fits)
 
--- The first receive slot is offered.
+-- The world `ready`: the first receive slot is offered.
 
 pub resting-can_offer : (size : ℕ) (words : List ℕ) → 4096 ≤ size → CanOffer 0 (resting size words)
 resting-can_offer size words fits =
@@ -129,18 +129,15 @@ pub ready-sound : (size : ℕ) (words : List ℕ) → 4096 ≤ size → Sound 0 
 ready-sound size words fits =
     (slots_can_be_offered 0 0 (resting size words) (resting-sound size words fits) (resting-can_offer size words fits)).same.sound
 
--- Only this slot is offered.
-
 pub ready-has_rings : (size : ℕ) (words : List ℕ) → HasRings (ready size words)
 unfolding offered_places
 ready-has_rings size words = record { receives = omega arith; transmits = omega arith; offers = λ none. absurd (cc) }
 
--- A write of 1 to RDT advances RDT by one slot.
 pub ready-written : (size : ℕ) (words : List ℕ) → world_after_write 0x2818 1 (resting size words) ≡ ready size words
 unfolding register_at array_register_at
 ready-written size words = refl
 
--- A broadcast frame arrives, and is stored.
+-- The world `called`: the broadcast frame arrives, and is stored.
 
 call-passes : (size : ℕ) (words : List ℕ) → Passes (filter_of (ready size words).adapter.filter) call
 unfolding filter_of AcceptsAddress AcceptsVlan
@@ -156,7 +153,7 @@ fate-stored size words Filtered is = absurd (is.2 (call-passes size words))
 fate-stored size words Missed is = absurd (omega (arith, is.1))
 fate-stored size words Stored is = refl
 
--- The frame is moved.
+-- The world `working`: the frame is moved.
 
 pub called-has_frame : (size : ℕ) (words : List ℕ) → HasFrameAndDescriptor (called size words).adapter
 called-has_frame size words = record {
@@ -176,7 +173,6 @@ called-can_move size words fits =
       not_extended = λ set. absurd (omega (arith, set));
     }
 
--- The frame is moved in one piece.
 pub called-last : (size : ℕ) (words : List ℕ) → is_last_piece (called size words).adapter ≡ true
 called-last size words = refl
 
@@ -191,7 +187,7 @@ data-moved size words fits _ answers = absurd answers
 pub working-has_work : (size : ℕ) (words : List ℕ) → HasWork (working size words)
 working-has_work size words none = absurd (cc)
 
--- The slot of the frame is finished.
+-- The world `finished_slot`: the slot of the frame is finished.
 
 pub done-reported : (size : ℕ) (words : List ℕ) (answer : FrameOutcome) → DoneAnswers (working size words).adapter answer → answer ≡ Done
 done-reported size words Done answers = refl
@@ -205,7 +201,7 @@ reported-has_finished size words sound none =
     let empty : (let one : List ℕ = 2048 ∷ [] in one) ≡ [] = all ∙ ap (λ (slots : List ℕ). slots ++ []) none in
     cc
 
--- By the law any step keeps the conditions, and so does any arrival.
+-- By the law, each step and each arrival preserves the conditions.
 
 pub stepped-sound : (kind : StepKind) (free : Bool) (answer : FrameOutcome) (world : World) → IsAdapter world.adapter
     → Answers kind free world.memory world.adapter answer → Sound 0 0 world → Sound 0 0 (world_after_step kind answer world)
@@ -215,7 +211,7 @@ pub arrived-sound : (fate : Fate) (frame : List ℕ) (world : World) → IsAdapt
     → Sound 0 0 world → Sound 0 0 (world_after_arrival fate frame world)
 arrived-sound fate frame world running is sound = ((arrivals_happen world fate frame running is).between 0 0 sound).sound
 
--- The state after a call, by the adapter's answer.
+-- The world that a call of `src/sound_buses.rt` results in, by the answers of the steps and arrivals in it.
 
 pub working-found : (size : ℕ) (words : List ℕ) (fate : Fate) (answer : FrameOutcome) (a b d : World) → 4096 ≤ size → a ≡ ready size words
     → IsFate a.adapter call fate → b ≡ world_after_arrival fate call a → DataAnswers b.memory b.adapter answer
@@ -235,7 +231,7 @@ reported-found size words answer a b begins answers steps =
     let done : answer ≡ Done = done-reported size words answer (subst (λ (w : World). DoneAnswers w.adapter answer) begins answers) in
     steps ∙ ap (λ (told : FrameOutcome). world_after_step RxDone told a) done ∙ ap (world_after_step RxDone Done) begins
 
--- The descriptor of a frame to be sent is stored.
+-- The world `requested`: the descriptor of a frame is stored.
 
 request-lies : (size : ℕ) → 4096 ≤ size → LiesIn (replicate size 0) 2176 16
 request-lies size fits = omega (arith, length-replicate {A = ℕ} size 0, fits)
@@ -262,7 +258,7 @@ unfolding tx_desc_of
 requested-reports size words fits = ap (λ (bytes : List ℕ). is_set (command_bits (tx_desc_of bytes).command) 3)
     (requested-bytes size words fits)
 
--- The slot of this descriptor is offered.
+-- The world `sending`: the slot of this descriptor is offered.
 
 pub requested-can_send : (size : ℕ) (words : List ℕ) → 4096 ≤ size → CanSend 0 0 (requested size words)
 requested-can_send size words fits =
@@ -301,12 +297,11 @@ pub sending-has_frames : (size : ℕ) (words : List ℕ) → HasFramesInRing (se
 unfolding offered_places to_send
 sending-has_frames size words = record { slots = λ none. absurd (cc); frames = λ none. absurd (cc) }
 
--- A write of 1 to TDT advances TDT by one slot.
 pub sending-written : (size : ℕ) (words : List ℕ) → world_after_write 0x3818 1 (requested size words) ≡ sending size words
 unfolding register_at array_register_at
 sending-written size words = refl
 
--- The frame of this slot is taken.
+-- The world `taken`: the frame of this slot is taken.
 
 sending-busy : (size : ℕ) (words : List ℕ) → ¬ (HasNothingToTake (sending size words).adapter)
 sending-busy size words (inl off) = absurd (off refl)

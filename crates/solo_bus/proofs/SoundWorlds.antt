@@ -1,4 +1,5 @@
--- The conditions of the law hold of the worlds of `specs/SoundBuses`, and their engines can run.
+-- The proof of `conditions_can_be_met`: in worlds of `specs/SoundBuses`, the conditions hold, frames fit into buffers, and the engines can
+-- run.
 use Rattle.std.proofs.Common.{◌≡◌, ◌≤◌, ◌+◌, ◌++◌, ◌∷◌, [], true, ℕ, List, replicate, refl, sym, ap, subst, ◌∙◌, arith}
 use Rattle.std.specs.List.{All, take_while}
 use Rattle.std.proofs.lemmas.List.Elements.{All-cons}
@@ -37,9 +38,8 @@ use Rattle.solo_bus.proofs.SoundBuses.{requested-can_send, requested-idle, resti
 use Rattle.solo_bus.proofs.SoundBuses.{sending-has_frames, sending-sound, working-has_work}
 use Rattle.bus.proofs.TxTakeSteps.{between_padded, taken}
 
--- Engines that can run.
+-- The engines can run.
 
--- Over any memory, while no slot is offered.
 resting-runs : (size : ℕ) (words memory : List ℕ) → CanRun (record (resting size words) { memory = memory })
 resting-runs size words memory = record {
   receiver_runs = refl;
@@ -84,7 +84,7 @@ sending-fits size words fits =
     (requested-can_send size words fits) in
     offered.received.fits 2048 (resting-fits size words w.memory)
 
--- A frame has arrived.
+-- The world `called`: a frame has arrived.
 
 called-sound : (size : ℕ) (words : List ℕ) → 4096 ≤ size → Sound 0 0 (called size words)
 called-sound size words fits =
@@ -123,7 +123,6 @@ called-receiver size words = record {
   most = λ work none. absurd (none-some work none);
 }
 
--- The piece of the frame is in progress.
 working-between : (size : ℕ) (words : List ℕ) → 4096 ≤ size → Between 0 0 (called size words) (working size words) nothing
 working-between size words fits =
     let w = called size words in
@@ -140,7 +139,7 @@ working-runs size words fits = (working-between size words fits).runs (called-ru
 abbrev work : Work
 work = record { descriptor = 2048; length = 60; ends = true }
 
--- The slot of the piece is finished.
+-- The world `working` after a done step: the slot of the piece is finished.
 abbrev done_with : ℕ → List ℕ → World
 done_with size words = record
     { memory = with_bytes (working size words).memory (2048 + 8) (finished_bytes 60 true); adapter = done_adapter (working size words) }
@@ -157,7 +156,7 @@ done-finished size words fits none =
     let empty : (let one : List ℕ = 2048 ∷ [] in one) ≡ [] = all ∙ ap (λ (slots : List ℕ). slots ++ []) none in
     cc
 
--- The offered frame is taken.
+-- The world `sending` after TxTake: the offered frame is taken.
 abbrev took : ℕ → List ℕ → World
 took size words = taken true (sending size words)
 
@@ -169,7 +168,7 @@ took-between size words fits =
 took-runs : (size : ℕ) (words : List ℕ) → 4096 ≤ size → CanRun (took size words)
 took-runs size words fits = (took-between size words fits).runs (sending-runs size words fits)
 
--- The frame is put, and its slot is written back.
+-- The entry of the packet buffer for this frame, and the world after TxPut: the frame is put, and its slot is written back.
 abbrev fetched_one : ℕ → List ℕ → Queued
 fetched_one size words = fetched true (sending size words).memory 2176
 
@@ -193,7 +192,7 @@ put-written size words fits none =
     let empty : (let one : List ℕ = 2176 ∷ [] in one) ≡ [] = all ∙ ap (λ (slots : List ℕ). slots ++ []) none in
     cc
 
--- All of them, over 4,096 bytes of memory and an EEPROM of zeros.
+-- The worlds of `SomeSound`, with 4,096 bytes of memory and an EEPROM of zeros.
 
 abbrev words : List ℕ
 words = replicate 64 0

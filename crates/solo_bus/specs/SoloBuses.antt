@@ -1,4 +1,4 @@
--- The state of a solo bus, how its calls change it, and its record of what happened.
+-- The state of a solo bus, the effect of its calls, and the record of what happened between two states.
 use Rattle.std.specs.Prelude.{⊤, ◌≡◌, ◌+◌, ◌++◌, ℕ, Bool, true, false, List, [], ◌∷◌, All, length, map, min, nat_lt, sum_by}
 use Rattle.std.specs.Prelude.{if◌then◌else◌}
 use Rattle.rx_engine.specs.declared.arrival.Fate.{Fate}
@@ -26,9 +26,9 @@ pub record SoloState : Type 0 where
   pub lively : Bool
   -- The ticks that are still to be played.
   pub waiting : List SoloTick
-  -- The frames on the wire that haven't been removed, the oldest first.
+  -- The frames on the wire, the oldest first: those that steps put and no call removed.
   pub wire : List (List ℕ)
-  -- The number of accesses so far, up to the greatest u64.
+  -- The number of accesses so far, at most the greatest u64.
   pub accesses : ℕ
 
 -- The number of frames for which the wire has room (our choice).
@@ -42,7 +42,7 @@ most_ticks = 32
 abbrev pub has_room : SoloState → Bool
 has_room solo = nat_lt (length solo.wire) wire_frames
 
--- The outcome of a step, with its frame.
+-- The outcome of a step from this state, with the frame that it put if the outcome is `Put`.
 abbrev pub solo_framed : Outcome (Unit {0}) → SoloState → FrameOutcome
 solo_framed outcome solo = framed outcome solo.world.adapter
 
@@ -69,8 +69,8 @@ solo_tick_of (Steps kind wire_free answer) = Step kind
 solo_tick_of (Arrives frame fate) = Arrive frame
 solo_tick_of (Accesses access) = Go
 
--- The ticks that a bus plays by itself before each access. A lively bus plays a tick of the EEPROM and then a tick of the PHY. Another bus
--- plays no tick.
+-- The ticks that a bus plays by itself before each access. A lively bus plays a tick of the EEPROM and then a tick of the PHY. A bus that
+-- isn't lively plays no ticks by itself.
 abbrev pub lively_ticks : Bool → List SoloTick
 lively_ticks lively = if lively then Step EepromTick ∷ Step PhyTick ∷ [] else []
 
@@ -83,15 +83,16 @@ AreFree (Steps kind wire_free answer ∷ later) frames =
 AreFree (Arrives frame fate ∷ later) frames = AreFree later frames
 AreFree (Accesses access ∷ later) frames = AreFree later frames
 
--- The frames that events put on the wire.
+-- The wire of `b` contains the frames on the wire of `a`, followed by those of `put`. Each step was played with a free wire if and only if
+-- the wire had room.
 pub record PutOnWire (a b : SoloState) (events : List Event) (put : List (List ℕ)) : Type 0 where
   -- Each step was played with the wire free if and only if the wire had room.
   pub free : AreFree events (length a.wire)
-  -- The wire contains the frames that it contained before, followed by these.
+  -- The wire contains the frames that it contained in `a`, followed by those of `put`.
   pub frames : b.wire ≡ a.wire ++ put
 
--- The record of what happened between two states: the events, the ticks that they play, the frames that they put on the wire, and the
--- accesses that they count.
+-- `past` is the record of what happened from `a` to `b`. The fields state the events, their ticks, the frames put on the wire, and the
+-- counted accesses.
 pub record Recounts (a b : SoloState) (past : Past) : Type 0 where
   pub events : List Event
   pub trail : Trail events a.world b.world
@@ -114,17 +115,17 @@ abbrev pub phy_tick : SoloTick → ℕ
 phy_tick (Step PhyTick) = 1
 phy_tick _ = 0
 
--- The number of ticks of each kind that a bus plays by itself for these accesses.
+-- The number of ticks of the EEPROM, and of ticks of the PHY, that a bus plays by itself before these accesses.
 abbrev pub lively_count : Bool → List Access → ℕ
 lively_count lively accesses = if lively then length accesses else 0
 
--- For each access, a lively bus plays exactly one tick of the EEPROM and one tick of the PHY by itself. All other ticks are those of the
+-- Before each access, a lively bus plays exactly one tick of the EEPROM and one tick of the PHY by itself. All other ticks are those of the
 -- groups that waited.
 pub record PlaysLively (a : SoloState) (past : Past) : Type 0 where
   pub eeprom : past.eeprom_ticks ≡ lively_count a.lively past.accesses + sum_by eeprom_tick (groups_of is_go past.accesses a.waiting)
   pub phy : past.phy_ticks ≡ lively_count a.lively past.accesses + sum_by phy_tick (groups_of is_go past.accesses a.waiting)
 
--- From one state to another, exactly these ticks are played, with one event for each tick and no access. Then the ticks `left` wait.
+-- From `a` to `b`, exactly these ticks are played, with one event for each tick and no access. In `b`, the ticks `left` wait.
 pub record PlaysSoloTicks (ticks left : List SoloTick) (a b : SoloState) : Type 0 where
   pub events : List Event
   pub are : All IsStep events
@@ -135,7 +136,7 @@ pub record PlaysSoloTicks (ticks left : List SoloTick) (a b : SoloState) : Type 
   pub lively : b.lively ≡ a.lively
   pub accesses : b.accesses ≡ a.accesses
 
--- Before an access, the bus's own ticks and the next group are played, and the access is counted, up to the greatest u64.
+-- From `a` to `b`, the bus plays its own ticks and the next group before an access. The bus also counts the access, up to the greatest u64.
 pub record Prepared (a b : SoloState) : Type 0 where
   pub plays : PlaysSoloTicks (lively_ticks a.lively ++ group_of is_go a.waiting) (behind_group is_go a.waiting) a
       (record b { accesses = a.accesses })

@@ -1,5 +1,5 @@
--- Lemmas: the records of a solo bus over two consecutive intervals, joined, are its record over both; and the accesses and ticks that a
--- record counts.
+-- Lemmas: the records of two consecutive intervals, joined, are the record of both intervals; and the accesses and ticks that a record
+-- counts.
 use Rattle.std.proofs.Common.{◌≡◌, ◌+◌, ◌++◌, ◌∷◌, [], Bool, true, false, List, ℕ, length, map, min, sum_by, if◌then◌else◌, refl, sym, ap}
 use Rattle.std.proofs.Common.{subst, ◌∙◌, append_assoc, arith, length-append}
 use Rattle.std.proofs.lemmas.List.{append-nil, map-append}
@@ -67,7 +67,7 @@ recounts_join a b c first later one two = record {
   count = omega (arith, one.count, two.count, length-append first.accesses later.accesses);
 }
 
--- Each access increases the count of a solo bus by one, up to the greatest u64.
+-- The count of a solo bus increases by the number of accesses in the record, up to the greatest u64.
 pub recounts_count : (a b : SoloState) (past : Past) → Recounts a b past
     → min b.accesses most_accesses ≡ min (min a.accesses most_accesses + length past.accesses) most_accesses
 recounts_count a b past recounts = omega (arith, recounts.count)
@@ -110,7 +110,6 @@ lively_phy_tick : (lively : Bool) → sum_by phy_tick (lively_ticks lively) ≡ 
 lively_phy_tick true = refl
 lively_phy_tick false = refl
 
--- Each record of a solo bus counts the ticks as `PlaysLively` states.
 pub recounts_lively : (a b : SoloState) (past : Past) → Recounts a b past → PlaysLively a past
 recounts_lively a b past recounts = record {
   eeprom =

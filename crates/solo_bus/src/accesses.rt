@@ -1,4 +1,4 @@
-// The solo bus obeys the law, and counts its accesses.
+// The solo bus as a `Bus`, which obeys the bus law, and as an `HonestBus`, which counts its accesses.
 
 ghost use Rattle.std.specs.Prelude.{◌≡◌, length, min};
 

@@ -4,9 +4,9 @@ ghost use Rattle.solo_bus.specs.SoundWorlds.{HasFinished, HasFramesInBuffer, Has
 ghost use Rattle.solo_bus.specs.SoundWorlds.{HasWrittenBack, SomeSound};
 
 /// The conditions of the law can be met: worlds exist in which they hold, frames fit into their buffers, and both
-/// engines can run. In one of these worlds, both rings are set up, and the receive ring offers slots. Each other world
-/// has one of these: a piece in progress, a finished slot, a written-back slot, or frames in the transmit ring or the
-/// transmit packet buffer.
+/// engines can run. In one of these worlds, both rings are set up, and the receive ring offers slots. The other five
+/// worlds have, in this order, a piece in progress, a finished slot, a written-back slot, offered transmit slots, and
+/// buffered transmit frames.
 pub fn conditions_can_be_met()
     ensures rings { SomeSound HasRings }
     ensures work { SomeSound HasWork }

@@ -7,9 +7,8 @@ ghost use Rattle.registers.specs.Bits.{Meet};
 use adapter::{Adapter, Fate, Outcome, StepKind};
 use bus::Machine;
 use circular_buffer::HeapCircularBuffer;
-use descriptors::Frame;
+use descriptors::{Frame, FrameQueue};
 use dma_memory::HostMemory;
-use frame_queue::FrameQueue;
 use std::alloc::{AllocError, Global};
 use std::marker::Model;
 
@@ -22,7 +21,7 @@ pub const WIRE_FRAMES: u8 = 64;
 /// A tick of a solo bus: what is played before an access.
 #[derive(Debug, Drop, PartialEq, Eq)]
 pub enum SoloTick {
-    /// The next access of the driver is made here.
+    /// The next access of the driver is made at this place.
     Go,
     /// The adapter takes a step.
     Step(StepKind),
@@ -97,7 +96,7 @@ impl SoloBus {
     }
 
     /// Plays a step of the adapter. The wire has room while fewer than 64 frames are on it. If the step puts a frame,
-    /// the frame waits on the wire after the others, until [`take_put`](SoloBus::take_put) removes it.
+    /// the frame is on the wire, after the others, until [`take_put`](SoloBus::take_put) removes it.
     pub fn step(&mut self, kind: StepKind) -> Outcome<()>
         ensures answer { Answers kind (has_room self.old) self.old.world.memory self.old.world.adapter
             (solo_framed result self.old) }
@@ -145,7 +144,7 @@ impl SoloBus {
     }
 
     /// Appends ticks to those that wait. Before each later access, the ticks up to the next [`Go`](SoloTick::Go) are
-    /// played, or all ticks if no `Go` waits. At most 32 ticks may wait.
+    /// played, or all ticks if no `Go` waits. At most 32 ticks, including these, may wait.
     pub fn play(&mut self, ticks: &[SoloTick])
         requires room { length self.old.waiting + length ticks.now ≤ MOST_TICKS }
         ensures { self.new ≡ record self.old { waiting = self.old.waiting ++ ticks.now } }
@@ -180,8 +179,8 @@ impl SoloBus {
         }
     }
 
-    /// Plays the ticks up to the next [`Go`](SoloTick::Go), and removes them, with this `Go`. If no `Go` waits, plays
-    /// and removes all ticks.
+    /// Plays the ticks up to the next [`Go`](SoloTick::Go), and removes these ticks and this `Go`. If no `Go` waits,
+    /// plays and removes all ticks.
     fn play_group(&mut self)
         ensures { PlaysSoloTicks (group_of is_go self.old.waiting) (behind_group is_go self.old.waiting) self.old
             self.new }
@@ -210,14 +209,14 @@ impl SoloBus {
         }
     }
 
-    /// Counts an access.
+    /// Counts an access, up to the greatest `u64`.
     fn count_access(&mut self)
         ensures { self.new ≡ record self.old { accesses = min (self.old.accesses + 1) most_accesses } }
     {
         self.accesses = self.accesses.saturating_add(1);
     }
 
-    /// Plays the ticks before an access, and counts the access.
+    /// Plays the ticks that precede an access, the bus's own and those of the next group, and counts the access.
     pub(crate) fn prepare(&mut self)
         ensures { Prepared self.old self.new }
     {
@@ -233,7 +232,7 @@ impl SoloBus {
         self.lively
     }
 
-    /// Returns whether the adapter's interrupt line is asserted: exactly while a recorded cause is in the mask.
+    /// Returns whether the adapter's interrupt line is asserted: some recorded cause is in the mask.
     pub fn line(&self) -> bool
         ensures { IsTrue result ↔ Meet self.now.world.adapter.causes.recorded self.now.world.adapter.causes.mask }
     {
@@ -255,7 +254,7 @@ impl SoloBus {
         self.machine.size()
     }
 
-    /// Returns the number of accesses so far, up to the greatest `u64`.
+    /// Returns the number of accesses so far, at most the greatest `u64`.
     pub(crate) fn access_count(&self) -> u64
         ensures { result ≡ self.now.accesses }
     {
@@ -279,7 +278,7 @@ impl SoloBus {
         self.machine.write(offset, value);
     }
 
-    /// Loads bytes inside memory. No tick is played before the load.
+    /// Loads bytes from memory. The bytes must be inside memory. No tick is played before the load.
     pub(crate) fn load_now(&self, address: u64, into: &mut [u8])
         requires lies { LiesIn self.now.world.memory address (length into.old) }
         ensures loaded { into.new ≡ bytes_at self.now.world.memory address (length into.old) }
@@ -288,7 +287,7 @@ impl SoloBus {
         self.machine.load(address, into);
     }
 
-    /// Stores bytes inside memory. No tick is played before the store.
+    /// Stores bytes in memory. The bytes must be inside memory. No tick is played before the store.
     pub(crate) fn store_now(&mut self, address: u64, bytes: &[u8])
         requires lies { LiesIn self.old.world.memory address (length bytes.now) }
         ensures state { self.new ≡ record self.old { world = world_after_store address bytes.now self.old.world } }
@@ -297,7 +296,7 @@ impl SoloBus {
         self.machine.store(address, bytes);
     }
 
-    /// Removes and returns the next tick, if a tick waits.
+    /// Removes and returns the first tick that waits. Returns `None` if no tick waits.
     fn next_tick(&mut self) -> Option<SoloTick>
         ensures next { result ≡ slice_get self.old.waiting 0 }
         ensures state { self.new ≡ record self.old { waiting = drop 1 self.old.waiting } }

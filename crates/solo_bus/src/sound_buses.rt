@@ -1,4 +1,4 @@
-//! Buses on which the conditions of the law hold, each with slots or frames of a different kind.
+//! Buses on which the conditions of the law hold, each in another state of its rings or of its frame.
 //!
 //! Each bus has a new adapter whose link is never up, and 4,096 bytes of memory. A receive buffer is at 0, and the
 //! receive ring of eight slots at 2,048. The transmit ring of eight slots is at 2,176, and data to be sent at 2,304.
@@ -13,8 +13,7 @@ use crate::SoloBus;
 use adapter::offsets::{RCTL, RDBAL, RDLEN, RDT, TCTL, TDBAL, TDLEN, TDT};
 use adapter::{Adapter, StepKind};
 use dma_memory::HostMemory;
-use eeprom::Image;
-use mdic_phy::Link;
+use eeprom_phy::{Image, Link};
 use std::alloc::{AllocError, Global};
 
 /// The number of bytes of memory.
@@ -35,7 +34,7 @@ const RECEIVE: u32 = 0x0000_8002;
 /// TCTL with EN and PSP.
 const TRANSMIT: u32 = 0x0000_000A;
 
-/// A frame that the filter accepts if RCTL.BAM is set.
+/// A broadcast frame, which the filter accepts if RCTL.BAM is set.
 const BROADCAST: [u8; 60] = [0xFF; 60];
 
 /// A transmit descriptor of a frame of 60 bytes at address 2,304, with EOP, IFCS and RS.

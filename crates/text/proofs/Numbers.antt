@@ -1,4 +1,4 @@
--- The number that digits spell, digit by digit.
+-- The number that digits spell, digit by digit, and the texts for which `digits_of` returns `None`.
 use Rattle.std.proofs.Common.{◌≡◌, ◌<◌, ◌^◌, ℕ, Bool, true, false, List, [], ◌∷◌, Option, Some, None, cond, length, refl, sym}
 use Rattle.std.proofs.Common.{ap, arith, get_or, subst, suc, take, zero, ◌∙◌, ◌+◌, ◌*◌, ◌≤◌}
 use Rattle.std.proofs.lemmas.Int.Digits.{digits_value_more}
@@ -50,12 +50,10 @@ digit_there radix [] i all below = absurd (omega (arith, below))
 digit_there radix (c ∷ cs) zero all below = all.0
 digit_there radix (c ∷ cs) (suc i) all below = digit_there radix cs i all.1 (omega (arith, below))
 
--- a byte that is no digit
 pub bad_digit : (radix : ℕ) (text : List ℕ) (i : ℕ) → i < length text → ¬ (digit_value (get_or text i 0) < radix)
     → None ≡ number_in radix 64 text
 bad_digit radix text i below bad = same-number radix text None (λ h. bad (digit_there radix text i h.0.1 below))
 
--- digits whose number has more than 64 bits
 pub overflows : (radix : ℕ) (text : List ℕ) (i value : ℕ) → 2 ≤ radix → i < length text → value ≡ digits_value radix (take i text)
     → 2 ^ 64 ≤ value * radix + digit_value (get_or text i 0) → None ≡ number_in radix 64 text
 overflows radix text i value low below is large =

@@ -9,7 +9,7 @@ prefix_len-map : {X Y : Type 0} (p : Y → Bool) (f : X → Y) (xs : List X)
 prefix_len-map p f [] = refl
 prefix_len-map p f (x ∷ xs) = ap (λ n. cond (p (f x)) (1 + n) 0) (prefix_len-map p f xs)
 
--- the place, if it is below `count`
+-- The place if it is below `count`, else `None`.
 abbrev place_below : (place count : ℕ) → Option ℕ
 place_below place count = cond (nat_lt place count) (Some place) None
 

@@ -1,4 +1,4 @@
--- Words in memory, and their texts.
+-- Lemmas about the texts of words in memory: the word at an index, and the words before and after the first word that is `mark`.
 use Rattle.std.proofs.Common.{◌≡◌, ◌∙◌, ◌+◌, ◌-◌, ◌<◌, ℕ, List, [], Some, Bor, length, get_or, take, drop}
 use Rattle.std.proofs.Common.{ap, arith, length-drop, sym}
 use Rattle.std.proofs.lemmas.List.{drop-map, get_or-map, take-map, take_all}

@@ -2,14 +2,15 @@
 use Rattle.std.specs.Prelude.{◌≡◌, ◌<◌, ◌+◌, ◌*◌, ℕ, List, length, slice_index}
 use Rattle.std.specs.Char.{digit_value}
 
--- the value of a hexadecimal digit: 0 to 9 for '0' to '9', and 10 to 15 for 'a' to 'f' and for 'A' to 'F'
+-- The value of a hexadecimal digit: 0 to 9 for '0' to '9', and 10 to 15 for 'a' to 'f' and for 'A' to 'F'. Any other character has a value
+-- above 15.
 unfoldable pub hexadecimal_value : ℕ → ℕ
 hexadecimal_value c = digit_value c
 
 abbrev pub IsHexadecimalDigit : ℕ → Type 0
 IsHexadecimalDigit c = hexadecimal_value c < 16
 
--- Two characters are hexadecimal digits: the first is the upper half of the byte, and the second the lower half.
+-- Both characters are hexadecimal digits. The value of the first is the upper half of the byte, and the value of the second the lower half.
 pub record SpellsByte (high low byte : ℕ) : Type 0 where
   pub upper_half : IsHexadecimalDigit high
   pub lower_half : IsHexadecimalDigit low

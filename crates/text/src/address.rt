@@ -12,7 +12,7 @@ const ADDRESS_TEXT_LENGTH: usize = 17;
 
 const HEXADECIMAL: u32 = 16;
 
-/// Returns the value of a hexadecimal digit in either case; `None` for any other character.
+/// Returns the value of a hexadecimal digit in either case. Returns `None` for any other character.
 #[tactic(auto, unfolding(crate::specs::Addresses::hexadecimal_value))]
 fn hexadecimal_digit(digit: u8) -> Option<u8>
     ensures { SomeIff result (IsHexadecimalDigit digit) (hexadecimal_value digit) }
@@ -21,7 +21,8 @@ fn hexadecimal_digit(digit: u8) -> Option<u8>
     Some(value as u8)
 }
 
-/// Returns the byte that two hexadecimal digits spell, the upper half first; `None` for other characters.
+/// Returns the byte that two hexadecimal digits spell, the upper half first. Returns `None` if a character isn't a
+/// hexadecimal digit.
 fn byte_of(high: u8, low: u8) -> Option<u8>
     ensures spelled { IfSome result (SpellsByte high low) }
     ensures refused { IfNone result ((byte : ℕ) → ¬ SpellsByte high low byte) }
@@ -32,7 +33,7 @@ fn byte_of(high: u8, low: u8) -> Option<u8>
 }
 
 /// Returns the address that a text spells: six pairs of hexadecimal digits in either case, joined by colons, such as
-/// `02:00:00:00:00:01`. `None` for any other text.
+/// `02:00:00:00:00:01`. Returns `None` for any other text.
 pub fn address_of(text: &str) -> Option<[u8; 6]>
     ensures spelled { IfSome result (SpellsAddress text.now) }
     ensures refused { IfNone result ((address : List ℕ) → ¬ SpellsAddress text.now address) }

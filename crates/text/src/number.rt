@@ -26,8 +26,8 @@ pub fn digits_of(text: &str, radix: u32) -> Option<u64>
     if bytes.is_empty() { None } else { Some(value) }
 }
 
-/// Returns the number below 2^64 that a text spells: decimal digits, or hexadecimal digits after `0x`. `None` for any
-/// other text.
+/// Returns the number below 2^64 that a text spells: decimal digits, or hexadecimal digits after `0x`. Returns `None`
+/// for any other text.
 pub fn number_of(text: &str) -> Option<u64>
     ensures { result ≡ number_spelled text.now }
 {

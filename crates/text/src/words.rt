@@ -5,7 +5,7 @@ ghost use Rattle.text.specs.Words.{is_same, texts, word, words_after, words_befo
 
 use std::alloc::{AllocError, Global};
 
-/// Returns the words of a line, which spaces and tabs separate.
+/// Returns the words of a line, which spaces and tabs separate. Returns an error only if an allocation fails.
 pub fn words_in<'a>(alloc: Global, line: &'a str) -> Result<Vec<&'a str>, AllocError>
     ensures { IfOk result (λ words. texts words.items ≡ words_of line.entry.now) }
 {
@@ -15,7 +15,7 @@ pub fn words_in<'a>(alloc: Global, line: &'a str) -> Result<Vec<&'a str>, AllocE
         .collect(alloc)
 }
 
-/// Returns the word at this index, from 0. The index must be below the number of words.
+/// Returns the word at this index, counted from 0. The index must be below the number of words.
 #[tactic(auto, using(crate::proofs::Slices::at_texts))]
 pub fn word_at<'a>(words: &[&'a str], place: usize) -> &'a str
     requires { place < length words.now }
@@ -24,7 +24,7 @@ pub fn word_at<'a>(words: &[&'a str], place: usize) -> &'a str
     words[place]
 }
 
-/// Returns the index of the first word that is `mark`; `None` if no word is.
+/// Returns the index of the first word that is `mark`. Returns `None` if no word is `mark`.
 fn place_of(words: &[&str], mark: &str) -> Option<usize>
     ensures place { result ≡ position (is_same mark.now) (texts words.now) }
     ensures within { IfSome result (λ place. place < length words.now) }
@@ -33,7 +33,7 @@ fn place_of(words: &[&str], mark: &str) -> Option<usize>
 }
 
 /// Returns the words before the first word that is `mark`, and the words after it. If no word is `mark`, the first
-/// slice has all words, and the second is empty.
+/// slice contains all words, and the second is empty.
 pub fn split_at_word<'a, 'b>(words: &'b [&'a str], mark: &str) -> (&'b [&'a str], &'b [&'a str])
     ensures before { texts result.0.now ≡ words_before mark.now (texts words.entry.now) }
     ensures after { texts result.1.now ≡ words_after mark.now (texts words.entry.now) }

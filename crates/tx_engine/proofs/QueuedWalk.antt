@@ -1,4 +1,4 @@
--- The walk over the slots from head to tail.
+-- The loop of `append_queued` over the offered slots, from head to tail.
 use Rattle.std.proofs.Common.{suc, zero, true, false, Bool, ◌≡◌, ◌<◌, ◌+◌, ◌-◌, ◌%◌}
 use Rattle.std.proofs.Common.{◌++◌, ◌∷◌, ℕ, List, length, replicate, arith, refl, sym, ap, if◌then◌else◌}
 use Rattle.std.proofs.lemmas.List.{append-nil}

@@ -12,11 +12,11 @@ side_by_side (frame ∷ frames) [] = []
 side_by_side (frame ∷ frames) (report ∷ reports) = record { frame = frame; descriptor = report.descriptor; report = report.wanted }
     ∷ side_by_side frames reports
 
--- The plain data of a transmit engine, in contracts.
+-- The plain data of a transmit engine with these fields.
 abbrev pub transmitter_of : Inside → Transmitter
 transmitter_of engine = record { buffer = side_by_side engine.frames.frames engine.reports.items; stopped = not engine.running }
 
--- The invariant of the fields.
+-- The invariant of the fields of a transmit engine.
 pub record IsWhole (engine : Inside) : Type 0 where
   -- The queue of frames has four places.
   pub frames : engine.frames.capacity ≡ 4

@@ -3,8 +3,8 @@
 use Rattle.std.proofs.Common.{◌≡◌, ◌<◌, not, length-append, ◌++◌, ◌∷◌, [], ℕ, List, length, map, flat_map, slice_get, Some, ◌↔◌}
 use Rattle.std.proofs.Common.{refl, ap, ◌∙◌, arith}
 use Rattle.circular_buffer.specs.Buffer.{Buffer, buffer, keep_last}
-use Rattle.frame_queue.specs.Laws.{keep_last-room}
-use Rattle.frame_queue.specs.Frames.{Frames}
+use Rattle.descriptors.specs.QueueLaws.{keep_last-room}
+use Rattle.descriptors.specs.QueuedFrames.{Frames}
 use Rattle.tx_engine.specs.Transmitter.{Queued, Transmitter}
 use Rattle.tx_engine.specs.Buffer.{side_by_side, transmitter_of, IsWhole}
 use Rattle.tx_engine.specs.Hashed.{queued_writes, report_writes}
@@ -21,7 +21,7 @@ length-side_by_side (frame ∷ frames) (report ∷ reports) same =
     let rest = length-side_by_side frames reports (omega arith) in
     omega arith
 
--- One more frame, with its report, is the last pair.
+-- If a frame and its report are added at the end of both lists, they are the last pair.
 pub side_by_side-push : (frames : List (List ℕ)) (reports : List Report) (frame : List ℕ) (report : Report) → length frames ≡ length reports
     → side_by_side (frames ++ frame ∷ []) (reports ++ report ∷ [])
     ≡ side_by_side frames reports ++ record { frame = frame; descriptor = report.descriptor; report = report.wanted } ∷ []
@@ -39,14 +39,14 @@ side_by_side-none [] reports same = (λ none. refl, λ none. refl)
 side_by_side-none (frame ∷ frames) [] same = absurd (omega arith)
 side_by_side-none (frame ∷ frames) (report ∷ reports) same = (λ none. cc, λ none. cc)
 
--- The oldest frame is the frame of the first pair.
+-- The first frame of the list is the frame of the first pair.
 pub side_by_side-front : (frames : List (List ℕ)) (reports : List Report) (frame : List ℕ) → length frames ≡ length reports
     → slice_get frames 0 ≡ Some frame → IfFront (side_by_side frames reports) (λ queued. queued.frame ≡ frame)
 side_by_side-front [] reports frame same front = tt
 side_by_side-front (first ∷ frames) [] frame same front = absurd (omega arith)
 side_by_side-front (first ∷ frames) (report ∷ reports) frame same front = cc
 
--- The frames of the pairs are the frames.
+-- The frames of the pairs are the list of frames.
 pub side_by_side-frames : (frames : List (List ℕ)) (reports : List Report) → length frames ≡ length reports
     → map (λ (q : Queued). q.frame) (side_by_side frames reports) ≡ frames
 side_by_side-frames [] reports same = refl
@@ -62,14 +62,13 @@ side_by_side-reports (frame ∷ frames) [] same = absurd (omega arith)
 side_by_side-reports (frame ∷ frames) (report ∷ reports) same =
     ap (λ ws. report_writes report ++ ws) (side_by_side-reports frames reports (omega arith))
 
--- After a frame and its report are added, this report is the last one.
 pushed-reports : (engine : Inside) (report : Report) (reports : Buffer Report) → IsWhole engine → length engine.frames.frames < 4
     → reports ≡ buffer (keep_last engine.reports.capacity (engine.reports.items ++ report ∷ [])) engine.reports.capacity
     → reports.items ≡ engine.reports.items ++ report ∷ []
 pushed-reports engine report reports whole room pushed = ap (λ (b : Buffer Report). b.items) pushed
     ∙ keep_last-room engine.reports.items engine.reports.capacity report (omega (arith, whole.reports, whole.same))
 
--- Adding a frame and its report preserves the invariant.
+-- If a frame and its report are added to a packet buffer of fewer than four frames, the fields still meet their invariant.
 pub pushed-whole : (engine : Inside) (frame : List ℕ) (report : Report) (frames : Frames) (reports : Buffer Report) → IsWhole engine
     → length engine.frames.frames < 4 → frames ≡ record engine.frames { frames = engine.frames.frames ++ frame ∷ [] }
     → reports ≡ buffer (keep_last engine.reports.capacity (engine.reports.items ++ report ∷ [])) engine.reports.capacity

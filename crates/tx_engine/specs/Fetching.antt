@@ -15,7 +15,7 @@ use Rattle.tx_engine.specs.Transmitter.{Queued, Transmitter}
 abbrev pub pads : ℕ → Bool
 pads control = is_set control tctl_psp
 
--- The descriptor at an address.
+-- The transmit descriptor at an address.
 abbrev pub descriptor_at : List ℕ → ℕ → TxDesc
 descriptor_at memory address = tx_desc_of (bytes_at memory address 16)
 
@@ -59,7 +59,7 @@ pub record IsTransmittable (memory : List ℕ) (desc : TxDesc) : Type 0 where
   -- The frame is inside memory.
   pub lies : LiesIn memory desc.address desc.length
 
--- The engine can take the frame at the head. Head and tail are slots of the ring. The descriptor at the head is inside memory, and can be
+-- The engine can take the frame at the head: head and tail are indices of slots. The descriptor at the head is inside memory, and can be
 -- transmitted.
 pub record IsFetchable (memory : List ℕ) (ring : Ring) : Type 0 where
   -- TDH and TDT are indices of descriptors in the ring.

@@ -2,7 +2,7 @@
 use Rattle.std.specs.Prelude.{◌++◌, map}
 use Rattle.std.specs.List.{flat_map}
 use Rattle.std.specs.Hash.{HashWrites, bool, u64}
-use Rattle.frame_queue.specs.Hashed.{frames_writes}
+use Rattle.descriptors.specs.HashedFrames.{frames_writes}
 use Rattle.tx_engine.specs.Transmitter.{Queued, Transmitter}
 use Rattle.tx_engine.specs.declared.report.Report.{Report}
 
@@ -14,8 +14,8 @@ report_writes report = u64 report.descriptor ++ bool report.wanted
 abbrev pub queued_writes : Queued → HashWrites
 queued_writes queued = u64 queued.descriptor ++ bool queued.report
 
--- What the transmit engine feeds: whether it is stopped, the number of frames in its buffer, these frames, and the address and RS of each
--- frame's descriptor.
+-- What the transmit engine feeds: whether it is stopped, the number of frames in its buffer, these frames, and then each descriptor's
+-- address and RS.
 abbrev pub transmitter_writes : Transmitter → HashWrites
 transmitter_writes engine = bool engine.stopped
     ++ frames_writes (map (λ queued. queued.frame) engine.buffer)

@@ -8,7 +8,6 @@ use Rattle.tx_engine.specs.Transmitter.{Queued}
 use Rattle.tx_engine.specs.Fetching.{descriptor_at, named_by, frame_at, fetched, as_sent}
 use Rattle.tx_engine.specs.ToSend.{to_send, TakingMovesFrames, PuttingTakesFront, OfferingAddsFrames}
 
--- A take step moves the frame of the slot at the head from the ring to the end of the buffer.
 pub to_send-take : TakingMovesFrames
 unfolding to_send
 to_send-take memory ring pad buffer sound apart =
@@ -20,13 +19,10 @@ to_send-take memory ring pad buffer sound apart =
     ∙ append_assoc (map (λ (queued : Queued). queued.frame) buffer) (last.frame ∷ []) (map frames rest)
     ∙ ap (λ (behind : List (List ℕ)). map (λ (queued : Queued). queued.frame) buffer ++ behind) (sym whole)
 
--- A put step removes the first of the frames to be sent.
 pub to_send-put : PuttingTakesFront
 unfolding to_send
 to_send-put memory ring pad queued buffer = refl
 
--- If a driver advances the tail by one slot, the frame of the slot at the old tail is added at the end of the list. The tail must not
--- advance to the head.
 pub to_send-offer : OfferingAddsFrames
 unfolding to_send
 to_send-offer memory ring pad buffer sound apart =
@@ -36,7 +32,6 @@ to_send-offer memory ring pad buffer sound apart =
     ∙ ap (λ (behind : List (List ℕ)). front ++ behind) (map-append frames (offered_places ring) (ring.tail ∷ []))
     ∙ sym (append_assoc front (map frames (offered_places ring)) (frames ring.tail ∷ []))
 
--- A frame, followed by zeros up to 60 bytes if the adapter pads, is the frame as it is sent.
 zeros-as_sent : (pad : Bool) (frame : List ℕ) (least : ℕ) → least ≡ cond pad 60 0
     → frame ++ replicate (least - length frame) 0 ≡ as_sent pad frame
 zeros-as_sent true frame least same = ap (λ (n : ℕ). frame ++ replicate (n - length frame) 0) same
@@ -44,7 +39,7 @@ zeros-as_sent false frame least same =
     let none : least - length frame ≡ 0 = omega arith in
     ap (λ (n : ℕ). frame ++ replicate n 0) none ∙ append-nil frame
 
--- The frame that is pushed for a descriptor, padded or not, is the frame that the engine fetches.
+-- The entry that `push` appends for a descriptor, with `least` 60 if the adapter pads and 0 otherwise, is the entry that `fetched` defines.
 pub pushed-fetched : (pad : Bool) (memory bytes : List ℕ) (address descriptor least : ℕ) (reports : Bool)
     → bytes ≡ named_by memory (descriptor_at memory address) → descriptor ≡ address → reports ≡ (fetched pad memory address).report
     → least ≡ cond pad 60 0

@@ -5,13 +5,13 @@ use Rattle.descriptors.specs.declared.ring.Ring.{Ring}
 use Rattle.descriptors.specs.Ring.{address_of, offered_places}
 use Rattle.tx_engine.specs.Fetching.{descriptor_at, frame_at}
 
--- The bytes that a descriptor points to are inside memory, and there are at most 1,518 of them.
+-- The bytes that the descriptor at an address points to are inside memory, and their number is at most 1,518.
 pub record CanBeCopied (memory : List ℕ) (descriptor : ℕ) : Type 0 where
   -- The bytes are in memory.
   pub lies : LiesIn memory (descriptor_at memory descriptor).address (descriptor_at memory descriptor).length
   -- There are at most 1,518 bytes.
   pub short : (descriptor_at memory descriptor).length ≤ 1518
 
--- The frames of the offered descriptors, padded if the adapter pads.
+-- The frames of the offered descriptors, in the order of their slots from the head on, padded if the adapter pads.
 abbrev pub queued_in : Bool → List ℕ → Ring → List (List ℕ)
 queued_in pad memory ring = map (λ (slot : ℕ). frame_at pad memory (address_of ring slot)) (offered_places ring)

@@ -1,4 +1,5 @@
--- Lemmas: a write, such as a write-back, doesn't change the frames to be sent that are apart from it.
+-- Lemmas: a write, such as a write-back, doesn't change the frames to be sent, if it is apart from the offered descriptors and their
+-- frames.
 use Rattle.std.proofs.Common.{◌≡◌, ◌<◌, ◌+◌, ◌++◌, ◌∷◌, [], Bool, true, false, ◌&&◌, if◌then◌else◌, ℕ, zero, suc, List, length, map, drop}
 use Rattle.std.proofs.Common.{slice_index, refl, sym, ap, ◌∙◌, arith, lit≤}
 use Rattle.std.proofs.lemmas.Bool.{and_parts, ltb-true}
@@ -19,7 +20,6 @@ use Rattle.tx_engine.specs.Laws.{to_send-put}
 use Rattle.tx_engine.specs.Steps.{IfFront, status_place, written_back}
 use Rattle.tx_engine.specs.ToSend.{to_send, IsAwayFrom, OtherBytesLeaveFrames}
 
--- The number of n bytes at place j of a list without its first i bytes is the number of n bytes at place i + j of the whole list.
 little_from-drop : (j n i : ℕ) (bytes : List ℕ) → little_from j n (drop i bytes) ≡ little_from (i + j) n bytes
 little_from-drop j zero i bytes = refl
 little_from-drop j (suc n) i bytes =
@@ -55,7 +55,6 @@ unfolding tx_desc_of
 same-length memory changed address same = length-first_ten changed address ∙ ap (little_from 8 2) same
     ∙ sym (length-first_ten memory address)
 
--- A write apart from the address and the length in a descriptor, and from its frame, doesn't change the frame.
 frame_at-away : (memory bytes : List ℕ) (pad : Bool) (place address : ℕ) → LiesIn memory place (length bytes)
     → IsAwayFrom memory (area_at place (length bytes)) address
     → frame_at pad (with_bytes memory place bytes) address ≡ frame_at pad memory address
@@ -83,30 +82,26 @@ frames-away memory bytes ring pad place (slot ∷ slots) lies away =
     ap (λ (frame : List ℕ). frame ∷ map (λ (slot : ℕ). frame_at pad (with_bytes memory place bytes) (address_of ring slot)) slots) first
     ∙ ap (λ (frames : List (List ℕ)). frame_at pad memory (address_of ring slot) ∷ frames) rest
 
--- A write apart from the addresses and lengths in the descriptors that the adapter owns, and from their frames, doesn't change the frames
--- to be sent.
 pub to_send-elsewhere : OtherBytesLeaveFrames
 unfolding to_send
 to_send-elsewhere memory ring pad buffer place bytes lies away =
     ap (λ (frames : List (List ℕ)). map (λ (queued : Queued). queued.frame) buffer ++ frames)
     (frames-away memory bytes ring pad place (offered_places ring) lies away)
 
--- The same for a write of one byte.
+-- A write of one byte doesn't change the frames to be sent, if it is inside memory and apart from the offered descriptors (`IsAwayFrom`).
 pub to_send-away : (memory : List ℕ) (ring : Ring) (pad : Bool) (buffer : List Queued) (place byte : ℕ) → LiesIn memory place 1
     → All (λ slot. IsAwayFrom memory (area_at place 1) (address_of ring slot)) (offered_places ring)
     → to_send (with_bytes memory place (byte ∷ [])) ring pad buffer ≡ to_send memory ring pad buffer
 to_send-away memory ring pad buffer place byte lies away = to_send-elsewhere memory ring pad buffer place (byte ∷ []) lies away
 
--- If a changed memory has the same frames to be sent whenever a condition is true, the memory that the condition selects has these
--- frames, too.
 to_send-either : (test : Bool) (memory changed : List ℕ) (ring : Ring) (pad : Bool) (buffer : List Queued)
     → (test ≡ true → to_send changed ring pad buffer ≡ to_send memory ring pad buffer)
     → to_send (if test then changed else memory) ring pad buffer ≡ to_send memory ring pad buffer
 to_send-either true memory changed ring pad buffer same = same refl
 to_send-either false memory changed ring pad buffer same = refl
 
--- The write-back of a frame that was put on the wire doesn't change the frames to be sent, if the status byte is apart from the
--- descriptors that the adapter owns and from their frames.
+-- If a frame's status byte is apart from the offered descriptors (`IsAwayFrom`), the write-back of the status doesn't change the frames to
+-- be sent.
 pub to_send-written_back : (memory : List ℕ) (ring : Ring) (pad : Bool) (buffer : List Queued) (queued : Queued)
     → All (λ slot. IsAwayFrom memory (area_at (status_place queued) 1) (address_of ring slot)) (offered_places ring)
     → to_send (written_back memory queued) ring pad buffer ≡ to_send memory ring pad buffer
@@ -118,8 +113,8 @@ to_send-written_back memory ring pad buffer queued away =
     (and_parts queued.report lies_there written).1 in
     to_send-away memory ring pad buffer (status_place queued) 1 (omega arith) away)
 
--- After the oldest frame of the buffer is put on the wire, the frames to be sent are those from before, without the first. The status
--- byte must be apart from the descriptors that the adapter owns and from their frames.
+-- After the oldest frame of the buffer is put on the wire, the frames to be sent are the earlier ones without the first. The status byte
+-- must be apart from the offered descriptors (`IsAwayFrom`).
 pub to_send-gone : (memory changed : List ℕ) (buffer : List Queued) → IfFront buffer (λ queued. changed ≡ written_back memory queued)
     → IfFront buffer (λ queued. (ring : Ring) (pad : Bool)
     → All (λ slot. IsAwayFrom memory (area_at (status_place queued) 1) (address_of ring slot)) (offered_places ring)

@@ -38,7 +38,7 @@ pub record Takes (control : ℕ) (memory : List ℕ) (ring moved : Ring) (engine
   -- The head is now the next slot.
   pub head : moved ≡ record ring { head = next_of ring ring.head }
 
--- The address of the status byte of a frame's descriptor: byte 12 of the descriptor that was read.
+-- The address of the status byte of a frame's descriptor: 12 bytes after the address at which the descriptor was read.
 abbrev pub status_place : Queued → ℕ
 status_place queued = queued.descriptor + 12
 
@@ -48,9 +48,9 @@ abbrev pub written_back : List ℕ → Queued → List ℕ
 written_back memory queued = if queued.report && nat_lt (status_place queued) (length memory) then with_bytes memory (status_place queued)
     (alone tx_dd ∷ []) else memory
 
--- Two memories differ at most in the byte at this place.
+-- Two memories have the same size, and differ at most in the byte at the address `place`.
 pub record DiffersAtMostAt (place : ℕ) (memory changed : List ℕ) : Type 0 where
   -- The number of bytes is the same.
   pub size : length changed ≡ length memory
-  -- Every byte at another place is the same.
+  -- Every byte at another address is the same.
   pub others : (i : ℕ) → ¬ (i ≡ place) → slice_index changed i ≡ slice_index memory i

@@ -16,26 +16,27 @@ to_send memory ring pad buffer = map (λ (queued : Queued). queued.frame) buffer
 -- An area is apart from the first ten bytes of the descriptor at an address (the address and the length of its frame), and
 -- from the frame.
 pub record IsAwayFrom (memory : List ℕ) (area : Area) (address : ℕ) : Type 0 where
-  -- The area doesn't overlap the descriptor's address and length.
+  -- The area doesn't overlap the address and the length in the descriptor, its first ten bytes.
   pub fields : AreApart area (area_at address 10)
   -- The area doesn't overlap the frame.
   pub frame : AreApart area (area_at (descriptor_at memory address).address (descriptor_at memory address).length)
 
--- A take step moves the frame of the slot at the head from the ring to the end of the buffer.
+-- If head and tail are indices of different slots, a take step doesn't change the frames to be sent. The frame at the head moves from the
+-- ring to the end of the buffer.
 abbrev pub TakingMovesFrames : Type 0
 TakingMovesFrames =
     (memory : List ℕ) (ring : Ring) (pad : Bool) (buffer : List Queued) → HasValidIndices ring → ¬ (ring.head ≡ ring.tail)
     → to_send memory (record ring { head = next_of ring ring.head }) pad (buffer ++ fetched pad memory (address_of ring ring.head) ∷ [])
     ≡ to_send memory ring pad buffer
 
--- A put step removes the first of the frames to be sent.
+-- The oldest frame in the packet buffer is the first of the frames to be sent. The other frames to be sent are those without this frame in
+-- the buffer.
 abbrev pub PuttingTakesFront : Type 0
 PuttingTakesFront =
     (memory : List ℕ) (ring : Ring) (pad : Bool) (queued : Queued) (buffer : List Queued)
     → to_send memory ring pad (queued ∷ buffer) ≡ queued.frame ∷ to_send memory ring pad buffer
 
--- A write apart from the addresses and lengths in the descriptors that the adapter owns, and from their frames, doesn't change the frames
--- to be sent.
+-- A write inside memory doesn't change the frames to be sent, if it is apart from each offered descriptor and its frame (`IsAwayFrom`).
 abbrev pub OtherBytesLeaveFrames : Type 0
 OtherBytesLeaveFrames =
     (memory : List ℕ) (ring : Ring) (pad : Bool) (buffer : List Queued) (place : ℕ) (bytes : List ℕ)
@@ -43,8 +44,8 @@ OtherBytesLeaveFrames =
     → All (λ slot. IsAwayFrom memory (area_at place (length bytes)) (address_of ring slot)) (offered_places ring)
     → to_send (with_bytes memory place bytes) ring pad buffer ≡ to_send memory ring pad buffer
 
--- If a driver advances the tail by one slot, the frame of the slot at the old tail is added at the end of the list. The tail must not
--- advance to the head.
+-- If the tail advances by one slot, the frame of the slot at the old tail is added at the end of the list. Head and tail must be indices of
+-- slots, and the tail must not advance to the head.
 abbrev pub OfferingAddsFrames : Type 0
 OfferingAddsFrames =
     (memory : List ℕ) (ring : Ring) (pad : Bool) (buffer : List Queued) → HasValidIndices ring → ¬ (next_of ring ring.tail ≡ ring.head)

@@ -4,7 +4,7 @@ pub enum Take {
     /// There was nothing to take: TCTL.EN is 0, a fault has stopped the engine, its buffer is full, or head equals
     /// tail.
     Nothing,
-    /// The frame at the head is now in the buffer.
+    /// The frame at the head is now in the buffer, and the head has advanced by one slot.
     Took {
         /// Whether head now equals tail: the adapter owns no descriptor any more.
         emptied: bool,

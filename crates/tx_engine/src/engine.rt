@@ -8,7 +8,7 @@ ghost use Rattle.tx_engine.specs.Steps.{IfFront};
 use crate::fetching::Named;
 use crate::report::Report;
 use circular_buffer::HeapCircularBuffer;
-use frame_queue::{FrameQueue, copy_of};
+use descriptors::{FrameQueue, copy_of};
 use std::alloc::{AllocError, Global};
 use std::hash::{Hash, Hasher};
 use std::marker::Model;
@@ -19,9 +19,9 @@ pub const PACKET_BUFFER_FRAMES: u8 = 4;
 /// The transmit engine of an adapter: the transmit packet buffer, which contains at most four frames, and whether a
 /// fault has stopped the engine.
 ///
-/// In contracts, the value is the list of frames in the buffer, the oldest first, and the flag. With each frame, the
-/// value contains the address of its descriptor, and whether this descriptor asks for a report (RS). Only `new` and
-/// `clone` allocate memory.
+/// In contracts, the value is the list of frames in the buffer, the oldest first, and whether the engine is stopped.
+/// With each frame, the value contains the address of its descriptor, and whether this descriptor asks for a report
+/// (RS). Only `new` and `clone` allocate memory.
 #[derive(Drop)]
 pub struct TxEngine {
     frames: FrameQueue,
@@ -59,7 +59,7 @@ impl Clone for TxEngine {
 }
 
 impl TxEngine {
-    /// Returns an engine with an empty buffer that isn't stopped.
+    /// Returns an engine with an empty buffer, which no fault has stopped.
     ///
     /// # Errors
     ///
@@ -150,9 +150,9 @@ impl TxEngine {
         self.running = false;
     }
 
-    /// Appends a frame, followed by zeros up to `least` bytes if the frame is shorter. The buffer must not be full, and
-    /// neither the frame nor `least` may exceed 1,518 bytes. The address of the descriptor's status byte must fit into
-    /// 64 bits.
+    /// Appends a frame, with the address and the RS bit of its descriptor. If the frame has fewer than `least` bytes,
+    /// zeros follow the frame up to this number of bytes. The buffer must not be full, and neither the frame nor
+    /// `least` may exceed 1,518 bytes. The address of the descriptor's status byte must fit into 64 bits.
     pub(crate) fn push(&mut self, named: Named<'_>, least: usize)
         requires room { length self.old.buffer < 4 }
         requires fits { length named.bytes.now ≤ 1518 }

@@ -73,7 +73,8 @@ fn bytes_of<'a>(desc: &TxDesc, memory: &'a HostMemory) -> Option<&'a [u8]>
     memory.view(desc.address, length).ok()
 }
 
-/// Returns the frame that the descriptor at the head points to, or `None` exactly if this frame can't be taken.
+/// Returns the frame that the descriptor at the head points to, with this descriptor's address and RS bit. Returns
+/// `None` if and only if the frame can't be taken: [`take`](crate::take) lists the conditions.
 pub fn fetch<'a>(ring: &Ring, memory: &'a HostMemory) -> Option<Named<'a>>
     ensures fetchable { IsSome result ↔ IsFetchable memory.now ring.now }
     ensures bytes { IfSome result (λ named. named.bytes.now

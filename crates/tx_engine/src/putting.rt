@@ -18,7 +18,7 @@ const STATUS_PLACE: u64 = 12;
 /// the frame with [`TxEngine::front`] before the step.
 ///
 /// - `Nothing` exactly if the buffer is empty.
-/// - Otherwise `WireFull` exactly if the wire isn't free.
+/// - Otherwise `WireFull` exactly if `wire_free` is false: the wire has no room for a frame.
 /// - Otherwise `Put`: the frame is removed from the buffer. `reported` is whether the frame's descriptor asks for a
 ///   report (RS). If `reported` is true, the descriptor's status byte becomes 1 (DD), at the address from which `take`
 ///   read the descriptor. If memory ends before this byte, nothing is written.
@@ -37,8 +37,8 @@ pub fn put(engine: &mut TxEngine, memory: &mut HostMemory, wire_free: bool) -> P
     ensures one_byte { IfFront engine.old.buffer
         (λ queued. DiffersAtMostAt (status_place queued) memory.old memory.new) }
 
-    // If the status byte is apart from the addresses and lengths in the offered descriptors, and from their frames, the
-    // first of the frames to be sent is put on the wire, and the others don't change.
+    // If the status byte is apart from each offered descriptor and its frame (`IsAwayFrom`), the first of the frames to
+    // be sent is put on the wire. The other frames to be sent don't change.
     ensures to_send { IfPut result (λ _. IfFront engine.old.buffer (λ queued.
         (ring : Ring) (pad : Bool)
         → All (λ slot. IsAwayFrom memory.old (area_at (status_place queued) 1) (address_of ring slot))

@@ -24,7 +24,7 @@ fn zeros_behind(length: usize, pad: bool) -> usize
     }
 }
 
-/// Appends bytes for which there is room.
+/// Appends bytes to a list, which has at most 1,518 bytes afterwards.
 fn extend(whole: &mut ArrayVec<u8, 1518>, bytes: &[u8])
     requires { length whole.old.items + length bytes.now ≤ 1518 }
     ensures { whole.new.items ≡ whole.old.items ++ bytes.now }
@@ -32,8 +32,8 @@ fn extend(whole: &mut ArrayVec<u8, 1518>, bytes: &[u8])
     let _ = whole.try_extend_from_slice(bytes);
 }
 
-/// Returns a frame of at most 1,518 bytes as it is put onto the wire: followed by zeros up to 60 bytes if the adapter
-/// pads.
+/// Returns a frame of at most 1,518 bytes as it is put onto the wire. If the adapter pads, zeros follow the frame up to
+/// 60 bytes.
 fn frame_as_sent(bytes: &[u8], pad: bool) -> Frame
     requires short { length bytes.now ≤ 1518 }
     ensures { result ≡ as_sent pad bytes.now }
@@ -90,7 +90,7 @@ fn queued_bytes<'a>(memory: &'a HostMemory, ring: &Ring, place: u16) -> Option<&
 
 /// Appends the frames of the offered descriptors, as they are put onto the wire. The list must have room for these
 /// frames. The ring and the frames must be inside memory, and no frame may exceed 1,518 bytes. If a descriptor is
-/// offered, head must be a slot of the ring.
+/// offered, head must be the index of a slot.
 pub fn append_queued(memory: &HostMemory, ring: &Ring, pad: bool, frames: &mut Vec<Frame>)
     requires ring { LiesIn memory.now ring.now.base (16 * count_of ring.now) }
     requires slot { (ring.now.head < count_of ring.now) ⊎ (offered_places ring.now ≡ []) }

@@ -4,13 +4,11 @@ use Rattle.registers.specs.Bits.{HasBit}
 use Rattle.registers.specs.Laws.{HasBit-intersection}
 use Rattle.adapter.proofs.adapter.asks_for_reset.Goals as goal
 
--- A test that is true if and only if a number is 1 is the comparison of this number with 1.
 same_test : (test : Bool) (number : ℕ) → IsTrue test ↔ (number ≡ 1) → test ≡ (number == 1)
 same_test true number told = sym (eq-eqb _ _ (told.0 refl))
 same_test false number told = elim (number == 1) as (λ b. (IsTrue b → number ≡ 1)
     → false ≡ b) [ true ↦ λ is. absurd (false≢true (told.1 (is refl))) | false ↦ λ is. refl ] (eqb-true number 1)
 
--- RST of a value is RST of the named bits of CTRL in this value.
 reset_kept : (value : ℕ) → HasBit (bit_and value 0x44000061) 26 ↔ HasBit value 26
 reset_kept value =
     let both = HasBit-intersection value 0x44000061 26 in ((λ kept. (both.0 kept).0), (λ set. both.1 (set, refl)))

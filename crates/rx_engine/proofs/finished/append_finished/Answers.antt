@@ -59,7 +59,7 @@ returns-in_default-clause-frames c =
     sym (append-nil l.frames.items)
     ∙ sym (ap (λ (list : List ℕ). l.frames.items ++ frames_from l.begun.items (map (piece_in memory) list)) slots) ∙ l.invariant.frames
 
--- The next piece, if the slot is done.
+-- If the slot at `place` is done, its piece is the next one of the loop (`Walks`).
 walk : (c : goal.After-append_piece-arg-in-loop-left-1)
     → Walks c.args.memory.now c.args.ring.now c.loop-left.place c.loop-left.left c.loop-left.begun.items
     (piece_in c.args.memory.now (address_of c.args.ring.now c.loop-left.place))

@@ -5,7 +5,6 @@ use Rattle.dma_memory.specs.Areas.{ChangesOnly, area_at}
 use Rattle.dma_memory.specs.HostMemory.{LiesIn, with_bytes}
 use Rattle.rx_engine.proofs.storing.store_in.Goals as goal
 
--- A store with this answer changes at most its bytes.
 only : {T E : Type 0} (answer : Result T E) (memory memory' bytes : List ℕ) (address : ℕ)
     → (IsOk answer ↔ LiesIn memory address (length bytes)) → OnOk answer (memory' ≡ with_bytes memory address bytes)
     → OnErr answer (memory' ≡ memory) → ChangesOnly memory memory' (area_at address (length bytes))

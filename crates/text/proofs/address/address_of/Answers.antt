@@ -6,7 +6,7 @@ use Rattle.text.proofs.address.address_of.Goals as goal
 use Rattle.text.proofs.address.address_of.Goals.{else-k-lt-ADDRESS_BYTES-via-then-k-lt-ADDRESS_BYTES+else-text-k-ne58}
 use Rattle.text.proofs.address.address_of.Goals.{else-k-lt-ADDRESS_BYTES-via-else-k-lt-ADDRESS_BYTES}
 
--- one byte more is read, and put into its place
+-- If the first `k` bytes of the address are read, and byte `k` is then stored, the first `k + 1` bytes are read.
 pairs_more : (text address : List ℕ) (k byte : ℕ) → k < length address
     → ((j : ℕ) → j < k → SpellsByte (slice_index text (3 * j)) (slice_index text (3 * j + 1)) (slice_index address j))
     → SpellsByte (slice_index text (3 * k)) (slice_index text (3 * k + 1)) byte

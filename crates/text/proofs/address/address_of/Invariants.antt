@@ -2,7 +2,7 @@ use Rattle.std.proofs.Common.{◌≡◌, ◌+◌, ◌*◌, ◌<◌, ℕ, length,
 use Rattle.text.specs.Addresses.{SpellsByte}
 use Rattle.text.proofs.address.address_of.Given as goal
 
--- the pairs so far are read, with colons between them
+-- The first `k` pairs are read into `address`, and each colon that follows one of these pairs is in its place.
 abbrev pub invariant-loop-k : goal.invariant-loop-k
 invariant-loop-k l = record {
   sized : length l.address ≡ 6;

@@ -8,7 +8,7 @@ use Rattle.std.proofs.lemmas.Iterator.Splits.{YieldsList-from_str_split}
 use Rattle.text.specs.Words.{is_tab, is_word}
 use Rattle.text.proofs.words.words_in.Goals as goal
 
--- the parts of the line between spaces, then the parts of these between tabs, then those parts that are words
+-- The list consists of the parts of the line between spaces, cut at tabs, if they are words.
 pub returns : goal.returns
 returns c =
     map_from_collect _ c.collect.ensures.ran

@@ -10,7 +10,7 @@ loop-number-preserved c = record {
   room = omega (arith, c.push.ensures.capacity, c.loop-number.invariant.room);
 }
 
--- All numbers have been put in.
+-- After the loop, each number below `buffers` is in the pool exactly once.
 all_in : (c : goal.After-loop-number) → HasOneOwner c.args.buffers c.loop-number.free.items
 all_in c =
     let last : c.args.buffers ≡ c.loop-number.number = omega (arith, c.loop-number.auto, c.loop-number-test.false) in

@@ -4,7 +4,6 @@ use Rattle.dma_memory.specs.Owners.{copies, HasNoSecondOwner, HaveSameNumbers}
 use Rattle.dma_memory.specs.OwnersLaws.{copies-cons, copies-push, known_from_taken, out_from_taken}
 use Rattle.dma_memory.proofs.pool.Pool.take.Goals as goal
 
--- A list with a number at its end has the same numbers as the list with this number at the front.
 last_is_taken : (number : ℕ) (xs : List ℕ) → HaveSameNumbers (xs ++ number ∷ []) (number ∷ xs)
 last_is_taken number xs k = omega (arith, copies-push k number xs, copies-cons k number xs)
 

@@ -1,7 +1,7 @@
 use Rattle.std.proofs.Common.{◌≡◌, ◌++◌, List, length, map, flat_map, sym, ap, ◌∙◌}
 use Rattle.std.proofs.lemmas.Grind.{flat_map-append}
 use Rattle.std.specs.Hash.{bool, fed_along, fed_then}
-use Rattle.frame_queue.specs.Hashed.{frames_writes}
+use Rattle.descriptors.specs.HashedFrames.{frames_writes}
 use Rattle.tx_engine.specs.Buffer.{transmitter_of}
 use Rattle.tx_engine.specs.BufferLaws.{side_by_side-frames, side_by_side-reports}
 use Rattle.tx_engine.specs.Hashed.{queued_writes, report_writes}
@@ -10,13 +10,11 @@ use Rattle.tx_engine.specs.declared.engine.TxEngine.TheInside.{Inside}
 use Rattle.tx_engine.specs.declared.report.Report.{Report}
 use Rattle.tx_engine.proofs.engine.TxEngine.feed.Goals as goal
 
--- The frames that an engine feeds are those of its buffer.
 frames : (engine : Inside) (seen : Transmitter) → length engine.frames.frames ≡ length engine.reports.items → transmitter_of engine ≡ seen
     → frames_writes engine.frames.frames ≡ frames_writes (map (λ (q : Queued). q.frame) seen.buffer)
 frames engine seen same view = ap frames_writes (sym (side_by_side-frames engine.frames.frames engine.reports.items same)
     ∙ ap (λ (t : Transmitter). map (λ (q : Queued). q.frame) t.buffer) view)
 
--- The reports that an engine feeds, in two parts, are those of the frames in its buffer.
 reports : (engine : Inside) (seen : Transmitter) (front wrapped : List Report) → length engine.frames.frames ≡ length engine.reports.items
     → transmitter_of engine ≡ seen → front ++ wrapped ≡ engine.reports.items
     → flat_map report_writes front ++ flat_map report_writes wrapped ≡ flat_map queued_writes seen.buffer

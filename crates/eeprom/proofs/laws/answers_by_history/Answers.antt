@@ -1,5 +1,0 @@
-use Rattle.eeprom.specs.Laws.{by_history}
-use Rattle.eeprom.proofs.laws.answers_by_history.Goals as goal
-
-pub returns : goal.returns
-returns c = by_history

@@ -1,0 +1,2 @@
+mod EerdFields
+mod MdicFields

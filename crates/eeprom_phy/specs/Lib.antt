@@ -1,0 +1,13 @@
+pub mod Image
+pub mod Eerd
+pub mod EerdHistory
+pub mod EerdLaws
+pub mod Phy
+pub mod Places
+pub mod Mdic
+pub mod PhyHistory
+pub mod MdicHistory
+pub mod WriteLaws
+pub mod PhyLaws
+pub mod MdicLaws
+pub mod Hashed

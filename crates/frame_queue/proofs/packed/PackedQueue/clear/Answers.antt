@@ -1,7 +1,0 @@
-use Rattle.std.proofs.Common.{refl}
-use Rattle.frame_queue.specs.Packed.{cut}
-use Rattle.frame_queue.proofs.packed.PackedQueue.clear.Goals as goal
-
-pub returns : goal.returns
-unfolding cut
-returns c = rw (c.clear.ensures, ← c.self.view_is) refl

@@ -1,6 +1,0 @@
-use Rattle.std.proofs.Common.{◌≡◌, ◌+◌, take}
-use Rattle.frame_queue.specs.Packed.{total}
-use Rattle.frame_queue.proofs.packed.PackedQueue.frame_at.Given as goal
-
-abbrev pub invariant-loop-before : goal.invariant-loop-before
-invariant-loop-before l = l.start ≡ l.self-inside.first + total (take l.before l.self-inside.lengths.items)

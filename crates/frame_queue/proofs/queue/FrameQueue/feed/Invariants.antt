@@ -1,6 +1,0 @@
-use Rattle.std.proofs.Common.{◌≡◌, fold, take, flat_map}
-use Rattle.frame_queue.specs.Hashed.{frame_writes}
-use Rattle.frame_queue.proofs.queue.FrameQueue.feed.Given as goal
-
-abbrev pub invariant-loop-index : goal.invariant-loop-index
-invariant-loop-index g l = l.hasher ≡ fold g.H.Hasher.write l.initial.hasher (flat_map frame_writes (take l.index l.self.frames))

@@ -1,9 +1,0 @@
-use Rattle.std.proofs.Common.{◌∙◌, sym}
-use Rattle.frame_queue.proofs.InPlaces.{length-frames_from}
-use Rattle.frame_queue.proofs.queue.FrameQueue.len.Goals as goal
-
-pub returns-clause-count : goal.returns-clause-count
-returns-clause-count c =
-    let queue = c.self.inside in
-    rw (← c.self.view_is) (c.len.ensures.len
-    ∙ sym (length-frames_from queue.bytes.items queue.lengths.capacity queue.first queue.lengths.items))

@@ -1,6 +1,0 @@
-pub mod Frames
-pub mod Hashed
-pub mod Laws
-pub mod Packed
-pub mod Places
-pub mod Wrapping
