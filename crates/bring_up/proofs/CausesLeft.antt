@@ -14,18 +14,15 @@ use Rattle.bring_up.specs.SettingSteps.{WritesOneRegister, IsNotOfCauses, Record
 use Rattle.bring_up.specs.WrittenRegisters.{allocation_writes, enable_link_writes, mask_writes, reset_writes, write_at}
 use Rattle.bring_up.proofs.WritesOf.{filter-of, of-both, of-one, ring-of}
 
--- If neither of two consecutive intervals writes ICR or ICS, both together don't.
 pub joined-causes : (first later : Past) → RecordsNoCause first → RecordsNoCause later → RecordsNoCause (joined first later)
 joined-causes first later one two =
     subst (All RecordsNone) (sym (writes-append first.accesses later.accesses))
     (All-append RecordsNone (writes_in first.accesses) (writes_in later.accesses) one two)
 
--- A call whose writes write neither ICR nor ICS.
 pub sets-causes : {B : Type 0} (bus : Ghosts B) (old new : B) (writes : List Write) (sets : Sets bus writes old new)
     → All RecordsNone writes → RecordsNoCause sets.past
 sets-causes bus old new writes sets leave = subst (All RecordsNone) (sym sets.writes_are) leave
 
--- A call that writes only one register, which is neither ICR nor ICS.
 pub asks-causes : {B : Type 0} (bus : Ghosts B) (old new : B) (offset : ℕ) → IsNotOfCauses (register_at offset)
     → (asks : WritesOneRegister bus offset old new) → RecordsNoCause asks.past
 asks-causes bus old new offset other asks =

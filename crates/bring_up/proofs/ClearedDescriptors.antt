@@ -25,22 +25,22 @@ use Rattle.bus.specs.declared.event.Access.TheVariants.{Stores}
 use Rattle.bus.proofs.IdleRings.{offered-none, outstanding-none}
 use Rattle.bus.proofs.Lists.{all-head, all-none, all-tail, pairs-head, pairs-tail}
 use Rattle.bus.proofs.Rings.{outstanding-inside}
-use Rattle.driver_law.specs.Beginnings.{spare_slot}
-use Rattle.driver_law.specs.Calls.{GoesTo, Ran, at, driver_did, driver_in, only}
-use Rattle.driver_law.specs.DriverState.{DriverState, receive_slot, receive_tail, transmit_slot}
-use Rattle.driver_law.specs.ReadyDrivers.{ReadyWith}
-use Rattle.driver_law.proofs.Accesses.{ran_by-acts, store-sets}
-use Rattle.driver_law.proofs.InitialStores.{spare_slot_is_stored}
-use Rattle.driver_law.proofs.Places.{place-below, place-sum}
-use Rattle.driver_law.proofs.Readiness.{stored-kept}
-use Rattle.driver_law.proofs.Stores.{goes-stores}
-use Rattle.driver_law.proofs.TransmitRing.{transmit_ring_is_written}
+use Rattle.bus.specs.Beginnings.{spare_slot}
+use Rattle.bus.specs.Calls.{GoesTo, Ran, at, driver_did, driver_in, only}
+use Rattle.bus.specs.DriverState.{DriverState, receive_slot, receive_tail, transmit_slot}
+use Rattle.bus.specs.ReadyDrivers.{ReadyWith}
+use Rattle.bus.proofs.DriverAccesses.{ran_by-acts, store-sets}
+use Rattle.bus.proofs.InitialStores.{spare_slot_is_stored}
+use Rattle.bus.proofs.Places.{place-below, place-sum}
+use Rattle.bus.proofs.Readiness.{stored-kept}
+use Rattle.bus.proofs.Stores.{goes-stores}
+use Rattle.bus.proofs.TransmitRing.{transmit_ring_is_written}
 use Rattle.bring_up.specs.ClearedDescriptors.{clears}
 
 abbrev zeros : List ℕ
 zeros = replicate 16 0
 
--- Memory contains the descriptor, and a store to it keeps the conditions of the bus law.
+-- The descriptor at this address is inside memory, and no outstanding slot, frame or buffer overlaps it (`IsDriversArea`).
 record CanClear (d : DriverState) (world : World) (address : ℕ) : Type 0 where
   lies : LiesIn world.memory address 16
   own : IsDriversArea d.oldest_receive d.oldest_transmit world (area_at address 16)
@@ -109,7 +109,6 @@ clears-sent d slot world ready below =
     (record { from = omega arith; to = omega (arith, below) })
     (places-apart d.layout TransmitRing (ReceiveBuffer number) tt known (λ same. absurd (cc))))
 
--- A receive slot that is neither outstanding nor staged, if the oldest slot is the first one.
 clears-spare : {up : Bool} (d : DriverState) (slot : ℕ) (world : World) → ReadyWith up d world → d.oldest_receive ≡ 0
     → length d.buffers + length d.staged ≤ slot → slot < d.layout.rx
     → GoesTo up (driver_in d world) (driver_in d (world_after_store (receive_slot slot) zeros world)) (driver_did [] []) nothing
@@ -125,7 +124,7 @@ clears-spare {up} d slot world ready oldest past below =
     nothing) at
     (spare_slot_is_stored up d i zeros world ready refl (omega (arith, all, below)))
 
--- Over a bus
+-- Stores that clear descriptors, over a bus
 
 abbrev pub StoreActs : {B : Type 0} (bus : Ghosts B) (old new : B) (address : ℕ) → Type 0
 StoreActs bus old new address = Acts (view_of bus) old new (Stores address (replicate 16 0))

@@ -1,8 +1,8 @@
 -- The settings after all writes of initialization.
 use Rattle.std.proofs.Common.{◌≡◌, ◌++◌, ◌∷◌, ◌+◌, ◌-◌, ◌*◌, ◌<◌, ◌^◌, [], ℕ, List, length, replicate, refl, sym, subst, arith}
 use Rattle.std.proofs.lemmas.List.{length-replicate}
-use Rattle.mdic_phy.specs.Phy.{new_phy}
-use Rattle.mdic_phy.specs.declared.phy.Link.{Link}
+use Rattle.eeprom_phy.specs.Phy.{new_phy}
+use Rattle.eeprom_phy.specs.declared.phy.Link.{Link}
 use Rattle.rx_engine.specs.Addresses.{IsAddress, high_word, low_word}
 use Rattle.rx_engine.specs.Registers.{FilterRegisters}
 use Rattle.adapter.specs.Registers.{adapter_at_reset}
@@ -84,7 +84,7 @@ writes_offering config slots =
     ++ (transmit_writes
     ++ mask_writes))))
 
--- an adapter after all writes
+-- an adapter after all writes of initialization, if this number of receive slots is offered
 abbrev pub adapter_configured : Config → (address groups vlans image : List ℕ) → Link → (slots : ℕ) → AdapterState
 adapter_configured config address groups vlans image link slots =
     let before = adapter_before_rings config address groups vlans image link in

@@ -1,4 +1,4 @@
--- Calls that write only one register, with a count of their accesses.
+-- Calls that write only one register, with the least number of their accesses.
 use Rattle.std.proofs.Common.{◌≡◌, ◌+◌, ◌≤◌, ◌∷◌, [], ℕ, List, length, length-append, refl, sym, ap, subst, ◌∙◌, arith}
 use Rattle.std.specs.List.{All}
 use Rattle.std.proofs.lemmas.List.Elements.{All-append, All-cons}
@@ -29,12 +29,10 @@ module _ {B : Type 0} (bus : Ghosts B) where
     pub asks : WritesOneRegister bus offset old new
     pub count_is : count ≤ length asks.past.accesses
 
-  -- The image of the EEPROM doesn't change.
   pub asks-image : (old new : B) (offset : ℕ) → WritesOneRegister bus offset old new
       → (bus.world new).adapter.image ≡ (bus.world old).adapter.image
   asks-image old new offset asks = ap (λ (settings : Settings). settings.image) asks.settings
 
-  -- Two such calls join.
   pub asks-more : IntervalsJoin bus → (a b c : B) (offset first later : ℕ) → AsksAtLeast a b offset first
       → AsksAtLeast b c offset later → AsksAtLeast a c offset (first + later)
   asks-more joins a b c offset first later one two =
@@ -62,7 +60,7 @@ module _ {B : Type 0} (bus : Ghosts B) where
         count_is = omega (arith, length-append before behind, one.count_is, two.count_is);
       }
 
-  -- An access that writes no register except this one, and changes no setting, whatever happens before it.
+  -- If an access writes no register except this one, and changes no setting, `AsksAtLeast` holds with one access.
   asks-access : (old new : B) (access : Access) (effect : World → World → Type 0) (offset : ℕ)
       → (acts : Acts (view_of bus) old new access effect) → All (IsOf offset) (writes_in (access ∷ []))
       → settings_of (bus.world new).adapter ≡ settings_of acts.middle.adapter → (IsAtRest acts.middle → IsAtRest (bus.world new))
@@ -80,7 +78,7 @@ module _ {B : Type 0} (bus : Ghosts B) where
     count_is = omega (arith, ap (length {A = Access}) acts.only);
   }
 
-  -- A read of any register is such a call.
+  -- A read of any register writes no register, and changes no setting.
   pub asks-read : (old new : B) (asked offset value : ℕ) (answer : World → Type 0)
       → Acts (view_of bus) old new (Reads offset value)
       (λ before after. answer before × (after ≡ world_after_read offset before))
@@ -91,7 +89,7 @@ module _ {B : Type 0} (bus : Ghosts B) where
       (ap (λ (w : World). settings_of w.adapter) acts.effect_is.1 ∙ reads-leave offset acts.middle.adapter)
       (λ rest. subst IsAtRest (sym acts.effect_is.1) (accesses_keep_rest (Reads offset value) acts.middle tt refl rest))
 
-  -- A write of a register that isn't part of the settings is such a call.
+  -- A write of a register that isn't part of the settings writes only this register, and changes no setting.
   pub asks-write : (old new : B) (offset value : ℕ) → IsAside (record { offset = offset; value = value })
       → ((adapter : AdapterState) → settings_of (after_write offset value adapter) ≡ settings_of adapter)
       → Acts (view_of bus) old new (Writes offset value) (λ before after. after ≡ world_after_write offset value before)

@@ -13,7 +13,7 @@ use Rattle.bring_up.proofs.CausesLeft.{sets-causes}
 use Rattle.bring_up.specs.SettingSteps.{WritesOneRegister, RecordsNoCause, Sets}
 use Rattle.bring_up.specs.WrittenRegisters.{allocation_writes, enable_link_writes, reset_writes}
 
--- The image was read, and the device is at rest, with the settings of a reset.
+-- The EEPROM was read: the adapter is at rest, with the settings after the writes of a reset. No access wrote ICR or ICS.
 pub record IsRead {B : Type 0} (bus : Ghosts B) (old new : B) : Type 0 where
   pub past : Past
   pub reports : bus.happened old new past
@@ -33,7 +33,8 @@ is-read bus joins old middle new resets rest asks = record {
       (asks-causes bus middle new 0x0014 eerd-causes asks);
 }
 
--- The packet buffer is allocated, and the link is enabled.
+-- PBA and CTRL were written: the adapter is at rest, with the settings after the writes of a reset, of PBA and of CTRL. No access wrote ICR
+-- or ICS.
 pub record IsPrepared {B : Type 0} (bus : Ghosts B) (old new : B) (kilobytes : ℕ) : Type 0 where
   pub past : Past
   pub reports : bus.happened old new past
@@ -42,7 +43,6 @@ pub record IsPrepared {B : Type 0} (bus : Ghosts B) (old new : B) (kilobytes : �
       ≡ settings_after_all (reset_writes ++ (allocation_writes kilobytes ++ enable_link_writes)) (settings_of (bus.world old).adapter)
   pub no_cause : RecordsNoCause past
 
--- The EEPROM and the setting of the link don't change.
 pub device-image : (a b : World) (writes : List Write) → settings_of b.adapter ≡ settings_after_all writes (settings_of a.adapter)
     → b.adapter.image ≡ a.adapter.image
 device-image a b writes set = ap (λ (settings : Settings). settings.image) set ∙ image-stays writes (settings_of a.adapter)
@@ -51,7 +51,6 @@ pub device-link : (a b : World) (writes : List Write) → settings_of b.adapter 
     → b.adapter.phy.link ≡ a.adapter.phy.link
 device-link a b writes set = ap (λ (settings : Settings). settings.link) set ∙ link-stays writes (settings_of a.adapter)
 
--- The packet buffer was allocated and the link enabled after the image was read.
 pub is-set : {B : Type 0} (bus : Ghosts B) → IntervalsJoin bus
     → (old read shared new : B) (kilobytes : ℕ) → IsRead bus old read
     → Sets bus (allocation_writes kilobytes) read shared → Sets bus enable_link_writes shared new
@@ -73,7 +72,6 @@ is-set bus joins old read shared new kilobytes is shares links = record {
       (sets-causes bus shared new enable_link_writes links link-causes));
 }
 
--- A register of the PHY was accessed after that.
 pub still-ready : {B : Type 0} (bus : Ghosts B) → IntervalsJoin bus
     → (old middle new : B) (kilobytes : ℕ) → IsPrepared bus old middle kilobytes → WritesOneRegister bus 0x0020 middle new
     → IsPrepared bus old new kilobytes

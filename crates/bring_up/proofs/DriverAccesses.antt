@@ -26,19 +26,20 @@ use Rattle.bus.specs.declared.event.Access.{Access}
 use Rattle.bus.specs.declared.event.Access.TheVariants.{Writes}
 use Rattle.bus.proofs.KnownRings.{known_transmit_ring_stays}
 use Rattle.bus.proofs.WaitingRings.{holds-none, offers_wait}
-use Rattle.driver_law.specs.Beginnings.{Enabled}
-use Rattle.driver_law.specs.Calls.{Goes, GoesTo, Ran, at, driver_did, driver_in, frames_ended, only}
-use Rattle.driver_law.specs.DriverState.{DriverState, transmit_tail}
-use Rattle.driver_law.specs.ReadyDrivers.{Ready, ReadyWith}
-use Rattle.driver_law.proofs.Accesses.{SetsBy, follows-acts, follows-join, write-sets}
-use Rattle.driver_law.proofs.TransmitControl.{causes_are_enabled, transmitter_is_enabled}
-use Rattle.driver_law.proofs.ReceiveControl.{receiver_is_enabled}
-use Rattle.driver_law.proofs.Steps.{goes-happens}
-use Rattle.driver_law.proofs.Intervals.{goes_join, joined-nothing}
+use Rattle.bus.specs.Beginnings.{Enabled}
+use Rattle.bus.specs.Calls.{Goes, GoesTo, Ran, at, driver_did, driver_in, frames_ended, only}
+use Rattle.bus.specs.DriverState.{DriverState, transmit_tail}
+use Rattle.bus.specs.ReadyDrivers.{Ready, ReadyWith}
+use Rattle.bus.proofs.DriverAccesses.{SetsBy, follows-acts, follows-join, write-sets}
+use Rattle.bus.proofs.TransmitControl.{causes_are_enabled, transmitter_is_enabled}
+use Rattle.bus.proofs.ReceiveControl.{receiver_is_enabled}
+use Rattle.bus.proofs.Steps.{goes-happens}
+use Rattle.bus.proofs.Intervals.{goes_join, joined-nothing}
 use Rattle.bring_up.specs.DriverSteps.{MakesAccesses, EnablesCauses, LeavesDriver, LetsFramesIn}
 use Rattle.bring_up.specs.RingRegisters.{receive_control, receive_writes, transmit_writes}
 
--- A driver goes through one access if it does so from the world right before the access.
+-- Steps and deliveries, and then one access, form an interval of the driver's run. The access itself must be such an interval, from the
+-- world right before it.
 unfoldable pub ran_by-begins : {first_up up : Bool} {B : Type 0} (bus : Ghosts B) (old new : B) (access : Access)
     (effect : World → World → Type 0) (d : DriverState) (acts : Acts (view_of bus) old new access effect)
     → SetsBy access effect (bus.world new)
@@ -61,7 +62,6 @@ abbrev pub WriteActs : {B : Type 0} (bus : Ghosts B) (old new : B) (offset value
 WriteActs bus old new offset value = Acts (view_of bus) old new (Writes offset value)
     (λ before after. after ≡ world_after_write offset value before)
 
--- An interval with exactly one access, whatever the state of the driver.
 unfoldable pub accessed-by : {B : Type 0} (bus : Ghosts B) (old new : B) (access : Access) (effect : World → World → Type 0)
     → Acts (view_of bus) old new access effect → SetsBy access effect (bus.world new) → MakesAccesses bus (access ∷ []) old new
 accessed-by bus old new access effect acts sets =
@@ -77,7 +77,7 @@ accessed-join bus joins a b c xs ys one two = record {
   follows = follows-join (bus.world a) (bus.world b) (bus.world c) one.past two.past one.follows two.follows;
 }
 
--- RCTL
+-- A write of RCTL
 
 control-kept : (promiscuous by_vlan : Bool) → bit_and (receive_control promiscuous by_vlan) 0x0607B33A ≡ receive_control promiscuous by_vlan
 control-kept true true = refl
@@ -93,7 +93,6 @@ receive_control-written promiscuous by_vlan world =
     { adapter = left_by_write register (receive_control promiscuous by_vlan) world.adapter } in after) (register_at-there Rctl tt)
     ∙ ap (λ (control : ℕ). with_receive_control control world) (control-kept promiscuous by_vlan)
 
--- BSEX is 0, and buffers have 256 bytes.
 not-extended : (promiscuous by_vlan : Bool) → ¬ (HasBit (receive_control promiscuous by_vlan) 25)
 not-extended true true = λ has. omega arith
 not-extended true false = λ has. omega arith
@@ -141,7 +140,7 @@ lets-frames-in bus old new promiscuous by_vlan value d is written ready none off
       no_arrival = record { none_stored = arrives.0; none_missed = arrives.1 };
     }
 
--- TCTL
+-- A write of TCTL
 
 transmit_control-written : (world : World) → world_after_write 0x0400 0x000400FA world ≡ with_transmit_control 0x000400FA world
 transmit_control-written world =
@@ -162,9 +161,8 @@ lets-frames-out bus old new value d is written ready below knows =
     (λ there. subst (λ (w : World). Goes (driver_in d middle) (driver_in d w) (driver_did [] []) nothing) (sym done)
     (transmitter_is_enabled d 0x000400FA middle there below still refl))
 
--- IMS
+-- A write of IMS
 
--- If no frame ended in finished slots before an interval, or RXT0 was recorded before it, one of these holds after it.
 pub asked-still : (d : DriverState) (a b : World) (past : Past) → Goes (driver_in d a) (driver_in d b) (driver_did [] []) past
     → (frames_ended (driver_in d a) ≡ []) ⊎ HasBit a.adapter.causes.recorded 7
     → (frames_ended (driver_in d b) ≡ []) ⊎ HasBit b.adapter.causes.recorded 7

@@ -20,13 +20,13 @@ use Rattle.bus.specs.declared.bus.Bus.{Ghosts}
 use Rattle.bus.specs.declared.event.Access.TheVariants.{Reads, Writes}
 use Rattle.bus.proofs.Links.{happenings_keep_link}
 use Rattle.bus.proofs.Lists.{all-none}
-use Rattle.driver_law.specs.Calls.{GoesTo, driver_did, driver_in}
-use Rattle.driver_law.specs.DriverState.{DriverState}
-use Rattle.driver_law.specs.ReadyDrivers.{ReadyWith, Stands}
-use Rattle.driver_law.specs.Resets.{RestsWith, reset_driver, reset_world}
-use Rattle.driver_law.proofs.Accesses.{ran_by-acts, read-sets, write-sets}
-use Rattle.driver_law.proofs.Resets.{receiver_is_disabled, reset_forgets_slots}
-use Rattle.driver_law.proofs.Steps.{goes-happens}
+use Rattle.bus.specs.Calls.{GoesTo, driver_did, driver_in}
+use Rattle.bus.specs.DriverState.{DriverState}
+use Rattle.bus.specs.ReadyDrivers.{ReadyWith, Stands}
+use Rattle.bus.specs.Resets.{RestsWith, reset_driver, reset_world}
+use Rattle.bus.proofs.DriverAccesses.{ran_by-acts, read-sets, write-sets}
+use Rattle.bus.proofs.Resets.{receiver_is_disabled, reset_forgets_slots}
+use Rattle.bus.proofs.Steps.{goes-happens}
 use Rattle.bring_up.specs.DriverResets.{ResetsDriver}
 use Rattle.bring_up.specs.DriverSteps.{LeavesDriver}
 use Rattle.bring_up.specs.RingRegisters.{disable_writes}
@@ -58,21 +58,18 @@ disabled-off bus old new acts = ap (λ (w : World). w.adapter.filter.rctl) (acts
 
 -- The link remains up
 
--- CTRL is written with SLU and ASDE.
 pub link_control-keeps : (before after : World) → after ≡ world_after_write 0x0000 0x60 before → HasLink before → HasLink after
 link_control-keeps before after written link =
     subst HasLink (sym (written
     ∙ ap (λ (found : Option Register). let w : World = record before { adapter = left_by_write found 0x60 before.adapter } in w)
     (register_at-there Ctrl tt))) (record { up = link.up; no_command = link.no_command })
 
--- IMC isn't a register of the PHY.
 mask-leaves_phy : All LeavesPhy (write_at 0x00D8 0xFFFFFFFF ∷ [])
 mask-leaves_phy =
     All-cons LeavesPhy (write_at 0x00D8 0xFFFFFFFF) [] (subst IsNotOfPhy (sym (register_at-there Imc tt)) tt) (all-none LeavesPhy)
 
 -- The reset
 
--- A driver without slots remains so in a call after which its adapter is still at rest.
 pub rests-sets : {B : Type 0} (bus : Ghosts B) (old new : B) (writes : List Write) (d : DriverState) → Sets bus writes old new
     → All IsAside writes → RestsWith d (bus.world old) → RestsWith d (bus.world new)
 rests-sets bus old new writes d sets aside rests =

@@ -4,7 +4,7 @@ use Rattle.std.proofs.Common.{true, ℕ, List, Result, Err, IsErr, Ok, length, n
 use Rattle.std.proofs.Common.{below_more, get_or-set_other, get_or-set_same}
 use Rattle.std.proofs.lemmas.Bool.{false≢true}
 use Rattle.std.proofs.lemmas.Grind.{same_number_lists}
-use Rattle.eeprom.specs.Image.{word_at}
+use Rattle.eeprom_phy.specs.Image.{word_at}
 use Rattle.bus.specs.Pasts.{nothing}
 use Rattle.bus.specs.declared.bus.Bus.{Ghosts}
 use Rattle.bring_up.specs.EepromReading.{ReadsImage, ReadsWord}
@@ -13,7 +13,6 @@ use Rattle.bring_up.specs.declared.init_error.InitError.{InitError}
 use Rattle.bring_up.proofs.CountedSteps.{AsksAtLeast, asks-image, asks-more}
 use Rattle.bring_up.proofs.Steps.{IntervalsJoin, asks-join, asks-nothing}
 
--- An address below 64 is that of a word.
 word-in : (image : List ℕ) (address : ℕ) → address < 64 → word_at image address ≡ slice_index image address
 word-in image address small = let below : nat_lt address 64 ≡ true = search rules in rw below refl
 
@@ -24,7 +23,6 @@ module _ {B : Type 0} (bus : Ghosts B) where
     pub same : (k : ℕ) → k < count → slice_index words k ≡ word_at (bus.world start).adapter.image k
     pub size : 0 < count → length (bus.world start).adapter.image ≡ 64
 
-  -- No word has been read.
   pub first-none : ((b : B) → bus.happened b b nothing) → (b : B) (words : List ℕ) → FirstWords b b words 0
   first-none stays b words = record {
     asks = asks-nothing bus stays b 0x0014;
@@ -32,7 +30,6 @@ module _ {B : Type 0} (bus : Ghosts B) where
     size = λ below. absurd (omega arith);
   }
 
-  -- One more word was read.
   pub first-more : IntervalsJoin bus → (start now next : B) (words : List ℕ) (count word : ℕ) → count < length words
       → FirstWords start now words count → ReadsWord bus count (Ok word) now next
       → FirstWords start next (set words count word) (count + 1)
@@ -48,7 +45,6 @@ module _ {B : Type 0} (bus : Ghosts B) where
         size = λ some. ap (length {A = ℕ}) (sym same) ∙ reads.size;
       }
 
-  -- All words were read.
   pub all-read : (start now : B) (words image : List ℕ) (count : ℕ) → 64 ≤ count → image ≡ words → length image ≡ 64
       → FirstWords start now words count → ReadsImage bus (Ok image) start now
   all-read start now words image count many is size first =
@@ -64,7 +60,6 @@ module _ {B : Type 0} (bus : Ghosts B) where
         in_vain = tt;
       }
 
-  -- Reading a word failed.
   pub read-failed : IntervalsJoin bus → (start now next : B) (words : List ℕ) (count : ℕ) (error : InitError)
       → (result : Result (List ℕ) InitError) → IsErr result → FirstWords start now words count
       → ReadsWord bus count (Err error) now next → ReadsImage bus result start next

@@ -4,11 +4,11 @@ use Rattle.std.proofs.Common.{zero, suc, ℕ, List, Option, Some, Ok, Err, lengt
 use Rattle.std.specs.Fn.{iterate}
 use Rattle.std.proofs.lemmas.Nat.{or_shifted}
 use Rattle.std.proofs.lemmas.Nat.Bits.{and_pow}
-use Rattle.eeprom.specs.declared.eerd.ReadState.{ReadState}
-use Rattle.eeprom.specs.declared.eerd.ReadState.TheVariants.{Done, Pending}
-use Rattle.eeprom.specs.Eerd as eeprom
-use Rattle.eeprom.specs.Eerd.{after_tick, shown, shown_after, shown_before}
-use Rattle.eeprom.specs.Image.{word_at}
+use Rattle.eeprom_phy.specs.declared.eerd.ReadState.{ReadState}
+use Rattle.eeprom_phy.specs.declared.eerd.ReadState.TheVariants.{Done, Pending}
+use Rattle.eeprom_phy.specs.Eerd as eeprom
+use Rattle.eeprom_phy.specs.Eerd.{after_tick, shown, shown_after, shown_before}
+use Rattle.eeprom_phy.specs.Image.{word_at}
 use Rattle.adapter.specs.Registers.{after_read, after_write, answer_at, answer_of, left_by_read, left_by_write}
 use Rattle.adapter.specs.State.{AdapterState}
 use Rattle.adapter.specs.Table.{register_at}
@@ -27,37 +27,33 @@ use Rattle.bring_up.specs.declared.init_error.InitError.TheVariants.{EepromTimeo
 use Rattle.bring_up.proofs.CountedSteps.{AsksAtLeast, asks-image, asks-more, asks-read, asks-write}
 use Rattle.bring_up.proofs.Steps.{IntervalsJoin}
 
--- The register after ticks
+-- EERD after ticks
 
 abbrev pub after_ticks : List ℕ → ℕ → ReadState → ReadState
 after_ticks image ticks state = iterate (after_tick image) ticks state
 
--- the word at an address was read
+-- EERD after the word at this address was read
 abbrev pub state_read : List ℕ → ℕ → ReadState
 state_read image address = Done address (word_at image address)
 
--- A read of the word at this address was requested: it is pending, or done.
+-- A read of the word at this address was requested: the read is pending, or done.
 abbrev pub IsAsked : List ℕ → ℕ → ReadState → Type 0
 IsAsked image address state = (state ≡ Pending address) ⊎ (state ≡ state_read image address)
 
--- Ticks don't change a word that has been read.
 stays-done : (image : List ℕ) (address word ticks : ℕ) → after_ticks image ticks (Done address word) ≡ Done address word
 stays-done image address word zero = refl
 stays-done image address word (suc ticks) = stays-done image address word ticks
 
--- The first tick ends a pending read.
 ends-pending : (image : List ℕ) (address ticks : ℕ) → 1 ≤ ticks → after_ticks image ticks (Pending address) ≡ state_read image address
 ends-pending image address zero one = absurd (omega arith)
 ends-pending image address (suc ticks) one = stays-done image address (word_at image address) ticks
 
--- After at least one tick, the word has been read.
 ticked-read : (image : List ℕ) (address ticks : ℕ) (state : ReadState) → 1 ≤ ticks → IsAsked image address state
     → after_ticks image ticks state ≡ state_read image address
 ticked-read image address ticks state one (inl pending) = ap (after_ticks image ticks) pending ∙ ends-pending image address ticks one
 ticked-read image address ticks state one (inr done) =
     ap (after_ticks image ticks) done ∙ stays-done image address (word_at image address) ticks
 
--- After any number of ticks, the read is still pending or done.
 still-asked : (image : List ℕ) (address ticks : ℕ) (state : ReadState) → IsAsked image address state
     → IsAsked image address (after_ticks image ticks state)
 still-asked image address zero state asked = asked
@@ -65,9 +61,9 @@ still-asked image address (suc ticks) state asked =
     let one : 1 ≤ suc ticks = omega arith in
     inr (ticked-read image address (suc ticks) state one asked)
 
--- What the register shows
+-- What a read of EERD shows
 
--- A read of the register shows the word, or only its address.
+-- The value read from EERD shows the word at this address, or only the address.
 abbrev pub IsShown : List ℕ → ℕ → ℕ → Type 0
 IsShown image address value = (value ≡ shown_before address) ⊎ (value ≡ shown_after address (word_at image address))
 
@@ -75,7 +71,6 @@ shows-asked : (image : List ℕ) (address : ℕ) (state : ReadState) → IsAsked
 shows-asked image address state (inl pending) = inl (ap shown pending)
 shows-asked image address state (inr done) = inr (ap shown done)
 
--- DONE, bit 4, is 0 while a word is being read, and 1 when it has been.
 not-done : (address : ℕ) → bit_and (shown_before address) 16 ≡ 0
 not-done address =
     let even : address * 256 / 2 ^ 4 % 2 * 2 ^ 4 ≡ 0 = omega arith in
@@ -86,14 +81,12 @@ is-done address word =
     let odd : (word * 65536 + address * 256 + 16) / 2 ^ 4 % 2 * 2 ^ 4 ≡ 16 = omega arith in
     and_pow (word * 65536 + address * 256 + 16) 4 ∙ odd
 
--- If DONE is shown, DATA contains the word.
 done-shows : (image : List ℕ) (address value : ℕ) → bit_and value 16 ≢ 0 → IsShown image address value
     → value ≡ shown_after address (word_at image address)
 done-shows image address value done (inl before) =
     absurd (done (ap (λ (v : ℕ). bit_and v 16) before ∙ not-done address))
 done-shows image address value done (inr after) = after
 
--- The word is DATA, bits 31:16.
 data-is : (address word value : ℕ) → address < 256 → value < 2 ^ 32 → value ≡ shown_after address word → value / 65536 ≡ word
 data-is address word value small fits shows = omega arith
 
@@ -102,7 +95,6 @@ data-is address word value small fits shows = omega arith
 at-eerd : register_at 0x0014 ≡ Some Eerd
 at-eerd = register_at-there Eerd tt
 
--- A read of EERD changes nothing, and a write of EERD changes only EERD.
 read-leaves : (adapter : AdapterState) → after_read 0x0014 adapter ≡ adapter
 read-leaves adapter = ap (λ (found : Option Register). left_by_read found adapter) at-eerd
 
@@ -113,20 +105,18 @@ write-changes : (value : ℕ) (adapter : AdapterState)
     → after_write 0x0014 value adapter ≡ record adapter { eerd = eeprom.after_write value adapter.eerd }
 write-changes value adapter = ap (λ (found : Option Register). left_by_write found value adapter) at-eerd
 
--- A write of ADDR and START requests the word at an address.
 start-asks : (address : ℕ) (state : ReadState) → address < 256 → eeprom.after_write (address * 256 + 1) state ≡ Pending address
 start-asks address state small =
     let starts : (address * 256 + 1) % 2 ≡ 1 = omega arith in
     let whole : (address * 256 + 1) / 256 % 256 ≡ address = omega arith in
     rw (starts, whole) refl
 
--- The value that a driver writes to request a word.
 pub start-with : (address given : ℕ) → given ≡ address → address < 256 → bit_or (given * 256 % 4294967296) 1 ≡ address * 256 + 1
 start-with address given is small =
     let whole : given * 256 % 4294967296 ≡ address * 2 ^ 8 = omega arith in
     ap (λ (n : ℕ). bit_or n 1) whole ∙ or_shifted address 8 1 (omega arith)
 
--- Over a bus
+-- The request and the reads of a word, over a bus
 
 module _ {B : Type 0} (bus : Ghosts B) where
   -- A word was requested, in at least this number of accesses, and the adapter's EEPROM has 64 words.
@@ -135,13 +125,12 @@ module _ {B : Type 0} (bus : Ghosts B) where
     pub size : length (bus.world start).adapter.image ≡ 64
     pub state : IsAsked (bus.world start).adapter.image address (bus.world now).adapter.eerd
 
-  -- A read of EERD after a request. Over a lively bus, it shows the word.
+  -- A read of EERD, after a request, returned `value`. Over a lively bus, `value` shows the word.
   pub record ReadTells (start now next : B) (address count value : ℕ) : Type 0 where
     pub awaits : Awaits start next address count
     pub shows : IsShown (bus.world start).adapter.image address value
     pub soon : bus.lively now → value ≡ shown_after address (word_at (bus.world start).adapter.image address)
 
-  -- The write that requests a word.
   pub awaits-write : (old new : B) (address value : ℕ) → address < 256 → value ≡ address * 256 + 1
       → Acts (view_of bus) old new (Writes 0x0014 value) (λ before after. after ≡ world_after_write 0x0014 value before)
       → Awaits old new address 1
@@ -159,7 +148,7 @@ module _ {B : Type 0} (bus : Ghosts B) where
         ∙ start-asks address acts.middle.adapter.eerd small);
   }
 
-  -- A read of EERD after the request.
+  -- After a read of EERD, the word is still requested, and `ReadTells` holds for the value.
   pub awaits-read : IntervalsJoin bus → (start now next : B) (address count value : ℕ)
       → Awaits start now address count
       → Acts (view_of bus) now next (Reads 0x0014 value)
@@ -192,7 +181,6 @@ module _ {B : Type 0} (bus : Ghosts B) where
             answer ∙ ap shown (moved ∙ ticked-read image address ticks found one awaits.state);
       }
 
-  -- If DONE is shown, the word was read.
   pub word-read : (start now next : B) (address count value : ℕ) → address < 256 → value < 2 ^ 32
       → bit_and value 16 ≢ 0 → ReadTells start now next address count value
       → ReadsWord bus address (Ok (value / 65536)) start next
@@ -205,7 +193,6 @@ module _ {B : Type 0} (bus : Ghosts B) where
         size = tells.awaits.size;
       }
 
-  -- Over a lively bus the first read shows DONE.
   pub never-slow : (start now next : B) (address count value : ℕ) → bus.lively now → bit_and value 16 ≡ 0
       → ReadTells start now next address count value → ⊥
   never-slow start now next address count value alive none tells =
@@ -213,7 +200,6 @@ module _ {B : Type 0} (bus : Ghosts B) where
       let set : bit_and value 16 ≡ 16 = ap (λ (v : ℕ). bit_and v 16) (tells.soon alive) ∙ is-done address word in
       omega arith
 
-  -- If DONE was never shown, at least 1,000 accesses were made.
   pub gave-up : (start now : B) (address count : ℕ) → 1000 ≤ count → Awaits start now address count
       → ReadsWord bus address (Err EepromTimeout) start now
   gave-up start now address count many awaits = record {

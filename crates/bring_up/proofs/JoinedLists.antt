@@ -38,9 +38,8 @@ joined-more groups group joined room is none = record {
   once = once-more groups group joined.once none;
 }
 
--- A group is removed
+-- A group is removed from a list
 
--- the list without the group at a place
 pub removed-at : (groups : List (List ℕ)) (place : ℕ) (group : List ℕ) → slice_get groups place ≡ Some group
     → Removes group groups (remove groups place)
 removed-at [] place group is = absurd (cc)
@@ -56,7 +55,6 @@ removed-at (first ∷ later) (suc place) group is =
       has = ap (λ (list : List (List ℕ)). first ∷ list) rest.has;
     }
 
--- A group that was removed was in the list.
 pub removed-had : (groups fewer : List (List ℕ)) (group : List ℕ) → Removes group groups fewer → Contains groups group
 removed-had groups fewer group removes =
     subst (λ (list : List (List ℕ)). Contains list group) (sym removes.had)
@@ -83,7 +81,7 @@ joined-fewer groups fewer group joined removes =
       once = once-fewer first last group had.once;
     })
 
--- A group in a list has a place.
+-- The list contains the group at this place.
 pub record StandsAt (groups : List (List ℕ)) (group : List ℕ) : Type 0 where
   pub place : ℕ
   pub below : place < length groups

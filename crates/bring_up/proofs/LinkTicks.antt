@@ -5,12 +5,12 @@ use Rattle.std.specs.Bool.{⊤}
 use Rattle.std.specs.Fn.{iterate}
 use Rattle.std.proofs.lemmas.Bool.{false≢true, true≢false}
 use Rattle.std.proofs.lemmas.Bool.Decides.{nat_tests}
-use Rattle.mdic_phy.specs.declared.phy.Link.{Link}
-use Rattle.mdic_phy.specs.declared.phy.Link.TheVariants.{After, Never}
-use Rattle.mdic_phy.specs.declared.phy.Negotiation.{Negotiation}
-use Rattle.mdic_phy.specs.declared.phy.Negotiation.TheVariants.{NotStarted, Running, Complete}
-use Rattle.mdic_phy.specs.Mdic.{MdicState}
-use Rattle.mdic_phy.specs.Phy.{PhyState, after_tick, counted, is_complete, link_is_up}
+use Rattle.eeprom_phy.specs.declared.phy.Link.{Link}
+use Rattle.eeprom_phy.specs.declared.phy.Link.TheVariants.{After, Never}
+use Rattle.eeprom_phy.specs.declared.phy.Negotiation.{Negotiation}
+use Rattle.eeprom_phy.specs.declared.phy.Negotiation.TheVariants.{NotStarted, Running, Complete}
+use Rattle.eeprom_phy.specs.Mdic.{MdicState}
+use Rattle.eeprom_phy.specs.Phy.{PhyState, after_tick, counted, is_complete, link_is_up}
 use Rattle.registers.specs.Bits.{HasBit, Meet}
 use Rattle.adapter.specs.State.{AdapterState}
 use Rattle.adapter.specs.World.{World}
@@ -54,7 +54,7 @@ negotiating lively all a adapter answer ends =
     let all_are = ends.ticks.all_are in
     (begun, omega arith)
 
--- At least this number of ticks has come since negotiation started.
+-- A negotiation can be in this state at least this number of ticks after its start.
 abbrev pub CountedFor : ℕ → Link → Negotiation → Type 0
 CountedFor ticks Never negotiation = ⊤
 CountedFor ticks (After d) NotStarted = ⊥
@@ -99,7 +99,6 @@ has_counted adapter begun =
     subst (HasCounted 0) (sym begun.phy)
     (counted-ticks begun.ticks 0 0 (started adapter.phy.link) (omega arith) (counted-at_start adapter.phy.link))
 
--- A link that is still down needs more ticks than have come.
 down-needs : (ticks : ℕ) (link : Link) (negotiation : Negotiation) → 1 ≤ ticks → CountedFor ticks link negotiation
     → is_complete negotiation ≡ false → NeedsMoreThan ticks link
 down-needs ticks Never negotiation some has down = tt
@@ -145,7 +144,6 @@ both-bits false latched set = absurd (set refl)
 abbrev HasBoth : ℕ → Type 0
 HasBoth value = HasBit value 5 × HasBit value 2
 
--- If a read of the status shows bit 2, MDIC contains a status with bits 5 and 2.
 pub seen-of : (lively : Type 0) (all : ℕ) (a b : Management) (answer : ℕ) → EndsCommand lively status_word all a b answer
     → bit_and answer 0x04 ≢ 0 → HasBit b.mdic.value 5 × HasBit b.mdic.value 2
 seen-of lively all a b answer ends set =
@@ -154,7 +152,6 @@ seen-of lively all a b answer ends set =
     let both = both-bits (link_is_up at) at.latched_low (λ unset. set (ap (λ (v : ℕ). bit_and v 0x04) ends.answers ∙ unset)) in
     subst HasBoth (sym (value ∙ ends.answers)) both
 
--- If a read of the status shows bit 2, the link is up, and no command is pending.
 pub up-of : (lively : Type 0) (all : ℕ) (a : Management) (world : World) (answer : ℕ)
     → EndsCommand lively status_word all a (management_of world.adapter) answer → bit_and answer 0x04 ≢ 0 → HasLink world
 up-of lively all a world answer ends set =

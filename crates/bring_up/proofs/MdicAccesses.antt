@@ -28,7 +28,7 @@ pub asks-fewer : {B : Type 0} (bus : Ghosts B) (old new : B) (offset many few : 
     → few ≤ many → AsksTimes bus old new offset many → AsksTimes bus old new offset few
 asks-fewer bus old new offset many few fewer times = record { asks = times.asks; often = let often = times.often in omega arith }
 
--- An access that changes no setting, whatever happens before it.
+-- If an access writes no register except this one, and changes no setting, `AsksTimes` holds with one access.
 abbrev asks-access : {B : Type 0} (bus : Ghosts B) (old new : B) (access : Access) (effect : World → World → Type 0) (offset : ℕ)
     → (acts : Acts (view_of bus) old new access effect) → All (λ write. write.offset ≡ offset) (writes_in (access ∷ []))
     → settings_of (bus.world new).adapter ≡ settings_of acts.middle.adapter → (IsAtRest acts.middle → IsAtRest (bus.world new))
@@ -66,7 +66,6 @@ asks-write bus old new offset value elsewhere leaves acts =
     (ap (λ (w : World). settings_of w.adapter) acts.effect_is ∙ leaves acts.middle.adapter)
     (λ rest. subst IsAtRest (sym acts.effect_is) (accesses_keep_rest (Writes offset value) acts.middle elsewhere refl rest))
 
--- If no frame comes or leaves in either interval, no frame comes or leaves in both together.
 pub no-frames : (first later : Past) → NoFrame first → NoFrame later → NoFrame (joined first later)
 no-frames first later one two = record {
   none_put = rw (one.none_put, two.none_put) refl;
@@ -101,7 +100,6 @@ asks-both bus joins a b c offset m n first later =
           omega arith;
     }
 
--- No access.
 pub asks-none : {B : Type 0} (bus : Ghosts B) → ((b : B) → bus.happened b b nothing)
     → (b : B) (offset : ℕ) → AsksTimes bus b b offset 0
 asks-none bus stays b offset = record { asks = asks-nothing bus stays b offset; often = omega arith }

@@ -2,11 +2,11 @@
 use Rattle.std.proofs.Common.{◌≡◌, ◌+◌, ◌≢◌, ◌≤◌, ◌||◌, ℕ, zero, suc, Bool, true, false, cond, Option, None, bit_and, inl, inr, refl, sym}
 use Rattle.std.proofs.Common.{ap, subst, ◌∙◌, arith}
 use Rattle.std.specs.Fn.{iterate}
-use Rattle.mdic_phy.specs.declared.mdic.Operation.{Operation}
-use Rattle.mdic_phy.specs.declared.phy.Negotiation.{Negotiation}
-use Rattle.mdic_phy.specs.declared.phy.Negotiation.TheVariants.{NotStarted, Running, Complete}
-use Rattle.mdic_phy.specs.Mdic.{MdicState, after_write, ended, kept, operation_of, phy_ended, with_data, with_ready}
-use Rattle.mdic_phy.specs.Phy.{PhyState, after_tick, is_counting, link_is_up}
+use Rattle.eeprom_phy.specs.declared.mdic.Operation.{Operation}
+use Rattle.eeprom_phy.specs.declared.phy.Negotiation.{Negotiation}
+use Rattle.eeprom_phy.specs.declared.phy.Negotiation.TheVariants.{NotStarted, Running, Complete}
+use Rattle.eeprom_phy.specs.Mdic.{MdicState, after_write, ended, kept, operation_of, phy_ended, with_data, with_ready}
+use Rattle.eeprom_phy.specs.Phy.{PhyState, after_tick, is_counting, link_is_up}
 use Rattle.bus.specs.Law.{Management, phy_ticked}
 use Rattle.bring_up.specs.Link.{EndsCommand, IsCommand, restart_word, status_word}
 
@@ -58,7 +58,6 @@ by_command P words command restart status = elim command [
   | inr is ↦ subst P (sym is) status
 ]
 
--- if a command is pending, a tick does something
 works : (counts : Bool) (a b : Management) → cond (counts || true) a b ≡ a
 works true a b = refl
 works false a b = refl
@@ -114,7 +113,7 @@ right-then words command s =
     by_command (λ w. bit_and (ended (operation_of w) (kept w) s) error_bit ≡ 0) words command refl
     (status-bit error_bit 0 refl refl refl (link_is_up s) s.latched_low)
 
--- If R isn't shown, no tick has come; if R is shown, the command has ended.
+-- If MDIC doesn't show R, no tick was played since the command; if MDIC shows R, the command has ended.
 
 pub not-ended : (words n : ℕ) → IsCommand words → (a b : Management) → b ≡ iterate phy_ticked n (commanded words a)
     → bit_and b.mdic.value ready_bit ≡ 0 → n ≡ 0

@@ -32,7 +32,7 @@ negotiates-late bus old new error told commands = record {
   in_time = λ ticks. absurd (false≢true (commands.in_time ticks));
 }
 
--- The link wasn't seen in this number of rounds.
+-- The link wasn't seen in this number of rounds, each with at least two accesses.
 pub record Awaits {B : Type 0} (bus : Ghosts B) (old now : B) (rounds : ℕ) : Type 0 where
   pub asked : AsksTimes bus old now 0x0020 (2 * rounds)
   pub link : (bus.world now).adapter.phy.link ≡ (bus.world old).adapter.phy.link
@@ -46,7 +46,6 @@ begins bus stays b = record {
   counted = λ ticks begun. no-rounds (bus.world b).adapter begun;
 }
 
--- the command of one more round
 commands-both : {B : Type 0} (bus : Ghosts B) → IntervalsJoin bus
     → (old now new : B) (rounds : ℕ) (result : Result ℕ InitError) → Awaits bus old now rounds
     → Commands bus status_word result now new
@@ -69,7 +68,6 @@ awaits-on bus joins old now new rounds answer alive awaits commands down = recor
       (alive ticks) commands.ends down (awaits.counted ticks begun);
 }
 
--- The link is seen.
 pub awaits-up : {B : Type 0} (bus : Ghosts B) → IntervalsJoin bus
     → (old now new : B) (rounds answer : ℕ) (done : Unit {0}) → Awaits bus old now rounds
     → Commands bus status_word (Ok answer) now new
@@ -86,7 +84,6 @@ awaits-up bus joins old now new rounds answer done awaits commands set = record 
   slow = λ ticks begun is. absurd (cc);
 }
 
--- A command doesn't end.
 pub awaits-late : {B : Type 0} (bus : Ghosts B) → IntervalsJoin bus
     → (old now new : B) (rounds : ℕ) (error told : InitError) → told ≡ PhyTimeout → (bus.lively old → bus.lively now)
     → Awaits bus old now rounds
@@ -105,7 +102,6 @@ awaits-late bus joins old now new rounds error told timeout alive awaits command
       slow = λ ticks begun is. absurd (cc);
     }
 
--- The link wasn't seen in 1,000 rounds.
 pub awaits-none : {B : Type 0} (bus : Ghosts B) (old now : B) (rounds : ℕ)
     → rounds ≡ 1000
     → Awaits bus old now rounds → AwaitsLink bus (Err NoLink) old now

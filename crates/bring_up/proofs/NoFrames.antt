@@ -16,7 +16,7 @@ use Rattle.adapter.specs.declared.ring.RingRegisters.{RingRegisters}
 use Rattle.bus.specs.Settings.{Settings, Write, adapter_with, settings_after, settings_after_all, settings_of, writes_in}
 use Rattle.bus.proofs.Lists.{all-head, all-tail, append-empty}
 use Rattle.bus.proofs.Settings.{stays-off, writes-append}
-use Rattle.driver_law.specs.Calls.{stores_from}
+use Rattle.bus.specs.Calls.{stores_from}
 use Rattle.bring_up.specs.ClearedDescriptors.{clears, clears_from}
 use Rattle.bring_up.specs.NoFrames.{IsNotTransmitRing, LeavesTransmitRing, NewTransmitRingStays, NoFramesStay}
 
@@ -33,14 +33,14 @@ quiet_stays d d' a b past goes set while_off leaves quiet =
       record { none_put = sends.0; none_stored = arrives.none_stored; none_missed = arrives.none_missed },
     )
 
--- The transmit ring
+-- The registers of the transmit ring
 
 row-leaves_transmits : (register : Register) (value : ℕ) (state : AdapterState) → IsNotTransmitRing (Some register)
     → (by_row (row_of register).kept register value state).transmit_ring ≡ state.transmit_ring
 row-leaves_transmits (Transmit part) value state other = absurd other
 row-leaves_transmits _ value state other = refl
 
--- with its head at 0
+-- the registers of a ring, with its head at 0
 abbrev from_start : RingRegisters → RingRegisters
 from_start ring = record ring { head = 0 }
 

@@ -14,13 +14,12 @@ use Rattle.rx_engine.specs.NumberTables.{HasNumbers, numbers_of_groups}
 use Rattle.bring_up.specs.Groups.{AreNamedOnce, IsWord, group_number_of}
 use Rattle.bring_up.proofs.JoinedLists.{first-there, only-there}
 
--- The second list has one more number, which the first list may also have.
+-- The list `big` contains the numbers of `small` and the number `added`, and no others.
 pub record IsOneMore (added : ℕ) (small big : List ℕ) : Type 0 where
   pub out : (n : ℕ) → Contains big n → Contains small n ⊎ (n ≡ added)
   pub keeps : (n : ℕ) → Contains small n → Contains big n
   pub here : Contains big added
 
--- The number is added between two lists.
 pub added-between : (before after : List ℕ) (x : ℕ) → IsOneMore x (before ++ after) (before ++ x ∷ after)
 added-between before after x = record {
   out = λ n has. elim (Contains-append_cases before (x ∷ after) n has) [
@@ -60,7 +59,6 @@ group-removed groups fewer group removes =
     subst (IsOneMore k (numbers_of_groups fewer)) big
     (subst (λ (list : List ℕ). IsOneMore k list (first ++ k ∷ last)) small (added-between first last k))
 
--- If the number was in the list, the table of both lists is the same.
 pub shared-more : (table small big : List ℕ) (k : ℕ) → IsOneMore k small big → Contains small k → HasNumbers table small
     → HasNumbers table big
 shared-more table small big k more has holds = record {
@@ -87,7 +85,6 @@ shared-fewer table small big k more has holds = record {
   );
 }
 
--- In the words without this number, the lists agree.
 pub elsewhere : (small big : List ℕ) (k n : ℕ) → IsOneMore k small big → (n / 32 ≡ k / 32 → ⊥) → Contains small n ↔ Contains big n
 elsewhere small big k n more apart = (
   (λ there. more.keeps n there),
@@ -97,7 +94,6 @@ elsewhere small big k n more apart = (
   ]),
 )
 
--- Each word of a table has exactly the bits of those of the table's numbers that are in this word.
 pub word-of-table : (table numbers : List ℕ) (w : ℕ) → w < 128 → HasNumbers table numbers → IsWord w numbers (slice_index table w)
 word-of-table table numbers w within holds = λ place below.
     let n = w * 32 + place in
@@ -106,7 +102,6 @@ word-of-table table numbers w within holds = λ place below.
     let both = holds.bits n (omega (arith, within, below)) in
     rw (q, r) at both
 
--- If a word gets the bits of the new numbers, and no number of another word has come or gone, the table has the bits of the new numbers.
 pub word-written : (table old new : List ℕ) (w value : ℕ) → w < 128 → HasNumbers table old → IsWord w new value
     → ((n : ℕ) → (n / 32 ≡ w → ⊥) → Contains old n ↔ Contains new n) → HasNumbers (slice_set table w value) new
 word-written table old new w value within holds word same = record {
@@ -136,7 +131,7 @@ word_below group = let fits : group_number_of group < 4096 = mod_below _ 4096 (o
 pub turned : {P Q : Type 0} → P ↔ Q → Q ↔ P
 turned both = (both.1, both.0)
 
--- A group in the list with this number.
+-- The group at this place of the list has the same number as `group`.
 pub record HasNumberAt (groups : List (List ℕ)) (group : List ℕ) : Type 0 where
   pub place : ℕ
   pub joined : List ℕ

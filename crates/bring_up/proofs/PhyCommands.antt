@@ -1,4 +1,4 @@
--- A command over an honest bus, access by access.
+-- A command to the PHY over an honest bus, access by access.
 use Rattle.std.proofs.Common.{◌≡◌, ◌≢◌, ◌≤◌, ◌+◌, ℕ, Err, Ok, bit_and, refl, sym, ap, subst, ◌∙◌, arith}
 use Rattle.std.specs.Fn.{iterate}
 use Rattle.adapter.specs.Registers.{answer_at}
@@ -18,7 +18,7 @@ use Rattle.bus.proofs.LinkSettings.{link-ticks}
 abbrev pub management_behind : World → Management
 management_behind world = management_of world.adapter
 
--- A read of MDIC shows its value after some ticks.
+-- A read of MDIC returned the value of MDIC after `ticks` ticks, at least one over a lively bus.
 pub record Finds (lively : Type 0) (ticks : ℕ) (a b : Management) (value : ℕ) : Type 0 where
   pub ticked : lively → 1 ≤ ticks
   pub management : b ≡ iterate phy_ticked ticks a
@@ -37,7 +37,8 @@ finds bus old new value acts =
       shown = acts.effect_is.0 ∙ sym (ap (λ (l : Management). l.mdic.value) after);
     }
 
--- The command was written, and this number of reads didn't show R.
+-- The command was written after `ticks` ticks. Then this number of reads followed, and no read showed R. Over a lively bus, no read
+-- followed.
 pub record Waits {B : Type 0} (bus : Ghosts B) (old now : B) (words reads : ℕ) : Type 0 where
   pub asked : AsksTimes bus old now 0x0020 (reads + 1)
   pub ticks : ℕ
@@ -89,7 +90,7 @@ link-stays : (a b : Management) (n words ticks : ℕ) → b ≡ iterate phy_tick
 link-stays a b n words ticks is =
     ap (λ (l : Management). l.phy.link) is ∙ link-ticks n (commanded words (iterate phy_ticked ticks a)) ∙ link-ticks ticks a
 
--- What holds if a read shows R.
+-- A read showed R: the command ended with the value `value`, in which E is clear.
 pub record Answered {B : Type 0} (bus : Ghosts B) (old new : B) (words value : ℕ) : Type 0 where
   pub commands : Commands bus words (Ok value) old new
   pub right : bit_and value error_bit ≡ 0
@@ -123,7 +124,6 @@ answered bus joins old now new words reads value command waits acts set =
       right = ap (λ (v : ℕ). bit_and v error_bit) (found.shown ∙ ends.answers) ∙ right-then words command ends.phy;
     }
 
--- What holds if none of 1,000 reads showed R.
 pub unanswered : {B : Type 0} (bus : Ghosts B) (old now : B) (words reads : ℕ)
     → 1000 ≤ reads
     → Waits bus old now words reads → Commands bus words (Err PhyTimeout) old now

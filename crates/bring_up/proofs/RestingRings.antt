@@ -31,12 +31,12 @@ use Rattle.bus.specs.declared.bus.Bus.{Ghosts}
 use Rattle.bus.proofs.IdleRings.{outstanding-none}
 use Rattle.bus.proofs.Lists.{all-none, pairs-none}
 use Rattle.bus.proofs.AdaptersAtRest.{happenings_keep_rest, rest_is_idle}
-use Rattle.driver_law.proofs.Resets.{rest_keeps_memory}
-use Rattle.driver_law.specs.Beginnings.{IsAtBeginning}
-use Rattle.driver_law.specs.DriverState.{owners}
-use Rattle.driver_law.specs.Resets.{reset_driver}
-use Rattle.driver_law.proofs.Beginnings.{drivers_begin}
-use Rattle.driver_law.proofs.Readiness.{none-to_send}
+use Rattle.bus.proofs.Resets.{rest_keeps_memory}
+use Rattle.bus.specs.Beginnings.{IsAtBeginning}
+use Rattle.bus.specs.DriverState.{owners}
+use Rattle.bus.specs.Resets.{reset_driver}
+use Rattle.bus.proofs.Beginnings.{drivers_begin}
+use Rattle.bus.proofs.Readiness.{none-to_send}
 use Rattle.bring_up.specs.RestingRings.{DriversBeginAgain, DriversBeginAtRest, HasNewRings, HasReceiveRing, SetsAtRest}
 use Rattle.bring_up.specs.RingRegisters.{ring_setup_writes}
 use Rattle.bring_up.proofs.DriverAccesses.{WriteActs}
@@ -44,14 +44,14 @@ use Rattle.bring_up.proofs.RingWrites.{IsRingPlace, high-written, length-written
 use Rattle.bring_up.proofs.RingWrites.{still-ring, with_receive_ring}
 use Rattle.bring_up.proofs.Steps.{IntervalsJoin, accesses-join, no-frames, sets-access, sets-join, sets-write}
 
--- The adapter is at rest, with these registers of the receive ring.
+-- The adapter is at rest, with these registers of the receive ring, and new registers of the transmit ring. Memory has room for `rx`
+-- receive descriptors.
 record HasRing (receives : RingRegisters) (rx : ℕ) (world : World) : Type 0 where
   rest : IsAtRest world
   receives_is : world.adapter.receive_ring ≡ receives
   transmits : world.adapter.transmit_ring ≡ new_ring
   room : 16 * rx ≤ length world.memory
 
--- A ring that begins at 0 and fits into memory is apart from a new ring.
 alone : (memory : List ℕ) (rx : ℕ) (ring : RingRegisters) → 16 * rx ≤ length memory → (ring_of ring).base ≡ 0 → count_of (ring_of ring) ≤ rx
     → AreSeparate memory (ring_area (ring_of ring) ∷ ring_area (ring_of new_ring) ∷ [])
 alone memory rx ring room first short =
@@ -65,7 +65,7 @@ alone memory rx ring room first short =
           (AllPairs-cons AreApart t [] (all-none (AreApart t)) (pairs-none AreApart));
     }
 
--- One register is written.
+-- A write of one register of the receive ring changes its registers from `before` to `after`, and the adapter remains at rest.
 rests-write : {B : Type 0} (bus : Ghosts B) (old new : B) (part : RingRegister) (value word rx : ℕ) (before after : RingRegisters)
     → value ≡ word → ring_written part word before ≡ after → after.head ≡ after.tail → (ring_of after).base ≡ 0
     → count_of (ring_of after) ≤ rx
@@ -113,7 +113,6 @@ rests-write bus old new part value word rx before after is written idle first sh
           ap (λ (w : World). w.memory) acts.effect_is ∙ rest_keeps_memory (bus.world old) middle acts.past acts.before state.rest;
     }
 
--- Two consecutive calls join.
 rests-join : {B : Type 0} (bus : Ghosts B) → IntervalsJoin bus
     → (a b c : B) (first later : List Write) (P Q R : World → Type 0) → SetsAtRest bus first P Q a b
     → SetsAtRest bus later Q R b c
@@ -127,7 +126,7 @@ rests-join bus joins a b c first later P Q R one two = record {
   memory = λ before. two.memory (one.after_is before) ∙ one.memory before;
 }
 
--- All five writes.
+-- The five writes set up the receive ring of an adapter at rest.
 pub rests-ring : {B : Type 0} (bus : Ghosts B) → IntervalsJoin bus
     → (b0 b1 b2 b3 b4 b5 : B) (low high base bytes rx : ℕ) → low ≡ base % 2 ^ 32 → high ≡ base / 2 ^ 32 → base ≡ 0 → bytes ≡ 16 * rx
     → IsRingSize rx

@@ -81,14 +81,12 @@ unfolding register_at array_register_at
 receive-tail-sets slot adapter below =
     ap (λ (kept : ℕ). settings_of (record adapter { receive_ring = record adapter.receive_ring { tail = kept } })) (slot-kept slot below)
 
--- A ring with these registers has this base and this number of slots
 pub base-told : (base bytes : ℕ) → (ring_of (ring_at base bytes)).base ≡ base
 base-told base bytes = div-add-mod' base (2 ^ 32)
 
 pub count-told : (base n : ℕ) → IsRingSize n → count_of (ring_of (ring_at base (16 * n))) ≡ n
 count-told base n size = let most = size.most in omega arith
 
--- A ring of a valid size, at the beginning of memory or after another ring.
 pub ring-fits : (before n : ℕ) → before < 2 ^ 32 → IsRingSize n → FitsRegisters (16 * before) (16 * n)
 ring-fits before n near size =
     let most = size.most in

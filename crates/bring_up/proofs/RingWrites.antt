@@ -1,4 +1,4 @@
--- A ring's registers after the five writes.
+-- A ring's registers after the five writes that set up the ring.
 use Rattle.std.proofs.Common.{◌≡◌, ◌<◌, ◌+◌, ◌*◌, ◌/◌, ◌%◌, ◌^◌, ℕ, Option, bit_and, refl, sym, ap, ◌∙◌, arith}
 use Rattle.std.proofs.lemmas.Nat.Bits.{and_high_mask}
 use Rattle.dma_memory.specs.Layout.{IsRingSize}
@@ -34,7 +34,6 @@ receive-written part value world =
     ap (λ (register : Option Register). let after : World = record world { adapter = left_by_write register value world.adapter } in after)
     (register_at-there (Receive part) tt)
 
--- If only the head of a ring may have changed, and head equals tail before and after, the ring is the same.
 pub still-ring : (a b : RingRegisters) → b ≡ record a { head = b.head } → a.head ≡ a.tail → b.head ≡ b.tail → b ≡ a
 still-ring a b same before behind =
     let tail : b.tail ≡ a.tail = ap (λ (ring : RingRegisters). ring.tail) same in
@@ -72,7 +71,6 @@ length-written base count bytes place long =
     let whole : bit_and bytes 1048448 ≡ bytes = omega (arith, masked, long, eights) in
     ap (ring_at base) whole
 
--- The ring agrees with the driver.
 pub ring-known : (base count bytes : ℕ) → IsRingPlace base count → bytes ≡ 16 * count
     → KnowsRing (ring_of (ring_at base bytes)) base count 0
 ring-known base count bytes place long =

@@ -8,7 +8,6 @@ use Rattle.rx_engine.specs.Registers.{FilterRegisters}
 use Rattle.rx_engine.specs.NumberTables.{HasNumbers}
 use Rattle.bring_up.specs.ConfiguredAdapters.{AreWords, SetupsAgree}
 
--- the bits of half of a number
 half-bit : (w place : ℕ) → HasBit (w / 2) place ↔ HasBit w (suc place)
 half-bit w place =
     let same : w / 2 / 2 ^ place ≡ w / 2 ^ suc place =
@@ -42,7 +41,6 @@ same-word (suc n) w v w_small v_small same =
     let low = lowest w v (same 0 (omega arith)) in
     omega (arith, halves, low)
 
--- Two tables with the same numbers are the same.
 pub same-table : (a b numbers : List ℕ) → AreWords a → AreWords b → HasNumbers a numbers → HasNumbers b numbers → a ≡ b
 same-table a b numbers words_a words_b has_a has_b =
     let long_a = has_a.words in

@@ -1,7 +1,7 @@
 -- The settings after writes of single registers.
 use Rattle.std.proofs.Common.{◌≡◌, ◌++◌, ◌%◌, ℕ, Bool, true, false, List, refl, ap, ◌∙◌, arith}
 use Rattle.std.proofs.lemmas.Bool.Decides.{nat_tests}
-use Rattle.mdic_phy.specs.Phy.{new_phy}
+use Rattle.eeprom_phy.specs.Phy.{new_phy}
 use Rattle.adapter.specs.PacketBuffer.{IsAllocation, allocation_written}
 use Rattle.adapter.specs.Registers.{adapter_at_reset}
 use Rattle.adapter.specs.State.{AdapterState}
@@ -15,7 +15,6 @@ use Rattle.bring_up.specs.WrittenRegisters.{allocation_writes, enable_link_write
 abbrev pub SetTo : List Write → (old new : AdapterState) → Type 0
 SetTo writes old new = settings_after_all writes (settings_of old) ≡ settings_of new
 
--- If the first writes change the settings `old` to `middle`, and the later ones `middle` to `new`, all together change `old` to `new`.
 pub groups-join : (first later : List Write) (old middle new : Settings)
     → settings_after_all first old ≡ middle → settings_after_all later middle ≡ new → settings_after_all (first ++ later) old ≡ new
 groups-join first later old middle new one two = settings-append first later old ∙ ap (settings_after_all later) one ∙ two
@@ -31,7 +30,6 @@ pub reset-sets : (settings : Settings)
 unfolding register_at array_register_at
 reset-sets settings = refl
 
--- PBA stores a valid value of RXA.
 allocation-fits : (kilobytes old : ℕ) → IsAllocation kilobytes → allocation_written kilobytes old ≡ kilobytes
 allocation-fits kilobytes old fits =
     let least = fits.least in
@@ -50,7 +48,6 @@ pub link-sets : (adapter : AdapterState) → SetTo enable_link_writes adapter (r
 unfolding register_at array_register_at
 link-sets adapter = refl
 
--- RCTL stores the value that is written.
 pub receive-sets : (promiscuous by_vlan : Bool) (adapter : AdapterState)
     → SetTo (receive_writes promiscuous by_vlan) adapter
     (record adapter { filter = record adapter.filter { rctl = receive_control promiscuous by_vlan } })
@@ -64,7 +61,6 @@ pub transmit-sets : (adapter : AdapterState) → SetTo transmit_writes adapter (
 unfolding register_at array_register_at
 transmit-sets adapter = refl
 
--- If no cause was in the mask, the write of IMS sets the mask to the causes that a driver handles.
 pub mask-sets : (adapter : AdapterState) → adapter.causes.mask ≡ 0
     → SetTo mask_writes adapter (record adapter { causes = record adapter.causes { mask = 0xD1 } })
 unfolding register_at array_register_at

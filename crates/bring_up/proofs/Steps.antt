@@ -1,4 +1,4 @@
--- Accesses of initialization, in order.
+-- Calls of initialization over a bus: the accesses that they consist of, and how consecutive calls join.
 use Rattle.std.proofs.Common.{◌≡◌, ◌++◌, ◌∷◌, [], ℕ, List, refl, sym, ap, subst, ◌∙◌}
 use Rattle.std.specs.List.{All}
 use Rattle.std.proofs.lemmas.List.{map-append}
@@ -17,7 +17,7 @@ use Rattle.bus.proofs.Links.{accesses_keep_link, happenings_keep_link}
 use Rattle.bus.proofs.Lists.{all-head, all-left, all-none, all-right}
 use Rattle.bus.proofs.AdaptersAtRest.{accesses_keep_rest, happenings_keep_rest}
 use Rattle.bus.proofs.Settings.{happenings_leave_settings, reads-leave, settings-append, writes-append, writes-set}
-use Rattle.driver_law.proofs.Resets.{rest_keeps_memory}
+use Rattle.bus.proofs.Resets.{rest_keeps_memory}
 use Rattle.bring_up.specs.DriverSteps.{accesses_of}
 use Rattle.bring_up.specs.SettingSteps.{WritesOneRegister, IsAside, Sets, SetsOnly}
 
@@ -26,7 +26,6 @@ abbrev pub IntervalsJoin : {B : Type 0} → Ghosts B → Type 0
 IntervalsJoin {B} bus =
     (a b c : B) (first later : Past) → bus.happened a b first → bus.happened b c later → bus.happened a c (joined first later)
 
--- No access.
 unfoldable pub sets-nothing : {B : Type 0} (bus : Ghosts B) → ((b : B) → bus.happened b b nothing) → (b : B) → Sets bus [] b b
 sets-nothing bus stays b = record {
   past = nothing;
@@ -38,7 +37,6 @@ sets-nothing bus stays b = record {
   link = λ leaves link. link;
 }
 
--- If no frame comes or leaves in either interval, no frame comes or leaves in both together.
 pub no-frames : (first later : Past) → NoFrame first → NoFrame later → NoFrame (joined first later)
 no-frames first later one two = record {
   none_put = rw (one.none_put, two.none_put) refl;
@@ -46,7 +44,6 @@ no-frames first later one two = record {
   none_missed = rw (one.none_missed, two.none_missed) refl;
 }
 
--- Two consecutive calls join.
 unfoldable pub sets-join : {B : Type 0} (bus : Ghosts B) → IntervalsJoin bus
     → (a b c : B) (first later : List Write) → Sets bus first a b → Sets bus later b c
     → Sets bus (first ++ later) a c
@@ -66,7 +63,7 @@ sets-join bus joins a b c first later one two = record {
   link = λ leaves link. two.link (all-right LeavesPhy first later leaves) (one.link (all-left LeavesPhy first later leaves) link);
 }
 
--- An access, whatever happens before it.
+-- One access is a call that makes the writes `writes`, whatever happens before the access.
 unfoldable pub sets-access : {B : Type 0} (bus : Ghosts B) (old new : B) (access : Access)
     (effect : World → World → Type 0) (writes : List Write)
     → (acts : Acts (view_of bus) old new access effect) → writes_in (access ∷ []) ≡ writes
@@ -136,7 +133,6 @@ pub only-write : {B : Type 0} (bus : Ghosts B) (old new : B) (offset value : ℕ
 unfolding sets-access sets-write
 only-write bus old new offset value acts = record { sets = sets-write bus old new offset value acts; only = acts.only }
 
--- A write of a word that is equal to another word.
 pub only-word : {B : Type 0} (bus : Ghosts B) (old new : B) (offset value word : ℕ) → value ≡ word
     → Acts (view_of bus) old new (Writes offset value) (λ before after. after ≡ world_after_write offset value before)
     → SetsOnly bus (record { offset = offset; value = word } ∷ []) old new
@@ -144,7 +140,6 @@ only-word bus old new offset value word is acts =
     subst (λ (v : ℕ). SetsOnly bus (record { offset = offset; value = v } ∷ []) old new) is
     (only-write bus old new offset value acts)
 
--- A write at an offset that is equal to another offset.
 pub only-at : {B : Type 0} (bus : Ghosts B) (old new : B) (offset place value : ℕ) → offset ≡ place
     → Acts (view_of bus) old new (Writes offset value) (λ before after. after ≡ world_after_write offset value before)
     → SetsOnly bus (record { offset = place; value = value } ∷ []) old new
@@ -165,7 +160,6 @@ only-five bus joins b0 b1 b2 b3 b4 b5 w1 w2 w3 w4 w5 one two three four five =
 
 -- Calls that write only one register, which isn't part of the settings
 
--- No access.
 pub asks-nothing : {B : Type 0} (bus : Ghosts B) → ((b : B) → bus.happened b b nothing) → (b : B) (offset : ℕ)
     → WritesOneRegister bus offset b b
 asks-nothing bus stays b offset = record {
@@ -176,7 +170,6 @@ asks-nothing bus stays b offset = record {
   rests = λ rest. (rest, record { none_put = refl; none_stored = refl; none_missed = refl });
 }
 
--- A call with these writes is a call that writes only one register, if it changes no setting.
 pub asks-of : {B : Type 0} (bus : Ghosts B) (old new : B) (offset : ℕ) (writes : List Write)
     → Sets bus writes old new
     → All (λ write. write.offset ≡ offset) writes → All IsAside writes
@@ -189,7 +182,6 @@ asks-of bus old new offset writes sets only aside same = record {
   rests = sets.rests aside;
 }
 
--- Two such calls join.
 pub asks-join : {B : Type 0} (bus : Ghosts B) → IntervalsJoin bus
     → (a b c : B) (offset : ℕ) → WritesOneRegister bus offset a b → WritesOneRegister bus offset b c → WritesOneRegister bus offset a c
 asks-join bus joins a b c offset one two = record {

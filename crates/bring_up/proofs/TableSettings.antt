@@ -18,7 +18,6 @@ use Rattle.bring_up.specs.ConfiguredAdapters.{AreWords}
 use Rattle.bring_up.specs.FilterTables.{address_writes, table_writes}
 use Rattle.bring_up.proofs.SingleSettings.{SetTo}
 
--- A register of 32 bits stores a word unchanged.
 pub word-kept : (word : ℕ) → word < 2 ^ 32 → bit_and word 0xFFFFFFFF ≡ word
 word-kept word fits = let whole : word % 2 ^ 32 ≡ word = omega arith in and_mask word 32 ∙ whole
 
@@ -32,7 +31,6 @@ record HasTable (start : ℕ) (register : ℕ → Register) (with_table : List �
   pub set : (n value : ℕ) (table : List ℕ)
       → left_set (Some (register n)) value (with_table table) ≡ settings_of (with_table (slice_set table n (bit_and value 0xFFFFFFFF)))
 
--- One more word is written after the first words.
 word-set : (start : ℕ) (register : ℕ → Register) (with_table : List ℕ → AdapterState) → HasTable start register with_table
     → (offset : ℕ) (written : List ℕ) (word last : ℕ) (old : List ℕ)
     → offset ≡ start + 4 * length written → length written < 128 → word < 2 ^ 32
@@ -47,7 +45,6 @@ word-set start register with_table has offset written word last old at within fi
     ∙ ap (λ (w : ℕ). settings_of (with_table (slice_set (written ++ last ∷ old) n w))) (word-kept word fits)
     ∙ ap (λ (table : List ℕ). settings_of (with_table table)) seam
 
--- The remaining words are written.
 words-set : (start : ℕ) (register : ℕ → Register) (with_table : List ℕ → AdapterState) → HasTable start register with_table
     → (offset : ℕ) (written words old : List ℕ)
     → offset ≡ start + 4 * length written → length written + length words ≤ 128 → length old ≡ length words → AreWords words
@@ -68,7 +65,6 @@ words-set start register with_table has offset written (word ∷ words) (last �
     ∙ rest
     ∙ ap (λ (table : List ℕ). settings_of (with_table table)) (append_assoc written (word ∷ []) words)
 
--- a whole table
 table-set : (start : ℕ) (register : ℕ → Register) (with_table : List ℕ → AdapterState) → HasTable start register with_table
     → (words old : List ℕ) → length words ≡ 128 → length old ≡ 128 → AreWords words
     → SetTo (table_writes start words) (with_table old) (with_table words)
@@ -97,7 +93,6 @@ low-kept address is =
     let fits : low_word address < 2 ^ 32 = omega (arith, is.bytes 0, is.bytes 1, is.bytes 2, is.bytes 3) in
     word-kept (low_word address) fits
 
--- a word of 16 bits, and bit 31
 valid-kept : (word : ℕ) → word < 65536 → bit_and (word + 2 ^ 31) 0x8000FFFF ≡ word + 2 ^ 31
 valid-kept word fits =
     let split : word + 2 ^ 31 ≡ 0x8000 * 2 ^ 16 + word = omega arith in
@@ -112,11 +107,10 @@ high-kept address is =
     let fits : high_word address < 65536 = omega (arith, is.bytes 4, is.bytes 5) in
     valid-kept (high_word address) fits
 
--- the first receive address, and 15 of 0
+-- the filter with this first receive address, and 0 in the other 15
 abbrev pub with_address : (low high : ℕ) → FilterRegisters → FilterRegisters
 with_address low high filter = record filter { ral = low ∷ replicate 15 0; rah = high ∷ replicate 15 0 }
 
--- If the other 15 receive addresses are 0, the writes set the first one, and the others remain 0.
 pub address-set : (address : List ℕ) (low high : ℕ) (adapter : AdapterState) → IsAddress address
     → SetTo (address_writes address) (record adapter { filter = with_address low high adapter.filter })
     (record adapter { filter = with_address (low_word address) (high_word address + 2 ^ 31) adapter.filter })

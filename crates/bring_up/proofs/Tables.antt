@@ -11,7 +11,6 @@ use Rattle.bus.specs.Settings.{Write}
 use Rattle.bring_up.specs.FilterTables.{empty_entries, entry_writes, table_writes}
 use Rattle.bring_up.specs.WrittenRegisters.{write_at}
 
--- An empty list contains nothing, and a list of one item contains this item.
 none-there : (n : ℕ) → ¬ (Contains {X = ℕ} [] n)
 none-there n has = absurd (omega (arith, has.1))
 
@@ -25,7 +24,6 @@ no-numbers = record {
   bits = λ number below. (λ has. absurd (HasTableBit-zeros 128 number has), λ has. absurd (none-there number has));
 }
 
--- If a table has the bits of some numbers, and the bit of one more number is set, it has the bits of all of them.
 pub one-number-more : (table numbers : List ℕ) (added : ℕ) → added < 4096 → HasNumbers table numbers
     → HasNumbers (with_number table added) (numbers ++ added ∷ [])
 one-number-more table numbers added fits holds = record {
@@ -43,7 +41,6 @@ one-number-more table numbers added fits holds = record {
       );
 }
 
--- The write of one more word, at the end.
 pub table-push : (offset word : ℕ) (words : List ℕ)
     → table_writes offset (words ++ word ∷ []) ≡ table_writes offset words ++ write_at (offset + 4 * length words) word ∷ []
 table-push offset word [] = let here : offset ≡ offset + 4 * 0 = omega arith in ap (λ (n : ℕ). write_at n word ∷ []) here
@@ -52,7 +49,6 @@ table-push offset word (first ∷ words) =
     ap (λ (list : List Write). write_at offset first ∷ list) (table-push (offset + 4) word words
     ∙ ap (λ (n : ℕ). table_writes (offset + 4) words ++ write_at n word ∷ []) there)
 
--- The writes of one more entry, at the end.
 pub entries-push : (entry count : ℕ) → empty_entries entry (suc count) ≡ empty_entries entry count ++ entry_writes (entry + count) 0 0
 entries-push entry zero = let here : entry ≡ entry + 0 = omega arith in ap (λ (n : ℕ). entry_writes n 0 0) here
 entries-push entry (suc count) =

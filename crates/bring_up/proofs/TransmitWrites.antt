@@ -14,12 +14,12 @@ use Rattle.bus.specs.Pasts.{nothing}
 use Rattle.bus.specs.declared.bus.Bus.{Ghosts}
 use Rattle.bus.specs.declared.event.Access.{Access}
 use Rattle.bus.specs.declared.event.Access.TheVariants.{Writes}
-use Rattle.driver_law.specs.Calls.{GoesTo, Ran, at, driver_did, driver_in, only}
-use Rattle.driver_law.specs.DriverState.{DriverState}
-use Rattle.driver_law.specs.ReadyDrivers.{ReadyWith}
-use Rattle.driver_law.proofs.Accesses.{ran_by-join, write-sets}
-use Rattle.driver_law.proofs.Steps.{goes-happens}
-use Rattle.driver_law.proofs.TransmitRing.{transmit_ring_is_written}
+use Rattle.bus.specs.Calls.{GoesTo, Ran, at, driver_did, driver_in, only}
+use Rattle.bus.specs.DriverState.{DriverState}
+use Rattle.bus.specs.ReadyDrivers.{ReadyWith}
+use Rattle.bus.proofs.DriverAccesses.{ran_by-join, write-sets}
+use Rattle.bus.proofs.Steps.{goes-happens}
+use Rattle.bus.proofs.TransmitRing.{transmit_ring_is_written}
 use Rattle.bring_up.specs.DriverSteps.{SetsTransmitRing}
 use Rattle.bring_up.specs.RingRegisters.{ring_setup_writes}
 use Rattle.bring_up.proofs.DriverAccesses.{WriteActs, ran_by-begins}
@@ -27,19 +27,19 @@ use Rattle.bring_up.proofs.RingWrites.{IsRingPlace, high-written, length-written
 use Rattle.bring_up.proofs.RingWrites.{transmit-written}
 use Rattle.bring_up.proofs.Steps.{IntervalsJoin}
 
--- The driver remains ready, and the transmit ring has these registers after the accesses.
+-- `Ran` holds for the accesses, with the transmit side off, and the transmit ring has the registers `after` at the end.
 record LeavesRing {B : Type 0} (bus : Ghosts B) (accesses : List Access) (old new : B) (d : DriverState)
     (after : RingRegisters) : Type 0 where
   ran : Ran bus false (only accesses) (at old d) (at new d)
   ring : (bus.world new).adapter.transmit_ring ≡ after
 
--- A ring with head equal to tail, at its place in the layout.
+-- A ring inside its place in the layout, with head and tail at the driver's oldest transmit slot.
 record IsIdleRing (d : DriverState) (ring : RingRegisters) : Type 0 where
   idle : ring.head ≡ ring.tail
   last : ring.tail ≡ d.oldest_transmit
   inside : IsInside (ring_area (ring_of ring)) (area_of d.layout TransmitRing)
 
--- One register is written.
+-- A write of one register of the transmit ring changes its registers from `before` to `after`, and the driver remains ready.
 transmit-write : {B : Type 0} (bus : Ghosts B) (old new : B) (part : RingRegister) (value word : ℕ) (d : DriverState)
     (before after : RingRegisters)
     → value ≡ word → ring_written part word before ≡ after → IsIdleRing d after
@@ -71,7 +71,6 @@ transmit-write bus old new part value word d before after is written fits acted 
       ring = ap (λ (w : World). w.adapter.transmit_ring) done;
     }
 
--- One write, and then further writes.
 transmit-then : {B : Type 0} (bus : Ghosts B) → IntervalsJoin bus
     → (xs ys : List Access) (a b c : B) (d : DriverState) (between after : RingRegisters) → LeavesRing bus xs a b d between
     → (ReadyWith false d (bus.world b) → (bus.world b).adapter.transmit_ring ≡ between → LeavesRing bus ys b c d after)
@@ -80,7 +79,7 @@ transmit-then bus joins xs ys a b c d between after one rest =
     let two = rest one.ran.goes.flows.ready one.ring in
     record { ran = ran_by-join bus joins xs ys a b c d d d [] [] [] [] one.ran two.ran; ring = two.ring }
 
--- All five writes.
+-- The five writes set up the transmit ring while the transmit side is off.
 pub sets-transmit_ring : {B : Type 0} (bus : Ghosts B) → IntervalsJoin bus
     → (b0 b1 b2 b3 b4 b5 : B) (low high base bytes : ℕ) (d : DriverState) → low ≡ base % 2 ^ 32 → high ≡ base / 2 ^ 32
     → base ≡ 16 * d.layout.rx → bytes ≡ 16 * d.layout.tx

@@ -17,12 +17,12 @@ use Rattle.bus.specs.Pasts.{Past, nothing}
 use Rattle.bus.specs.declared.bus.Bus.{Ghosts}
 use Rattle.bus.specs.declared.event.Access.{Access}
 use Rattle.bus.specs.declared.event.Access.TheVariants.{Writes}
-use Rattle.driver_law.specs.Calls.{GoesTo, Ran, at, driver_did, driver_in, only}
-use Rattle.driver_law.specs.DriverState.{DriverState}
-use Rattle.driver_law.specs.ReadyDrivers.{ReadyWith}
-use Rattle.driver_law.proofs.Accesses.{ran_by-stays, write-sets}
-use Rattle.driver_law.proofs.AlikeWorlds.{SameParts, ready-left}
-use Rattle.driver_law.proofs.StepsWithoutFrames.{goes-rests}
+use Rattle.bus.specs.Calls.{GoesTo, Ran, at, driver_did, driver_in, only}
+use Rattle.bus.specs.DriverState.{DriverState}
+use Rattle.bus.specs.ReadyDrivers.{ReadyWith}
+use Rattle.bus.proofs.DriverAccesses.{ran_by-stays, write-sets}
+use Rattle.bus.proofs.AlikeWorlds.{SameParts, ready-left}
+use Rattle.bus.proofs.StepsWithoutFrames.{goes-rests}
 use Rattle.bring_up.specs.ConfiguredAdapters.{AreWords}
 use Rattle.bring_up.proofs.DriverAccesses.{WriteActs, ran_by-begins}
 use Rattle.bring_up.proofs.TableSettings.{word-kept}
@@ -36,7 +36,6 @@ written-word word value a within =
     ap (λ (found : Option Register). let w : World = record a { adapter = left_by_write found value a.adapter } in w)
     (register_at-mta word within)
 
--- A driver that is ready remains ready, and its frames don't change.
 pub word-rests : {up : Bool} (word value : ℕ) (d : DriverState) (a : World) → word < 128 → ReadyWith up d a
     → GoesTo up (driver_in d a) (driver_in d (world_after_write (0x5200 + 4 * word) value a)) (driver_did [] []) nothing
 word-rests {up} word value d a within ready =
@@ -67,7 +66,6 @@ word-ran {up} bus old new word value d within acts ready =
     (λ there. subst (λ (w : World). GoesTo up (driver_in d acts.middle) (driver_in d w) (driver_did [] []) nothing) (sym acts.effect_is)
     (word-rests word value d acts.middle within there))
 
--- After the write, MTA is the old one with this word, whatever happened before.
 pub table-after : {B : Type 0} (bus : Ghosts B) (old new : B) (word value : ℕ) → word < 128 → value < 2 ^ 32
     → WriteActs bus old new (0x5200 + 4 * word) value
     → (bus.world new).adapter.filter.mta ≡ slice_set (bus.world old).adapter.filter.mta word value
@@ -139,7 +137,6 @@ regrouped bus accesses b c d groups groups' ran = record {
 
 -- A group is joined or left
 
--- There is no access, because another joined group has the number.
 pub changes-shared : {up : Bool} {B : Type 0} (bus : Ghosts B) → ((b : B) → bus.happened b b nothing) → (b : B) (d : DriverState)
     (kept groups groups' : List (List ℕ)) (group : List ℕ) → ReadyWith up d (bus.world b) → HasNumber kept group
     → (HasTable groups (bus.world b) → HasTable groups' (bus.world b))

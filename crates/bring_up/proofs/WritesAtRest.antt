@@ -1,4 +1,4 @@
--- Writes after which an adapter is still at rest, and a reset.
+-- Writes after which an adapter is still at rest. After a reset an adapter is at rest, and a read of ICR clears the recorded causes.
 use Rattle.std.proofs.Common.{◌≡◌, ◌∷◌, [], ℕ, Option, Some, refl, sym, ap, subst, ◌∙◌}
 use Rattle.std.specs.List.{All}
 use Rattle.std.proofs.lemmas.List.Elements.{All-cons}
@@ -11,11 +11,10 @@ use Rattle.adapter.specs.Registers.{left_by_write}
 use Rattle.bus.specs.AdaptersAtRest.{IsAtRest, IsElsewhere}
 use Rattle.bus.proofs.Lists.{all-none}
 use Rattle.bus.proofs.AdaptersAtRest.{rest_after_reset}
-use Rattle.driver_law.specs.Resets.{reset_world}
+use Rattle.bus.specs.Resets.{reset_world}
 use Rattle.bring_up.specs.SettingSteps.{IsAside}
 use Rattle.bring_up.specs.WrittenRegisters.{allocation_writes, enable_link_writes, write_at}
 
--- `IsAside` holds for a write of a register other than RCTL and those of the rings.
 pub aside-of : (register : Register) (value : ℕ) → IsInTable register → IsElsewhere (Some register)
     → All IsAside (write_at (row_of register).offset value ∷ [])
 aside-of register value within elsewhere =
@@ -31,7 +30,6 @@ allocation-aside kilobytes = aside-of Pba kilobytes tt tt
 pub link-aside : All IsAside enable_link_writes
 link-aside = aside-of Ctrl 0x60 tt tt
 
--- A write of CTRL with RST resets the adapter, which is then at rest.
 pub reset-written : (world : World) → world_after_write 0x0000 0x04000000 world ≡ reset_world world
 reset-written world =
     ap (λ (found : Option Register). let after : World = record world
@@ -41,7 +39,6 @@ pub reset-rests : (value : ℕ) (before after : World) → value ≡ 0x04000000 
 reset-rests value before after is written =
     subst IsAtRest (sym (written ∙ ap (λ (v : ℕ). world_after_write 0x0000 v before) is ∙ reset-written before)) (rest_after_reset before)
 
--- After a read of ICR no cause is recorded.
 pub read-forgets : (world : World) → (world_after_read 0x00C0 world).adapter.causes.recorded ≡ 0
 unfolding register_at
 read-forgets world = refl

@@ -30,9 +30,8 @@ of-one P offset value here = All-cons (λ (write : Write). P (register_at write.
 pub of-both : (P : Option Register → Type 0) (first later : List Write) → AreOf P first → AreOf P later → AreOf P (first ++ later)
 of-both P first later one two = All-append (λ (write : Write). P (register_at write.offset)) first later one two
 
--- The tables
+-- The writes of the tables and of the receive addresses
 
--- the writes of a table's words, from an offset on
 words-of : (P : Option Register → Type 0) (start : ℕ) (register : ℕ → Register)
     → ((n : ℕ) → n < 128 → register_at (start + 4 * n) ≡ Some (register n)) → ((n : ℕ) → P (Some (register n)))
     → (offset n : ℕ) (words : List ℕ) → offset ≡ start + 4 * n → n + length words ≤ 128 → AreOf P (table_writes offset words)
@@ -45,7 +44,6 @@ words-of P start register there each offset n (word ∷ words) at fits =
     (of-one P offset word (subst P (sym (ap register_at at ∙ there n within)) (each n)))
     (words-of P start register there each (offset + 4) (suc n) words next room)
 
--- the writes of the receive addresses
 entry-of : (P : Option Register → Type 0) → ((n : ℕ) → P (Some (Ral n))) → ((n : ℕ) → P (Some (Rah n)))
     → (entry low high : ℕ) → entry < 16 → AreOf P (entry_writes entry low high)
 entry-of P ral rah entry low high within =
@@ -62,7 +60,6 @@ entries-of P ral rah entry (suc count) fits =
     of-both P (entry_writes entry 0 0) (empty_entries (entry + 1) count)
     (entry-of P ral rah entry 0 0 within) (entries-of P ral rah (entry + 1) count room)
 
--- all writes of the filter
 pub filter-of : (P : Option Register → Type 0) → ((n : ℕ) → P (Some (Mta n))) → ((n : ℕ) → P (Some (Vfta n)))
     → ((n : ℕ) → P (Some (Ral n))) → ((n : ℕ) → P (Some (Rah n)))
     → (groups vlans address : List ℕ) → length groups ≡ 128 → length vlans ≡ 128
@@ -75,7 +72,7 @@ filter-of P mta vfta ral rah groups vlans address groups_whole vlans_whole =
     (of-both P (entry_writes 0 (low_word address) (high_word address + 2 ^ 31)) (empty_entries 1 15)
     (entry-of P ral rah 0 (low_word address) (high_word address + 2 ^ 31) (omega arith)) (entries-of P ral rah 1 15 (omega arith))))
 
--- Registers other than RCTL and those of the rings
+-- Writes of registers other than RCTL and those of the rings
 
 reset-aside : All IsAside reset_writes
 unfolding register_at array_register_at
@@ -90,7 +87,7 @@ rings-last config address groups vlans groups_whole vlans_whole =
     (of-both IsElsewhere enable_link_writes tables link-aside
     (filter-of IsElsewhere (λ n. tt) (λ n. tt) (λ n. tt) (λ n. tt) groups vlans address groups_whole vlans_whole)))
 
--- Registers other than CTRL and MDIC
+-- Writes of registers other than CTRL and MDIC
 
 pub ring-of : (P : Option Register → Type 0) (offset base bytes : ℕ) → P (register_at offset) → P (register_at (offset + 0x04))
     → P (register_at (offset + 0x08))

@@ -8,7 +8,7 @@ use Rattle.arrayvec.specs.declared.array_vec.ArrayVec.{ArrayVec}
 use Rattle.bring_up.specs.declared.config.Config.{Config}
 use Rattle.bring_up.specs.declared.config.TheConstants.{MOST_VLANS}
 
--- The sizes of the rings, and the number of receive buffers.
+-- The sizes of the rings, and the number of receive buffers, of a configuration.
 abbrev pub configured_counts : Config → Counts
 configured_counts config = record { rx = config.rx; tx = config.tx; buffers = config.buffers }
 
@@ -28,7 +28,7 @@ pub record HasRightNumbers (config : Config) : Type 0 where
 
 -- The configuration is valid in a memory of `size` bytes.
 pub record CanBeHad (config : Config) (size : ℕ) : Type 0 where
-  -- rings and buffers have valid sizes
+  -- the sizes of the rings and the number of receive buffers are valid
   pub counts : IsAllowed (configured_counts config)
   -- RXA, groups and VLANs are valid
   pub numbers : HasRightNumbers config

@@ -1,5 +1,5 @@
--- The writes of initialization in order, the settings that they give an adapter by its configuration and its Ethernet address, the setup
--- that a driver keeps, and laws about these.
+-- The register writes of initialization in order, and the settings of an adapter after them. The setup that a driver keeps, and laws about
+-- these writes, settings and setups.
 use Rattle.std.specs.Prelude.{◌≡◌, ◌<◌, ◌+◌, ◌-◌, ◌*◌, ◌++◌, ℕ, Bool, true, false, List, ◌∷◌, [], All, Option, None, Some, length}
 use Rattle.std.specs.Prelude.{replicate}
 use Rattle.adapter.specs.declared.offsets.TheConstants.{MTA, RDBAL, RDT, TDBAL, VFTA}
@@ -12,7 +12,7 @@ use Rattle.rx_engine.specs.Registers.{FilterRegisters}
 use Rattle.adapter.specs.declared.ring.RingRegisters.{RingRegisters}
 use Rattle.adapter.specs.Rings.{ring_of}
 use Rattle.adapter.specs.State.{AdapterState}
-use Rattle.driver_law.specs.DriverState.{DriverSetup}
+use Rattle.bus.specs.DriverState.{DriverSetup}
 use Rattle.descriptors.specs.Ring.{count_of}
 use Rattle.bus.specs.Link.{LeavesPhy}
 use Rattle.bus.specs.Settings.{Settings, Write, settings_after_all}
@@ -94,7 +94,7 @@ pub record HasSetup (setup : DriverSetup) (adapter : AdapterState) : Type 0 wher
   -- PBA.RXA
   pub allocation : adapter.receive_kilobytes ≡ setup.rxa
 
--- The receive filter is as configured.
+-- The receive filter has the setup of the configuration, and MTA has the bits of the configured groups.
 pub record FilterIsConfigured (config : Config) (address : List ℕ) (filter : FilterRegisters) : Type 0 where
   pub setup : FilterHasSetup (setup_of config address) filter
   -- MTA has the bits of the configured groups, and no others.
@@ -109,12 +109,12 @@ pub record RingIsConfigured (base count tail : ℕ) (registers : RingRegisters) 
   pub count_is : count_of (ring_of registers) ≡ count
   pub tail_is : registers.tail ≡ tail
 
--- The settings that a configuration and an Ethernet address determine.
+-- The settings are those that a configuration and an Ethernet address determine.
 pub record IsConfigured (config : Config) (address : List ℕ) (settings : Settings) : Type 0 where
   -- CTRL contains SLU and ASDE, and no other bit
   pub device_control : settings.device_control ≡ link_control
   pub filter : FilterIsConfigured config address settings.filter
-  -- TCTL has the value of initialization
+  -- TCTL has the value that enables the transmitter
   pub transmit_control : settings.transmit_control ≡ transmit_control
   -- PBA.RXA is that of the configuration
   pub allocation : settings.receive_kilobytes ≡ config.rxa
@@ -148,8 +148,7 @@ RingsComeLast =
     (config : Config) (address groups vlans : List ℕ) → length groups ≡ TABLE_WORDS → length vlans ≡ TABLE_WORDS
     → All IsAside (writes_before_rings config address groups vlans)
 
--- If the tables have 128 words, no write of the filter, of the rings, or after those of the rings is a write of CTRL or
--- MDIC.
+-- If the tables have 128 words, the writes of the filter, of the rings, and after those of the rings write neither CTRL nor MDIC.
 abbrev pub LinkComesFirst : Type 0
 LinkComesFirst =
     (config : Config) (address groups vlans : List ℕ) → length groups ≡ TABLE_WORDS → length vlans ≡ TABLE_WORDS

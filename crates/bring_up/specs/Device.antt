@@ -1,6 +1,6 @@
--- What a driver knows of a device that it has found, and when it finds no device.
+-- What a driver knows after it found a device, and after each error.
 use Rattle.std.specs.Prelude.{⊤, ◌≡◌, ◌≤◌, ◌++◌, ◌*◌, ℕ, List, Result, IfErr, IfOk, length}
-use Rattle.eeprom.specs.Image.{HasRightSum}
+use Rattle.eeprom_phy.specs.Image.{HasRightSum}
 use Rattle.adapter.specs.World.{World}
 use Rattle.bus.specs.Link.{HasLink}
 use Rattle.bus.specs.Pasts.{Past}
@@ -21,8 +21,8 @@ IsBeforeAccess Memory = ⊤
 IsBeforeAccess errors.Config = ⊤
 IsBeforeAccess error = ⊥
 
--- A device was found: the image is that of its EEPROM, with the right checksum. The adapter is at rest with these
--- settings. Its link is up, and no MDIC command is pending.
+-- A device was found: `image` is the image of its EEPROM, with the right checksum. The adapter is at rest, its link is up, and no MDIC
+-- command is pending. The settings are those after the writes of the reset, of PBA and of CTRL.
 pub record IsFound {B : Type 0} (bus : Ghosts B) (kilobytes : ℕ) (old new : B) (image : List ℕ) : Type 0 where
   pub image_is : image ≡ (bus.world old).adapter.image
   pub sum_is_right : HasRightSum image
@@ -57,6 +57,7 @@ pub record FindsDevice {B : Type 0} (bus : Ghosts B) (kilobytes : ℕ) (result :
   pub past : Past
   pub reports : bus.happened old new past
   pub found : IfOk result (IsFound bus kilobytes old new)
+  -- If the result is Ok, neither ICR nor ICS was written.
   pub no_cause : IfOk result (λ image. RecordsNoCause past)
   pub why : IfErr result (λ error. IsErrorOf error (bus.world old).adapter.image (length past.accesses))
   pub why_lively : bus.lively old → IfErr result (λ error. IsErrorOfLively error (bus.world old))

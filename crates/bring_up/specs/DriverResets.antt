@@ -7,9 +7,9 @@ use Rattle.bus.specs.AdaptersAtRest.{NoFrame}
 use Rattle.bus.specs.Link.{HasLink}
 use Rattle.bus.specs.declared.bus.Bus.{Ghosts}
 use Rattle.bus.specs.declared.event.Access.TheVariants.{Reads, Writes}
-use Rattle.driver_law.specs.Calls.{GoesTo, driver_did, driver_in}
-use Rattle.driver_law.specs.DriverState.{DriverState}
-use Rattle.driver_law.specs.Resets.{RestsWith, reset_driver, reset_world}
+use Rattle.bus.specs.Calls.{GoesTo, driver_did, driver_in}
+use Rattle.bus.specs.DriverState.{DriverState}
+use Rattle.bus.specs.Resets.{RestsWith, reset_driver, reset_world}
 use Rattle.bring_up.specs.DriverSteps.{MakesAccesses}
 
 -- A driver resets its adapter: it writes CTRL with RST, writes IMC, and reads ICR. After that, the free buffers are

@@ -14,10 +14,10 @@ use Rattle.bus.specs.Settings.{NoArrival, Write}
 use Rattle.bus.specs.declared.bus.Bus.{Ghosts}
 use Rattle.bus.specs.declared.event.Access.{Access}
 use Rattle.bus.specs.declared.event.Access.TheVariants.{Writes}
-use Rattle.driver_law.specs.Beginnings.{Enabled}
-use Rattle.driver_law.specs.Calls.{FollowsWrites, Goes, HasNoForgottenWork, Ran, at, driver_did, driver_in, frames_ended, only}
-use Rattle.driver_law.specs.DriverState.{DriverState}
-use Rattle.driver_law.specs.ReadyDrivers.{Ready}
+use Rattle.bus.specs.Beginnings.{Enabled}
+use Rattle.bus.specs.Calls.{FollowsWrites, Goes, HasNoForgottenWork, Ran, at, driver_did, driver_in, frames_ended, only}
+use Rattle.bus.specs.DriverState.{DriverState}
+use Rattle.bus.specs.ReadyDrivers.{Ready}
 
 -- These register writes, as accesses.
 abbrev pub accesses_of : List Write → List Access
@@ -58,7 +58,7 @@ pub record MakesAccesses {B : Type 0} (bus : Ghosts B) (accesses : List Access) 
   pub only : past.accesses ≡ accesses
   pub follows : FollowsWrites (bus.world old) (bus.world new) past
 
--- One write of IMS enables causes. Anything may happen before it, and the write changes only the mask.
+-- One write of IMS enables causes. Adapter steps and deliveries may happen before the write, and the write changes only the mask.
 pub record EnablesCauses {B : Type 0} (bus : Ghosts B) (causes : ℕ) (d : DriverState) (old new : B) : Type 0 where
   pub accessed : MakesAccesses bus (Writes IMS causes ∷ []) old new
   -- the world right before the write takes effect

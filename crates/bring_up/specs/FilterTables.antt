@@ -18,12 +18,12 @@ abbrev pub entry_writes : ℕ → ℕ → ℕ → List Write
 entry_writes entry low high =
     write_at (RAL + ADDRESS_PAIR_BYTES * entry) low ∷ write_at (RAL + REGISTER_BYTES + ADDRESS_PAIR_BYTES * entry) high ∷ []
 
--- The writes of 0 to `count` entries of the receive addresses, from an entry on.
+-- The writes of value 0 to RAL and RAH of `count` entries of the receive addresses, from an entry on.
 abbrev pub empty_entries : (entry count : ℕ) → List Write
 empty_entries entry zero = []
 empty_entries entry (suc count) = entry_writes entry 0 0 ++ empty_entries (entry + 1) count
 
--- The writes of the receive addresses: the first entry gets the address and AV, the other 15 get 0.
+-- The writes of the receive addresses: the first entry gets the address and AV, and the other 15 entries get 0.
 abbrev pub address_writes : List ℕ → List Write
 address_writes address =
     entry_writes 0 (low_word address) (high_word address + alone rah_av) ++ empty_entries 1 (RECEIVE_ADDRESSES - 1)

@@ -15,15 +15,15 @@ use Rattle.bring_up.specs.declared.config.TheConstants.{MOST_GROUPS}
 use Rattle.bus.specs.declared.bus.Bus.{Ghosts}
 use Rattle.bus.specs.declared.event.Access.{Access}
 use Rattle.bus.specs.declared.event.Access.TheVariants.{Writes}
-use Rattle.driver_law.specs.Calls.{Moment, Ran, at, only}
-use Rattle.driver_law.specs.DriverState.{DriverState}
+use Rattle.bus.specs.Calls.{Moment, Ran, at, only}
+use Rattle.bus.specs.DriverState.{DriverState}
 
 -- No group is in the list twice.
 abbrev pub EachOnce : List (List ℕ) → Type 0
 EachOnce [] = ⊤
 EachOnce (group ∷ later) = (¬ (Contains later group)) × EachOnce later
 
--- At most 32 groups are joined, each once. Each address is a group's.
+-- At most 32 groups are joined, each once. Each address is that of a group.
 pub record AreJoined (groups : List (List ℕ)) : Type 0 where
   pub most : length groups ≤ MOST_GROUPS
   pub groups_all : All IsGroup groups
@@ -58,7 +58,7 @@ abbrev pub TablesAgree : Type 0
 TablesAgree =
     (groups : List (List ℕ)) (a b : World) → HasTable groups a → HasTable groups b → b.adapter.filter.mta ≡ a.adapter.filter.mta
 
--- The value has exactly the bits of those of these numbers that are in the word `word` of the group table.
+-- The 32 bits of `value` are those of the word `word` in a group table with exactly the bits of `numbers`.
 abbrev pub IsWord : (word : ℕ) → (numbers : List ℕ) → (value : ℕ) → Type 0
 IsWord word numbers value = (place : ℕ) → place < 32 → HasBit value place ↔ Contains numbers (word * 32 + place)
 
@@ -99,8 +99,8 @@ pub record ChangesJoined {B : Type 0} (bus : Ghosts B) (up : Bool) (kept : List 
     pub ran : Ran bus up (only accesses) old new
     pub table : HasTable old.driver.groups (bus.world old.bus) → HasTable new.driver.groups (bus.world new.bus)
 
--- The word of the group table that contains this group's bit was written, with exactly the bits of `groups`, as the
--- only access. The other words of the table are the same.
+-- The only access wrote the word of the group table that contains this group's bit, with exactly the bits of the numbers of `groups`. The
+-- other words of the table are the same.
 pub record RewritesWord {B : Type 0} (bus : Ghosts B) (up : Bool) (group : List ℕ) (groups : List (List ℕ)) (d : DriverState) (old new : B)
     : Type 0 where
   pub value : ℕ

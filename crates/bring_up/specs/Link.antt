@@ -2,11 +2,11 @@
 use Rattle.std.specs.Prelude.{⊤, ◌≡◌, ◌≢◌, ◌≤◌, ◌<◌, ◌+◌, ◌*◌, ◌⊎◌, ℕ, true, Err, None, Result, IfErr, IfOk, IsOk, length}
 use Rattle.std.specs.Fn.{iterate}
 use Rattle.adapter.specs.declared.offsets.TheConstants.{MDIC}
-use Rattle.mdic_phy.specs.declared.phy.Link.{Link}
-use Rattle.mdic_phy.specs.declared.phy.Link.TheVariants.{After, Never}
-use Rattle.mdic_phy.specs.Mdic.{ended, kept, operation_of, phy_ended}
-use Rattle.mdic_phy.specs.Phy.{PhyState, after_tick, negotiation_of}
-use Rattle.mdic_phy.specs.Places.{control_enable, control_restart, mdic_op, mdic_phyadd, mdic_regadd}
+use Rattle.eeprom_phy.specs.declared.phy.Link.{Link}
+use Rattle.eeprom_phy.specs.declared.phy.Link.TheVariants.{After, Never}
+use Rattle.eeprom_phy.specs.Mdic.{ended, kept, operation_of, phy_ended}
+use Rattle.eeprom_phy.specs.Phy.{PhyState, after_tick, negotiation_of}
+use Rattle.eeprom_phy.specs.Places.{control_enable, control_restart, mdic_op, mdic_phyadd, mdic_regadd}
 use Rattle.registers.specs.Bits.{HasBit}
 use Rattle.registers.specs.Places.{alone}
 use Rattle.adapter.specs.State.{AdapterState}
@@ -17,7 +17,7 @@ use Rattle.bus.specs.declared.bus.Bus.{Ghosts}
 use Rattle.bring_up.specs.declared.init_error.InitError.{InitError}
 use Rattle.bring_up.specs.declared.init_error.InitError.TheVariants.{NoLink, PhyTimeout}
 use Rattle.bring_up.specs.SettingSteps.{WritesOneRegister}
-use Rattle.mdic_phy.specs.Places.{status_complete, status_link}
+use Rattle.eeprom_phy.specs.Places.{status_complete, status_link}
 
 -- A PHY with this link right after its autonegotiation was enabled and started.
 abbrev pub started : Link → PhyState
@@ -48,6 +48,7 @@ restart_word = command_word 1 0 (alone control_enable + alone control_restart)
 abbrev pub status_word : ℕ
 status_word = command_word 2 1 0
 
+-- The value of MDIC is one of the two commands of initialization.
 abbrev pub IsCommand : ℕ → Type 0
 IsCommand word = (word ≡ restart_word) ⊎ (word ≡ status_word)
 
@@ -72,36 +73,47 @@ pub record EndsCommand (lively : Type 0) (word all : ℕ) (a b : Management) (an
 -- A command is written to MDIC, and its end is awaited, with this result.
 pub record Commands {B : Type 0} (bus : Ghosts B) (word : ℕ) (result : Result ℕ InitError) (old new : B) : Type 0 where
   pub asks : WritesOneRegister bus MDIC old new
+  -- There are at least two accesses.
   pub accesses : 2 ≤ length asks.past.accesses
+  -- The setting of the PHY's link doesn't change.
   pub link : (bus.world new).adapter.phy.link ≡ (bus.world old).adapter.phy.link
   -- If the result is Ok, the command has ended, and the result is the value of MDIC.
   pub ends : IfOk result (EndsCommand (bus.lively old) word asks.past.phy_ticks (management_of (bus.world old).adapter)
       (management_of (bus.world new).adapter))
+  -- An error is returned only after at least 1,000 accesses.
   pub late : IfErr result (λ error. most_reads ≤ length asks.past.accesses)
+  -- Over a lively bus, no error is returned.
   pub in_time : bus.lively old → IsOk result
 
 -- Autonegotiation is started, with this result.
 pub record Negotiates {B : Type 0} (bus : Ghosts B) (result : Result (Unit {0}) InitError) (old new : B) : Type 0 where
   pub asks : WritesOneRegister bus MDIC old new
+  -- The setting of the PHY's link doesn't change.
   pub link : (bus.world new).adapter.phy.link ≡ (bus.world old).adapter.phy.link
   -- If the result is Ok, autonegotiation was started in this call: fewer ticks were played since its start than in the whole call.
   pub started : IfOk result (λ done. (begun : IsNegotiating (bus.world new).adapter) × (begun.ticks < asks.past.phy_ticks))
+  -- An error is returned only after at least 1,000 accesses.
   pub late : IfErr result (λ error. most_reads ≤ length asks.past.accesses)
+  -- Over a lively bus, no error is returned.
   pub in_time : bus.lively old → IsOk result
 
 -- The link is awaited, with this result.
 pub record AwaitsLink {B : Type 0} (bus : Ghosts B) (result : Result (Unit {0}) InitError) (old new : B) : Type 0 where
   pub asks : WritesOneRegister bus MDIC old new
+  -- The setting of the PHY's link doesn't change.
   pub link : (bus.world new).adapter.phy.link ≡ (bus.world old).adapter.phy.link
   -- If the result is Ok, MDIC contains a status with bits 5 and 2: autonegotiation is complete and the link is up.
   pub seen : IfOk result
       (λ done. HasBit (bus.world new).adapter.mdic.value status_complete × HasBit (bus.world new).adapter.mdic.value status_link)
   -- If the result is Ok, the link is up, and no MDIC command is pending.
   pub up : IfOk result (λ done. HasLink (bus.world new))
+  -- An error is returned only after at least 1,000 accesses.
   pub late : IfErr result (λ error. most_reads ≤ length asks.past.accesses)
+  -- E14 is returned only after at least 2,000 accesses.
   pub no_link : result ≡ Err NoLink → 2 * most_reads ≤ length asks.past.accesses
+  -- Over a lively bus, E13 isn't returned.
   pub in_time : bus.lively old → result ≢ Err PhyTimeout
   -- Over a lively bus, if autonegotiation was started before, E14 is returned only if the link needs more than 2,000
-  -- ticks.
+  -- ticks, or is never up.
   pub slow : bus.lively old → IsNegotiating (bus.world old).adapter → result ≡ Err NoLink
       → NeedsMoreThan (2 * most_reads) (bus.world old).adapter.phy.link

@@ -9,9 +9,9 @@ use Rattle.adapter.specs.declared.register.Register.TheVariants.{Transmit}
 use Rattle.bus.specs.Pasts.{Past}
 use Rattle.bus.specs.AdaptersAtRest.{NoFrame}
 use Rattle.bus.specs.Settings.{AreSet, IsOff, LeavesReceiver, WhileOff, Write, writes_in}
-use Rattle.driver_law.specs.DriverState.{DriverState}
-use Rattle.driver_law.specs.Calls.{GoesTo, driver_did, driver_in}
-use Rattle.driver_law.specs.ReadyDrivers.{ReadyWith}
+use Rattle.bus.specs.DriverState.{DriverState}
+use Rattle.bus.specs.Calls.{GoesTo, driver_did, driver_in}
+use Rattle.bus.specs.ReadyDrivers.{ReadyWith}
 
 -- RCTL.EN is 0, no received frame is held, and no frame is to be sent.
 pub record HasNoFrames (d : DriverState) (world : World) : Type 0 where
@@ -26,6 +26,7 @@ NoFramesStay =
     (d d' : DriverState) (a b : World) (past : Past) → GoesTo false (driver_in d a) (driver_in d' b) (driver_did [] []) past
     → AreSet a b past → WhileOff a past → All LeavesReceiver (writes_in past.accesses) → HasNoFrames d a → HasNoFrames d' b × NoFrame past
 
+-- The register isn't a register of the transmit ring.
 abbrev pub IsNotTransmitRing : Option Register → Type 0
 IsNotTransmitRing (Some (Transmit part)) = ⊥
 IsNotTransmitRing _ = ⊤

@@ -8,10 +8,10 @@ use Rattle.adapter.specs.World.{World, receive_ring}
 use Rattle.bus.specs.AdaptersAtRest.{IsAtRest, NoFrame}
 use Rattle.bus.specs.Settings.{Write}
 use Rattle.bus.specs.declared.bus.Bus.{Ghosts}
-use Rattle.driver_law.specs.Beginnings.{IsAtBeginning, new_driver}
-use Rattle.driver_law.specs.DriverState.{DriverSetup, DriverState}
-use Rattle.driver_law.specs.ReadyDrivers.{ReadyWith}
-use Rattle.driver_law.specs.Resets.{RestsWith, reset_driver}
+use Rattle.bus.specs.Beginnings.{IsAtBeginning, new_driver}
+use Rattle.bus.specs.DriverState.{DriverSetup, DriverState}
+use Rattle.bus.specs.ReadyDrivers.{ReadyWith}
+use Rattle.bus.specs.Resets.{RestsWith, reset_driver}
 use Rattle.bring_up.specs.DriverSteps.{accesses_of}
 use Rattle.bring_up.specs.NoFrames.{HasNoFrames}
 use Rattle.bring_up.specs.SettingSteps.{Sets}
@@ -47,17 +47,17 @@ pub record BeginsAtRest (counts : Counts) (setup : DriverSetup) (groups : List (
   pub ready : ReadyWith false (new_driver counts setup groups pool) world
   pub quiet : HasNoFrames (new_driver counts setup groups pool) world
 
--- `BeginsAtRest` holds if the adapter is at rest with its receive ring set up, the counts are valid, memory contains the whole layout, and
--- each buffer is in `pool` exactly once.
+-- Let the adapter be at rest with its receive ring set up, and the counts be valid. If memory contains the whole layout, and each buffer is
+-- in `pool` exactly once, `BeginsAtRest` holds.
 abbrev pub DriversBeginAtRest : Type 0
 DriversBeginAtRest =
     (counts : Counts) (setup : DriverSetup) (groups : List (List ℕ)) (pool : List ℕ) (world : World)
     → IsAllowed counts → HasOneOwner counts.buffers pool → size_of counts ≤ length world.memory
     → HasReceiveRing counts.rx world → BeginsAtRest counts setup groups pool world
 
--- If the counts of its layout are valid, a driver whose adapter was reset is ready again after its receive ring is set up at rest, with no
--- slot offered. Its transmit side is off, and RCTL.EN is 0. The same buffers are free, the pieces of frames that others hold are in their
--- buffers, and no frame is held or to be sent.
+-- Let the counts of a driver's layout be valid. Let its adapter be reset, and its receive ring be set up at rest, with no slot offered.
+-- Then the driver is ready again, with its transmit side off and RCTL.EN 0. The same buffers are free, the pieces of frames that others
+-- hold are in their buffers, and no frame is held or to be sent.
 abbrev pub DriversBeginAgain : Type 0
 DriversBeginAgain =
     (driver : DriverState) (pool : List ℕ) (world : World) → (let again = reset_driver pool driver in

@@ -27,6 +27,7 @@ receive_control promiscuous by_vlan =
     + (if promiscuous then alone rctl_upe + alone rctl_mpe else 0)
     + (if by_vlan then alone rctl_vfe else 0)
 
+-- The write of RCTL that enables the receiver.
 abbrev pub receive_writes : (promiscuous by_vlan : Bool) → List Write
 receive_writes promiscuous by_vlan = write_at RCTL (receive_control promiscuous by_vlan) ∷ []
 

@@ -4,9 +4,9 @@ ghost use Rattle.bring_up.specs.ConfiguredAdapters.{LinkComesFirst, RingsComeLas
 ghost use Rattle.bring_up.specs.ConfiguredAdapters.{WritesConfigure};
 
 /// What the register writes of initialization do.
-/// - `configure`: if the configuration is valid, and the words written to MTA and VFTA have exactly the bits of its
-///   groups and VLANs, these writes configure an adapter, whatever its settings were before. They don't change its
-///   EEPROM.
+/// - `configure`: these writes configure an adapter, whatever its settings were before, and don't change its EEPROM.
+///   The configuration must be valid, and the words written to MTA and VFTA must have exactly the bits of its groups
+///   and VLANs.
 /// - `rings_last`: if the tables have 128 words, no write before those of the rings is a write of RCTL or of a ring's
 ///   register.
 /// - `link_first`: if the tables have 128 words, the writes of the filter, of the rings and after the rings write

@@ -10,8 +10,8 @@ ghost use Rattle.bring_up.specs.DriverSteps.{EnablesCauses};
 ghost use Rattle.bring_up.specs.SettingSteps.{Sets, SetsOnly};
 ghost use Rattle.bring_up.specs.WrittenRegisters.{allocation_writes, handled_causes, enable_link_writes};
 ghost use Rattle.bring_up.specs.WrittenRegisters.{mask_writes, reset_writes};
-ghost use Rattle.driver_law.specs.Calls.{IsReadyOver, at};
-ghost use Rattle.driver_law.specs.DriverState.{DriverState};
+ghost use Rattle.bus.specs.Calls.{IsReadyOver, at};
+ghost use Rattle.bus.specs.DriverState.{DriverState};
 
 use adapter::offsets::{CTRL, ICR, IMC, IMS, PBA};
 use bitflags::Flags;
@@ -53,9 +53,11 @@ pub fn set_link_up<B: Bus>(bus: &mut B)
     bus.write(CTRL, Ctrl::SLU.union(Ctrl::ASDE).bits());
 }
 
-/// Returns the causes that a driver enables: TXDW (a frame whose descriptor asks for a report is on the wire), RXT0
-/// (the adapter is done with the last descriptor of a frame), RXDMT0 (half of the receive descriptors are still
-/// offered) and RXO (a frame was missed).
+/// Returns the causes that a driver enables:
+/// - TXDW: a frame whose descriptor asks for a report is on the wire.
+/// - RXT0: the adapter is done with the last descriptor of a frame.
+/// - RXDMT0: half of the receive descriptors are still offered.
+/// - RXO: a frame was missed.
 pub fn interrupt_causes() -> Cause
     ensures { result.0 ≡ handled_causes }
 {

@@ -3,8 +3,8 @@
 ghost use Rattle.std.specs.Prelude.{◌≡◌, ◌+◌, ◌-◌, ◌*◌, ◌<◌, ◌≤◌, ◌∷◌, ℕ, Bool, [], false, length};
 ghost use Rattle.dma_memory.specs.Layout.{descriptor_bytes};
 ghost use Rattle.bus.specs.Keeping.{Keeps};
-ghost use Rattle.driver_law.specs.Calls.{IsReadyOver, Ran, at, only};
-ghost use Rattle.driver_law.specs.DriverState.{DriverState, address_limit, receive_slot, transmit_slot};
+ghost use Rattle.bus.specs.Calls.{IsReadyOver, Ran, at, only};
+ghost use Rattle.bus.specs.DriverState.{DriverState, address_limit, receive_slot, transmit_slot};
 ghost use Rattle.bring_up.specs.ClearedDescriptors.{clears, clears_from};
 
 use bus::Bus;

@@ -8,7 +8,7 @@ use crate::MOST_READS;
 use crate::init_error::InitError;
 use adapter::offsets::EERD;
 use bus::Bus;
-use eeprom::{Image, WORDS};
+use eeprom_phy::{Image, WORDS};
 
 /// START, bit 0 of EERD: a write of EERD with START begins a read of the EEPROM.
 const START: u32 = 1 << 0;
@@ -41,7 +41,8 @@ pub fn read_image<B: Bus>(bus: &mut B) -> Result<Image, InitError>
     Ok(Image::from_words(words))
 }
 
-/// Reads the word of the EEPROM at this address, from 0 to 63.
+/// Reads the word of the EEPROM at this address, from 0 to 63. Returns an error if 1,000 reads of EERD didn't show
+/// DONE.
 fn read_word<B: Bus>(bus: &mut B, address: u8) -> Result<u16, InitError>
     ensures keeps { Keeps B.Bus bus.old bus.new }
     ensures only { IsOkUnless result InitError.EepromTimeout }

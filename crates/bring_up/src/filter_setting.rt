@@ -1,4 +1,4 @@
-//! The receive filter.
+//! Sets up the receive filter, and returns the VLANs of a configuration.
 
 ghost use Rattle.std.specs.Prelude.{◌≡◌, ◌<◌, All};
 ghost use Rattle.rx_engine.specs.NumberTables.{table_numbers};
@@ -11,7 +11,7 @@ use crate::filter_tables::{group_table, vlan_table, write_addresses, write_group
 use arrayvec::ArrayVec;
 use bus::Bus;
 
-/// Sets up the receive filter: writes the group table with the bits of these groups, and the VLAN table with the bits
+/// Sets up the receive filter. Writes the group table with the bits of these groups, and the VLAN table with the bits
 /// of these VLANs, each below 4,096. Then writes this address as the only receive address.
 pub fn set_filter<B: Bus>(bus: &mut B, groups: &[[u8; 6]], vlans: &[u16], address: &[u8; 6])
     requires { All (λ vlan. vlan < table_numbers) vlans.now }

@@ -72,7 +72,7 @@ pub fn write_vlans<B: Bus>(bus: &mut B, table: &[u32; TABLE_WORDS])
     write_table(bus, VFTA, table);
 }
 
-/// Writes the receive addresses, RAL and RAH: this address into the first entry, and 0 into the other 15.
+/// Writes the receive addresses, RAL and RAH: this address and AV into the first entry, and 0 into the other 15.
 pub fn write_addresses<B: Bus>(bus: &mut B, address: &[u8; 6])
     ensures keeps { Keeps B.Bus bus.old bus.new }
     ensures sets { B.honest bus.old → SetsOnly B.Bus (address_writes address.now) bus.old bus.new }
@@ -95,7 +95,7 @@ fn write_address<B: Bus>(bus: &mut B, entry: u32, words: AddressWords)
     bus.write(low + REGISTER_BYTES, words.high);
 }
 
-/// Writes a table of 128 words from an offset on.
+/// Writes a table of 128 words to consecutive registers, from an offset on.
 fn write_table<B: Bus>(bus: &mut B, first: u32, words: &[u32; TABLE_WORDS])
     requires { first < 2 ^ 16 }
     ensures keeps { Keeps B.Bus bus.old bus.new }

@@ -9,8 +9,8 @@ ghost use Rattle.rx_engine.specs.GroupLists.{Removes};
 ghost use Rattle.bus.specs.Keeping.{Keeps};
 ghost use Rattle.bring_up.specs.WrittenRegisters.{register_limit};
 ghost use Rattle.bus.specs.declared.event.Access.TheVariants.{Writes};
-ghost use Rattle.driver_law.specs.Calls.{IsReadyOver, Ran, at, only};
-ghost use Rattle.driver_law.specs.DriverState.{DriverState};
+ghost use Rattle.bus.specs.Calls.{IsReadyOver, Ran, at, only};
+ghost use Rattle.bus.specs.DriverState.{DriverState};
 ghost use Rattle.bring_up.specs.Groups.{AreNamedOnce, ChangesJoined, HasNumber, RewritesWord, with_groups};
 ghost use Rattle.bring_up.specs.declared.groups.GroupError.TheVariants.{GroupsFull, Joined, NotGroup, NotJoined};
 
@@ -127,7 +127,7 @@ impl Groups {
     ///
     /// E23 [`NotGroup`](GroupError::NotGroup) if this isn't the address of a group, else E26
     /// [`Joined`](GroupError::Joined) if the group is joined already, else E24 [`GroupsFull`](GroupError::GroupsFull)
-    /// if 32 groups are joined. After an error, nothing has changed, and there was no access.
+    /// if 32 groups are joined. After an error, the list is unchanged, and there was no access.
     pub fn join<B: Bus>(&mut self, bus: &mut B, group: [u8; 6]) -> Result<(), GroupError>
         ensures keeps { Keeps B.Bus bus.old bus.new }
 
@@ -170,7 +170,7 @@ impl Groups {
     /// # Errors
     ///
     /// E23 [`NotGroup`](GroupError::NotGroup) if this isn't the address of a group, else E25
-    /// [`NotJoined`](GroupError::NotJoined) if the group isn't joined. After an error, nothing has changed, and there
+    /// [`NotJoined`](GroupError::NotJoined) if the group isn't joined. After an error, the list is unchanged, and there
     /// was no access.
     pub fn leave<B: Bus>(&mut self, bus: &mut B, group: [u8; 6]) -> Result<(), GroupError>
         ensures keeps { Keeps B.Bus bus.old bus.new }

@@ -3,27 +3,27 @@
 ghost use Rattle.std.specs.Prelude.{◌≡◌, ℕ, List, []};
 ghost use Rattle.dma_memory.specs.Layout.{Counts};
 ghost use Rattle.bus.specs.Settings.{writes_in};
-ghost use Rattle.driver_law.specs.Calls.{stores_from};
+ghost use Rattle.bus.specs.Calls.{stores_from};
 ghost use Rattle.bring_up.specs.ClearedDescriptors.{clears_from};
 ghost use Rattle.bring_up.specs.NoFrames.{NewTransmitRingStays, NoFramesStay};
 ghost use Rattle.bring_up.specs.RestingRings.{DriversBeginAgain, DriversBeginAtRest};
 
 /// Let an adapter be at rest, its receive ring be set up with no slot offered, and its transmit ring have its reset
-/// values. If the counts of the layout are valid, memory contains the whole layout, and each buffer is free exactly
-/// once, a driver that begins is ready, with its transmit side off.
+/// values. Let the counts of the layout be valid, memory contain the whole layout, and each buffer be free exactly
+/// once. Then a driver that begins is ready, with its transmit side off.
 pub fn drivers_begin_at_rest()
     ensures { DriversBeginAtRest }
 {}
 
-/// If the counts of a driver's layout are valid, its adapter was reset, and its receive ring is set up again with no
-/// slot offered, the driver is ready. Its transmit side is off. Others still hold the same pieces of frames.
+/// Let the counts of a driver's layout be valid, its adapter be reset, and its receive ring be set up again with no
+/// slot offered. Then the driver is ready with its transmit side off, and others hold the same pieces of frames.
 pub fn drivers_begin_again()
     ensures { DriversBeginAgain }
 {}
 
 /// What remains true while a driver sets up its receive ring.
-/// - `quiet`: let RCTL.EN be 0, no frame be held or to be sent, and the transmit side be off. While RCTL isn't written,
-///   and the driver takes and accepts no frame, this remains true, and no frame is put on the wire, stored or missed.
+/// - `quiet`: let RCTL.EN be 0, no frame be held or to be sent, and the transmit side be off. This remains true while
+///   RCTL isn't written, and the driver takes and accepts no frame. Then no frame is put on the wire, stored or missed.
 /// - `transmit_ring`: while the transmit side is off, the registers of the transmit ring keep their reset values until
 ///   one of them is written.
 /// - `staged`, `cleared`: stores of descriptors write no register.

@@ -8,8 +8,8 @@ ghost use Rattle.adapter.specs.KnownRing.{KnowsRing};
 ghost use Rattle.adapter.specs.World.{transmit_ring};
 ghost use Rattle.bus.specs.Keeping.{Keeps};
 ghost use Rattle.bus.specs.Settings.{IsOff};
-ghost use Rattle.driver_law.specs.Calls.{IsReadyOver, at};
-ghost use Rattle.driver_law.specs.DriverState.{DriverState, transmit_tail};
+ghost use Rattle.bus.specs.Calls.{IsReadyOver, at};
+ghost use Rattle.bus.specs.DriverState.{DriverState, transmit_tail};
 ghost use Rattle.bring_up.specs.DriverSteps.{CanSetTransmitRing, LeavesDriver, LetsFramesIn, SetsTransmitRing};
 ghost use Rattle.bring_up.specs.RestingRings.{HasNewRings, HasReceiveRing, SetsAtRest};
 ghost use Rattle.bring_up.specs.RingRegisters.{disable_writes, receive_control, receive_writes, ring_setup_writes};
@@ -88,9 +88,9 @@ pub fn disable_receiver<B: Bus>(bus: &mut B)
 }
 
 /// Enables the receiver, with broadcast frames and buffers of 256 bytes. If `promiscuous` is true, frames to every
-/// destination pass the filter. If `by_vlan` is true, a tagged frame passes only if its VLAN is in the VLAN table. If
-/// RCTL.EN was 0, no frame was held, and the transmit side was off, a driver that is ready remains ready, and no frame
-/// is held after the write.
+/// destination pass the filter. If `by_vlan` is true, a tagged frame passes only if its VLAN is in the VLAN table. Let
+/// a driver be ready with its transmit side off, RCTL.EN be 0, and no frame be held. Then the driver remains ready, and
+/// no frame is held after the write.
 pub fn enable_receiver<B: Bus>(bus: &mut B, promiscuous: bool, by_vlan: bool)
     ensures keeps { Keeps B.Bus bus.old bus.new }
     ensures sets { B.honest bus.old → SetsOnly B.Bus (receive_writes promiscuous by_vlan) bus.old bus.new }

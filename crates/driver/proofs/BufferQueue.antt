@@ -1,4 +1,5 @@
--- The queue of a driver's buffers, and the state in contracts.
+-- A driver's queue of buffers agrees with its state in contracts. This remains true if slots are staged or offered, or if a buffer returns
+-- to the pool.
 use Rattle.std.proofs.Common.{refl, ◌≡◌, ◌≤◌, ◌<◌, ◌+◌, ◌-◌, ◌++◌, ◌∷◌, [], ℕ, List, length, take, drop, ◌%◌, sym, ap}
 use Rattle.std.proofs.Common.{◌∙◌, length-append, length-drop, arith}
 use Rattle.dma_memory.specs.Numbers.{Numbers}
@@ -6,19 +7,19 @@ use Rattle.dma_memory.specs.Owners.{HasNoSecondOwner, HaveSameNumbers, copies}
 use Rattle.dma_memory.specs.OwnersLaws.{copies-append, copies-cons, copies-push, no_second-given}
 use Rattle.dma_memory.specs.OwnersLaws.{taken-first}
 use Rattle.circular_buffer.specs.Buffer.{Buffer, buffer, keep_last}
-use Rattle.frame_queue.specs.Laws.{keep_last-room}
+use Rattle.descriptors.specs.QueueLaws.{keep_last-room}
 use Rattle.std.proofs.Math.Seq.{drop-length, take-length}
 use Rattle.bus.specs.declared.event.Access.TheVariants.{Writes}
-use Rattle.driver_law.specs.Calls.{tail_write}
+use Rattle.bus.specs.Calls.{tail_write}
 use Rattle.std.proofs.lemmas.List.{drop-append-le, length-take-le, take-append-drop, take-append-le}
 use Rattle.descriptors.specs.RingLaws.{place}
-use Rattle.driver_law.proofs.Owners.{owners-count}
-use Rattle.driver_law.proofs.Places.{place-below, place-next}
-use Rattle.driver_law.specs.DriverState.{DriverState, next_receive, owners, with_owners}
+use Rattle.bus.proofs.Owners.{owners-count}
+use Rattle.bus.proofs.Places.{place-below, place-next}
+use Rattle.bus.specs.DriverState.{DriverState, next_receive, owners, with_owners}
 use Rattle.driver.specs.InsideDriver.{HasReceiveSide, driver_state_of}
 use Rattle.driver.specs.declared.driver.Driver.TheInside.{Inside}
 
--- The queue consists of the buffers of outstanding slots and those of staged slots.
+-- The queue consists of the buffers of outstanding slots, and then those of staged slots. `next_receive` is the place after these slots.
 pub record IsSplit (d : Inside) : Type 0 where
   pub whole : (driver_state_of d).buffers ++ (driver_state_of d).staged ≡ d.buffers.items
   pub outstanding : length (driver_state_of d).buffers + d.staged ≡ length d.buffers.items
@@ -45,7 +46,7 @@ queue-split d receives =
           (arith, below, receives.next_slot);
     }
 
--- The owners of buffers
+-- The owners of buffers, by the pool and the queue
 
 pub owners-inside : (d : Inside) → Receives d → (k : ℕ) → copies k (owners (driver_state_of d))
     ≡ copies k d.pool.free + copies k d.buffers.items
@@ -118,7 +119,6 @@ staged-inside d next m queue pool receives room moved pushed count moves =
           ∙ ap (view (driver_state_of d).buffers) parts.back;
     }
 
--- All staged slots are offered.
 pub none-staged : (d : Inside) → Receives d → Receives (record d { staged = 0 })
 none-staged d receives = record {
   oldest_slot = receives.oldest_slot;
@@ -149,7 +149,6 @@ owners-offered d receives k =
     omega (arith, owners-count k shown, owners-count k later, copies-append k shown.buffers shown.staged)
     ∙ ap (λ (s : DriverState). copies k (owners s)) (sym (offered-inside d receives))
 
--- A buffer returns to the pool.
 pub given-inside : (d : Inside) (m : ℕ) (pool : Numbers) → Receives d → m < d.layout.buffers → copies m (owners (driver_state_of d)) ≡ 0
     → HaveSameNumbers (m ∷ d.pool.free) pool.free → pool.buffers ≡ d.pool.buffers
     → Receives (record d { pool = pool })
@@ -176,7 +175,7 @@ pub tail_write-some : (slot : ℕ) (staged : List ℕ) → ¬ (length staged ≡
 tail_write-some slot [] some = absurd (some refl)
 tail_write-some slot (number ∷ later) some = refl
 
--- The number of slots of a driver, and the room for one more.
+-- The number of outstanding and staged slots is below the size of the ring
 
 pub slots-inside : (inside : Inside) (d : DriverState) → Receives inside → driver_state_of inside ≡ d
     → length d.buffers + length d.staged ≡ length inside.buffers.items

@@ -1,4 +1,4 @@
--- The receive slots are offered for the first time, and the slot at the head after that.
+-- All receive slots except one are offered for the first time. While no frame is held after that, RDH is 0.
 use Rattle.std.proofs.Common.{false, ◌≡◌, ◌≤◌, ◌<◌, ◌+◌, ◌-◌, ◌%◌, ◌++◌, ◌∷◌, [], ℕ, List, length, ◌⊎◌, ⊎_elim, refl, sym, ap, subst, ◌∙◌}
 use Rattle.std.proofs.Common.{length-append, arith}
 use Rattle.std.proofs.lemmas.List.{length-map}
@@ -14,25 +14,24 @@ use Rattle.bus.specs.declared.bus.Bus.{Ghosts}
 use Rattle.bus.specs.declared.event.Access.TheVariants.{Writes}
 use Rattle.bus.specs.Keeping.{Keeps}
 use Rattle.bus.proofs.WaitingRings.{all-offered, holds-none}
-use Rattle.driver_law.proofs.Accesses.{ran_by-join, ran_by-same}
-use Rattle.driver_law.proofs.Owners.{owners-count}
-use Rattle.driver_law.specs.Calls.{IsReadyOver, Ran, at, only, tail_write}
-use Rattle.driver_law.specs.Beginnings.{new_driver}
-use Rattle.driver_law.specs.DriverState.{DriverSetup, DriverState, holding, next_receive, owners, receive_slot, with_owners}
-use Rattle.driver_law.specs.ReadyDrivers.{Ready}
+use Rattle.bus.proofs.DriverAccesses.{ran_by-join, ran_by-same}
+use Rattle.bus.proofs.Owners.{owners-count}
+use Rattle.bus.specs.Calls.{IsReadyOver, Ran, at, only, tail_write}
+use Rattle.bus.specs.Beginnings.{new_driver}
+use Rattle.bus.specs.DriverState.{DriverSetup, DriverState, holding, next_receive, owners, receive_slot, with_owners}
+use Rattle.bus.specs.ReadyDrivers.{Ready}
 use Rattle.bring_up.proofs.Steps.{IntervalsJoin}
 use Rattle.bring_up.specs.ClearedDescriptors.{clears}
 use Rattle.driver.specs.Initialisation.{OffersFirst}
 use Rattle.driver.specs.RefillSteps.{Stages}
 
--- If no frame is held, the slot at the head is the oldest.
+-- If no frame is held after the first offer, RDH is 0
 
 distance-same : (n head : ℕ) → 0 < n → head < n → (n - 1 + n - head) % n ≡ n - 1 → head ≡ 0
 distance-same n head some below is =
     let forward = distance-forward n head (n - 1) (omega arith) (omega arith) in
     omega (arith, forward, is)
 
--- the last place of a ring
 last-place : (n k : ℕ) → k + 1 ≡ n → place n 0 k ≡ n - 1
 last-place n k full =
     place-distance n k 0 (n - 1) (omega (arith, full)) (omega (arith, full))
@@ -60,13 +59,12 @@ head-first d world ready first full none =
     distance-same n ring.head (omega (arith, full)) knows.head_slot
     (back ∙ distance-forward n 0 (n - 1) (omega (arith, full)) (omega arith) ∙ omega arith)
 
--- The receive slots are offered
+-- All receive slots except the last are offered
 
 tail-written : (slot : ℕ) (numbers : List ℕ) → 0 < length numbers → tail_write slot numbers ≡ Writes 0x2818 slot ∷ []
 tail-written slot [] some = absurd (omega (arith, some))
 tail-written slot (number ∷ later) some = refl
 
--- All slots except one are staged.
 all-staged : (n buffers : ℕ) (pool numbers left : List ℕ) → HasOneOwner buffers pool → n ≤ buffers → HaveSameNumbers pool (numbers ++ left)
     → length numbers < n → (left ≡ []) ⊎ (0 + length numbers + 1 ≡ n) → length numbers + 1 ≡ n
 all-staged n buffers pool numbers left owner enough same room full =
@@ -77,7 +75,7 @@ all-staged n buffers pool numbers left owner enough same room full =
     (λ (all : 0 + length numbers + 1 ≡ n). omega (arith, all))
     full
 
--- the driver with these buffers staged or outstanding
+-- a new driver whose staged slots have the buffers `numbers`; in `offering`, these slots are outstanding
 abbrev staging : Counts → DriverSetup → (groups : List (List ℕ)) → (pool numbers left : List ℕ) → DriverState
 staging counts setup groups pool numbers left = with_owners (new_driver counts setup groups pool) [] numbers left []
 
@@ -132,7 +130,6 @@ offers-first bus joins b0 b1 b2 b3 counts setup groups pool numbers d2 d3 owner 
           (ran_by-join bus joins _ _ b0 b1 b3 d1 (holding [] d2) (holding [] d3) [] [] [] [] first later);
     }
 
--- Each buffer has one owner after that.
 pub owners-offered : (buffers : ℕ) (counts : Counts) (setup : DriverSetup) (groups : List (List ℕ)) (pool numbers left : List ℕ)
     → HasOneOwner buffers pool
     → HaveSameNumbers pool (numbers ++ left)

@@ -1,4 +1,4 @@
--- A driver without slots offers slots, until no buffer is free or all slots except one are outstanding.
+-- A driver without outstanding or staged slots offers slots, until no buffer is free or all slots except one are outstanding.
 use Rattle.std.proofs.Common.{false, ◌≡◌, ◌<◌, ◌+◌, ◌-◌, ◌++◌, ◌∷◌, [], ℕ, List, length, ◌⊎◌, ⊎_elim, inl, inr}
 use Rattle.std.proofs.Common.{refl, sym, ap, subst, ◌∙◌, arith}
 use Rattle.dma_memory.specs.Owners.{copies}
@@ -6,9 +6,9 @@ use Rattle.descriptors.specs.RingLaws.{distance-forward, place, place-distance}
 use Rattle.bus.specs.Keeping.{Keeps}
 use Rattle.bus.specs.declared.bus.Bus.{Ghosts}
 use Rattle.bus.specs.declared.event.Access.TheVariants.{Writes}
-use Rattle.driver_law.proofs.Accesses.{ran_by-join, ran_by-same}
-use Rattle.driver_law.specs.Calls.{IsReadyOver, Ran, Runs, at, only, stores_from}
-use Rattle.driver_law.specs.DriverState.{DriverState, holding, next_receive, receive_slot, with_owners}
+use Rattle.bus.proofs.DriverAccesses.{ran_by-join, ran_by-same}
+use Rattle.bus.specs.Calls.{IsReadyOver, Ran, Runs, at, only, stores_from}
+use Rattle.bus.specs.DriverState.{DriverState, holding, next_receive, receive_slot, with_owners}
 use Rattle.bring_up.proofs.Steps.{IntervalsJoin}
 use Rattle.bring_up.specs.ClearedDescriptors.{clears_from}
 use Rattle.driver.specs.RefillSteps.{Stages}

@@ -1,4 +1,4 @@
--- Transmit slots are freed over a bus, by one load each.
+-- Transmit slots are freed over a bus, each after one load of its descriptor.
 use Rattle.std.proofs.Common.{Bool, true, false, ◌≡◌, ◌≤◌, ◌<◌, ◌+◌, ◌-◌, ◌%◌, ◌++◌, ◌∷◌, [], ℕ, zero, suc, List, min, slice_index}
 use Rattle.std.proofs.Common.{map, refl}
 use Rattle.std.proofs.Common.{sym, ap, subst, ◌∙◌, arith}
@@ -15,19 +15,19 @@ use Rattle.bus.specs.Keeping.{Keeps, view_of}
 use Rattle.bus.specs.declared.bus.Bus.{Ghosts}
 use Rattle.bus.specs.declared.event.Access.{Access}
 use Rattle.bus.specs.declared.event.Access.TheVariants.{Loads}
-use Rattle.driver_law.proofs.Accesses.{ran_by-stays}
-use Rattle.driver_law.proofs.Calls.{ran-on, ready-on}
-use Rattle.driver_law.proofs.Places.{place-next}
-use Rattle.driver_law.proofs.RunsWith.{RanWith}
-use Rattle.driver_law.proofs.TransmitRuns.{run-frees, run-waits}
-use Rattle.driver_law.specs.DriverState.{DriverState, holding, transmit_slot, transmit_tail}
-use Rattle.driver_law.specs.Calls.{Moment, Ran, WhereUp, at, held_at, only, transmit_loads}
-use Rattle.driver_law.specs.ReadyDrivers.{Ready}
-use Rattle.driver_law.specs.TransmitSteps.{with_freed}
+use Rattle.bus.proofs.DriverAccesses.{ran_by-stays}
+use Rattle.bus.proofs.Calls.{ran-on, ready-on}
+use Rattle.bus.proofs.Places.{place-next}
+use Rattle.bus.proofs.RunsWith.{RanWith}
+use Rattle.bus.proofs.TransmitRuns.{run-frees, run-waits}
+use Rattle.bus.specs.DriverState.{DriverState, holding, transmit_slot, transmit_tail}
+use Rattle.bus.specs.Calls.{Moment, Ran, WhereUp, at, held_at, only, transmit_loads}
+use Rattle.bus.specs.ReadyDrivers.{Ready}
+use Rattle.bus.specs.TransmitSteps.{with_freed}
 use Rattle.driver.specs.InsideDriver.{IsSending}
 use Rattle.driver.specs.SendSteps.{FreesOldest, LooksBack, Reclaims, oldest_loads, slots_looked_at, with_transmit_slots}
 
--- The number of loads
+-- The loads of descriptors, and how they join
 
 loads-none : (d : DriverState) → d.sending ≡ 0 → transmit_loads d.layout d.oldest_transmit (min d.sending 1) ≡ []
 loads-none d none = let zero_loads : min d.sending 1 ≡ 0 = omega (arith, none) in ap (transmit_loads d.layout d.oldest_transmit) zero_loads
@@ -43,7 +43,6 @@ slots-join n from (suc i) j =
     let more : suc i + j ≡ suc (i + j) = omega arith in
     ap (slots_from n from) more ∙ ap (λ (slots : List ℕ). from ∷ slots) (slots-join n ((from + 1) % n) i j)
 
--- Loads of consecutive slots join.
 pub loads-join : (counts : Counts) (from i j : ℕ)
     → transmit_loads counts from i ++ transmit_loads counts (place counts.tx from i) j ≡ transmit_loads counts from (i + j)
 loads-join counts from i j =
@@ -51,9 +50,8 @@ loads-join counts from i j =
     sym (ap (map load) (slots-join counts.tx from i j)
     ∙ map-append load (slots_from counts.tx from i) (slots_from counts.tx (place counts.tx from i) j))
 
--- One slot
+-- The oldest slot is freed, or isn't written back
 
--- The place after the outstanding slots doesn't change.
 pub tail-freed : (n oldest sending : ℕ) → 0 < sending → place n ((oldest + 1) % n) (sending - 1) ≡ place n oldest sending
 tail-freed n oldest sending some = let more : sending ≡ suc (sending - 1) = omega (arith, some) in sym (ap (place n oldest) more)
 
@@ -65,7 +63,6 @@ sending-freed counts oldest next sending some sends = record {
   next_slot = sends.next_slot ∙ sym (tail-freed counts.tx oldest sending some);
 }
 
--- No slot is outstanding.
 pub frees-none : {B : Type 0} (bus : Ghosts B) → ((b : B) → bus.happened b b nothing)
     → (b : B) (d : DriverState) → d.sending ≡ 0 → Ready d (bus.world b)
     → Ran bus true (only (transmit_loads d.layout d.oldest_transmit (min d.sending 1))) (at b d) (at b d)
@@ -73,13 +70,13 @@ frees-none bus stays b d none ready =
     subst (λ (accesses : List Access). Ran bus true (only accesses) (at b d) (at b d)) (sym (loads-none d none))
     (ran_by-stays bus stays b d ready)
 
--- a load of bytes at an address
+-- One load of 16 bytes at this address returned `bytes`.
 abbrev pub LoadsAt : {B : Type 0} (bus : Ghosts B) (old new : B) (bytes : List ℕ) (address : ℕ) → Type 0
 LoadsAt bus old new bytes address =
     Acts (view_of bus) old new (Loads address 16)
     (λ before after. (bytes ≡ bytes_at before.memory address 16) × (after ≡ before))
 
--- The oldest slot is done and freed.
+-- If the load shows DD, the oldest slot can be freed.
 pub frees-oldest : {B : Type 0} (bus : Ghosts B) (old new : B) (d : DriverState) (address : ℕ) (bytes : List ℕ)
     → address ≡ transmit_slot d.layout d.oldest_transmit → 0 < d.sending → is_set (slice_index bytes 12) 0 ≡ true
     → LoadsAt bus old new bytes address
@@ -89,7 +86,7 @@ frees-oldest bus old new d address bytes address_is some done acts ready =
     subst (λ (accesses : List Access). Ran bus true (only accesses) (at old d) (at new (with_freed d))) (sym (loads-one d some))
     (run-frees bus old new d bytes some done (subst (LoadsAt bus old new bytes) address_is acts) ready)
 
--- The oldest slot isn't done.
+-- If the load doesn't show DD, no slot is written back.
 pub waits-oldest : {B : Type 0} (bus : Ghosts B) (old new : B) (d : DriverState) (address : ℕ) (bytes : List ℕ)
     → address ≡ transmit_slot d.layout d.oldest_transmit → 0 < d.sending → is_set (slice_index bytes 12) 0 ≡ false
     → LoadsAt bus old new bytes address
@@ -101,7 +98,7 @@ waits-oldest bus old new d address bytes address_is some clear acts ready =
     (λ after. written_back d.oldest_transmit after ≡ [])) (sym (loads-one d some))
     (run-waits bus old new d bytes clear (subst (LoadsAt bus old new bytes) address_is acts) ready)
 
--- Some slots are freed, and then the oldest of the remaining slots.
+-- The loads for k freed slots, and then the load for the oldest remaining slot, are `total` loads from the oldest slot on.
 frees-more : {B : Type 0} (bus : Ghosts B)
     → ((a b c : B) (first later : Past) → bus.happened a b first → bus.happened b c later → bus.happened a c (joined first later))
     → (a b c : Moment B) (k total : ℕ) → b.driver.layout ≡ a.driver.layout
@@ -119,8 +116,7 @@ frees-more bus joins a b c k total counts walked sum one two =
     ∙ ap (oldest_loads d1) sum in
     subst (λ (accesses : List Access). Ran bus true (only accesses) a c) same (ran-on bus joins one two)
 
--- The driver's state while slots are freed: some of its outstanding slots are left, and the place after them doesn't
--- change.
+-- d' is d after any number of its oldest slots were freed. The place after the outstanding slots doesn't change.
 pub record IsFreeing (d d' : DriverState) : Type 0 where
   pub others : d' ≡ with_transmit_slots d d'.oldest_transmit d'.sending
   pub fewer : d'.sending ≤ d.sending
@@ -153,7 +149,8 @@ freeing-more d1 d2 d3 freeing some freed =
       tail = ap transmit_tail freed ∙ tail-freed d2.layout.tx d2.oldest_transmit d2.sending some ∙ freeing.tail;
     }
 
--- Some slots were freed over a bus, by one load each.
+-- Any number of slots were freed. If the bus obeys the law and the driver is ready with its transmit side set up, the accesses were one
+-- load per freed slot.
 pub record HasFreed {B : Type 0} (bus : Ghosts B) (old new : Moment B) : Type 0 where
   pub freeing : IsFreeing old.driver new.driver
   pub ran : WhereUp bus old new (Ran bus true (only (oldest_loads old.driver (old.driver.sending - new.driver.sending))))
@@ -169,7 +166,7 @@ has_freed-none bus stays now =
           (ran_by-stays bus stays now.bus (holding held d) is.ready);
     }
 
--- One more iteration, with the number of loads.
+-- After one more iteration, the accesses so far are `total` loads from the oldest slot on.
 frees-turn : {B : Type 0} (bus : Ghosts B)
     → ((a b c : B) (first later : Past) → bus.happened a b first → bus.happened b c later → bus.happened a c (joined first later))
     → (a b c : Moment B) (total : ℕ) (freed : Bool) → Keeps bus a.bus b.bus → HasFreed bus a b → WhereUp bus b c (LooksBack bus freed)
@@ -193,7 +190,7 @@ has_freed-more bus joins a b c keeps freed turn frees =
           (omega (arith, freed.freeing.fewer, left, frees.some));
     }
 
--- The iteration that frees no slot is the last one.
+-- After an iteration that frees no slot, no outstanding slot is written back.
 pub has_freed-all : {B : Type 0} (bus : Ghosts B)
     → ((a b c : B) (first later : Past) → bus.happened a b first → bus.happened b c later → bus.happened a c (joined first later))
     → (a b c : Moment B) → Keeps bus a.bus b.bus → HasFreed bus a b → WhereUp bus b c (LooksBack bus false) → c.driver ≡ b.driver

@@ -1,4 +1,4 @@
--- A driver handles an interrupt: it reads MPC, takes frames, and refills.
+-- A driver handles an interrupt: after the read of ICR, it reads MPC, takes frames, and refills the ring.
 use Rattle.std.proofs.Common.{◌≡◌, ◌≤◌, ◌+◌, ◌*◌, ◌++◌, ◌∷◌, [], ◌<◌, ◌^◌, ◌∙◌}
 use Rattle.std.proofs.Common.{Bool, inl, ℕ, suc, List, length, map, refl, sym, ap, subst}
 use Rattle.std.proofs.Common.{length-append, arith}
@@ -17,16 +17,16 @@ use Rattle.bus.specs.Pasts.{Past, joined}
 use Rattle.bus.specs.declared.event.Access.{Access}
 use Rattle.bus.specs.declared.event.Access.TheVariants.{Reads}
 use Rattle.bus.specs.declared.bus.Bus.{Ghosts}
-use Rattle.driver_law.proofs.Accesses.{ran_by-join}
-use Rattle.driver_law.proofs.Calls.{ran-on}
-use Rattle.driver_law.proofs.Places.{place-add}
-use Rattle.driver_law.proofs.Intervals.{flows_join, work_kept}
-use Rattle.driver_law.proofs.TakenSlots.{parts_are_few}
-use Rattle.driver_law.specs.Calls.{GoesTo, HasNoForgottenWork, Moment, Ran, ReadsCauses, at, call_did, driver_did, driver_in}
-use Rattle.driver_law.specs.Calls.{frames_ended, held_at, in_world_of, only}
-use Rattle.driver_law.specs.Calls.{receive_loads, stores_from, tail_write, takes_from, with_missed}
-use Rattle.driver_law.specs.DriverState.{DriverState, HandedOut, frame_of, holding, next_receive, piece_numbers, with_owners}
-use Rattle.driver_law.specs.ReadyDrivers.{ReadyWith}
+use Rattle.bus.proofs.DriverAccesses.{ran_by-join}
+use Rattle.bus.proofs.Calls.{ran-on}
+use Rattle.bus.proofs.Places.{place-add}
+use Rattle.bus.proofs.Intervals.{flows_join, work_kept}
+use Rattle.bus.proofs.TakenSlots.{parts_are_few}
+use Rattle.bus.specs.Calls.{GoesTo, HasNoForgottenWork, Moment, Ran, ReadsCauses, at, call_did, driver_did, driver_in}
+use Rattle.bus.specs.Calls.{frames_ended, held_at, in_world_of, only}
+use Rattle.bus.specs.Calls.{receive_loads, stores_from, tail_write, takes_from, with_missed}
+use Rattle.bus.specs.DriverState.{DriverState, HandedOut, frame_of, holding, next_receive, piece_numbers, with_owners}
+use Rattle.bus.specs.ReadyDrivers.{ReadyWith}
 use Rattle.driver.specs.HandlerSteps.{HandlesIt, IsLook, Scene, TakesAll, Works, held_in, moment, offering_accesses, taking_accesses}
 use Rattle.driver.specs.Parts.{joined_frames, pieces_of}
 use Rattle.driver.specs.RefillSteps.{Refills}
@@ -35,12 +35,10 @@ use Rattle.bring_up.specs.WrittenRegisters.{handled_causes}
 use Rattle.driver.proofs.SeenSlots.{length-parts}
 use Rattle.driver.proofs.TakenRuns.{concat-numbers, only-parts}
 
--- RXT0 is one of the causes that a driver handles.
 pub handled-timer : (causes : ℕ) → causes < 2 ^ 32 → HasBit causes 7 → Meet causes handled_causes
 handled-timer causes fits bit = (Meet-places causes handled_causes fits).1 (7, bit, refl)
 
--- The states of the driver, in order: d1 at the beginning, d2 after the read of MPC, d3 after slots were taken, and d4
--- after refilling.
+-- The states of the driver: d1 at the beginning, d2 after the read of MPC, d3 after slots were taken, and d4 after refilling.
 pub record Follows (misses slots : ℕ) (d1 d2 d3 d4 : DriverState) : Type 0 where
   pub counted : d2 ≡ with_missed misses d1
   pub taken : d3 ≡ record d2 { oldest_receive = d3.oldest_receive; buffers = d3.buffers; pool = d3.pool; bad = d3.bad }
@@ -48,14 +46,12 @@ pub record Follows (misses slots : ℕ) (d1 d2 d3 d4 : DriverState) : Type 0 whe
   pub count : slots + length d3.buffers ≡ length d2.buffers
   pub refilled : d4 ≡ with_owners d3 d4.buffers [] d4.pool []
 
--- The state at the end, by the parts that change.
 changed : {misses slots : ℕ} (d1 d2 d3 d4 : DriverState) → Follows misses slots d1 d2 d3 d4
     → d3 ≡ record (with_missed misses d1) { oldest_receive = d3.oldest_receive; buffers = d3.buffers; pool = d3.pool; bad = d3.bad }
 changed d1 d2 d3 d4 follows =
     follows.taken ∙ ap (λ (d : DriverState). let s : DriverState = record d
     { oldest_receive = d3.oldest_receive; buffers = d3.buffers; pool = d3.pool; bad = d3.bad } in s) follows.counted
 
--- The place of the oldest slot is the one after the slots of these buffers.
 oldest-after : {misses slots : ℕ} (d1 d2 d3 d4 : DriverState) (numbers : List ℕ) → Follows misses slots d1 d2 d3 d4
     → d1.buffers ≡ numbers ++ d3.buffers → d3.oldest_receive ≡ place d1.layout.rx d1.oldest_receive (length numbers)
 oldest-after {misses} {slots} d1 d2 d3 d4 numbers follows oldest =
@@ -65,7 +61,6 @@ oldest-after {misses} {slots} d1 d2 d3 d4 numbers follows oldest =
     ∙ ap (λ (d : DriverState). place d.layout.rx d.oldest_receive slots) follows.counted
     ∙ ap (place d1.layout.rx d1.oldest_receive) many
 
--- The place of the next descriptor to store doesn't change.
 next-same : {misses slots : ℕ} (d1 d2 d3 d4 : DriverState) (numbers : List ℕ) → Follows misses slots d1 d2 d3 d4
     → d1.buffers ≡ numbers ++ d3.buffers → next_receive d3 ≡ next_receive d1
 next-same d1 d2 d3 d4 numbers follows oldest =
@@ -78,7 +73,6 @@ next-same d1 d2 d3 d4 numbers follows oldest =
     ∙ sym (place-add rx d1.oldest_receive (length numbers) left)
     ∙ ap (place rx d1.oldest_receive) sum
 
--- The accesses and frames may be replaced by equal ones.
 ran-same : {B : Type 0} (bus : Ghosts B) {up : Bool} {xs ys : List Access} {t1 t2 accepted : List (List ℕ)} {a b : Moment B}
     → xs ≡ ys → t1 ≡ t2 → Ran bus up (call_did xs t1 accepted) a b
     → Ran bus up (call_did ys t2 accepted) a b
@@ -91,7 +85,7 @@ ran-same bus {up} {xs} {ys} {t1} {t2} {accepted} {a} {b} accesses frames ran = r
   follows = ran.follows;
 }
 
--- The last look: no frame ends in finished slots, so all of them are parts.
+-- No frame ends in finished slots, so each finished piece is a part, and at most five slots are finished.
 last-look : {up : Bool} (d : DriverState) (world : World) (oldest loads : ℕ) → ReadyWith up d world → frames_ended (driver_in d world) ≡ []
     → loads ≡ min (suc (length (finished_pieces d.oldest_receive world))) (length d.buffers) → oldest ≡ d.oldest_receive
     → IsLook oldest d.buffers world loads
@@ -178,7 +172,7 @@ works {up} bus receivers joins a b c e misses n slots held follows counts all re
           all.looks.goes.flows.ready all.none_left all.loads_are (ap (λ (d : DriverState). d.oldest_receive) follows.refilled);
     }
 
--- After the read of ICR, if the value has a cause that the driver handles.
+-- If the value of ICR has a cause that the driver handles, `HandlesIt` holds after MPC is read, frames are taken and slots are offered.
 pub handles-it : {up : Bool} {B R : Type 0} (bus : Ghosts B) (receivers : OfReceiver R)
     → ((a b c : B) (first later : Past) → bus.happened a b first → bus.happened b c later → bus.happened a c (joined first later))
     → (o : B) (a b c e : Scene B R) (causes misses n slots : ℕ) (held : List HandedOut)

@@ -9,7 +9,7 @@ use Rattle.registers.specs.Counting.{greatest_count}
 use Rattle.dma_memory.specs.Layout.{Counts, receive_buffer_bytes}
 use Rattle.descriptors.specs.RingLaws.{place}
 use Rattle.rx_engine.specs.Addresses.{IsAddress}
-use Rattle.eeprom.specs.Image.{HasRightSum, address_bytes}
+use Rattle.eeprom_phy.specs.Image.{HasRightSum, address_bytes}
 use Rattle.rx_engine.specs.Pieces.{frames_of}
 use Rattle.adapter.specs.HostFrames.{frames_held, frames_to_send, piece_in}
 use Rattle.adapter.specs.Rings.{new_ring}
@@ -30,11 +30,11 @@ use Rattle.bus.specs.declared.event.Access.{Access}
 use Rattle.bus.proofs.Lists.{all-left, all-none, all-right, append-empty}
 use Rattle.bus.proofs.Settings.{settings-append, writes-append}
 use Rattle.bus.proofs.WaitingRings.{holds-none}
-use Rattle.driver_law.proofs.Accesses.{ran_by-join}
-use Rattle.driver_law.specs.Calls.{GoesTo, Ran, at, driver_did, driver_in, only, stores_from}
-use Rattle.driver_law.specs.Beginnings.{new_driver}
-use Rattle.driver_law.specs.DriverState.{DriverSetup, DriverState, transmit_tail}
-use Rattle.driver_law.specs.ReadyDrivers.{ReadyWith}
+use Rattle.bus.proofs.DriverAccesses.{ran_by-join}
+use Rattle.bus.specs.Calls.{GoesTo, Ran, at, driver_did, driver_in, only, stores_from}
+use Rattle.bus.specs.Beginnings.{new_driver}
+use Rattle.bus.specs.DriverState.{DriverSetup, DriverState, transmit_tail}
+use Rattle.bus.specs.ReadyDrivers.{ReadyWith}
 use Rattle.bring_up.specs.ClearedDescriptors.{clears_from}
 use Rattle.bring_up.specs.Configuration.{CanBeHad, configured_counts, vlans_of}
 use Rattle.bring_up.specs.ConfiguredAdapters.{HasSetup, IsConfigured, names_vlans, setup_of, writes_before_rings}
@@ -133,7 +133,6 @@ new-whole ring start idle =
     ap (λ (registers : RingRegisters). let moved : RingRegisters = record registers { head = ring.head } in moved) start
     ∙ ap (λ (head : ℕ). let moved : RingRegisters = record new_ring { head = head } in moved) (idle ∙ tail)
 
--- the filter after the writes before those of the rings
 filtered : (config : Config) (address groups vlans : List ℕ) (settings : Settings)
     → settings_after_all (table_writes 0x5200 groups ++ (table_writes 0x5600 vlans ++ address_writes address))
     (settings_after_all (reset_writes ++ (allocation_writes config.rxa ++ enable_link_writes)) settings)
@@ -146,7 +145,7 @@ filtered config address groups vlans settings =
     (append_assoc reset_writes (allocation_writes config.rxa ++ enable_link_writes) tables
     ∙ ap (λ (writes : List Write). reset_writes ++ writes) (append_assoc (allocation_writes config.rxa) enable_link_writes tables))
 
--- the writes after those of the receive ring
+-- the writes of initialization after those that set up the receive ring
 abbrev behind-receive : Config → List Write
 behind-receive config =
     (write_at 0x2818 (config.rx - 1) ∷ []) ++ (receive_writes config.promiscuous (names_vlans config.vlans)
@@ -208,7 +207,7 @@ finds-ring bus b0 b1 b2 b3 config size image had room found filter ring =
 
 -- The whole initialization
 
--- The mask is written after the transmit side is set up.
+-- The settings after the last part are those after all writes of the initialization, in order.
 pub settings-all : (config : Config) (slots : ℕ) (address groups vlans : List ℕ) (s0 s1 s2 s3 s4 s5 : Settings)
     → s1 ≡ settings_after_all (writes_before_rings config address groups vlans ++ ring_setup_writes 0x2800 0 (16 * config.rx)) s0
     → s2 ≡ settings_after_all (write_at 0x2818 slots ∷ []) s1
@@ -236,7 +235,7 @@ settings-all config slots address groups vlans s0 s1 s2 s3 s4 s5 one two three f
     (append_assoc before receive (tail ++ (passing ++ ((ring ++ transmit_writes) ++ mask_writes)))
     ∙ ap (λ (writes : List Write). before ++ (receive ++ (tail ++ (passing ++ writes)))) (append_assoc ring transmit_writes mask_writes))
 
--- The receive slots are offered, no frame has arrived, and the transmit ring has its reset values.
+-- After the receive slots are offered, no frame is held or to be sent, and the transmit ring still has its reset values.
 pub stays-quiet : (counts : Counts) (numbers : List ℕ) (d d' : DriverState) (a b : World) (past : Past)
     → past.accesses ≡ first_accesses counts numbers
     → GoesTo false (driver_in d a) (driver_in d' b) (driver_did [] []) past → AreSet a b past → WhileOff a past → HasNoFrames d a
@@ -254,7 +253,6 @@ stays-quiet counts numbers d d' a b past only goes set off quiet new =
       ),
     )
 
--- The transmit ring has its reset values after the receiver was enabled, too.
 pub new-still : (promiscuous by_vlan : Bool) (d : DriverState) (a b : World) (past : Past)
     → past.accesses ≡ accesses_of (receive_writes promiscuous by_vlan)
     → ReadyWith false d b → AreSet a b past → a.adapter.transmit_ring ≡ new_ring → b.adapter.transmit_ring ≡ new_ring
@@ -262,7 +260,8 @@ new-still promiscuous by_vlan d a b past only ready set new =
     new_transmit_ring_stays d a b past ready set
     (subst (All LeavesTransmitRing) (sym (ap writes_in only)) (control-leaves_transmits (receive_control promiscuous by_vlan))) new
 
--- From the write of RCTL up to the write of IMS.
+-- The frames of two consecutive intervals, from the write of RCTL up to the write of IMS. `a`, `b` and `c` are the worlds before, between
+-- and after them.
 record Counts-from (d : DriverState) (a b c : World) (first later : Past) : Type 0 where
   none_put : first.put ++ later.put ≡ []
   none_to_send : frames_to_send c ≡ []
@@ -290,14 +289,13 @@ counts-from d a b c first later one two none_to_send none_held none_missed =
           omega (arith, before.sum, behind.sum, none_missed);
     }
 
--- If no frame is held, no slot is finished.
 none-finished : (d : DriverState) (world : World) → ReadyWith true d world → frames_held d.oldest_receive world ≡ []
     → finished d.oldest_receive world ≡ []
 none-finished d world ready none =
     (holds-none receive_buffer_bytes d.oldest_receive d.oldest_transmit world ready.law.sound (omega arith)
     ready.law.whole none).none_finished
 
--- The link remains up.
+-- The writes after those that set up the receive ring don't write CTRL or MDIC, so the link remains up.
 link-up : (config : Config) (address groups vlans : List ℕ) → length groups ≡ 128 → length vlans ≡ 128
     → (w1 w2 w3 w4 w5 : World) (p2 p3 p4 p5 : Past)
     → writes_in p2.accesses ≡ write_at 0x2818 (config.rx - 1) ∷ []
@@ -440,7 +438,6 @@ initialises bus joins b0 b1 b2 b3 b4 b5 config size address groups pool numbers 
       };
     }
 
--- Whether the configuration has a list of VLANs.
 pub vlans-named : (vlans : Option (ArrayVec ℕ 32 (Unit {0}))) → is_some vlans ≡ names_vlans vlans
 vlans-named None = refl
 vlans-named (Some list) = refl

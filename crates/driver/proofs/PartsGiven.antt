@@ -4,15 +4,14 @@ use Rattle.std.proofs.lemmas.List.{map-append}
 use Rattle.dma_memory.specs.Owners.{HasNoSecondOwner, HaveSameNumbers, copies}
 use Rattle.dma_memory.specs.OwnersLaws.{below_from_if_below, copies-append, copies-cons, copies-push, if_below-most, if_same, if_same-yes}
 use Rattle.dma_memory.specs.Numbers.{Numbers}
-use Rattle.driver_law.proofs.Owners.{owners-count}
-use Rattle.driver_law.specs.DriverState.{owners}
+use Rattle.bus.proofs.Owners.{owners-count}
+use Rattle.bus.specs.DriverState.{owners}
 use Rattle.driver.specs.InsideDriver.{driver_state_of}
 use Rattle.driver.specs.Parts.{buffers_in}
 use Rattle.driver.specs.declared.driver.Driver.TheInside.{Inside}
 use Rattle.driver.proofs.BufferQueue.{Receives, queue-split}
 use Rattle.driver.specs.declared.parts.Part.{Part}
 
--- One more buffer returns.
 buffers-count : (k : ℕ) (rest : List Part) (part : Part) (parts : List Part) (free : List ℕ) → parts ≡ rest ++ part ∷ []
     → copies k (buffers_in parts ++ free) ≡ copies k (buffers_in rest) + if_same k part.buffer + copies k free
 buffers-count k rest part parts free is =
@@ -43,14 +42,13 @@ part-given all rest part parts free free' is same given k =
       copies-cons k part.buffer free,
     )
 
--- Into the pool of a driver
+-- Buffers return to the pool of a driver
 
 inside-count : (d : Inside) → Receives d → (k : ℕ) → copies k (owners (driver_state_of d)) ≡ copies k d.pool.free + copies k d.buffers.items
 inside-count d receives k =
     let shown = driver_state_of d in
     omega (arith, owners-count k shown, copies-append k shown.buffers shown.staged, ap (copies k) (queue-split d receives).whole)
 
--- The buffers aren't in the pool, and have no second owner.
 pub parts-out : (d : Inside) (numbers : List ℕ) → Receives d → HasNoSecondOwner d.layout.buffers (numbers ++ owners (driver_state_of d))
     → HasNoSecondOwner d.pool.buffers (numbers ++ d.pool.free)
 parts-out d numbers receives once =

@@ -38,7 +38,7 @@ filled-last [] part (suc n) j d is = absurd (omega (arith, is))
 filled-last (first ∷ parts) part zero j d is = absurd (omega (arith, is))
 filled-last (first ∷ parts) part (suc n) j d is = filled-last parts part n j d (omega (arith, is))
 
--- The pieces before the last, and the last piece.
+-- The list consists of n pieces, and then a last piece.
 pub record HasLast (parts : List Part) (n : ℕ) : Type 0 where
   pub front : List Part
   pub last : Part
@@ -58,7 +58,6 @@ has_last (part ∷ second ∷ parts) (suc n) is =
       count = omega (arith, rest.count);
     }
 
--- The invariant, from the list of the pieces in the array.
 filled-is : (parts : List Part) (places : List (Option Part)) (count : ℕ) → places ≡ filled parts (6 - count) → length parts ≡ count
     → count ≤ 6 → IsFilled (record { places = places; count = count })
 filled-is parts places count is long most =
@@ -130,6 +129,7 @@ pop-none inside n entry result d filling some value =
     rw last tt
 
 -- The result of `get`.
+
 filled-some : (parts : List Part) (index k : ℕ) (d : Option Part) → index < length parts → is_some (get_or (filled parts k) index d) ≡ true
 filled-some [] index k d below = absurd (omega (arith, below))
 filled-some (part ∷ parts) zero k d below = refl

@@ -15,16 +15,16 @@ use Rattle.bus.specs.Pasts.{Past, joined}
 use Rattle.bus.specs.declared.bus.Bus.{Ghosts}
 use Rattle.bus.specs.declared.event.Access.{Access}
 use Rattle.bus.specs.declared.event.Access.TheVariants.{Loads}
-use Rattle.driver_law.proofs.Calls.{ran-on}
-use Rattle.driver_law.proofs.ReceiveAccesses.{frame-read, ran_by-reads}
-use Rattle.driver_law.specs.Calls.{Ran, at, only}
-use Rattle.driver_law.specs.DriverState.{DriverState, HandedOut, buffer_at, frame_of}
-use Rattle.driver_law.specs.ReadyDrivers.{ReadyWith}
+use Rattle.bus.proofs.Calls.{ran-on}
+use Rattle.bus.proofs.ReceiveAccesses.{frame-read, ran_by-reads}
+use Rattle.bus.specs.Calls.{Ran, at, only}
+use Rattle.bus.specs.DriverState.{DriverState, HandedOut, buffer_at, frame_of}
+use Rattle.bus.specs.ReadyDrivers.{ReadyWith}
 use Rattle.driver.specs.Parts.{IsWholeFrame, lengths_in, part_loads, part_of, parts_of}
 use Rattle.driver.specs.declared.parts.Part.{Part}
 use Rattle.driver.specs.declared.receiver.Received.{Received}
 
--- One more piece
+-- The next piece of a frame
 
 pub record IsNext (parts : List Part) (i : ℕ) (part : Part) : Type 0 where
   pub split : parts ≡ take i parts ++ part ∷ drop (i + 1) parts
@@ -38,7 +38,6 @@ is-next parts i part below is = record {
   more = take_more parts i part below ∙ ap (λ (one : Part). take i parts ++ one ∷ []) (sym is);
 }
 
--- A statement about a value of each piece holds for the value of this piece.
 pub all-values : (P : ℕ → Type 0) (value : Part → ℕ) (parts : List Part) (i : ℕ) (part : Part) → IsNext parts i part
     → All P (map value parts) → P (value part)
 all-values P value parts i part next all =
@@ -47,7 +46,7 @@ all-values P value parts i part next all =
     all-head P (value part) (map value later)
     (all-right P (map value (take i parts)) (value part ∷ map value later) (subst (All P) values all))
 
--- the bytes of the first pieces
+-- the number of bytes in the first i pieces
 abbrev pub bytes_before : List Part → ℕ → ℕ
 bytes_before parts i = sum (lengths_in (take i parts))
 
@@ -74,7 +73,7 @@ loads-next counts parts i part next =
     sym (ap (part_loads counts) next.more
     ∙ map-append (λ (one : Part). Loads (buffer_at counts one.buffer) one.length) (take i parts) (part ∷ []))
 
--- The piece that others hold
+-- The next piece is one that others hold
 
 pub record IsHeldNext (pieces : List HandedOut) (i : ℕ) (part : Part) : Type 0 where
   pub one : HandedOut
@@ -104,7 +103,6 @@ held-next pieces parts i part are below is =
       frame = ap frame_of (take_more pieces i none inside) ∙ frame-push (take i pieces) one;
     }
 
--- This piece is among all pieces that others hold.
 pub held-among : (first pieces later : List HandedOut) (i : ℕ) (part : Part) → (next : IsHeldNext pieces i part)
     → first ++ (pieces ++ later) ≡ (first ++ take i pieces) ++ next.one ∷ (drop (i + 1) pieces ++ later)
 held-among first pieces later i part next =
@@ -112,7 +110,7 @@ held-among first pieces later i part next =
     ∙ ap (λ (list : List HandedOut). first ++ list) (append_assoc (take i pieces) (next.one ∷ drop (i + 1) pieces) later)
     ∙ sym (append_assoc first (take i pieces) (next.one ∷ (drop (i + 1) pieces ++ later)))
 
--- The end of the piece in the frame
+-- The place of the next piece in the bytes of the frame
 
 pub read-fits : (received : Received) (i read n : ℕ) (part : Part) → IsWholeFrame received → IsNext received.parts i part
     → read ≡ bytes_before received.parts i → n ≡ part.length → read + n ≤ 1518
@@ -127,12 +125,10 @@ read-fits received i read n part whole next before size =
       whole.size.most,
     )
 
--- the number of bytes that are copied
 pub part-long : (into : List ℕ) (read n : ℕ) → read + n ≤ length into → length (take (read + n - read) (drop read into)) ≡ n
 part-long into read n fits =
     length-take-le (read + n - read) (drop read into) (omega (arith, length-drop read into, fits)) ∙ omega arith
 
--- The length of the array doesn't change.
 pub copied-long : (into loaded : List ℕ) (read k : ℕ) → read + k ≤ length into → length loaded ≡ k
     → length (take read into ++ (loaded ++ drop k (drop read into))) ≡ length into
 copied-long into loaded read k fits size =
@@ -152,7 +148,7 @@ pub rest-next : (into into' first : List ℕ) (read n : ℕ) → drop (read + n)
 rest-next into into' first read n kept before =
     kept ∙ sym (drop-drop n read into) ∙ ap (drop n) before ∙ drop-drop n read first
 
--- Over a bus
+-- One more load over a bus
 
 pub reads-next : {up : Bool} {B : Type 0} (bus : Ghosts B)
     → ((a b c : B) (first later : Past) → bus.happened a b first → bus.happened b c later → bus.happened a c (joined first later))

@@ -1,30 +1,29 @@
--- Slots are staged one by one, and then offered.
+-- Slots are staged one by one, and then offered. Before that, buffers that others held may return to the pool.
 use Rattle.std.proofs.Common.{◌≡◌, ◌+◌, ◌++◌, [], ℕ, List, length, refl, sym, ap, subst, ◌∙◌, append_assoc, length-append, arith}
 use Rattle.std.proofs.lemmas.List.{append-nil, map-append}
 use Rattle.std.specs.List.{All}
 use Rattle.std.proofs.lemmas.List.Elements.{All-append}
 use Rattle.bus.proofs.Lists.{all-left, all-right}
-use Rattle.driver_law.proofs.TakenSlots.{buffers_can_come_back}
+use Rattle.bus.proofs.TakenSlots.{buffers_can_come_back}
 use Rattle.dma_memory.specs.Owners.{HaveSameNumbers, copies}
 use Rattle.dma_memory.specs.OwnersLaws.{copies-append}
 use Rattle.descriptors.specs.RingLaws.{place}
 use Rattle.bus.specs.Keeping.{Keeps}
 use Rattle.bus.specs.Pasts.{Past, joined, nothing}
 use Rattle.bus.specs.declared.event.Access.{Access}
-use Rattle.driver_law.proofs.Accesses.{ran_by-itself, ran_by-same, ran_by-stays}
-use Rattle.driver_law.proofs.Calls.{ran-on, ready-on}
-use Rattle.driver_law.proofs.Owners.{owners-count}
-use Rattle.driver_law.proofs.Places.{place-add}
-use Rattle.driver_law.proofs.ReceiveAccesses.{stores-append}
-use Rattle.driver_law.specs.Calls.{Moment, Ran, Runs, WhereReady, at, held_at, only, stores_from, tail_write}
-use Rattle.driver_law.specs.DriverState.{DriverState, HandedOut, holding, next_receive, piece_numbers, owners, with_owners}
-use Rattle.driver_law.specs.ReadyDrivers.{Stands}
+use Rattle.bus.proofs.DriverAccesses.{ran_by-itself, ran_by-same, ran_by-stays}
+use Rattle.bus.proofs.Calls.{ran-on, ready-on}
+use Rattle.bus.proofs.Owners.{owners-count}
+use Rattle.bus.proofs.Places.{place-add}
+use Rattle.bus.proofs.ReceiveAccesses.{stores-append}
+use Rattle.bus.specs.Calls.{Moment, Ran, Runs, WhereReady, at, held_at, only, stores_from, tail_write}
+use Rattle.bus.specs.DriverState.{DriverState, HandedOut, holding, next_receive, piece_numbers, owners, with_owners}
+use Rattle.bus.specs.ReadyDrivers.{Stands}
 use Rattle.bus.specs.declared.bus.Bus.{Ghosts}
 use Rattle.driver.specs.Parts.{buffers_in}
 use Rattle.driver.specs.declared.parts.Part.{Part}
 use Rattle.driver.specs.RefillSteps.{Refills, Stages, WhereHeld}
 
--- No slot is staged.
 pub stages-none : {B : Type 0} (bus : Ghosts B) → ((b : B) → bus.happened b b nothing) → (now : Moment B) → Stages bus [] now now
 stages-none bus stays now =
     let d = now.driver in
@@ -34,7 +33,6 @@ stages-none bus stays now =
       ran = λ up held is. ran_by-stays bus stays now.bus (holding held d) is.ready;
     }
 
--- The place of the next descriptor to store, after slots were staged.
 next-staged : {B : Type 0} (bus : Ghosts B) (a b : Moment B) (xs : List ℕ) → Stages bus xs a b
     → next_receive b.driver ≡ place a.driver.layout.rx (next_receive a.driver) (length xs)
 next-staged bus a b xs stages =
@@ -44,7 +42,6 @@ next-staged bus a b xs stages =
     ap next_receive stages.others ∙ ap (place d.layout.rx d.oldest_receive) count
     ∙ place-add d.layout.rx d.oldest_receive (length d.buffers + length d.staged) (length xs)
 
--- Some slots are staged, and then further slots.
 pub stages-join : {B : Type 0} (bus : Ghosts B)
     → ((a b c : B) (first later : Past) → bus.happened a b first → bus.happened b c later → bus.happened a c (joined first later))
     → (a b c : Moment B) (xs ys : List ℕ) → Keeps bus a.bus b.bus → Stages bus xs a b → Stages bus ys b c → Stages bus (xs ++ ys) a c
@@ -78,7 +75,7 @@ stages-join bus joins a b c xs ys keeps one two =
           subst (λ (list : List Access). Ran bus up (only list) (held_at held a) (held_at held c)) accesses (ran-on bus joins first second);
     }
 
--- Staged slots are offered.
+-- After slots were staged, all staged slots are offered: `Refills` holds.
 pub refills : {B : Type 0} (bus : Ghosts B)
     → ((a b c : B) (first later : Past) → bus.happened a b first → bus.happened b c later → bus.happened a c (joined first later))
     → (a b c : Moment B) (xs : List ℕ) → Keeps bus a.bus b.bus → Stages bus xs a b
@@ -104,7 +101,6 @@ refills bus joins a b c xs keeps stages offered offers up held is =
           subst (λ (list : List Access). Ran bus up (only list) (held_at held a) (held_at held c)) accesses (ran-on bus joins first second);
     }
 
--- No buffer is lost or duplicated.
 pub owners-staged : {B : Type 0} (bus : Ghosts B) (a b : Moment B) (xs : List ℕ) → Stages bus xs a b
     → HaveSameNumbers (owners a.driver) (owners b.driver)
 owners-staged bus a b xs stages k =
@@ -114,7 +110,7 @@ owners-staged bus a b xs stages k =
     omega (arith, owners-count k d, owners-count k later, stages.pool k, copies-append k xs left, copies-append k d.staged xs)
     ∙ ap (λ (s : DriverState). copies k (owners s)) (sym stages.others)
 
--- Buffers return to the pool, and then slots are offered.
+-- If buffers that others held return to the pool, and slots are then offered, `Refills` holds between the first and the last moment.
 pub gives : {B : Type 0} (bus : Ghosts B) → ((b : B) → bus.happened b b nothing)
     → ((a b c : B) (first later : Past) → bus.happened a b first → bus.happened b c later → bus.happened a c (joined first later))
     → (a : B) (d1 d2 : DriverState) (c : Moment B) (parts : List Part) → d2 ≡ record d1 { pool = d2.pool }

@@ -27,12 +27,12 @@ use Rattle.bus.specs.declared.event.Access.{Access}
 use Rattle.bus.specs.declared.event.Access.TheVariants.{Writes}
 use Rattle.bus.proofs.Lists.{all-left, all-none, all-right, append-empty}
 use Rattle.bus.proofs.Settings.{settings-append, settings_join, writes-append}
-use Rattle.driver_law.proofs.Accesses.{follows-join}
-use Rattle.driver_law.proofs.Intervals.{misses-stay}
-use Rattle.driver_law.specs.Calls.{IsRefilled, Ran, at, driver_in, only, stores_from, with_missed}
-use Rattle.driver_law.specs.DriverState.{DriverSetup, DriverState, receive_slot, with_owners}
-use Rattle.driver_law.specs.ReadyDrivers.{Ready, ReadyWith, Stands}
-use Rattle.driver_law.specs.Resets.{RestsWith, reset_driver}
+use Rattle.bus.proofs.DriverAccesses.{follows-join}
+use Rattle.bus.proofs.Intervals.{misses-stay}
+use Rattle.bus.specs.Calls.{IsRefilled, Ran, at, driver_in, only, stores_from, with_missed}
+use Rattle.bus.specs.DriverState.{DriverSetup, DriverState, receive_slot, with_owners}
+use Rattle.bus.specs.ReadyDrivers.{Ready, ReadyWith, Stands}
+use Rattle.bus.specs.Resets.{RestsWith, reset_driver}
 use Rattle.bring_up.proofs.ConfiguredSettings.{all-set, before-rings, filter_written}
 use Rattle.bring_up.proofs.DriverAccesses.{asked-still}
 use Rattle.bring_up.proofs.DriverResets.{rests-sets}
@@ -59,7 +59,6 @@ use Rattle.driver.specs.Resetting.{Resets, free_accesses, later_accesses, quiet_
 use Rattle.driver.proofs.SummedMisses.{sums-as, sums-join}
 use Rattle.driver.proofs.Initialisation.{new-still, new-whole, settings-all, tail-leaves_receiver, tail-leaves_transmits, transmit-writes}
 
--- The accesses of two intervals.
 joined-only : (first later : Past) (xs ys : List Access) → first.accesses ≡ xs → later.accesses ≡ ys
     → (joined first later).accesses ≡ xs ++ ys
 joined-only first later xs ys one two =
@@ -76,7 +75,6 @@ free-writes counts numbers =
     ∙ writes-append cleared (Writes 0x2818 k ∷ [])
     ∙ ap (λ (writes : List Write). writes ++ write_at 0x2818 k ∷ []) (clears-write_none (receive_slot k) (counts.rx - k))
 
--- a register that isn't of the PHY
 phy-left : (register : Register) (value : ℕ) → IsInTable register → LeavesPhy (write_at (row_of register).offset value)
     → All LeavesPhy (write_at (row_of register).offset value ∷ [])
 phy-left register value within leaves = All-cons LeavesPhy (write_at (row_of register).offset value) [] leaves (all-none LeavesPhy)
@@ -87,7 +85,6 @@ allocation-leaves_phy kilobytes = phy-left Pba kilobytes tt (subst IsNotOfPhy (s
 off-leaves_phy : All LeavesPhy (write_at 0x0100 0 ∷ [])
 off-leaves_phy = phy-left Rctl 0 tt (subst IsNotOfPhy (sym (register_at-there Rctl tt)) tt)
 
--- a reset isn't a write of RCTL
 reset-leaves_receiver : All LeavesReceiver (write_at 0x0000 0x04000000 ∷ [])
 reset-leaves_receiver =
     All-cons LeavesReceiver (write_at 0x0000 0x04000000) [] (subst IsNotReceiveControl (sym (register_at-there Ctrl tt)) tt)
@@ -96,7 +93,7 @@ reset-leaves_receiver =
 tail-leaves_phy : (slot : ℕ) → All LeavesPhy (write_at 0x2818 slot ∷ [])
 tail-leaves_phy slot = phy-left (Receive Tail) slot tt (subst IsNotOfPhy (sym (register_at-there (Receive Tail) tt)) tt)
 
--- The writes of the filter's tables and the address.
+-- The writes of both tables of the filter, and of the address.
 abbrev tables_of : (address groups vlans : List ℕ) → List Write
 tables_of address groups vlans = table_writes 0x5200 groups ++ (table_writes 0x5600 vlans ++ address_writes address)
 
@@ -120,7 +117,6 @@ record AgainAtRest {B : Type 0} (bus : Ghosts B) (config : Config) (again : Driv
       (writes_before_rings config address groups vlans ++ ring_setup_writes 0x2800 0 (16 * config.rx)) start
   link : HasLink (bus.world b3) → HasLink (bus.world b7)
 
--- A driver without slots remains so if memory is the same.
 rests-same : (d : DriverState) (a b : World) → b.memory ≡ a.memory → IsAtRest b → RestsWith d a → RestsWith d b
 rests-same d a b memory rest rests = record {
   rest = rest;
@@ -129,7 +125,6 @@ rests-same d a b memory rest rests = record {
   stand = subst (λ (bytes : List ℕ). All (Stands d.layout bytes) d.handed_out) (sym memory) rests.stand;
 }
 
--- the settings after a call, by its accesses
 set-of : {B : Type 0} (bus : Ghosts B) (old new : B) (writes : List Write) (sets : Sets bus writes old new)
     → AreSet (bus.world old) (bus.world new) sets.past
 set-of bus old new writes sets =
@@ -210,7 +205,7 @@ again-at-rest bus joins old b3 b4 b5 b6 b7 config named address size again had r
 
 -- The whole reset
 
--- the filter after all writes
+-- the registers of the filter after all writes of the initialization
 abbrev filter_set : Config → (address groups vlans : List ℕ) → FilterRegisters
 filter_set config address groups vlans = record (filter_written address groups vlans)
     { rctl = receive_control config.promiscuous (names_vlans config.vlans) }

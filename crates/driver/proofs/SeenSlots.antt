@@ -25,20 +25,21 @@ use Rattle.bus.proofs.Lists.{all-head, all-left, all-none, all-right, all-weaker
 use Rattle.bus.specs.Pasts.{Past, joined, nothing}
 use Rattle.bus.specs.declared.bus.Bus.{Ghosts}
 use Rattle.bus.specs.declared.event.Access.{Access}
-use Rattle.driver_law.proofs.Accesses.{ran_by-stays}
-use Rattle.driver_law.proofs.Calls.{ran-on}
-use Rattle.driver_law.proofs.ReceiveAccesses.{loads-push}
-use Rattle.driver_law.proofs.SeenSlots.{outstanding-slots}
-use Rattle.driver_law.proofs.TakenSlots.{parts_are_few}
-use Rattle.driver_law.specs.Calls.{Ran, at, only, receive_loads}
-use Rattle.driver_law.specs.DriverState.{DriverState, receive_slot}
-use Rattle.driver_law.specs.OldestSlot.{IsSeen, LooksAtSlot, ShowsSlot}
-use Rattle.driver_law.specs.ReadyDrivers.{ReadyWith}
+use Rattle.bus.proofs.DriverAccesses.{ran_by-stays}
+use Rattle.bus.proofs.Calls.{ran-on}
+use Rattle.bus.proofs.ReceiveAccesses.{loads-push}
+use Rattle.bus.proofs.SeenSlots.{outstanding-slots}
+use Rattle.bus.proofs.TakenSlots.{parts_are_few}
+use Rattle.bus.specs.Calls.{Ran, at, only, receive_loads}
+use Rattle.bus.specs.DriverState.{DriverState, receive_slot}
+use Rattle.bus.specs.OldestSlot.{IsSeen, LooksAtSlot, ShowsSlot}
+use Rattle.bus.specs.ReadyDrivers.{ReadyWith}
 use Rattle.driver.specs.Looks.{FindsFrame, FindsNoFrame, IsPartSize, IsSoundPart, ends}
 use Rattle.driver.specs.Parts.{AreFull, FillBuffers, FitIntoBuffers, IsFrameSize}
 use Rattle.driver.specs.declared.look.Run.{Run}
 
--- Parts of a frame were seen, whose end wasn't seen yet.
+-- The first of these pieces are the beginning of a frame, `seen`, and the run consists of their slots. The end of this frame wasn't seen
+-- yet.
 pub record Sees (pieces : List Piece) (run : Run) : Type 0 where
   pub seen : List (List ℕ)
   pub later : List Piece
@@ -48,7 +49,7 @@ pub record Sees (pieces : List Piece) (run : Run) : Type 0 where
   pub length_is : run.length ≡ length (concat seen)
   pub whole : IsTrue run.whole
 
--- A whole frame was seen.
+-- The first of these pieces are those of a whole frame, and the run consists of their slots.
 pub record SeesFrame (pieces : List Piece) (run : Run) : Type 0 where
   pub seen : List (List ℕ)
   pub last : List ℕ
@@ -58,7 +59,6 @@ pub record SeesFrame (pieces : List Piece) (run : Run) : Type 0 where
   pub lengths : take run.count run.lengths ≡ map length (seen ++ last ∷ [])
   pub length_is : run.length ≡ length (concat seen ++ last)
 
--- Nothing was seen yet.
 pub sees-none : (pieces : List Piece) (run : Run) → run.count ≡ 0 → run.length ≡ 0 → IsTrue run.whole → Sees pieces run
 sees-none pieces run none empty whole = record {
   seen = [];
@@ -70,7 +70,6 @@ sees-none pieces run none empty whole = record {
   whole = whole;
 }
 
--- What was seen remains.
 pub sees-kept : (first pieces more : List Piece) (run : Run) → pieces ≡ first ++ more → Sees first run → Sees pieces run
 sees-kept first pieces more run grown sees = record {
   seen = sees.seen;
@@ -86,12 +85,10 @@ pub length-parts : (seen : List (List ℕ)) → length (parts seen) ≡ length s
 length-parts [] = refl
 length-parts (bytes ∷ seen) = ap (λ (n : ℕ). suc n) (length-parts seen)
 
--- Each slot that was seen is finished.
 pub seen-finished : (pieces : List Piece) (run : Run) → Sees pieces run → run.count ≤ length pieces
 seen-finished pieces run sees =
     omega (arith, ap length sees.is, length-append (parts sees.seen) sees.later, length-parts sees.seen, sees.count)
 
--- If no other slots are finished, no frame ends in them.
 pub none-ends : (pieces : List Piece) (run : Run) → Sees pieces run → length pieces ≤ run.count → frames_of pieces ≡ []
 none-ends pieces run sees few =
     let long = length-append (parts sees.seen) sees.later in
@@ -178,7 +175,6 @@ fills-added run run' desc added last sound full = record {
   last_is = subst (λ (ends : Bool). IsPartSize ends desc.length) last sound.size;
 }
 
--- Pieces that fill their buffers fit into them.
 pub fills-fit : (sizes : List ℕ) → FillBuffers sizes → FitIntoBuffers sizes
 fills-fit sizes fills =
     let Fits : ℕ → Type 0 = λ size. size ≤ receive_buffer_bytes in
@@ -203,7 +199,6 @@ lengths-more seen run run' desc bytes lengths added is =
     added.lengths ∙ ap (λ (list : List ℕ). list ++ desc.length ∷ []) lengths
     ∙ ap (λ (n : ℕ). map length seen ++ n ∷ []) is ∙ sym (map-append length seen (bytes ∷ []))
 
--- No frame ends in the slot.
 pub sees-more : (pieces : List Piece) (run run' : Run) (desc : RxDesc) → (sees : Sees pieces run) → NextSeen pieces sees.seen desc
     → IsAdded run run' desc → ends desc ≡ false → IsTrue run'.whole → Sees pieces run'
 sees-more pieces run run' desc sees next added part whole =
@@ -226,7 +221,6 @@ sees-more pieces run run' desc sees next added part whole =
       whole = whole;
     }
 
--- A frame ends in the slot.
 pub sees-frame : (pieces : List Piece) (run run' : Run) (desc : RxDesc) → (sees : Sees pieces run) → NextSeen pieces sees.seen desc
     → IsAdded run run' desc → ends desc ≡ true → SeesFrame pieces run'
 sees-frame pieces run run' desc sees next added last =
@@ -242,16 +236,14 @@ sees-frame pieces run run' desc sees next added last =
       length_is = omega (arith, added.length_is, sees.length_is, next.size, length-append (concat seen) bytes);
     }
 
--- In a world in which the driver is ready
+-- What a driver that is ready knows of its finished slots
 
--- Finished pieces are split by the size of the buffers.
 pub finished-cut : {up : Bool} (d : DriverState) (world : World) → ReadyWith up d world
     → All (IsCut receive_buffer_bytes) (finished_pieces d.oldest_receive world)
 finished-cut d world ready =
     let pieces = finished_pieces d.oldest_receive world in
     all-left (IsCut receive_buffer_bytes) pieces (in_work world.memory world.adapter.receiver.work) ready.law.whole.cut
 
--- No more slots are finished than are outstanding.
 pub finished-most : {up : Bool} (d : DriverState) (world : World) → ReadyWith up d world
     → length (finished_pieces d.oldest_receive world) ≤ length d.buffers
 finished-most d world ready =
@@ -267,7 +259,6 @@ finished-most d world ready =
       length-map done (piece_in world.memory),
     )
 
--- The frame that ends has a legal size.
 pub frame-legal : {up : Bool} (d : DriverState) (world : World) (run : Run) → ReadyWith up d world
     → SeesFrame (finished_pieces d.oldest_receive world) run → IsFrameSize run.length
 frame-legal d world run ready sees =
@@ -286,14 +277,14 @@ frame-legal d world run ready sees =
     (subst (λ (list : List (List ℕ)). All IsLegal list) frames ready.law.whole.legal) in
     record { least = omega (arith, sees.length_is, legal.least); most = omega (arith, sees.length_is, legal.most) }
 
--- Over a bus
+-- Looks at slots over a bus
 
--- The descriptors of the slots that were seen were loaded.
+-- The only accesses were the loads of the descriptors in the run, in order. The run is the beginning of a frame.
 pub record SeesSlots {B : Type 0} (bus : Ghosts B) (run : Run) (up : Bool) (d : DriverState) (old new : B) : Type 0 where
   pub sees : Sees (finished_pieces d.oldest_receive (bus.world new)) run
   pub ran : Ran bus up (only (receive_loads d.layout d.oldest_receive run.count)) (at old d) (at new d)
 
--- One more descriptor was loaded.
+-- After the descriptors in the run, the next descriptor, `desc`, was loaded. `desc` shows whether the next slot is finished.
 pub record LoadsNext {B : Type 0} (bus : Ghosts B) (run : Run) (desc : RxDesc) (up : Bool) (d : DriverState) (old new : B) : Type 0 where
   pub sees : Sees (finished_pieces d.oldest_receive (bus.world new)) run
   pub ran : Ran bus up (only (receive_loads d.layout d.oldest_receive (run.count + 1))) (at old d) (at new d)
@@ -319,7 +310,6 @@ sees_slots-none {up} bus stays run d b none empty whole ready = record {
       (ran_by-stays bus stays b d ready);
 }
 
--- The next slot is finished, as its descriptor shows.
 pub next-shown : {up : Bool} {B : Type 0} (bus : Ghosts B) (run : Run) (desc : RxDesc) (d : DriverState) (a c : B)
     → (next : LoadsNext bus run desc up d a c) → is_set (status_bits desc.status) dd ≡ true
     → NextSeen (finished_pieces d.oldest_receive (bus.world c)) next.sees.seen desc
@@ -328,7 +318,6 @@ next-shown bus run desc d a c next done =
     next-seen pieces run desc (finished-cut d (bus.world c) next.ran.goes.flows.ready) next.sees
     (subst (λ (bit : Bool). ShowsSlot bit run.count pieces desc) done next.shows)
 
--- The next slot isn't finished.
 pub finds-unfinished : {up : Bool} {B : Type 0} (bus : Ghosts B) (run : Run) (desc : RxDesc) (d : DriverState) (a c : B)
     → LoadsNext bus run desc up d a c → is_set (status_bits desc.status) dd ≡ false → run.count < length d.buffers
     → FindsNoFrame bus up (at a d) (at c d)
@@ -342,7 +331,6 @@ finds-unfinished bus run desc d a c next clear outstanding =
       ran = next.ran;
     }
 
--- Each outstanding slot was seen.
 pub finds-all_seen : {up : Bool} {B : Type 0} (bus : Ghosts B) (run : Run) (d : DriverState) (a b : B) → SeesSlots bus run up d a b
     → run.count ≡ length d.buffers → FindsNoFrame bus up (at a d) (at b d)
 finds-all_seen bus run d a b sees all =
@@ -355,7 +343,6 @@ finds-all_seen bus run d a b sees all =
       ran = sees.ran;
     }
 
--- Six slots without an end are never seen.
 pub never-six : {up : Bool} {B : Type 0} (bus : Ghosts B) (run : Run) (d : DriverState) (a b : B) → SeesSlots bus run up d a b
     → run.count ≡ 6 → ⊥
 never-six {up} bus run d a b sees six =
@@ -363,7 +350,7 @@ never-six {up} bus run d a b sees six =
     let few = parts_are_few up d it.seen it.later (bus.world b) sees.ran.goes.flows.ready it.is in
     omega (arith, few, it.count, six)
 
--- A frame ends in the next slot.
+-- If the next slot is finished and the frame ends in it, the run with this slot is a whole frame.
 pub finds-frame : {up : Bool} {B : Type 0} (bus : Ghosts B) (run run' : Run) (desc : RxDesc) (d : DriverState) (a c : B)
     → (next : LoadsNext bus run desc up d a c) → NextSeen (finished_pieces d.oldest_receive (bus.world c)) next.sees.seen desc
     → IsAdded run run' desc → ends desc ≡ true → (IsFrameSize run'.length → IsTrue run'.whole) → FindsFrame bus run' up (at a d) (at c d)
@@ -384,7 +371,6 @@ finds-frame {up} bus run run' desc d a c next shown added last whole =
       ran = subst (λ (n : ℕ). Ran bus up (only (receive_loads d.layout d.oldest_receive n)) (at a d) (at c d)) (sym added.count) next.ran;
     }
 
--- No frame ends in the next slot.
 pub sees_slots-more : {up : Bool} {B : Type 0} (bus : Ghosts B) (run run' : Run) (desc : RxDesc) (d : DriverState) (a c : B)
     → (next : LoadsNext bus run desc up d a c) → NextSeen (finished_pieces d.oldest_receive (bus.world c)) next.sees.seen desc
     → IsAdded run run' desc → ends desc ≡ false → IsTrue run'.whole → SeesSlots bus run' up d a c

@@ -7,10 +7,10 @@ use Rattle.bus.specs.Pasts.{Past, joined}
 use Rattle.bus.specs.declared.bus.Bus.{Ghosts}
 use Rattle.bus.specs.declared.event.Access.{Access}
 use Rattle.bus.specs.declared.event.Access.TheVariants.{Stores, Writes}
-use Rattle.driver_law.proofs.Calls.{ran-on}
-use Rattle.driver_law.proofs.Places.{place-below, place-next, place-same}
-use Rattle.driver_law.specs.DriverState.{DriverState, transmit_slot, transmit_tail}
-use Rattle.driver_law.specs.Calls.{IsReadyOver, Moment, Ran, send_accesses, transmit_buffer, whole_descriptor}
+use Rattle.bus.proofs.Calls.{ran-on}
+use Rattle.bus.proofs.Places.{place-below, place-next, place-same}
+use Rattle.bus.specs.DriverState.{DriverState, transmit_slot, transmit_tail}
+use Rattle.bus.specs.Calls.{IsReadyOver, Moment, Ran, send_accesses, transmit_buffer, whole_descriptor}
 use Rattle.driver.specs.InsideDriver.{IsSending}
 use Rattle.driver.specs.SendSteps.{IsTransmitAnswer, Reclaims, Sends, accesses_by, loads_to_free, sent_now, with_transmit_slots}
 use Rattle.driver.specs.declared.transmit.SendError.TheVariants.{RingFull}
@@ -60,7 +60,6 @@ was-full bus old new is reclaims others tail full =
     none-of [] none = refl
     none-of (slot ∷ slots) none = absurd (omega (arith, none))
 
--- The accesses depend on the layout and the tail only.
 sends-same : (d d' : DriverState) (frame : List ℕ) → d'.layout ≡ d.layout → transmit_tail d' ≡ transmit_tail d
     → send_accesses d' frame ≡ send_accesses d frame
 sends-same d d' frame counts tail =
@@ -69,7 +68,7 @@ sends-same d d' frame counts tail =
     (whole_descriptor (transmit_buffer layout slot) (length frame)) ∷ Writes 0x3818 ((slot + 1) % layout.tx) ∷ [] in
     ap (λ (layout : Counts). at layout (transmit_tail d')) counts ∙ ap (at d.layout) tail
 
--- Slots are freed, and then the frame is sent.
+-- After slots were freed, the frame was sent: `Sends` holds for Ok.
 pub frees-and-sends : {B : Type 0} (bus : Ghosts B)
     → ((a b c : B) (first later : Past) → bus.happened a b first → bus.happened b c later → bus.happened a c (joined first later))
     → (a b c : Moment B) (frame : List ℕ) → b.driver ≡ with_transmit_slots a.driver b.driver.oldest_transmit b.driver.sending

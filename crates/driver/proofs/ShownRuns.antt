@@ -1,4 +1,4 @@
--- Runs are passed on, one by one: each is shown to the receiver, or its buffers return to the pool.
+-- Runs are passed on, one by one: each whole run is shown to the receiver, and the buffers of other runs return to the pool.
 use Rattle.std.proofs.Common.{Bool, true, false, not, cond, inl, inr, ◌≡◌, ◌≤◌, ◌<◌, ◌+◌, ◌⊎◌, ◌++◌, ◌∷◌, [], ℕ, List, length, map}
 use Rattle.std.proofs.Common.{IsTrue, refl, sym, ap, subst, ◌∙◌, append_assoc, length-append, arith}
 use Rattle.std.specs.List.{All, filter}
@@ -7,14 +7,14 @@ use Rattle.std.proofs.lemmas.List.{append-nil, length-map, map-append}
 use Rattle.std.proofs.lemmas.List.Elements.{All-append, All-cons, filter-append}
 use Rattle.std.proofs.lemmas.List.Sums.{count_by-le-length, length-filter, sum_by-append}
 use Rattle.descriptors.specs.RingLaws.{place}
-use Rattle.driver_law.proofs.Places.{place-add}
+use Rattle.bus.proofs.Places.{place-add}
 use Rattle.dma_memory.specs.Layout.{Counts}
 use Rattle.dma_memory.specs.Owners.{HasNoSecondOwner, HaveSameNumbers, copies}
 use Rattle.dma_memory.specs.OwnersLaws.{copies-append, copies-itself, known_from_no_second}
 use Rattle.bus.proofs.Lists.{all-head, all-none, all-tail}
-use Rattle.driver_law.proofs.Owners.{all-copies, owners-count}
-use Rattle.driver_law.specs.Calls.{OffersAll, with_missed}
-use Rattle.driver_law.specs.DriverState.{DriverState, HandedOut, holding, piece_numbers, owners, with_owners}
+use Rattle.bus.proofs.Owners.{all-copies, owners-count}
+use Rattle.bus.specs.Calls.{OffersAll, with_missed}
+use Rattle.bus.specs.DriverState.{DriverState, HandedOut, holding, piece_numbers, owners, with_owners}
 use Rattle.driver.specs.Answers.{ReceiverAnswers}
 use Rattle.driver.specs.HandlerSteps.{
   GrowsBy,
@@ -39,7 +39,6 @@ use Rattle.driver.specs.declared.receiver.Receiver.{Ghosts as OfReceiver}
 
 -- The result of a receiver
 
--- No buffer that is returned has another owner.
 pub answer-owners : {R : Type 0} (took : R → R → List Received → List Received → Type 0) (before after : R) (received : Received)
     (back : List Part) (n : ℕ) (others : List ℕ) → ReceiverAnswers took before after received back
     → HasNoSecondOwner n (buffers_in received.parts ++ others) → HasNoSecondOwner n (buffers_in back ++ others)
@@ -81,7 +80,6 @@ answer-shown took before after received back pool pool' (inr returned) given = r
 
 -- A run is passed on
 
--- A frame is kept or not.
 kept-part : (received : Received) (kept : List Received) → (kept ≡ []) ⊎ (kept ≡ received ∷ []) → IsSublist kept (received ∷ [])
 kept-part received kept (inl none) = subst (λ (list : List Received). IsSublist list (received ∷ [])) (sym none) (part_without part_none)
 kept-part received kept (inr one) = subst (λ (list : List Received). IsSublist list (received ∷ [])) (sym one) (part_with part_none)
@@ -103,7 +101,7 @@ hands-shown took before after received d d' whole shows bad = record {
   bad = record { least = omega (arith, bad); most = omega (arith, bad); exactly = λ below. omega (arith, bad) };
 }
 
--- No run is whole.
+-- If none of these runs is whole, `ShowsRuns` holds for them, with a receiver that doesn't change.
 abbrev shows-no_frame : {R : Type 0} (took : R → R → List Received → List Received → Type 0) → ((r : R) → took r r [] []) → (r : R)
     (runs : List RunOfSlots) → [] ≡ whole_frames runs → ShowsRuns took r r runs
 shows-no_frame took stays r runs none = record {
@@ -127,15 +125,13 @@ hands-bad took stays r parts d d' bad back = record {
   bad = bad;
 }
 
--- The buffers of a run are known.
 pub known-all : (n : ℕ) (numbers others : List ℕ) → HasNoSecondOwner n (numbers ++ others) → All (λ number. number < n) numbers
 known-all n numbers others once =
     all-copies (λ (number : ℕ). number < n) numbers
     (λ m some. known_from_no_second n m (numbers ++ others) once (omega (arith, some, copies-append m numbers others)))
 
--- Several runs
+-- Several runs are passed on
 
--- Two counts of bad runs.
 grows : (a b c m n : ℕ) → GrowsBy a b m → GrowsBy b c n → GrowsBy a c (m + n)
 grows a b c m n one two = record {
   least = omega (arith, one.least, two.least);
@@ -153,18 +149,15 @@ shows-none took stays r pool = record {
   buffers = λ k. ap (copies k) (sym (append-nil pool));
 }
 
--- The buffers of two lists of runs.
 run-buffers-append : (runs later : List RunOfSlots) → run_buffers (runs ++ later) ≡ run_buffers runs ++ run_buffers later
 run-buffers-append runs later = flat_map-append (λ (run : RunOfSlots). buffers_in run.parts) runs later
 
--- The whole frames of two lists of runs.
 whole-frames-append : (runs later : List RunOfSlots) → whole_frames (runs ++ later) ≡ whole_frames runs ++ whole_frames later
 whole-frames-append runs later =
     let whole : RunOfSlots → Bool = λ run. run.whole in
     let parts : RunOfSlots → List Part = λ run. run.parts in
     ap (map parts) (filter-append whole runs later) ∙ map-append parts (filter whole runs) (filter whole later)
 
--- `IsSublist` of two lists joins.
 pub part-append : {X : Type 0} {some all later more : List X} → IsSublist some all → IsSublist later more
     → IsSublist (some ++ later) (all ++ more)
 part-append part_none behind = behind
@@ -299,7 +292,6 @@ slots-next receivers also r s t d1 d2 d3 d4 n m run parts whole more size some f
     long : length parts ≡ run.count
     long = omega (arith, size, length-map parts (λ (part : Part). part.buffer))
 
--- Each run has at least one slot.
 runs-few : (runs : List RunOfSlots) → All IsRun runs → length runs ≤ length (run_buffers runs)
 runs-few [] all = omega arith
 runs-few (run ∷ later) all =
@@ -344,7 +336,6 @@ served-few n d d' runs ring =
       length-append (run_buffers runs) ring.leave.rest,
     )
 
--- Each buffer has the same number of owners as before, with the receiver among them.
 pub slots-owners : {R : Type 0} (receivers : OfReceiver R) (n : ℕ) (before after : R) (d d' : DriverState)
     → (slots : TakesSlots receivers n before after d d') → HaveSameNumbers (owners d) (owners d' ++ buffers_of slots.shows.receiver.kept)
 slots-owners receivers n before after d d' slots = λ k.
@@ -363,7 +354,6 @@ slots-owners receivers n before after d d' slots = λ k.
       copies-append k (owners d') kept,
     )
 
--- No buffer has a second owner after that.
 pub slots-one_owner : {R : Type 0} (receivers : OfReceiver R) (n : ℕ) (before after : R) (d d' : DriverState)
     → TakesSlots receivers n before after d d' → HasNoSecondOwner d.layout.buffers (owners d)
     → HasNoSecondOwner d'.layout.buffers (owners d')
@@ -377,9 +367,8 @@ slots-one_owner receivers n before after d d' slots once =
       copies-append k (owners d') (buffers_of slots.shows.receiver.kept),
     ))
 
--- The ring is refilled after that
+-- After runs left the ring, the ring is refilled
 
--- Others hold no frame if they own no buffer.
 none-held : (held : List HandedOut) → ((k : ℕ) → copies k (piece_numbers held) ≡ 0) → held ≡ []
 none-held [] none = refl
 none-held (one ∷ later) none = absurd (omega (arith, none one.number, copies-itself one.number (piece_numbers later)))

@@ -1,8 +1,8 @@
--- The sum of missed frames in consecutive intervals.
+-- `SumsMisses` for two consecutive intervals together, and for an interval with the same number of missed frames.
 use Rattle.std.proofs.Common.{◌≡◌, ◌≤◌, ◌<◌, ◌^◌, ◌+◌, ⊎_elim, arith}
 use Rattle.std.proofs.lemmas.Bool.{cases_lt}
 use Rattle.bus.specs.Pasts.{Past, joined}
-use Rattle.driver_law.specs.Calls.{DriverInWorld, SumsMisses}
+use Rattle.bus.specs.Calls.{DriverInWorld, SumsMisses}
 
 pub sums-join : (a b c : DriverInWorld) (first later : Past) → SumsMisses a b first → SumsMisses b c later
     → SumsMisses a c (joined first later)
@@ -33,7 +33,6 @@ sums-join a b c first later one two = record {
   small = λ was. two.small (one.small was);
 }
 
--- The same for an interval with the same number of missed frames.
 pub sums-as : (a b : DriverInWorld) (past other : Past) → other.missed ≡ past.missed → SumsMisses a b past → SumsMisses a b other
 sums-as a b past other same sums = record {
   sum = sums.sum;

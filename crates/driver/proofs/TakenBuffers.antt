@@ -1,4 +1,4 @@
--- The oldest buffers of a driver's queue leave it, as parts of a run.
+-- The oldest buffers leave a driver's queue, as parts of a run.
 use Rattle.std.proofs.Common.{◌≡◌, ◌≤◌, ◌<◌, ◌+◌, ◌-◌, ◌%◌, ◌++◌, ◌∷◌, []}
 use Rattle.std.proofs.Common.{Some, None, ℕ, List, length, take, drop, get_or, slice_get}
 use Rattle.std.proofs.Common.{length-drop, sym, ap, ◌∙◌, arith}
@@ -8,17 +8,17 @@ use Rattle.circular_buffer.specs.Buffer.{Buffer, buffer}
 use Rattle.dma_memory.specs.Owners.{HasNoSecondOwner, copies}
 use Rattle.dma_memory.specs.OwnersLaws.{copies-append}
 use Rattle.descriptors.specs.RingLaws.{place}
-use Rattle.driver_law.proofs.Places.{place-add, place-below}
-use Rattle.driver_law.specs.DriverState.{DriverState, owners}
-use Rattle.driver_law.specs.ReceiveSteps.{after_slots}
+use Rattle.bus.proofs.Places.{place-add, place-below}
+use Rattle.bus.specs.DriverState.{DriverState, owners}
+use Rattle.bus.specs.ReceiveSteps.{after_slots}
 use Rattle.driver.specs.InsideDriver.{driver_state_of}
 use Rattle.driver.specs.Parts.{buffers_in, lengths_in}
 use Rattle.driver.specs.declared.driver.Driver.TheInside.{Inside}
 use Rattle.driver.specs.declared.parts.Part.{Part}
 use Rattle.driver.proofs.BufferQueue.{Receives, owners-inside, queue-split}
-use Rattle.driver_law.proofs.Places.{place-sum}
+use Rattle.bus.proofs.Places.{place-sum}
 
--- One more buffer leaves the queue.
+-- The first i + 1 buffers have left the queue. The parts are these buffers, with the first i + 1 lengths.
 pub record OneMore (items lengths : List ℕ) (i : ℕ) (queue : Buffer ℕ) (capacity : ℕ) (parts : List Part) : Type 0 where
   pub left : queue ≡ buffer (drop (i + 1) items) capacity
   pub buffers : buffers_in parts ≡ take (i + 1) items
@@ -54,7 +54,7 @@ some-first items i queue capacity few before none =
     ∙ ap (λ (q : Buffer ℕ). slice_get q.items 0) (sym before) ∙ none in
     cc
 
--- A queue whose last `staged` buffers are staged, without its first n buffers.
+-- `later` is the queue without its first n buffers. The last `staged` buffers, those of the staged slots, are the same.
 record IsCutOff (staged n : ℕ) (queue later : List ℕ) : Type 0 where
   front : take (length queue - staged) queue ≡ take n queue ++ take (length later - staged) later
   back : drop (length later - staged) later ≡ drop (length queue - staged) queue
@@ -72,7 +72,7 @@ queue-cut staged n queue later left enough =
 abbrev pub with_queue : Inside → ℕ → Buffer ℕ → Inside
 with_queue d next queue = record d { oldest_receive = next; buffers = queue }
 
--- The first n buffers have left the queue.
+-- The first n buffers, those of the oldest outstanding slots, have left the queue.
 pub record HasTaken (d : Inside) (next n : ℕ) (queue : Buffer ℕ) : Type 0 where
   pub receives : Receives (with_queue d next queue)
   pub first : (driver_state_of d).buffers ≡ take n d.buffers.items ++ (driver_state_of (with_queue d next queue)).buffers

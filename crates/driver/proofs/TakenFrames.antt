@@ -16,14 +16,14 @@ use Rattle.bus.specs.Keeping.{Keeps}
 use Rattle.bus.specs.Pasts.{Past, joined, nothing}
 use Rattle.bus.specs.declared.bus.Bus.{Ghosts}
 use Rattle.bus.specs.declared.event.Access.{Access}
-use Rattle.driver_law.proofs.Accesses.{ran_by-itself, ran_by-join, ran_by-same, ran_by-stays}
-use Rattle.driver_law.proofs.Calls.{ready-on}
-use Rattle.driver_law.proofs.ReceiveAccesses.{takes-push}
-use Rattle.driver_law.proofs.TakenSlots.{buffers_can_come_back}
-use Rattle.driver_law.specs.Calls.{Ran, WhereReady, at, ether_type_load, only, receive_loads, takes_from}
-use Rattle.driver_law.specs.DriverState.{DriverState, HandedOut, frame_of, holding, piece_numbers}
-use Rattle.driver_law.specs.ReadyDrivers.{ReadyWith, Stands}
-use Rattle.driver_law.specs.ReceiveSteps.{after_slots}
+use Rattle.bus.proofs.DriverAccesses.{ran_by-itself, ran_by-join, ran_by-same, ran_by-stays}
+use Rattle.bus.proofs.Calls.{ready-on}
+use Rattle.bus.proofs.ReceiveAccesses.{takes-push}
+use Rattle.bus.proofs.TakenSlots.{buffers_can_come_back}
+use Rattle.bus.specs.Calls.{Ran, WhereReady, at, ether_type_load, only, receive_loads, takes_from}
+use Rattle.bus.specs.DriverState.{DriverState, HandedOut, frame_of, holding, piece_numbers}
+use Rattle.bus.specs.ReadyDrivers.{ReadyWith, Stands}
+use Rattle.bus.specs.ReceiveSteps.{after_slots}
 use Rattle.driver.specs.HandlerSteps.{AreOfOneFrame, PassesOn, HandsOver, HasEtherType, IsTaken, LeavesRing, Scene, TakesFrames, TakesSlots}
 use Rattle.driver.specs.HandlerSteps.{WhereReadyIn, WhereTaken, part_none, run_buffers, run_with, scene, whole_frames}
 use Rattle.driver.specs.Looks.{FindsFrame, IsLookedRun}
@@ -36,7 +36,7 @@ use Rattle.driver.specs.declared.receiver.Receiver.{Ghosts as OfReceiver}
 use Rattle.driver.proofs.ShownRuns.{part-append, slots-next, slots-none}
 use Rattle.driver.proofs.TakenRuns.{buffers-pieces, concat-numbers, is-kept, length-frame, takes-run}
 
--- n frames were taken, and shown to the receiver.
+-- Runs were taken, n of them whole. Over a bus that obeys the law, for a driver that is ready, n frames were taken and shown.
 pub record Walks {B R : Type 0} (bus : Ghosts B) (receivers : OfReceiver R) (n : ℕ) (old new : Scene B R) : Type 0 where
   pub slots : TakesSlots receivers n old.receiver new.receiver old.driver new.driver
   pub takes : WhereReadyIn bus old new (TakesFrames bus receivers n)
@@ -66,7 +66,7 @@ walks-none bus receivers stays waits b r d = record {
 
 -- One more frame: a run that was found leaves the ring and is passed on
 
--- A whole run has the size of a frame, and its parts fill their buffers.
+-- The lengths of the parts sum to a legal size. Each part fits into a buffer, and each part except the last fills its buffer.
 record IsWholeRun (list : List Part) : Type 0 where
   size : IsFrameSize (sum (lengths_in list))
   fits : FitIntoBuffers (lengths_in list)
@@ -90,7 +90,7 @@ is-taken pieces run = record {
   fill = run.fill;
 }
 
--- Over a bus that obeys the law the frame is shown.
+-- Over a bus that obeys the law, the frame of the run is taken and shown to the receiver.
 takes-next : {up : Bool} {B R : Type 0} (bus : Ghosts B) (receivers : OfReceiver R)
     → ((b : B) → bus.happened b b nothing)
     → ((a b c : B) (first later : Past) → bus.happened a b first → bus.happened b c later → bus.happened a c (joined first later))

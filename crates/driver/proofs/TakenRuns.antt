@@ -13,12 +13,12 @@ use Rattle.rx_engine.specs.Pieces.Piece.{Last, Part}
 use Rattle.bus.specs.Pasts.{nothing}
 use Rattle.bus.specs.declared.bus.Bus.{Ghosts}
 use Rattle.bus.proofs.Lists.{all-head, all-left}
-use Rattle.driver_law.proofs.Accesses.{ran_by-same}
-use Rattle.driver_law.proofs.ReceiveAccesses.{ran_by-takes}
-use Rattle.driver_law.specs.Calls.{Ran, at, call_did}
-use Rattle.driver_law.specs.DriverState.{DriverState, HandedOut, frame_of, piece_numbers}
-use Rattle.driver_law.specs.ReadyDrivers.{ReadyWith}
-use Rattle.driver_law.specs.ReceiveSteps.{AreOfFrame, after_slots}
+use Rattle.bus.proofs.DriverAccesses.{ran_by-same}
+use Rattle.bus.proofs.ReceiveAccesses.{ran_by-takes}
+use Rattle.bus.specs.Calls.{Ran, at, call_did}
+use Rattle.bus.specs.DriverState.{DriverState, HandedOut, frame_of, piece_numbers}
+use Rattle.bus.specs.ReadyDrivers.{ReadyWith}
+use Rattle.bus.specs.ReceiveSteps.{AreOfFrame, after_slots}
 use Rattle.descriptors.specs.Frames.{longest_frame}
 use Rattle.driver.specs.HandlerSteps.{AreOfOneFrame, HasEtherType, IsSublist, LeavesRing, part_none, part_with, part_without}
 use Rattle.driver.specs.Looks.{FindsFrame}
@@ -37,7 +37,7 @@ buffers-pieces (one ∷ later) = ap (λ (list : List ℕ). one.number ∷ list) 
 abbrev bytes_of : List HandedOut → List (List ℕ)
 bytes_of pieces = map (λ (one : HandedOut). one.bytes) pieces
 
--- these buffers with these sizes
+-- the parts with these buffers and these sizes, in order
 abbrev zipped : List ℕ → List ℕ → List parts.Part
 zipped [] sizes = []
 zipped (number ∷ numbers) [] = []
@@ -58,7 +58,6 @@ parts-same pieces list numbers sizes =
     sym (zipped-pieces pieces) ∙ ap (λ (xs : List ℕ). zipped xs (map length (bytes_of pieces))) numbers
     ∙ ap (zipped (buffers_in list)) sizes ∙ zipped-parts list
 
--- The length of a frame is the sum of the lengths of its pieces.
 pub length-frame : (pieces : List HandedOut) → length (frame_of pieces) ≡ sum (lengths_in (parts_of pieces))
 length-frame [] = refl
 length-frame (one ∷ later) = omega (
@@ -68,14 +67,12 @@ length-frame (one ∷ later) = omega (
   sum_by-cons (λ (n : ℕ). n) (length one.bytes) (lengths_in (parts_of later)),
 )
 
--- Bytes 12 and 13 of the first piece are those of the frame.
 type-first : (first rest : List ℕ) → 14 ≤ length first → ether_type first ≡ ether_type (first ++ rest)
 type-first first rest long =
     let at : (i : ℕ) → i < 14 → slice_index first i ≡ slice_index (first ++ rest) i = λ i below.
     sym (get_or_append_left first rest 0 i (omega (arith, long, below))) in
     omega (arith, at 12 (omega arith), at 13 (omega arith))
 
--- the frame that a receiver is shown, by the values that were read
 pub received-same : (first : HandedOut) (later : List HandedOut) (list : List parts.Part) (size type : ℕ) → parts_of (first ∷ later) ≡ list
     → size ≡ sum (lengths_in list) → type ≡ ether_type first.bytes → 14 ≤ length first.bytes
     → received_of (first ∷ later) ≡ record { parts = list; length = size; ether_type = type }
@@ -88,7 +85,6 @@ received-same first later list size type same is read long =
     ∙ ap (λ (n : ℕ). shape list n (ether_type (frame_of pieces))) long_is
     ∙ ap (shape list size) (sym (read ∙ type-first first.bytes (frame_of later) long))
 
--- The first piece contains the EtherType.
 first-type : (pieces : List HandedOut) (seen : List (List ℕ)) (last : List ℕ) → bytes_of pieces ≡ seen ++ last ∷ [] → AreOfFrame seen last
     → HasEtherType pieces
 first-type [] seen last is frame = absurd (omega (arith, ap length is, length-append seen (last ∷ [])))
@@ -99,9 +95,8 @@ first-type (one ∷ later) (bytes ∷ seen) last is frame =
     let same : one.bytes ≡ bytes = cc in
     omega (arith, ap length same, all-head (λ (xs : List ℕ). length xs ≡ receive_buffer_bytes) bytes seen frame.full)
 
--- Lists of pieces
+-- Pieces in which no frame ends
 
--- If no frame ends in the pieces, all are parts.
 pub only-parts : (begun : List ℕ) (pieces : List Piece) → frames_from begun pieces ≡ [] → (seen : List (List ℕ)) × (pieces ≡ parts seen)
 only-parts begun [] none = ([], refl)
 only-parts begun (Part bytes ∷ later) none =
@@ -111,7 +106,6 @@ only-parts begun (Last bytes ∷ later) none = absurd (omega (arith, ap length n
 
 -- The run leaves the ring
 
--- The buffers of the run may be those of one frame.
 one-frame : (seen : ℕ) (numbers : List ℕ) → length numbers ≡ suc seen → receive_buffer_bytes * seen ≤ longest_frame → AreOfOneFrame numbers
 one-frame seen numbers many few = record { least = omega (arith, many); most = omega (arith, many, few) }
 
@@ -157,7 +151,7 @@ takes-run {up} bus stays b c d1 d2 d run list many leaves same finds ready =
           (ap (λ (bytes : List ℕ). bytes ∷ []) (sym taken.frame)) taken.ran;
     }
 
--- The frames that the receiver kept are pieces that others hold
+-- Others hold the pieces of the frames that the receiver kept
 
 pub record IsKept (P : HandedOut → Type 0) (held pieces : List HandedOut) (kept : List Received) : Type 0 where
   pub entries : List (List HandedOut)
@@ -189,7 +183,6 @@ is-kept P held pieces received kept is whether stand =
     }))
     whether
 
--- The buffers of all frames, in order.
 pub concat-numbers : (taken : List (List HandedOut)) → concat (map piece_numbers taken) ≡ piece_numbers (pieces_of taken)
 concat-numbers [] = refl
 concat-numbers (pieces ∷ later) =

@@ -3,8 +3,8 @@ use Rattle.std.specs.Prelude.{◌≡◌, ◌⊎◌, ◌∷◌, [], List}
 use Rattle.driver.specs.declared.parts.Part.{Part}
 use Rattle.driver.specs.declared.receiver.Received.{Received}
 
--- The receiver was shown the frame. The receiver kept the frame and returned no buffer, or it didn't keep the frame and returned all its
--- buffers.
+-- Between `before` and `after`, the receiver was shown the frame `received`. The receiver kept the frame and returned no buffer, or didn't
+-- keep the frame and returned all buffers of the frame.
 abbrev pub ReceiverAnswers : {R : Type 0} → (R → R → List Received → List Received → Type 0) → (before after : R) → Received
     → (answer : List Part)
     → Type 0

@@ -1,5 +1,6 @@
--- How a driver takes frames off its receive ring, and what its interrupt handler does. The contract of `interrupt` is `Handles` and
--- `ServesReceiver`, that of `take_finished` is `TakesAll` and `TakesSlots`. Records that these four don't use are for private functions.
+-- How a driver takes frames off its receive ring, reads a received frame, and handles an interrupt. The contract of `interrupt` uses
+-- `Handles`, `ServesReceiver` and `OnlyReceives`. The contract of `take_finished` uses `TakesAll` and `TakesSlots`, and that of `read`
+-- uses `ReadsHeld`.
 use Rattle.std.specs.Prelude.{⊤, ◌≡◌, ◌≤◌, ◌<◌, ◌⊎◌, ◌+◌, ◌-◌, ◌*◌, ◌^◌, ◌++◌, ◌∷◌, []}
 use Rattle.std.specs.Prelude.{ℕ, suc, Bool, not, All, List, count_by, filter, flat_map, length, map}
 use Rattle.std.specs.Prelude.{IsTrue, min, sum, take}
@@ -15,12 +16,12 @@ use Rattle.adapter.specs.World.{World}
 use Rattle.bus.specs.declared.bus.Bus.{Ghosts}
 use Rattle.bus.specs.declared.event.Access.{Access}
 use Rattle.bus.specs.declared.event.Access.TheVariants.{Reads}
-use Rattle.driver_law.specs.Calls.{Did, FlowsTo, HasNoForgottenWork, IsReadyOver, IsRefilled, Moment, Ran, ReadsCauses, at, call_did}
-use Rattle.driver_law.specs.Calls.{driver_did}
-use Rattle.driver_law.specs.Calls.{ether_type_load, frames_ended, held_at, in_world_of, only, receive_loads, stores_from, tail_write}
-use Rattle.driver_law.specs.Calls.{takes_from, with_missed}
-use Rattle.driver_law.specs.DriverState.{DriverState, HandedOut, frame_of, holding, next_receive, piece_numbers, owners}
-use Rattle.driver_law.specs.ReceiveSteps.{after_slots}
+use Rattle.bus.specs.Calls.{Did, FlowsTo, HasNoForgottenWork, IsReadyOver, IsRefilled, Moment, Ran, ReadsCauses, at, call_did}
+use Rattle.bus.specs.Calls.{driver_did}
+use Rattle.bus.specs.Calls.{ether_type_load, frames_ended, held_at, in_world_of, only, receive_loads, stores_from, tail_write}
+use Rattle.bus.specs.Calls.{takes_from, with_missed}
+use Rattle.bus.specs.DriverState.{DriverState, HandedOut, frame_of, holding, next_receive, piece_numbers, owners}
+use Rattle.bus.specs.ReceiveSteps.{after_slots}
 use Rattle.driver.specs.Parts.{AreFrames, FillBuffers, FitIntoBuffers, IsFrameSize, IsWholeFrame, buffers_in, buffers_of}
 use Rattle.driver.specs.Parts.{joined_frames, lengths_in, parts_of, pieces_of, received_of}
 use Rattle.driver.specs.declared.look.Run.{Run}
@@ -39,7 +40,7 @@ use Rattle.driver.specs.declared.interrupt.Handled.TheVariants as answers
 
 -- Taking frames
 
--- The first list is the second list without some of its items, or the whole second list. The order is the same.
+-- The first list is the second list, from which any number of items may be missing. The order is the same.
 pub data IsSublist {X : Type 0} : List X → List X → Type 0 where
   part_none : IsSublist [] []
   part_with : {one : X} {some all : List X} → IsSublist some all → IsSublist (one ∷ some) (one ∷ all)
@@ -49,16 +50,17 @@ pub data IsSublist {X : Type 0} : List X → List X → Type 0 where
 abbrev pub count_limit : ℕ
 count_limit = 2 ^ 64
 
--- A count grew by `more`, unless it saturated at the greatest u64.
+-- A count grew from `before` to `after`: by `more`, or by at most `more` if `after` is the greatest u64.
 pub record GrowsBy (before after more : ℕ) : Type 0 where
   -- the count didn't decrease
   pub least : before ≤ after
   -- the count grew by at most `more`
   pub most : after ≤ before + more
-  -- the count grew by exactly `more`, unless it is at its greatest value
+  -- if `after` is below the greatest u64, the count grew by exactly `more`
   pub exactly : after < count_limit - 1 → after ≡ before + more
 
--- A receiver was shown this frame. The receiver kept the frame, or the frame's buffers are in the pool.
+-- A receiver was shown the frame `received`. If the receiver kept the frame, the pool has the same numbers. Otherwise the frame's buffers
+-- were added to the pool.
 pub record Shows {R : Type 0} (took : R → R → List Received → List Received → Type 0) (before after : R) (received : Received)
     (pool pool' : List ℕ) : Type 0 where
   pub kept : List Received
@@ -76,16 +78,16 @@ pub record RunOfSlots : Type 0 where
 abbrev pub run_with : List Part → (whole : Bool) → RunOfSlots
 run_with parts whole = record { parts = parts; whole = whole }
 
--- The run has one to six slots. If it is whole, each slot before the last is full, and the last isn't empty.
+-- The run has one to six slots. If the run is whole, each buffer before the last is full, and the last contains at least one byte.
 pub record IsRun (run : RunOfSlots) : Type 0 where
   -- at least one slot
   pub least : 1 ≤ length run.parts
   -- at most six slots
   pub most : length run.parts ≤ MOST_PARTS
-  -- in a whole run, the slots before the last are full, and the last isn't empty
+  -- in a whole run, each buffer before the last is full, and the last contains at least one byte
   pub full : IsTrue run.whole → FillBuffers (lengths_in run.parts)
 
--- the buffers of these runs, in order
+-- the numbers of the buffers of these runs, in order
 abbrev pub run_buffers : List RunOfSlots → List ℕ
 run_buffers runs = flat_map (λ (run : RunOfSlots). buffers_in run.parts) runs
 
@@ -97,15 +99,15 @@ whole_frames runs = map (λ (run : RunOfSlots). run.parts) (filter (λ (run : Ru
 abbrev pub bad_runs : List RunOfSlots → ℕ
 bad_runs runs = count_by (λ (run : RunOfSlots). not run.whole) runs
 
--- The received frames are the whole frames of these runs, in order. Each has the buffers and lengths of its run, and a legal size, and its
--- pieces fit into their buffers.
+-- The received frames are those of the whole runs, in order: each has the buffers and lengths of its run. The length of each frame is legal
+-- and is the sum of the sizes of its pieces, and each piece fits into a buffer.
 pub record AreFramesOf (runs : List RunOfSlots) (received : List Received) : Type 0 where
-  -- each frame has the buffers and lengths of its run
+  -- the frames are those of the whole runs, in order, each with the buffers and lengths of its run
   pub parts : map (λ (one : Received). one.parts) received ≡ whole_frames runs
-  -- each frame has a legal size, and its pieces fit into their buffers
+  -- each frame has a legal length, which is the sum of the sizes of its pieces, and each piece fits into a buffer
   pub sizes : AreFrames received
 
--- The whole frames of these runs were shown to the receiver, in order. The receiver kept none, some or all of these
+-- The frames of the whole runs were shown to the receiver, in order. The receiver kept none, some or all of these
 -- frames.
 pub record ShowsRuns {R : Type 0} (took : R → R → List Received → List Received → Type 0) (before after : R) (runs : List RunOfSlots)
     : Type 0 where
@@ -120,27 +122,28 @@ pub record ShowsRuns {R : Type 0} (took : R → R → List Received → List Rec
   -- the frames kept are among the frames shown, in the same order
   pub part : IsSublist kept received
 
--- `ShowsRuns` holds, and the buffers of the bad runs, and of the frames that the receiver didn't keep, went to the pool.
+-- `ShowsRuns` holds. The buffers of the bad runs, and of the frames that the receiver didn't keep, were added to the pool.
 pub record ShowsAll {R : Type 0} (took : R → R → List Received → List Received → Type 0) (before after : R) (runs : List RunOfSlots)
     (pool pool' : List ℕ) : Type 0 where
   pub receiver : ShowsRuns took before after runs
   pub buffers : HaveSameNumbers (run_buffers runs ++ pool) (pool' ++ buffers_of receiver.kept)
 
--- A run was passed on. Either its whole frame was shown to the receiver, or the run was counted as bad and its buffers went to the pool.
+-- A run was passed on. If the run is whole, its frame was shown to the receiver, and the count of bad runs is the same. Otherwise the run
+-- was counted as bad, and its buffers were added to the pool.
 pub record PassesOn {R : Type 0} (took : R → R → List Received → List Received → Type 0) (before after : R) (run : RunOfSlots)
     (d d' : DriverState) : Type 0 where
   pub shows : ShowsAll took before after (run ∷ []) d.pool d'.pool
   pub bad : GrowsBy d.bad d'.bad (bad_runs (run ∷ []))
 
--- A run of the oldest slots left the ring. The run's buffers were the first of the driver's outstanding buffers, and
--- `parts` are these buffers with the run's lengths.
+-- The slots of the run, which were the oldest outstanding slots, left the ring. `parts` are the buffers of these slots, each with its
+-- length in the run. In the driver's state, only the oldest slot and the outstanding slots changed.
 pub record LeavesRing (run : Run) (parts : List Part) (d d' : DriverState) : Type 0 where
   pub first : d.buffers ≡ buffers_in parts ++ d'.buffers
   pub lengths : lengths_in parts ≡ take run.count run.lengths
   pub others : d' ≡ after_slots d run.count d'.buffers d.handed_out
 
--- The parts have the lengths of the run, and the length of the run is their sum. A whole run has the size of a frame,
--- and each of its parts fits into a buffer.
+-- The parts have the lengths of the run, and the length of the run is their sum. If the run is whole, its length is
+-- legal, and each of its parts fits into a buffer.
 pub record HasParts (run : Run) (parts : List Part) : Type 0 where
   pub lengths : lengths_in parts ≡ take run.count run.lengths
   pub length_is : run.length ≡ sum (lengths_in parts)
@@ -166,11 +169,12 @@ scene bus driver receiver = record { bus = bus; driver = driver; receiver = rece
 abbrev pub moment : {B R : Type 0} → Scene B R → Moment B
 moment now = record { bus = now.bus; driver = now.driver }
 
--- this scene while others hold these pieces of frames
+-- this scene, in which others hold exactly these pieces of frames
 abbrev pub held_in : {B R : Type 0} → List HandedOut → Scene B R → Scene B R
 held_in held now = record now { driver = holding held now.driver }
 
--- `WhereReady` with a receiver: if the bus obeys the law and the driver is ready, `Holds` relates the scenes before and after a call.
+-- `WhereReady` with a receiver. If the bus obeys the law and the driver is ready before a call, `Holds` relates the scenes before and after
+-- the call. The relation is stated for each list of pieces that others hold, and for a transmit side that is set up or off.
 abbrev pub WhereReadyIn : {B R : Type 0} → Ghosts B → (old new : Scene B R) → (Bool → Scene B R → Scene B R → Type 0) → Type 0
 WhereReadyIn bus old new Holds =
     (up : Bool) (held : List HandedOut) → IsReadyOver bus up (held_at held (moment old)) → Holds up (held_in held old) (held_in held new)
@@ -179,13 +183,13 @@ WhereReadyIn bus old new Holds =
 abbrev pub header_bytes : ℕ
 header_bytes = 14
 
--- The first of these pieces contains the frame's header, and so its EtherType (bytes 12 and 13).
+-- There is a first piece, and it contains the whole header of the frame, and so the EtherType (bytes 12 and 13).
 abbrev pub HasEtherType : List HandedOut → Type 0
 HasEtherType [] = ⊥
 HasEtherType (first ∷ later) = header_bytes ≤ length first.bytes
 
--- `WhereReadyIn` if `whole`, and if others hold the frame in these parts, whose first piece contains the frame's
--- header.
+-- `WhereReadyIn` for a run with the parts `parts`, if `whole` is true. Before and after the call, others hold the pieces `held`, and then
+-- the pieces of a frame. These pieces have the buffers and lengths in `parts`, and the first contains the frame's header.
 abbrev pub WhereTaken : {B R : Type 0} → Ghosts B → List Part → (whole : Bool) → (old new : Scene B R)
     → (List HandedOut → Bool → Scene B R → Scene B R → Type 0) → Type 0
 WhereTaken bus parts whole old new Holds =
@@ -193,7 +197,8 @@ WhereTaken bus parts whole old new Holds =
     → IsReadyOver bus up (held_at (held ++ pieces) (moment old))
     → Holds pieces up (held_in (held ++ pieces) old) (held_in (held ++ pieces) new)
 
--- The frame in these pieces was shown to the receiver, after one load of its bytes 12 and 13.
+-- The frame in these pieces was shown to the receiver. The only access was one load of the frame's bytes 12 and 13. The count of bad runs
+-- is the same.
 pub record HandsOver {B R : Type 0} (bus : Ghosts B) (receivers : OfReceiver R) (pieces : List HandedOut) (up : Bool)
     (old new : Scene B R) : Type 0 where
   pub shows : Shows receivers.took old.receiver new.receiver (received_of pieces) old.driver.pool new.driver.pool
@@ -205,14 +210,15 @@ pub record HandsOver {B R : Type 0} (bus : Ghosts B) (receivers : OfReceiver R) 
 pub record AreOfOneFrame (numbers : List ℕ) : Type 0 where
   -- at least one buffer
   pub least : 1 ≤ length numbers
-  -- full buffers before the last one contain no more bytes than the longest frame
+  -- the buffers before the last one, if they are full, contain at most the bytes of the longest frame
   pub most : receive_buffer_bytes * (length numbers - 1) ≤ longest_frame
 
--- The pieces of a frame that was taken: its size is legal, each piece except the last fills its buffer, and the last isn't empty.
+-- These pieces make up a frame of legal size. Each piece except the last fills its buffer. The last piece has at least one byte, and fits
+-- into its buffer.
 pub record IsTaken (pieces : List HandedOut) : Type 0 where
   -- the pieces make up a frame of legal size
   pub whole : IsWholeFrame (received_of pieces)
-  -- each piece except the last fills its buffer, and the last isn't empty
+  -- each piece except the last fills its buffer, and the last has at least one byte and fits into its buffer
   pub fill : FillBuffers (lengths_in (parts_of pieces))
 
 -- n frames, `taken`, were shown to the receiver, in order. The receiver kept the frames `kept`.
@@ -229,10 +235,11 @@ pub record ShowsFrames {R : Type 0} (receivers : OfReceiver R) (n : ℕ) (before
   pub count : length taken ≡ n
   -- each frame has at least one buffer, and no more buffers than the longest frame needs (`AreOfOneFrame`)
   pub groups : All AreOfOneFrame (map piece_numbers taken)
-  -- each frame has a legal size, fills all its buffers except the last, and its last piece isn't empty
+  -- each frame has a legal size and fills all its buffers except the last, which contains at least one byte
   pub each : All IsTaken taken
 
--- n frames were taken off the ring, the oldest first, and shown to the receiver.
+-- n frames were taken off the ring, the oldest first, and shown to the receiver. Others hold the pieces of the frames that the receiver
+-- kept. No run was bad.
 pub record TakesFrames {B R : Type 0} (bus : Ghosts B) (receivers : OfReceiver R) (n : ℕ) (up : Bool) (old new : Scene B R) : Type 0 where
   pub frames : ShowsFrames receivers n old.receiver new.receiver
   pub oldest : old.driver.buffers ≡ piece_numbers (pieces_of frames.taken) ++ new.driver.buffers
@@ -242,7 +249,7 @@ pub record TakesFrames {B R : Type 0} (bus : Ghosts B) (receivers : OfReceiver R
       (joined_frames frames.taken) [])
       (moment old) (held_at (old.driver.handed_out ++ pieces_of frames.kept) (moment new))
 
--- Over any bus: these runs left the ring, the oldest first, and n were shown as whole frames. It isn't stated which runs are bad.
+-- Over any bus: the runs `runs` left the ring, the oldest first, and n of them were shown as whole frames. It isn't stated which are bad.
 pub record TakesSlots {R : Type 0} (receivers : OfReceiver R) (n : ℕ) (before after : R) (d d' : DriverState) : Type 0 where
   pub others : d' ≡ record d { oldest_receive = d'.oldest_receive; buffers = d'.buffers; pool = d'.pool; bad = d'.bad }
   pub runs : List RunOfSlots
@@ -250,7 +257,7 @@ pub record TakesSlots {R : Type 0} (receivers : OfReceiver R) (n : ℕ) (before 
   pub oldest : d.buffers ≡ run_buffers runs ++ d'.buffers
   pub next : d'.oldest_receive ≡ place d.layout.rx d.oldest_receive (length (run_buffers runs))
   pub count : length (whole_frames runs) ≡ n
-  -- Each bad run is counted once.
+  -- Each bad run is counted once, until the count saturates.
   pub bad : GrowsBy d.bad d'.bad (bad_runs runs)
   pub shows : ShowsAll receivers.took before after runs d.pool d'.pool
 
@@ -268,14 +275,14 @@ pub record TakesAll {B R : Type 0} (bus : Ghosts B) (receivers : OfReceiver R) (
       (held_at (old.driver.handed_out ++ pieces_of takes.frames.kept) (at middle new.driver))
       (held_at (old.driver.handed_out ++ pieces_of takes.frames.kept) (moment new))
 
--- The value read is the EtherType of the frame in these parts. The bus must obey the law, others must hold the frame,
--- and its first piece must contain the header.
+-- `read` is the EtherType of the frame in these parts. Conditions: the bus obeys the law, the driver is ready, others hold the frame, and
+-- the frame's first piece contains the header.
 abbrev pub ReadsEtherType : {B : Type 0} → Ghosts B → List Part → Moment B → (read : ℕ) → Type 0
 ReadsEtherType bus parts now read =
     (up : Bool) (held later : List HandedOut) (first : HandedOut) → IsReadyOver bus up (held_at (held ++ first ∷ later) now)
     → parts_of (first ∷ later) ≡ parts → header_bytes ≤ length first.bytes → read ≡ ether_type first.bytes
 
--- If the bus obeys the law and others hold the received frame, the bytes read are the frame's.
+-- If the bus obeys the law, the driver is ready, and others hold the received frame, `bytes` are the bytes of this frame.
 abbrev pub ReadsHeld : {B : Type 0} → Ghosts B → Received → Moment B → List ℕ → Type 0
 ReadsHeld bus received now bytes =
     (up : Bool) (first pieces later : List HandedOut) → IsReadyOver bus up (held_at (first ++ (pieces ++ later)) now)
@@ -283,29 +290,29 @@ ReadsHeld bus received now bytes =
 
 -- Handling an interrupt
 
--- `P` holds of the number of frames taken, if the result is `Handled`.
+-- If the result is `Handled`, `P` holds for its number of frames.
 abbrev pub IfHandled : Handled → (ℕ → Type 0) → Type 0
 IfHandled NotMine P = ⊤
 IfHandled (answers.Handled taken) P = P taken
 
--- `P` holds, if the result is `NotMine`.
+-- If the result is `NotMine`, `P` holds.
 abbrev pub IfNotMine : Handled → Type 0 → Type 0
 IfNotMine NotMine P = P
 IfNotMine (answers.Handled taken) P = ⊤
 
--- The accesses after the read of ICR: a read of MPC, those that take the frames in `taken`, and loads of the next `loads` descriptors.
+-- The accesses after the read of ICR: a read of MPC, `takes_from` with the buffers `taken`, and loads of the next `loads` descriptors.
 abbrev pub taking_accesses : DriverState → (misses : ℕ) → (taken : List (List ℕ)) → (loads : ℕ) → List Access
 taking_accesses d misses taken loads =
     Reads MPC misses ∷
     (takes_from d.layout d.oldest_receive taken
     ++ receive_loads d.layout (place d.layout.rx d.oldest_receive (length (concat taken))) loads)
 
--- The last accesses of the handler: slots with the buffers `offered` are staged, and `tail` is written to RDT if any slot is staged.
+-- The handler's last accesses: slots with the buffers `offered` are staged, and `tail` is written to RDT if any slot is staged.
 abbrev pub offering_accesses : DriverState → (offered : List ℕ) → (tail : ℕ) → List Access
 offering_accesses d offered tail = stores_from d.layout (next_receive d) offered ++ tail_write tail (d.staged ++ offered)
 
 -- The last look at slots, in the world between its last load and the next access. `oldest` is the place of the oldest slot, and `rest` are
--- the buffers of the outstanding slots. The look loads descriptors up to the first outstanding slot that isn't finished.
+-- the buffers of the outstanding slots. The look loads descriptors up to that of the first slot that isn't finished.
 pub record IsLook (oldest : ℕ) (rest : List ℕ) (world : World) (loads : ℕ) : Type 0 where
   -- no frame ends in finished slots
   pub none_left : frames_of (finished_pieces oldest world) ≡ []
@@ -344,7 +351,8 @@ pub record ReadsMisses (d d' : DriverState) : Type 0 where
   -- saturate
   pub exact : d'.exact ≡ (with_missed misses d).exact
 
--- The oldest slots, with the buffers `taken`, left the ring. After the remaining slots, staged and new slots are offered. No run was bad.
+-- The oldest slots, with the buffers `taken`, left the ring. After the remaining slots, the staged slots and new slots were offered. No run
+-- was bad.
 pub record TakesAndOffers (d d' : DriverState) (taken : List ℕ) : Type 0 where
   -- the buffers of the slots that weren't taken
   pub rest : List ℕ
@@ -357,7 +365,7 @@ pub record TakesAndOffers (d d' : DriverState) (taken : List ℕ) : Type 0 where
   -- no run was bad
   pub no_bad : d'.bad ≡ d.bad
 
--- The driver reads MPC, takes the frames `taken`, and offers slots. `split` is between the last load of a descriptor and the next access.
+-- The driver read MPC, took the frames `taken`, and offered slots. `split` is between the accesses that take and those that offer.
 pub record Works {B : Type 0} (bus : Ghosts B) (taken : List (List HandedOut)) (up : Bool) (old new : Moment B) : Type 0 where
   -- MPC was read, and its value was added to the sum
   pub misses : ReadsMisses old.driver new.driver
@@ -371,13 +379,13 @@ pub record Works {B : Type 0} (bus : Ghosts B) (taken : List (List HandedOut)) (
       (taking_accesses old.driver misses.misses (map piece_numbers taken) loads
       ++ offering_accesses old.driver served.offered (next_receive new.driver))
       (joined_frames taken) []) old new
-  -- the point between the last load of a descriptor and the next access
+  -- the point between the accesses that take and those that offer
   pub split : IsSplit ran (taking_accesses old.driver misses.misses (map piece_numbers taken) loads)
       (offering_accesses old.driver served.offered (next_receive new.driver))
-  -- the last look, at this point
+  -- the last look at slots, at this point
   pub look : IsLook new.driver.oldest_receive served.rest (bus.world split.middle) loads
 
--- The first access, a read of ICR.
+-- The handler's first access: a read of ICR.
 pub record Asked {B : Type 0} (bus : Ghosts B) (up : Bool) (old : Moment B) : Type 0 where
   -- the value read from ICR
   pub causes : ℕ
@@ -397,7 +405,7 @@ pub record DoesNothing {B : Type 0} (bus : Ghosts B) {up : Bool} (old new : Mome
   -- no frame was taken or accepted
   pub flows : FlowsTo up (in_world_of bus old) (in_world_of bus new) (driver_did [] []) asked.reads.past
 
--- The result is `Handled`: after the read of ICR, n frames are taken, in the pieces `taken`.
+-- The result is `Handled`: after the read of ICR, the driver took the frames `taken`.
 pub record HandlesCauses {B : Type 0} (bus : Ghosts B) (taken : List (List HandedOut)) (n : ℕ) {up : Bool} (old new : Moment B)
     (asked : Asked bus up old) : Type 0 where
   -- the value of ICR had a cause that the driver handles
@@ -412,7 +420,7 @@ pub record HandlesCauses {B : Type 0} (bus : Ghosts B) (taken : List (List Hande
   pub flows :
       FlowsTo up (in_world_of bus old) (in_world_of bus new) (driver_did (joined_frames taken) []) (joined asked.reads.past works.ran.past)
 
--- The result is `Handled`, with a receiver. The n frames are shown to the receiver, and others hold the pieces of the frames that it keeps.
+-- The result is `Handled`, with a receiver. n frames were shown to the receiver, and others hold the pieces of the frames that it kept.
 pub record HandlesIt {B R : Type 0} (bus : Ghosts B) (receivers : OfReceiver R) (n : ℕ) {up : Bool} (old new : Scene B R)
     (asked : Asked bus up (moment old)) : Type 0 where
   -- the receiver was shown the frames, and kept none, some or all of them
@@ -427,7 +435,8 @@ abbrev pub HandlesBy : {B R : Type 0} (bus : Ghosts B) → OfReceiver R → Hand
 HandlesBy bus receivers NotMine old new asked = DoesNothing bus (moment old) (moment new) asked
 HandlesBy bus receivers (answers.Handled taken) old new asked = HandlesIt bus receivers taken old new asked
 
--- The contract of `interrupt` over a bus that obeys the law: the handler reads ICR first, and what it does next depends on the causes read.
+-- The contract of `interrupt` for a driver that is ready, over a bus that obeys the law. The handler reads ICR first, and its next
+-- accesses depend on the causes read.
 pub record Handles {B R : Type 0} (bus : Ghosts B) (receivers : OfReceiver R) (result : Handled) (up : Bool) (old new : Scene B R) : Type 0
   where
     -- the read of ICR
@@ -451,9 +460,10 @@ pub record OnlyReceives (d d' : DriverState) : Type 0 where
   -- the groups joined are the same
   pub groups : d'.groups ≡ d.groups
 
--- These runs left the ring, the oldest first. After the remaining slots, the staged slots are offered, and slots with buffers `offered`.
+-- These runs left the ring, the oldest first. After the remaining slots, the staged slots were offered, and then new slots with the buffers
+-- `offered`.
 pub record LeaveRing (d d' : DriverState) (runs : List RunOfSlots) : Type 0 where
-  -- each run has one to six slots; in a whole run, each slot before the last is full, and the last isn't empty
+  -- each run has one to six slots; in a whole run, each buffer before the last is full, and the last isn't empty
   pub are_runs : All IsRun runs
   -- the buffers of the slots that remain outstanding
   pub rest : List ℕ
@@ -466,8 +476,8 @@ pub record LeaveRing (d d' : DriverState) (runs : List RunOfSlots) : Type 0 wher
   -- the oldest slot is the slot after the runs
   pub next : d'.oldest_receive ≡ place d.layout.rx d.oldest_receive (length (run_buffers runs))
 
--- A value was added to the sum of missed frames, these runs left the ring, n of them whole, and slots were offered. It isn't stated which
--- runs are bad, or how many slots they have, because only a bus that obeys the law determines the bytes that a load returns.
+-- A value was added to the sum of missed frames, these runs left the ring, n of them whole, and slots were offered. The record doesn't
+-- state which runs are bad or how many slots each has. Only a bus that obeys the law determines the bytes of a load.
 pub record ServesRing (d d' : DriverState) (runs : List RunOfSlots) (n : ℕ) : Type 0 where
   -- A value was added to the sum. Over a bus that obeys the law, `Handles` states that this value was read from MPC.
   pub misses : ReadsMisses d d'
@@ -475,7 +485,7 @@ pub record ServesRing (d d' : DriverState) (runs : List RunOfSlots) (n : ℕ) : 
   pub count : length (whole_frames runs) ≡ n
   -- the runs left the ring, and slots were offered
   pub leave : LeaveRing d d' runs
-  -- Each bad run is counted once.
+  -- Each bad run is counted once, until the count saturates.
   pub bad : GrowsBy d.bad d'.bad (bad_runs runs)
   -- No buffer is free, or all receive slots but one are outstanding.
   pub refilled : IsRefilled d'
@@ -483,7 +493,7 @@ pub record ServesRing (d d' : DriverState) (runs : List RunOfSlots) (n : ℕ) : 
   pub none_out : d.handed_out ≡ []
   -- no buffer has two owners
   pub one_owner : HasNoSecondOwner d'.layout.buffers (owners d')
-  -- No slot is staged at the end, and nothing else in the driver's state changes.
+  -- No slot is staged at the end. Otherwise only the oldest receive slot, the outstanding receive slots, the pool and the counts change.
   pub others :
       d' ≡ record d {
         oldest_receive = d'.oldest_receive;
@@ -495,13 +505,14 @@ pub record ServesRing (d d' : DriverState) (runs : List RunOfSlots) (n : ℕ) : 
         bad = d'.bad;
       }
 
--- The contract of `interrupt` over any bus, if the result is `Handled`: runs left the ring, and the receiver was shown their whole frames.
+-- The contract of `interrupt` over any bus, if the result is `Handled`. Runs left the ring, and the receiver was shown the frames of the n
+-- whole runs.
 pub record ServesReceiver {R : Type 0} (receivers : OfReceiver R) (before after : R) (d d' : DriverState) (n : ℕ) : Type 0 where
   -- the runs that left the ring
   pub runs : List RunOfSlots
-  -- how the driver changed
+  -- how the driver's state changed
   pub ring : ServesRing d d' runs n
   -- the frames that the receiver was shown, and those that it kept
   pub receiver : ShowsRuns receivers.took before after runs
-  -- the driver and the receiver together own exactly the buffers that the driver owned
+  -- the driver's buffers before are its buffers after and those of the frames that the receiver kept
   pub owners : HaveSameNumbers (owners d) (owners d' ++ buffers_of receiver.kept)

@@ -5,7 +5,7 @@ use Rattle.adapter.specs.declared.offsets.TheConstants.{RDBAL, RDT, TDBAL}
 use Rattle.registers.specs.Counting.{greatest_count}
 use Rattle.dma_memory.specs.Layout.{Counts, descriptor_bytes}
 use Rattle.dma_memory.specs.Owners.{HasOneOwner, HaveSameNumbers}
-use Rattle.eeprom.specs.Image.{HasRightSum, address_bytes}
+use Rattle.eeprom_phy.specs.Image.{HasRightSum, address_bytes}
 use Rattle.rx_engine.specs.Addresses.{IsAddress}
 use Rattle.rx_engine.specs.NumberTables.{HasNumbers, numbers_of_groups}
 use Rattle.adapter.specs.HostFrames.{frames_held, frames_to_send}
@@ -31,15 +31,15 @@ use Rattle.bring_up.specs.declared.config.Config.{Config}
 use Rattle.bring_up.specs.declared.init_error.InitError.{InitError}
 use Rattle.bring_up.specs.declared.init_error.InitError.TheVariants.{Memory}
 use Rattle.bring_up.specs.declared.init_error.InitError.TheVariants as errors
-use Rattle.driver_law.specs.Calls.{HasNoForgottenWork, IsReadyOver, IsRefilled, Moment, Ran, only, stores_from}
-use Rattle.driver_law.specs.Beginnings.{new_driver}
+use Rattle.bus.specs.Calls.{HasNoForgottenWork, IsReadyOver, IsRefilled, Moment, Ran, only, stores_from}
+use Rattle.bus.specs.Beginnings.{new_driver}
 use Rattle.bring_up.specs.Groups.{AreNamedOnce, HasTable}
-use Rattle.driver_law.specs.DriverState.{DriverState, owners, receive_slot, with_owners}
-use Rattle.driver_law.specs.ReadyDrivers.{Ready}
+use Rattle.bus.specs.DriverState.{DriverState, owners, receive_slot, with_owners}
+use Rattle.bus.specs.ReadyDrivers.{Ready}
 
 -- Errors
 
--- When an error is returned: E10 and E15 without an access, and every other error as by `find_device`.
+-- What is known after an error. E10 and E15: there was no access. Other errors: as after `find_device` (`IsErrorOf`).
 abbrev pub IsErrorOfInit : InitError → (image : List ℕ) (accesses : ℕ) → Type 0
 IsErrorOfInit Memory image accesses = accesses ≡ 0
 IsErrorOfInit errors.Config image accesses = accesses ≡ 0
@@ -54,8 +54,8 @@ pub record RefusesInit {B : Type 0} (bus : Ghosts B) (old new : B) (error : Init
 
 -- Parts of initialization
 
--- The words of both tables of the filter have the bits of these groups and VLANs, and no others. Each word has 32
--- bits.
+-- The words of MTA, `groups`, have the bits of the groups `named`, and no others. The words of VFTA, `vlans`, have the
+-- bits of the VLANs `named_vlans`, and no others. Each word has 32 bits.
 pub record AreFilterTables (named : List (List ℕ)) (named_vlans groups vlans : List ℕ) : Type 0 where
   -- MTA has the bits of the groups, and no others
   pub has_groups : HasNumbers groups (numbers_of_groups named)
@@ -66,8 +66,8 @@ pub record AreFilterTables (named : List (List ℕ)) (named_vlans groups vlans :
   -- each word of VFTA has 32 bits
   pub vlans_are : AreWords vlans
 
--- A device with the address `found` was found: its EEPROM's checksum is right, and its link is up. Its filter and its
--- receive ring are set up, with no slot offered.
+-- A device with the address `found` in its EEPROM was found. The EEPROM's checksum is right, and the link is up. The
+-- filter and the receive ring are set up, with no slot offered.
 pub record HasFoundRing {B : Type 0} (bus : Ghosts B) (config : Config) (found : List ℕ) (old new : B) : Type 0 where
   pub sum : HasRightSum (bus.world old).adapter.image
   pub address : IsAddress (address_bytes (bus.world old).adapter.image)
@@ -82,10 +82,12 @@ pub record HasFoundRing {B : Type 0} (bus : Ghosts B) (config : Config) (found :
       ++ ring_setup_writes RDBAL 0 (descriptor_bytes * config.rx))
       (settings_of (bus.world old).adapter)
 
+-- `find_ring` was called, with this result.
 pub record FindsRing {B : Type 0} (bus : Ghosts B) (config : Config) (result : Result (List ℕ) InitError) (old new : B) : Type 0 where
   pub past : Past
   pub reports : bus.happened old new past
   pub found : IfOk result (λ address. HasFoundRing bus config address old new)
+  -- If the result is Ok, neither ICR nor ICS was written.
   pub no_cause : IfOk result (λ address. RecordsNoCause past)
   pub why : IfErr result (λ error. IsErrorOf error (bus.world old).adapter.image (length past.accesses))
   pub why_lively : bus.lively old → IfErr result (λ error. IsErrorOfLively error (bus.world old))
@@ -96,6 +98,7 @@ abbrev pub first_accesses : Counts → List ℕ → List Access
 first_accesses counts numbers =
     stores_from counts 0 numbers ++ (clears (receive_slot (counts.rx - 1)) ∷ Writes RDT (counts.rx - 1) ∷ [])
 
+-- All receive slots except the last were offered, with the buffers `numbers` of the pool.
 pub record OffersFirst {B : Type 0} (bus : Ghosts B) (old new : Moment B) : Type 0 where
   pub numbers : List ℕ
   pub count : length numbers + 1 ≡ old.driver.layout.rx
@@ -104,7 +107,7 @@ pub record OffersFirst {B : Type 0} (bus : Ghosts B) (old new : Moment B) : Type
   -- If the bus obeys the law and the driver is ready with its transmit side off, the accesses are exactly these.
   pub ran : IsReadyOver bus false old → Ran bus false (only (first_accesses old.driver.layout numbers)) old new
 
--- The accesses that clear the transmit descriptors, set up the ring, and write TCTL.
+-- The accesses that clear the transmit descriptors, set up the transmit ring, and write TCTL.
 abbrev pub transmit_accesses : Counts → List Access
 transmit_accesses counts =
     clears_from (descriptor_bytes * counts.rx) counts.tx
@@ -126,7 +129,7 @@ pub record InitAccesses (config : Config) (d : DriverState) (first later : List 
 
 -- The frames since the write of RCTL. `later` is what happened since this write.
 pub record FramesSinceStart (d : DriverState) (world : World) (later : Past) : Type 0 where
-  -- The frames held are exactly those that were stored. No frame was put, and no frame is to be sent.
+  -- The frames held are exactly those that were stored. No frame was put on the wire, and no frame is to be sent.
   pub held : frames_held d.oldest_receive world ≡ later.stored
   pub none_put : later.put ≡ []
   pub none_to_send : frames_to_send world ≡ []
@@ -138,7 +141,7 @@ pub record FramesSinceStart (d : DriverState) (world : World) (later : Past) : T
   pub missed_most : world.adapter.missed_packets ≤ later.missed
   pub missed : world.adapter.missed_packets < greatest_count → world.adapter.missed_packets ≡ later.missed
 
--- The driver is ready, no work is forgotten, and the frames since the write of RCTL are known.
+-- The driver is ready, no work is forgotten, and `FramesSinceStart` holds.
 pub record IsStarted (d : DriverState) (world : World) (later : Past) : Type 0 where
   pub ready : Ready d world
   pub work : HasNoForgottenWork d world
@@ -152,8 +155,8 @@ pub record IsSetUp (config : Config) (old new : World) : Type 0 where
   pub configured : IsConfigured config (address_bytes old.adapter.image) (settings_of new.adapter)
   pub up : HasLink new
 
--- The contract of `init` over a bus that obeys the law, if it returns a driver. Frames are received from the write of
--- RCTL on.
+-- The contract of `init` over a bus that obeys the law, if `init` returns a driver. The adapter can receive frames from
+-- the write of RCTL on.
 pub record Initialises {B : Type 0} (bus : Ghosts B) (config : Config) (old new : B) (d : DriverState) : Type 0 where
   -- the bus right after the write of RCTL
   pub middle : B

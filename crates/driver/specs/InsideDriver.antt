@@ -1,5 +1,5 @@
 -- How `Driver` stores its state (our choice). One queue contains the buffers of the outstanding receive slots, and then
--- those of the staged slots. The place after these slots is stored, too.
+-- those of the staged slots. `Driver` also stores the place after these slots.
 use Rattle.std.specs.Prelude.{◌≡◌, ◌≤◌, ◌<◌, ◌-◌, ◌++◌, ℕ, IsTrue, [], length, take, drop}
 use Rattle.registers.specs.Counting.{greatest_count}
 use Rattle.dma_memory.specs.Layout.{Counts, IsAllowed}
@@ -7,12 +7,12 @@ use Rattle.dma_memory.specs.Numbers.{Numbers}
 use Rattle.dma_memory.specs.Owners.{HasNoSecondOwner}
 use Rattle.circular_buffer.specs.Buffer.{Buffer}
 use Rattle.descriptors.specs.RingLaws.{place}
-use Rattle.driver_law.specs.DriverState.{DriverState}
+use Rattle.bus.specs.DriverState.{DriverState}
 use Rattle.driver.specs.InsideSetup.{IsRightSetup, setup_in}
 use Rattle.driver.specs.declared.driver.Driver.TheInside.{Inside}
 use Rattle.driver.specs.declared.setup.Setup.{Setup}
 
--- the number of buffers of the queue whose slots are outstanding
+-- the number of outstanding receive slots: the length of the queue minus the number of staged slots
 abbrev pub offered_count : Inside → ℕ
 offered_count driver = length driver.buffers.items - driver.staged
 
@@ -33,7 +33,8 @@ driver_state_of driver = record {
   setup = setup_in driver.setup;
 }
 
--- What always holds of the receive side.
+-- What always holds of the receive side. The queue contains the buffers of the outstanding and staged slots, which begin at `oldest` and
+-- end before `next`.
 pub record HasReceiveSide (counts : Counts) (oldest next staged : ℕ) (queue : Buffer ℕ) (pool : Numbers) : Type 0 where
   pub oldest_slot : oldest < counts.rx
   pub room : length queue.items < counts.rx
@@ -44,13 +45,13 @@ pub record HasReceiveSide (counts : Counts) (oldest next staged : ℕ) (queue : 
   -- no buffer has two owners
   pub owners : HasNoSecondOwner counts.buffers (pool.free ++ queue.items)
 
--- What always holds of the transmit side.
+-- What always holds of the transmit side. The outstanding slots begin at `oldest` and end before `next`.
 pub record IsSending (counts : Counts) (oldest next sending : ℕ) : Type 0 where
   pub oldest_slot : oldest < counts.tx
   pub room : sending < counts.tx
   pub next_slot : next ≡ place counts.tx oldest sending
 
--- The sizes of the rings and the setup are valid.
+-- The sizes of the rings, the number of receive buffers, and the setup are valid.
 pub record CanReset (counts : Counts) (setup : Setup) : Type 0 where
   pub allowed : IsAllowed counts
   pub right : IsRightSetup setup

@@ -4,7 +4,7 @@ use Rattle.rx_engine.specs.NumberTables.{table_numbers}
 use Rattle.adapter.specs.PacketBuffer.{IsAllocation}
 use Rattle.bring_up.specs.Configuration.{vlans_of}
 use Rattle.bring_up.specs.ConfiguredAdapters.{names_vlans}
-use Rattle.driver_law.specs.DriverState.{DriverSetup}
+use Rattle.bus.specs.DriverState.{DriverSetup}
 use Rattle.driver.specs.declared.setup.Setup.{Setup}
 
 abbrev pub setup_in : Setup → DriverSetup
@@ -16,7 +16,7 @@ setup_in setup = record {
   address = setup.address;
 }
 
--- RXA and the VLANs are valid.
+-- The value of RXA is a valid allocation, and each VLAN has 12 bits.
 pub record IsRightSetup (setup : Setup) : Type 0 where
   pub allocation : IsAllocation setup.rxa
   pub vlans : All (λ vlan. vlan < table_numbers) (vlans_of setup.vlans)

@@ -11,8 +11,8 @@ use Rattle.rx_engine.specs.Pieces.{IsLastSize, Piece, parts}
 use Rattle.rx_engine.specs.Pieces.Piece.{Last}
 use Rattle.adapter.specs.HostFrames.{finished_pieces}
 use Rattle.bus.specs.declared.bus.Bus.{Ghosts}
-use Rattle.driver_law.specs.Calls.{Moment, Ran, frames_ended, in_world_of, only, receive_loads}
-use Rattle.driver_law.specs.OldestSlot.{LooksAtSlot}
+use Rattle.bus.specs.Calls.{Moment, Ran, frames_ended, in_world_of, only, receive_loads}
+use Rattle.bus.specs.OldestSlot.{LooksAtSlot}
 use Rattle.driver.specs.Parts.{FillBuffers, IsFrameSize}
 use Rattle.driver.specs.declared.look.Run.{Run}
 use Rattle.driver.specs.declared.parts.TheConstants.{MOST_PARTS}
@@ -30,7 +30,7 @@ abbrev pub IsPartSize : (ends : Bool) → ℕ → Type 0
 IsPartSize true n = IsLastSize receive_buffer_bytes n
 IsPartSize false n = n ≡ receive_buffer_bytes
 
--- whether a frame ends in a slot with this descriptor: EOP
+-- whether this descriptor has EOP: a frame ends in the slot
 abbrev pub ends : RxDesc → Bool
 ends descriptor = is_set (status_bits descriptor.status) eop
 
@@ -41,7 +41,7 @@ pub record IsSoundPart (descriptor : RxDesc) : Type 0 where
   pub size : IsPartSize (ends descriptor) descriptor.length
 
 -- The run has one to six slots, and at most `outstanding`. Its length is the sum of the slots' lengths. If the run is
--- whole, it has the size of a frame, each slot before the last is full, and the last isn't empty.
+-- whole, its length is legal, each buffer before the last is full, and the last contains at least one byte.
 pub record IsLookedRun (outstanding : ℕ) (run : Run) : Type 0 where
   pub room : length run.lengths ≡ MOST_PARTS
   pub least : 1 ≤ run.count
@@ -53,12 +53,12 @@ pub record IsLookedRun (outstanding : ℕ) (run : Run) : Type 0 where
 
 -- Over a bus that obeys the law
 
--- The descriptor of the slot that is `places` places after the oldest was loaded.
+-- The descriptor of the slot that is `places` places after the oldest was loaded, and shows whether this slot is finished.
 abbrev pub LooksAtPlace : {B : Type 0} → Ghosts B → (places : ℕ) → RxDesc → (up : Bool) → (old new : Moment B) → Type 0
 LooksAtPlace bus places descriptor up old new = LooksAtSlot bus up places descriptor old new.bus
 
--- No frame ends in finished slots. The descriptors of the finished slots were loaded, and that of the next outstanding
--- slot if there is one.
+-- The descriptors of the finished slots were loaded, and that of the next outstanding slot if there is one. After the
+-- loads, no frame ends in finished slots.
 pub record FindsNoFrame {B : Type 0} (bus : Ghosts B) (up : Bool) (old new : Moment B) : Type 0 where
   pub none : frames_ended (in_world_of bus new) ≡ []
   pub loads : ℕ
@@ -72,7 +72,7 @@ pub record IsRunOf (run : Run) (seen : List (List ℕ)) (last : List ℕ) : Type
   pub length_is : run.length ≡ length (concat seen ++ last)
   pub whole : IsTrue run.whole
 
--- The oldest finished slots contain a whole frame, and `run` are its slots. The descriptors of these slots were loaded.
+-- After the loads of their descriptors, the oldest finished slots contain a whole frame, and `run` consists of its slots.
 pub record FindsFrame {B : Type 0} (bus : Ghosts B) (run : Run) (up : Bool) (old new : Moment B) : Type 0 where
   pub seen : List (List ℕ)
   pub last : List ℕ
@@ -81,6 +81,7 @@ pub record FindsFrame {B : Type 0} (bus : Ghosts B) (run : Run) (up : Bool) (old
   pub is_run : IsRunOf run seen last
   pub ran : Ran bus up (only (receive_loads old.driver.layout old.driver.oldest_receive run.count)) old new
 
+-- What `look` found, by its result: no frame for `None`, the slots of a whole frame for `Some`.
 abbrev pub LooksAt : {B : Type 0} → Ghosts B → Option Run → (up : Bool) → (old new : Moment B) → Type 0
 LooksAt bus None = FindsNoFrame bus
 LooksAt bus (Some run) = FindsFrame bus run

@@ -1,4 +1,4 @@
--- The pieces of received frames, in their buffers (our choice).
+-- The pieces of received frames in their buffers, and how `Parts` stores pieces (our choice).
 use Rattle.std.specs.Prelude.{◌≡◌, ◌-◌, ◌≤◌, ◌++◌, ◌∷◌, [], ℕ, All, List, Option, Some, None, flat_map, length, map, replicate, sum}
 use Rattle.descriptors.specs.Frames.{longest_frame, shortest_frame}
 use Rattle.rx_engine.specs.Addresses.{ether_type}
@@ -6,7 +6,7 @@ use Rattle.rx_engine.specs.Pieces.{IsLastSize}
 use Rattle.dma_memory.specs.Layout.{Counts, receive_buffer_bytes}
 use Rattle.bus.specs.declared.event.Access.{Access}
 use Rattle.bus.specs.declared.event.Access.TheVariants.{Loads}
-use Rattle.driver_law.specs.DriverState.{HandedOut, buffer_at, frame_of}
+use Rattle.bus.specs.DriverState.{HandedOut, buffer_at, frame_of}
 use Rattle.driver.specs.declared.parts.Part.{Part}
 use Rattle.driver.specs.declared.parts.Parts.TheInside.{Inside}
 use Rattle.driver.specs.declared.parts.TheConstants.{MOST_PARTS}
@@ -24,6 +24,7 @@ parts_in (None ∷ later) = parts_in later
 abbrev pub filled : List Part → (empty : ℕ) → List (Option Part)
 filled parts empty = map (λ (part : Part). Some part) parts ++ replicate empty None
 
+-- The first `count` of the six places contain parts, and the other places are empty.
 pub record IsFilled (inside : Inside) : Type 0 where
   pub places : inside.places ≡ filled (parts_in inside.places) (MOST_PARTS - inside.count)
   pub count : length (parts_in inside.places) ≡ inside.count
@@ -39,11 +40,11 @@ buffers_in parts = map (λ (part : Part). part.buffer) parts
 abbrev pub lengths_in : List Part → List ℕ
 lengths_in parts = map (λ (part : Part). part.length) parts
 
--- the buffers of these frames, in order
+-- the numbers of the buffers of these frames, in order
 abbrev pub buffers_of : List Received → List ℕ
 buffers_of list = flat_map (λ (received : Received). buffers_in received.parts) list
 
--- the loads of all pieces of a frame, in order
+-- one load of each piece of a frame, in order
 abbrev pub part_loads : Counts → List Part → List Access
 part_loads counts parts = map (λ (part : Part). Loads (buffer_at counts part.buffer) part.length) parts
 
@@ -62,17 +63,17 @@ FitIntoBuffers sizes = All (λ size. size ≤ receive_buffer_bytes) sizes
 abbrev pub AreFull : List ℕ → Type 0
 AreFull sizes = All (λ size. size ≡ receive_buffer_bytes) sizes
 
--- The buffers before the last are full. The last contains at least one byte, and fits into a receive buffer.
+-- Pieces of these sizes fill all their buffers except the last. The last piece has at least one byte, and fits into a buffer.
 pub record FillBuffers (sizes : List ℕ) : Type 0 where
   -- the sizes before the last
   pub full : List ℕ
   -- the last size
   pub last : ℕ
-  -- all sizes are those before the last, and the last
+  -- `sizes` are the sizes in `full`, and then `last`
   pub sizes_are : sizes ≡ full ++ last ∷ []
   -- each buffer before the last is full
   pub are_full : AreFull full
-  -- the last contains 1 to 256 bytes
+  -- the last size is at least 1 and at most the size of a receive buffer
   pub last_is : IsLastSize receive_buffer_bytes last
 
 -- The length of a received frame is the sum of the sizes of its pieces, and is legal. Each piece fits into a buffer.
@@ -99,7 +100,7 @@ part_of one = record { buffer = one.number; length = length one.bytes }
 abbrev pub parts_of : List HandedOut → List Part
 parts_of pieces = map part_of pieces
 
--- the frame that these pieces make up, as a receiver is shown it
+-- the frame that these pieces make up, in the form in which a receiver is shown a frame
 abbrev pub received_of : List HandedOut → Received
 received_of pieces = record { parts = parts_of pieces; length = length (frame_of pieces); ether_type = ether_type (frame_of pieces) }
 

@@ -1,27 +1,27 @@
--- How a driver offers receive slots.
+-- How a driver stages and offers receive slots, and takes back the buffers of frames.
 use Rattle.std.specs.Prelude.{◌≡◌, ◌++◌, ℕ, Bool, List}
 use Rattle.dma_memory.specs.Owners.{HaveSameNumbers}
-use Rattle.driver_law.specs.Calls.{IsReadyOver, Moment, Ran, Runs, held_at, only, stores_from, tail_write}
+use Rattle.bus.specs.Calls.{IsReadyOver, Moment, Ran, Runs, held_at, only, stores_from, tail_write}
 use Rattle.bus.specs.declared.bus.Bus.{Ghosts}
-use Rattle.driver_law.specs.DriverState.{DriverState, HandedOut, next_receive, piece_numbers, with_owners}
+use Rattle.bus.specs.DriverState.{DriverState, HandedOut, next_receive, piece_numbers, with_owners}
 use Rattle.driver.specs.Parts.{buffers_in}
 use Rattle.driver.specs.declared.parts.Part.{Part}
 
--- The next slots are staged with these buffers of the pool. If the bus obeys the law and the driver is ready, the
--- accesses are exactly the stores of their descriptors, in order.
+-- The next slots were staged with the buffers `numbers` of the pool. If the bus obeys the law and the driver is ready,
+-- the accesses are exactly the stores of these slots' descriptors, in order.
 pub record Stages {B : Type 0} (bus : Ghosts B) (numbers : List ℕ) (old new : Moment B) : Type 0 where
   pub others :
       new.driver ≡ with_owners old.driver old.driver.buffers (old.driver.staged ++ numbers) new.driver.pool old.driver.handed_out
   pub pool : HaveSameNumbers old.driver.pool (numbers ++ new.driver.pool)
   pub ran : Runs bus (only (stores_from old.driver.layout (next_receive old.driver) numbers)) old new
 
--- The next slots, or no slots, are staged.
+-- Any number of slots, possibly none, were staged with buffers of the pool.
 pub record StagesSome {B : Type 0} (bus : Ghosts B) (old new : Moment B) : Type 0 where
   pub numbers : List ℕ
   pub stages : Stages bus numbers old new
 
--- The slots that were staged before and new slots with the buffers `numbers` are offered. The descriptors of the new
--- slots are stored, and then RDT is written once if there are staged or new slots.
+-- The slots that were staged before were offered, and then new slots with the buffers `numbers`. The accesses are the
+-- stores of the new slots' descriptors, and then one write of RDT if there are staged or new slots.
 pub record Refills {B : Type 0} (bus : Ghosts B) (up : Bool) (old new : Moment B) : Type 0 where
   pub numbers : List ℕ
   pub offered : new.driver.buffers ≡ old.driver.buffers ++ (old.driver.staged ++ numbers)
@@ -36,9 +36,8 @@ pub record OffersAfter (d d' : DriverState) : Type 0 where
   pub newest : d'.buffers ≡ d.buffers ++ (d.staged ++ offered)
   pub pool : HaveSameNumbers d.pool (offered ++ d'.pool)
 
--- A call takes back the buffers of a frame's pieces. If the bus obeys the law, and the driver is ready while others
--- hold pieces in these buffers, `Holds` relates the moments before and after the call. After the call, others hold only
--- the remaining pieces.
+-- `Holds` relates the moments before and after a call that takes back the buffers of a frame's pieces. The bus must obey the law, and the
+-- driver must be ready while others hold pieces in these buffers. After the call, others hold only the remaining pieces.
 abbrev pub WhereHeld : {B : Type 0} → Ghosts B → List Part → (old new : Moment B) → (Bool → Moment B → Moment B → Type 0) → Type 0
 WhereHeld bus parts old new Holds =
     (up : Bool) (first pieces later : List HandedOut) → piece_numbers pieces ≡ buffers_in parts

@@ -19,7 +19,7 @@ use Rattle.bring_up.specs.DriverSteps.{MakesAccesses, accesses_of}
 use Rattle.bring_up.specs.FilterTables.{address_writes, table_writes}
 use Rattle.bring_up.specs.RingRegisters.{disable_writes, receive_writes, ring_setup_writes}
 use Rattle.bring_up.specs.WrittenRegisters.{allocation_writes, enable_link_writes, mask_writes}
-use Rattle.driver_law.specs.Calls.{
+use Rattle.bus.specs.Calls.{
   HasNoForgottenWork,
   IsReadyOver,
   IsRefilled,
@@ -31,21 +31,21 @@ use Rattle.driver_law.specs.Calls.{
   only,
   stores_from,
 }
-use Rattle.driver_law.specs.Calls.{with_missed}
-use Rattle.driver_law.specs.DriverState.{DriverSetup, DriverState, HandedOut, receive_slot, with_owners}
-use Rattle.driver_law.specs.ReadyDrivers.{Ready}
-use Rattle.driver_law.specs.Resets.{reset_driver}
+use Rattle.bus.specs.Calls.{with_missed}
+use Rattle.bus.specs.DriverState.{DriverSetup, DriverState, HandedOut, receive_slot, with_owners}
+use Rattle.bus.specs.ReadyDrivers.{Ready}
+use Rattle.bus.specs.Resets.{reset_driver}
 use Rattle.bring_up.specs.Groups.{HasTable}
 use Rattle.driver.specs.Initialisation.{AreFilterTables, transmit_accesses}
 
 -- The accesses
 
--- The accesses that disable the receiver and then read MPC.
+-- The accesses that disable the receiver, and then read the value `misses` from MPC.
 abbrev pub stop_accesses : (misses : ℕ) → List Access
 stop_accesses misses = accesses_of disable_writes ++ Reads MPC misses ∷ []
 
--- First the descriptors of the first receive slots are stored with these buffers. Then the other descriptors are
--- cleared. Last, the number of these buffers is written to RDT, even if it is 0.
+-- First the descriptors of the first receive slots are stored with these buffers. Then the descriptors of the other
+-- receive slots are cleared. Last, the number of these buffers is written to RDT, even if this number is 0.
 abbrev pub free_accesses : Counts → (numbers : List ℕ) → List Access
 free_accesses counts numbers =
     stores_from counts 0 numbers
@@ -72,8 +72,8 @@ later_accesses counts = transmit_accesses counts ++ accesses_of mask_writes
 
 -- Parts of the reset
 
--- A driver without slots offers slots with free buffers, until no buffer is free or all slots except one are
--- outstanding.
+-- A driver without outstanding or staged slots offered the first slots, with the free buffers `numbers`. Then no buffer
+-- is free, or all slots except one are outstanding.
 pub record OffersFree {B : Type 0} (bus : Ghosts B) (old new : Moment B) : Type 0 where
   pub numbers : List ℕ
   pub others : new.driver ≡ with_owners old.driver numbers [] new.driver.pool []
@@ -84,15 +84,14 @@ pub record OffersFree {B : Type 0} (bus : Ghosts B) (old new : Moment B) : Type 
   pub ran : (held : List HandedOut) → IsReadyOver bus false (held_at held old)
       → Ran bus false (only (free_accesses old.driver.layout numbers)) (held_at held old) (held_at held new)
 
--- The receiver was disabled, and MPC was read and added to the sum. The driver is still ready.
+-- The receiver was disabled, and the value `misses` was read from MPC and added to the sum. The driver is still ready.
 pub record StopsReceiver {B : Type 0} (bus : Ghosts B) (up : Bool) (old stopped : Moment B) : Type 0 where
   pub misses : ℕ
   pub counted : stopped.driver ≡ with_missed misses old.driver
   pub ran : Ran bus up (only (stop_accesses misses)) old stopped
 
--- The driver that begins again after a reset with this pool: slots with the buffers `numbers` are outstanding, and the
--- other buffers of the pool are free. The ring is refilled (`IsRefilled`), no slot is staged, and others hold the
--- pieces `handed_out`.
+-- The driver that begins again after a reset with this pool. Slots with the buffers `numbers` are outstanding, and the other buffers of the
+-- pool are free. The ring is refilled (`IsRefilled`), no slot is staged, and others hold the pieces `handed_out`.
 pub record BeginsAgain (stopped : DriverState) (handed_out : List HandedOut) (pool numbers : List ℕ) (new : DriverState) : Type 0 where
   pub driver : new ≡ with_owners (reset_driver pool stopped) numbers [] new.pool handed_out
   pub same : HaveSameNumbers pool (numbers ++ new.pool)
@@ -107,8 +106,8 @@ pub record IsRestarted (d : DriverState) (world : World) (later : Past) : Type 0
   pub none_put : later.put ≡ []
   pub none_to_send : frames_to_send world ≡ []
 
--- The contract of `reset` over a bus that obeys the law. The driver resets its adapter, and initializes the adapter
--- with the driver's setup and the joined groups. Then the driver is ready again.
+-- The contract of `reset` for a driver that is ready, over a bus that obeys the law. The driver resets its adapter, and
+-- initializes the adapter with the driver's setup and the joined groups. Then the driver is ready again.
 pub record Resets {B : Type 0} (bus : Ghosts B) (up : Bool) (old new : Moment B) : Type 0 where
   pub stopped : Moment B
   pub stops : StopsReceiver bus up old stopped
@@ -118,9 +117,11 @@ pub record Resets {B : Type 0} (bus : Ghosts B) (up : Bool) (old new : Moment B)
   pub resets : ResetsDriver bus up pool stopped.driver stopped.bus middle
   -- the words of MTA, which are written before RCTL
   pub groups : List ℕ
+  -- the words of VFTA, which are written before RCTL
   pub vlans : List ℕ
   pub tables : AreFilterTables old.driver.groups old.driver.setup.vlans groups vlans
   pub numbers : List ℕ
+  -- the bus after the write of RCTL
   pub enabled : B
   pub quiet : MakesAccesses bus (quiet_accesses old.driver.setup old.driver.layout groups vlans numbers) middle enabled
   pub no_frame : NoFrame quiet.past

@@ -5,9 +5,9 @@ use Rattle.descriptors.specs.Frames.{padded}
 use Rattle.adapter.specs.Slots.{written_back}
 use Rattle.bus.specs.declared.bus.Bus.{Ghosts}
 use Rattle.bus.specs.declared.event.Access.{Access}
-use Rattle.driver_law.specs.DriverState.{DriverState, transmit_tail}
-use Rattle.driver_law.specs.Calls.{Did, Moment, Ran, WhereUp, call_did, only, send_accesses, transmit_loads}
-use Rattle.driver_law.specs.TransmitSteps.{with_freed}
+use Rattle.bus.specs.DriverState.{DriverState, transmit_tail}
+use Rattle.bus.specs.Calls.{Did, Moment, Ran, WhereUp, call_did, only, send_accesses, transmit_loads}
+use Rattle.bus.specs.TransmitSteps.{with_freed}
 use Rattle.driver.specs.declared.transmit.SendError.{SendError}
 use Rattle.driver.specs.declared.transmit.SendError.TheVariants.{TooShort, TooLong, RingFull}
 
@@ -23,13 +23,13 @@ with_transmit_slots d oldest sending = record d { oldest_transmit = oldest; send
 abbrev pub oldest_loads : DriverState → ℕ → List Access
 oldest_loads d k = transmit_loads d.layout d.oldest_transmit k
 
--- The oldest outstanding transmit slot is freed.
+-- At least one transmit slot was outstanding, and the oldest was freed.
 pub record FreesOldest (d d' : DriverState) : Type 0 where
   pub some : 0 < d.sending
   pub freed : d' ≡ with_freed d
 
--- The descriptor of the oldest slot is loaded once, if any slot is outstanding. If the slot isn't freed, no slot is
--- written back after the load.
+-- If any slot was outstanding, the only access is one load of the oldest slot's descriptor; otherwise there is no access. If no slot was
+-- freed, no outstanding slot is written back at the end.
 pub record LooksBack {B : Type 0} (bus : Ghosts B) (freed : Bool) (old new : Moment B) : Type 0 where
   pub ran : Ran bus true (only (oldest_loads old.driver (min old.driver.sending 1))) old new
   pub none : OnFalse freed (written_back new.driver.oldest_transmit (bus.world new.bus) ≡ [])
@@ -42,8 +42,8 @@ slots_looked_at outstanding left = outstanding - left + min left 1
 abbrev pub loads_to_free : DriverState → (left : ℕ) → List Access
 loads_to_free d left = oldest_loads d (slots_looked_at d.sending left)
 
--- The oldest slots are freed. The accesses are one load of the descriptor of each freed slot, and one of the oldest
--- remaining slot if any slot is left. After these loads, no outstanding slot is written back.
+-- Any number of the oldest slots were freed. The accesses are one load of the descriptor of each freed slot, and one of the
+-- oldest remaining slot if any slot is left. After these loads, no outstanding slot is written back.
 pub record Reclaims {B : Type 0} (bus : Ghosts B) (old new : Moment B) : Type 0 where
   pub ran : Ran bus true (only (loads_to_free old.driver new.driver.sending)) old new
   pub none : written_back new.driver.oldest_transmit (bus.world new.bus) ≡ []
@@ -70,7 +70,7 @@ accesses_by (Err RingFull) d d' frame = loads_to_free d d'.sending
 abbrev pub IsFull : {B : Type 0} → Ghosts B → Moment B → Type 0
 IsFull bus now = (now.driver.sending + 1 ≡ now.driver.layout.tx) × (written_back now.driver.oldest_transmit (bus.world now.bus) ≡ [])
 
--- The frame was accepted: slots were freed, and the frame's slot is outstanding.
+-- The frame was accepted: the slots that were written back were freed, and the frame's slot is outstanding.
 pub record AcceptsForSending {B : Type 0} (bus : Ghosts B) (old new : Moment B) : Type 0 where
   -- At least the slots that were written back before the call were freed. The + 1 is the frame's own slot.
   pub freed : length (written_back old.driver.oldest_transmit (bus.world old.bus)) + new.driver.sending ≤ old.driver.sending + 1
@@ -97,7 +97,7 @@ HasWrongLength (Err TooShort) = ⊤
 HasWrongLength (Err TooLong) = ⊤
 HasWrongLength answer = ⊥
 
--- The frame is sent in the slot at the tail.
+-- What sends a frame in the slot at the tail: `send_accesses`, by which the padded frame is accepted.
 abbrev pub sent_now : DriverState → List ℕ → Did
 sent_now d frame = call_did (send_accesses d frame) [] (padded frame ∷ [])
 
@@ -105,7 +105,7 @@ sent_now d frame = call_did (send_accesses d frame) [] (padded frame ∷ [])
 abbrev pub sent_by : SendAnswer → (d d' : DriverState) → List ℕ → Did
 sent_by result d d' frame = call_did (accesses_by result d d' frame) [] (accepted_by result frame)
 
--- Slots are freed, and then the frame is sent. `freed` is the moment in between.
+-- Slots were freed, and then the frame was sent. `freed` is the moment after the slots were freed.
 pub record FreesThenSends {B : Type 0} (bus : Ghosts B) (frame : List ℕ) (old new : Moment B) : Type 0 where
   pub freed : Moment B
   -- Freeing changes only which transmit slots are outstanding, and the tail doesn't move.
@@ -116,8 +116,8 @@ pub record FreesThenSends {B : Type 0} (bus : Ghosts B) (frame : List ℕ) (old 
   pub more : new.driver ≡ with_transmit_slots freed.driver freed.driver.oldest_transmit (freed.driver.sending + 1)
   pub sends : Ran bus true (sent_now freed.driver frame) freed new
 
--- Slots are freed first, until no outstanding slot is written back. Then the frame is sent if it is accepted. Nothing
--- is stated for TooShort and TooLong.
+-- First, slots were freed until no outstanding slot was written back. Then, for Ok, the frame was sent. Nothing is stated for
+-- TooShort and TooLong.
 abbrev pub FreesFirst : {B : Type 0} → Ghosts B → List ℕ → SendAnswer → (old new : Moment B) → Type 0
 FreesFirst bus frame (Ok u) old new = FreesThenSends bus frame old new
 FreesFirst bus frame (Err TooShort) old new = ⊤

@@ -1,9 +1,9 @@
-// The state of a driver.
+// A driver's state, and the functions that return its layout and its counts.
 
 ghost use Rattle.std.specs.Prelude.{◌≡◌, ◌+◌, ◌<◌, IsTrue, length};
 ghost use Rattle.registers.specs.Counting.{greatest_count};
 ghost use Rattle.dma_memory.specs.Owners.{HasNoSecondOwner};
-ghost use Rattle.driver_law.specs.DriverState.{owners};
+ghost use Rattle.bus.specs.DriverState.{owners};
 
 use crate::setup::Setup;
 use bring_up::Groups;
@@ -38,7 +38,8 @@ pub struct Driver {
     pub(crate) missed: u64,
     /// Whether the sum is exact: no value read from MPC was MPC's greatest value, and the sum never saturated.
     pub(crate) exact: bool,
-    /// The number of runs of finished slots that weren't delivered; it saturates at the greatest `u64`.
+    /// The number of bad runs: runs of finished slots that didn't contain a whole frame, and weren't delivered. The
+    /// number saturates at the greatest `u64`.
     pub(crate) bad: u64,
     /// The multicast groups that the driver has joined.
     pub(crate) groups: Groups,
@@ -46,7 +47,7 @@ pub struct Driver {
 }
 
 impl Model for Driver {
-    ghost use Rattle.driver_law.specs.DriverState.{DriverState};
+    ghost use Rattle.bus.specs.DriverState.{DriverState};
 
     ghost Value = { DriverState };
 
@@ -65,7 +66,7 @@ impl Driver {
         self.layout
     }
 
-    /// Returns the number of receive slots that are outstanding or staged. No buffer has two owners, at any time.
+    /// Returns the number of receive slots that are outstanding or staged. No receive buffer has two owners.
     pub fn receiving(&self) -> usize
         ensures count { result ≡ length self.now.buffers + length self.now.staged }
         ensures one_owner { HasNoSecondOwner self.now.layout.buffers (owners self.now) }
@@ -81,8 +82,8 @@ impl Driver {
     }
 
     /// Returns the sum of all values read from MPC, up to the greatest `u64`, and whether this sum is exact. A sum
-    /// below 0xFFFF_FFFF is exact. If the sum isn't exact, more frames may have been missed before the last read of
-    /// MPC.
+    /// below 0xFFFF_FFFF is exact. If the sum isn't exact, more frames than the sum may have been missed before the
+    /// last read of MPC.
     pub fn missed(&self) -> (u64, bool)
         ensures sum { result.0 ≡ self.now.missed }
         ensures exact { result.1 ≡ self.now.exact }

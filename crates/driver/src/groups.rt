@@ -7,7 +7,7 @@ ghost use Rattle.rx_engine.specs.Addresses.{IsGroup};
 ghost use Rattle.rx_engine.specs.GroupLists.{Removes};
 ghost use Rattle.bring_up.specs.declared.config.TheConstants.{MOST_GROUPS};
 ghost use Rattle.bus.specs.Keeping.{Keeps};
-ghost use Rattle.driver_law.specs.Calls.{WhereReady, at};
+ghost use Rattle.bus.specs.Calls.{WhereReady, at};
 ghost use Rattle.bring_up.specs.Groups.{ChangesJoined, HasNumber, with_groups};
 ghost use Rattle.bring_up.specs.declared.groups.GroupError.TheVariants.{GroupsFull, Joined, NotGroup, NotJoined};
 
@@ -23,7 +23,7 @@ impl Driver {
     ///
     /// E23 [`NotGroup`](GroupError::NotGroup) if the low bit of the address's first byte is clear, else E26
     /// [`Joined`](GroupError::Joined) if the group is joined already, else E24 [`GroupsFull`](GroupError::GroupsFull)
-    /// if 32 groups are joined. After an error, nothing has changed, and there was no access.
+    /// if 32 groups are joined. After an error, the driver is unchanged, and there was no access.
     pub fn join<B: Bus>(&mut self, bus: &mut B, group: [u8; 6]) -> Result<(), GroupError>
         ensures keeps { Keeps B.Bus bus.old bus.new }
 
@@ -51,8 +51,8 @@ impl Driver {
     /// # Errors
     ///
     /// E23 [`NotGroup`](GroupError::NotGroup) if the low bit of the address's first byte is clear, else E25
-    /// [`NotJoined`](GroupError::NotJoined) if the group isn't joined. After an error, nothing has changed, and there
-    /// was no access.
+    /// [`NotJoined`](GroupError::NotJoined) if the group isn't joined. After an error, the driver is unchanged, and
+    /// there was no access.
     pub fn leave<B: Bus>(&mut self, bus: &mut B, group: [u8; 6]) -> Result<(), GroupError>
         ensures keeps { Keeps B.Bus bus.old bus.new }
 

@@ -1,4 +1,4 @@
-// Initialization of an adapter.
+// Initialization of a driver and its adapter.
 
 ghost use Rattle.std.specs.Prelude.{◌≡◌, ◌↔◌, ◌*◌, ◌≤◌, Err, IfErr, IfOk, false, true};
 ghost use Rattle.dma_memory.specs.Layout.{IsAllowed, descriptor_bytes, size_of};
@@ -8,9 +8,9 @@ ghost use Rattle.bring_up.specs.Configuration.{CanBeHad, configured_counts};
 ghost use Rattle.bring_up.specs.Device.{IsBeforeAccess};
 ghost use Rattle.bring_up.specs.declared.init_error.InitError.TheVariants as InitError;
 ghost use Rattle.bus.specs.Keeping.{Keeps};
-ghost use Rattle.driver_law.specs.Beginnings.{new_driver};
-ghost use Rattle.driver_law.specs.Calls.{IsReadyOver, Ran, at, only};
-ghost use Rattle.driver_law.specs.DriverState.{DriverState};
+ghost use Rattle.bus.specs.Beginnings.{new_driver};
+ghost use Rattle.bus.specs.Calls.{IsReadyOver, Ran, at, only};
+ghost use Rattle.bus.specs.DriverState.{DriverState};
 ghost use Rattle.driver.specs.InsideDriver.{CanReset};
 ghost use Rattle.driver.specs.InsideSetup.{setup_in};
 ghost use Rattle.driver.specs.Initialisation.{FindsRing, Initialises, IsFresh, OffersFirst, RefusesInit};
@@ -29,8 +29,8 @@ use circular_buffer::HeapCircularBuffer;
 use dma_memory::{DESCRIPTOR_BYTES, Layout, Pool};
 use std::alloc::{AllocError, Global};
 
-/// Finds the device, and sets up its receive filter and its receive ring, with no slot offered. Returns the device's
-/// Ethernet address.
+/// Finds the device, and sets up its receive filter and its receive ring, with no slot offered. Returns the Ethernet
+/// address in the device's EEPROM.
 ///
 /// # Errors
 ///
@@ -81,7 +81,7 @@ pub(crate) fn set_up_transmitter<B: Bus>(bus: &mut B, layout: Layout)
 
 impl Driver {
     /// Returns a driver with this setup that has offered no slot, has joined these groups, and has all buffers in its
-    /// pool.
+    /// pool. Returns an error if an allocation fails.
     fn new(
         alloc: Global,
         layout: Layout,
@@ -117,7 +117,8 @@ impl Driver {
         self.setup.address = address;
     }
 
-    /// Offers all receive slots except the last one, whose descriptor is cleared.
+    /// Stages all receive slots except the last one, clears the descriptor of the last slot, and offers the staged
+    /// slots.
     fn offer_first<B: Bus>(&mut self, bus: &mut B)
         requires memory { size_of self.old.layout ≤ B.extent bus.old }
         requires new { self.old ≡ new_driver self.old.layout self.old.setup self.old.groups self.old.pool }
@@ -132,15 +133,16 @@ impl Driver {
     }
 
     /// Resets the adapter and initializes it by `config`: reads its EEPROM, awaits its link, and sets up its filter,
-    /// both rings and its interrupts. Frames are received from the write of RCTL on. The driver has joined the groups
-    /// of the configuration, each once.
+    /// both rings and its interrupts. The adapter can receive frames from the write of RCTL on. The driver has joined
+    /// the groups of the configuration, each once.
     ///
     /// This call allocates all memory that the driver needs. If an allocation fails, or the configuration isn't valid
     /// in the memory of the bus, there is no access. After an error, the call may be made again.
     ///
     /// # Errors
     ///
-    /// [`Config`](InitError::Config), else [`Memory`](InitError::Memory), else those of [`find_device`].
+    /// [`Config`](InitError::Config) if the configuration isn't valid in the memory of the bus, else
+    /// [`Memory`](InitError::Memory) if an allocation fails, else those of [`find_device`].
     pub fn init<B: Bus>(alloc: Global, bus: &mut B, config: &Config) -> Result<Driver, InitError>
         ensures keeps { Keeps B.Bus bus.old bus.new }
 

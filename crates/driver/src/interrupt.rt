@@ -5,8 +5,8 @@ ghost use Rattle.registers.specs.Bits.{Meet};
 ghost use Rattle.dma_memory.specs.Layout.{size_of};
 ghost use Rattle.bus.specs.declared.event.Access.TheVariants.{Reads};
 ghost use Rattle.bus.specs.Keeping.{Keeps};
-ghost use Rattle.driver_law.specs.Calls.{Runs, at, only, with_missed};
-ghost use Rattle.driver_law.specs.Calls as calls;
+ghost use Rattle.bus.specs.Calls.{Runs, at, only, with_missed};
+ghost use Rattle.bus.specs.Calls as calls;
 ghost use Rattle.driver.specs.HandlerSteps.{Handles, IfHandled, IfNotMine, OnlyReceives};
 ghost use Rattle.driver.specs.HandlerSteps.{ServesReceiver, WhereReadyIn, scene};
 ghost use Rattle.bring_up.specs.WrittenRegisters.{handled_causes};
@@ -31,15 +31,15 @@ pub enum Handled {
     },
 }
 
-/// Returns whether one of these causes is TXDW, RXDMT0, RXO or RXT0.
+/// Returns whether `causes` has at least one of TXDW, RXDMT0, RXO and RXT0.
 fn is_mine(causes: u32) -> bool
     ensures { IsTrue result ↔ Meet causes handled_causes }
 {
     Cause(causes).intersects(interrupt_causes())
 }
 
-/// Returns whether adding a value read from MPC keeps the sum exact: the value is below MPC's greatest value, and the
-/// sum doesn't saturate.
+/// Returns whether adding `value`, read from MPC, keeps the sum `missed` exact: `value` is below MPC's greatest value,
+/// and the sum doesn't saturate.
 fn adds_exactly(missed: u64, value: u32) -> bool
     ensures { result ≡ calls.adds_exactly missed value }
 {
@@ -63,15 +63,21 @@ impl Driver {
         value
     }
 
-    /// Handles an interrupt, and returns the number of frames taken, or `NotMine`.
+    /// Handles an interrupt. Returns the number of frames taken off the receive ring, or `NotMine` if the value of ICR
+    /// has none of the four causes below. The handler frees no transmit slots.
     ///
-    /// If the bus obeys the law and the driver is ready, the call reads ICR first. If ICR has none of TXDW, RXDMT0,
-    /// RXO and RXT0, the call makes no other access, and the result is `NotMine`. Otherwise the call reads MPC, takes
-    /// frames off finished receive slots, and refills the ring. The frames that it takes include all frames that ended
-    /// in finished slots at the beginning. Before the call refills the ring, it looks at slots until no frame ends in
-    /// finished slots. ICR is read before the slots are looked at, so a frame that ends later records RXT0 again. If
-    /// RXT0 is in IMS at the beginning and the result is `Handled`, no work is forgotten at the end. If the result is
-    /// `NotMine`, no work is forgotten at the end if none was forgotten at the beginning.
+    /// If the bus obeys the law and the driver is ready, the call makes these accesses, in order:
+    ///
+    /// - It reads ICR. If the value has none of TXDW, RXDMT0, RXO and RXT0, the result is `NotMine`, and there is no
+    ///   other access.
+    /// - It reads MPC.
+    /// - It looks at slots, takes frames, and loads bytes 12 and 13 of each frame, until no frame ends in finished slots.
+    ///   These frames include all frames that ended in finished slots at the beginning.
+    /// - It refills the ring.
+    ///
+    /// ICR is read before the slots are looked at, so a frame that ends later records RXT0 again. If RXT0 is in IMS at
+    /// the beginning and the result is `Handled`, no work is forgotten at the end. If the result is `NotMine` and no
+    /// work was forgotten at the beginning, no work is forgotten at the end.
     ///
     /// If the bus doesn't obey the law or the driver isn't ready, the contract states no accesses. The contract then
     /// states how the driver, its buffers and the receiver change. The bus keeps its size and the values lent to it. A

@@ -6,7 +6,7 @@ ghost use Rattle.dma_memory.specs.Layout.{size_of};
 ghost use Rattle.registers.specs.Bits.{HasBit, is_set};
 ghost use Rattle.descriptors.specs.RxStatus.{dd, eop, status_bits};
 ghost use Rattle.bus.specs.Keeping.{Keeps};
-ghost use Rattle.driver_law.specs.Calls.{WhereReady, at};
+ghost use Rattle.bus.specs.Calls.{WhereReady, at};
 ghost use Rattle.driver.specs.Looks.{IsLookedRun, IsSoundPart, LooksAt, LooksAtPlace, greatest_length, new_run};
 ghost use Rattle.driver.specs.Parts.{IsFrameSize};
 
@@ -74,7 +74,8 @@ impl Run {
         }
     }
 
-    /// Appends a slot with this descriptor.
+    /// Appends a slot with this descriptor. The run is no longer whole if the slot can't contain a piece of a whole
+    /// frame.
     fn add(&mut self, descriptor: &RxDesc)
         requires room { self.old.count < MOST_PARTS }
         requires short { self.old.length ≤ greatest_length * self.old.count }
@@ -89,7 +90,8 @@ impl Run {
         self.count += 1;
     }
 
-    /// Returns whether the run contains a whole frame, if its last descriptor has EOP.
+    /// Returns whether the run contains a whole frame. Each slot may contain a piece of a whole frame, and the sum of
+    /// the lengths is 60 to 1,518 bytes. The last descriptor must have EOP.
     fn is_frame(&self) -> bool
         ensures { IsTrue result ↔ (IsTrue self.now.whole × IsFrameSize self.now.length) }
     {
@@ -98,7 +100,7 @@ impl Run {
 }
 
 impl Driver {
-    /// Loads the descriptor of the slot that is `places` places after the oldest.
+    /// Loads and returns the descriptor of the slot that is `places` places after the oldest slot.
     fn descriptor_after<B: Bus>(&self, bus: &mut B, places: usize) -> RxDesc
         requires memory { size_of self.now.layout ≤ B.extent bus.old }
         requires outstanding { places < length self.now.buffers }

@@ -5,11 +5,11 @@ ghost use Rattle.std.specs.Prelude.{◌≡◌, ◌<◌, ◌≤◌, ◌++◌, ◌
 use dma_memory::BufId;
 use std::marker::Model;
 
-/// The greatest number of receive buffers of a frame (our choice): a frame of 1,518 bytes fills five buffers of 256
+/// The greatest number of receive buffers of a frame (our choice). A frame of 1,518 bytes fills five buffers of 256
 /// bytes and needs a sixth.
 pub const MOST_PARTS: usize = 6;
 
-/// A piece of a received frame: the buffer that contains it, and its size in bytes.
+/// A piece of a received frame: the buffer that contains the piece, and the size of the piece in bytes.
 #[derive(Drop)]
 pub struct Part {
     pub buffer: BufId,
@@ -55,7 +55,7 @@ impl Parts {
         self.count
     }
 
-    /// Returns the piece at an index, if there is one.
+    /// Returns the piece at an index, from 0 on. Returns `None` if the index isn't below the number of pieces.
     pub fn get(&self, index: usize) -> Option<&Part>
         ensures none { IfNone result (length self.now ≤ index) }
         ensures some { IfSome result (λ part. index < length self.now) }
@@ -69,7 +69,7 @@ impl Parts {
         }
     }
 
-    /// Appends a piece.
+    /// Appends a piece. There must be fewer than six pieces.
     pub fn push(&mut self, part: Part)
         requires { length self.old < MOST_PARTS }
         ensures { self.new ≡ self.old ++ part ∷ [] }

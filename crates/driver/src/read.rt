@@ -3,7 +3,7 @@
 ghost use Rattle.std.specs.Prelude.{◌≡◌, ◌≤◌, ◌<◌, All, take, drop};
 ghost use Rattle.dma_memory.specs.Layout.{size_of};
 ghost use Rattle.bus.specs.Keeping.{Keeps};
-ghost use Rattle.driver_law.specs.Calls.{Runs, at, only};
+ghost use Rattle.bus.specs.Calls.{Runs, at, only};
 ghost use Rattle.driver.specs.HandlerSteps.{ReadsHeld};
 ghost use Rattle.driver.specs.Parts.{IsWholeFrame, buffers_in, part_loads};
 
@@ -14,9 +14,9 @@ impl Driver {
     /// Copies a received frame to the front of `into`, by one load from each of its buffers, and returns its size in
     /// bytes. The bytes of `into` after this size don't change.
     ///
-    /// The frame must have 60 to 1,518 bytes, the sum of its pieces' sizes, and each piece at most 256 bytes. The
-    /// numbers of its buffers must be below the number of the driver's buffers. `bus` must have at least
-    /// `layout().size()` bytes.
+    /// The frame's length must be 60 to 1,518 bytes and the sum of the sizes of its pieces. Each piece must have at
+    /// most 256 bytes. The numbers of the frame's buffers must be below the number of the driver's buffers. `bus` must
+    /// have at least `layout().size()` bytes.
     pub fn read<B: Bus>(&self, bus: &mut B, received: &Received, into: &mut [u8; 1518]) -> usize
         requires memory { size_of self.now.layout ≤ B.extent bus.old }
         requires known { All (λ number. number < self.now.layout.buffers) (buffers_in received.now.parts) }

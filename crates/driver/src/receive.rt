@@ -1,12 +1,12 @@
-// How a driver takes received frames off its ring.
+// How a driver takes received frames off its ring, and shows them to a receiver.
 
 ghost use Rattle.std.specs.Prelude.{◌≡◌, ◌+◌, ◌<◌, ◌≤◌, ◌++◌, ◌∷◌, [], drop, length, take, All};
 ghost use Rattle.circular_buffer.specs.Buffer.{buffer};
 ghost use Rattle.dma_memory.specs.Layout.{size_of};
 ghost use Rattle.dma_memory.specs.Owners.{HasNoSecondOwner, HaveSameNumbers};
 ghost use Rattle.bus.specs.Keeping.{Keeps};
-ghost use Rattle.driver_law.specs.Calls.{Runs, at, ether_type_load, only};
-ghost use Rattle.driver_law.specs.DriverState.{owners};
+ghost use Rattle.bus.specs.Calls.{Runs, at, ether_type_load, only};
+ghost use Rattle.bus.specs.DriverState.{owners};
 ghost use Rattle.driver.specs.HandlerSteps.{PassesOn, HandsOver, HasParts, LeavesRing, ReadsEtherType, Shows, TakesAll};
 ghost use Rattle.driver.specs.HandlerSteps.{TakesSlots, WhereReadyIn, WhereTaken, run_with, scene};
 ghost use Rattle.driver.specs.Parts.{buffers_in, lengths_in};
@@ -85,8 +85,8 @@ impl Driver {
         self.put_back(back);
     }
 
-    /// Passes on a run that was taken, and returns whether it contains a whole frame. A whole frame is shown to the
-    /// receiver. The buffers of any other run return to the pool, and the run is counted as bad.
+    /// Passes on a run that was taken, and returns whether the run contains a whole frame. A whole frame is shown to
+    /// the receiver. The buffers of any other run return to the pool, and the run is counted as bad.
     fn pass_on<B: Bus, R: Receiver>(
         &mut self,
         bus: &mut B,
@@ -121,10 +121,13 @@ impl Driver {
     }
 
     /// Takes runs of finished receive slots, the oldest first, until [`look`](Driver::look) finds no run. Shows the
-    /// frame of each whole run to the receiver, and returns the number of these frames. Finished slots after the last
-    /// run remain in the ring. If the bus obeys the law and the driver is ready, each descriptor is loaded once, and
-    /// after the descriptors of a frame its bytes 12 and 13 are loaded. `bus` must have at least `layout().size()`
-    /// bytes.
+    /// frame of each whole run to the receiver, and returns the number of these frames. Counts other runs as bad.
+    /// Finished slots after the last run remain in the ring.
+    ///
+    /// Over a bus that obeys the law, a driver that is ready loads each descriptor of a frame's slots once. Then it
+    /// loads bytes 12 and 13 of the frame. After the last frame, the driver loads the descriptors of the remaining
+    /// finished slots, and that of the next outstanding slot if there is one. `bus` must have at least
+    /// `layout().size()` bytes.
     pub fn take_finished<B: Bus, R: Receiver>(&mut self, bus: &mut B, receiver: &mut R) -> usize
         requires memory { size_of self.old.layout ≤ B.extent bus.old }
         ensures keeps { Keeps B.Bus bus.old bus.new }

@@ -9,7 +9,7 @@ use crate::Parts;
 /// A received frame, in its buffers.
 #[derive(Drop)]
 pub struct Received {
-    /// The pieces of the frame, in order. The owner of this value owns their buffers.
+    /// The pieces of the frame, in order. The owner of this value owns the buffers of the pieces.
     pub parts: Parts,
     /// The size of the frame in bytes, from 60 to 1,518: the sum of the sizes of its pieces.
     pub length: u16,
@@ -32,7 +32,8 @@ pub trait Receiver {
     /// In an empty interval, the receiver was shown no frame, and kept no frame.
     ghost stays: { (receiver : Self) → took receiver receiver [] [] };
 
-    /// In two consecutive intervals together, the receiver was shown and kept the frames of both, in order.
+    /// In two consecutive intervals together, the receiver was shown the frames of the first interval, and then those
+    /// of the second. The frames that it kept are in the same order.
     ghost joins: { (a b c : Self) (shown kept later more : List Received)
         → took a b shown kept → took b c later more → took a c (shown ++ later) (kept ++ more) };
 }

@@ -1,4 +1,4 @@
-// How a driver offers receive slots.
+// How a driver stages and offers receive slots, and puts buffers back into its pool.
 
 ghost use Rattle.std.specs.Prelude.{◌≡◌, ◌⊎◌, ◌+◌, ◌*◌, ◌<◌, ◌≤◌, ◌++◌, ◌∷◌, ℕ, [], length};
 ghost use Rattle.std.specs.Bool.{OnFalse, OnTrue};
@@ -6,9 +6,9 @@ ghost use Rattle.dma_memory.specs.Layout.{descriptor_bytes, size_of};
 ghost use Rattle.dma_memory.specs.Owners.{HasNoSecondOwner, HaveSameNumbers};
 ghost use Rattle.descriptors.specs.RxDesc.{rx_desc_bytes};
 ghost use Rattle.bus.specs.Keeping.{Keeps};
-ghost use Rattle.driver_law.specs.Calls.{OffersAll, Runs, WhereReady, at, only, tail_write};
-ghost use Rattle.driver_law.specs.DriverState.{next_receive, owners, with_owners};
-ghost use Rattle.driver_law.specs.ReadyDrivers.{empty_descriptor};
+ghost use Rattle.bus.specs.Calls.{OffersAll, Runs, WhereReady, at, only, tail_write};
+ghost use Rattle.bus.specs.DriverState.{next_receive, owners, with_owners};
+ghost use Rattle.bus.specs.ReadyDrivers.{empty_descriptor};
 ghost use Rattle.driver.specs.Parts.{buffers_in};
 ghost use Rattle.driver.specs.RefillSteps.{OffersAfter, Refills, Stages, StagesSome, WhereHeld};
 
@@ -19,7 +19,7 @@ use bus::Bus;
 use descriptors::{RxDesc, RxStatus};
 use dma_memory::{DESCRIPTOR_BYTES, Pool};
 
-/// Returns the address of a receive slot's descriptor. The ring begins at address 0.
+/// Returns the address of a receive slot's descriptor. The receive ring begins at address 0.
 pub(crate) fn receive_slot(slot: u16) -> u64
     ensures { result ≡ descriptor_bytes * slot }
 {
@@ -134,8 +134,9 @@ impl Driver {
         self.offer(bus);
     }
 
-    /// Puts the buffers of a frame that a receiver kept back into the pool, and refills the ring. These buffers must be
-    /// the driver's, and must have no other owner. `bus` must have at least `layout().size()` bytes.
+    /// Puts the buffers of a frame that a receiver kept back into the pool, and refills the ring. The numbers of these
+    /// buffers must be below the number of the driver's buffers, and the buffers must have no other owner. `bus` must
+    /// have at least `layout().size()` bytes.
     pub fn give<B: Bus>(&mut self, bus: &mut B, parts: Parts)
         requires memory { size_of self.old.layout ≤ B.extent bus.old }
         requires one_owner { HasNoSecondOwner self.old.layout.buffers (buffers_in parts ++ owners self.old) }

@@ -5,9 +5,9 @@ ghost use Rattle.dma_memory.specs.Layout.{size_of};
 ghost use Rattle.dma_memory.specs.Owners.{HasNoSecondOwner, HaveSameNumbers};
 ghost use Rattle.bus.specs.Keeping.{Keeps};
 ghost use Rattle.bus.specs.declared.event.Access.TheVariants.{Writes};
-ghost use Rattle.driver_law.specs.Calls.{Runs, WhereReady, at, only};
-ghost use Rattle.driver_law.specs.DriverState.{next_receive, owners, with_owners};
-ghost use Rattle.driver_law.specs.Resets.{reset_driver};
+ghost use Rattle.bus.specs.Calls.{Runs, WhereReady, at, only};
+ghost use Rattle.bus.specs.DriverState.{next_receive, owners, with_owners};
+ghost use Rattle.bus.specs.Resets.{reset_driver};
 ghost use Rattle.driver.specs.Resetting.{OffersFree, Resets};
 
 use crate::Driver;
@@ -22,7 +22,7 @@ use bus::Bus;
 use circular_buffer::HeapCircularBuffer;
 use dma_memory::{BufId, Pool};
 
-/// Puts all buffers of the queue back into the pool.
+/// Removes all buffers from the queue, and puts them back into the pool.
 fn give_buffers(pool: &mut Pool, buffers: &mut HeapCircularBuffer<BufId>)
     requires { HasNoSecondOwner pool.old.buffers (pool.old.free ++ buffers.old.items) }
     ensures none { buffers.new.items ≡ [] }
@@ -44,7 +44,8 @@ impl Driver {
         self.oldest_receive
     }
 
-    /// Forgets all slots, as the adapter does at a reset, and puts their buffers into the pool.
+    /// Forgets all outstanding and staged slots, as the adapter does at a reset. Puts the buffers of the receive slots
+    /// into the pool. The next slot of each ring is then slot 0.
     fn forget_slots(&mut self)
         ensures others { self.new ≡ reset_driver self.new.pool self.old }
         ensures pool { HaveSameNumbers (self.old.pool ++ (self.old.buffers ++ self.old.staged)) self.new.pool }
@@ -77,8 +78,8 @@ impl Driver {
         self.staged
     }
 
-    /// Offers receive slots until no buffer is free, or all slots except one are outstanding. Clears the descriptors of
-    /// the other slots.
+    /// Stages receive slots until no buffer is free, or only one slot isn't staged. Clears the descriptors of the other
+    /// slots, and then offers the staged slots.
     fn offer_free<B: Bus>(&mut self, bus: &mut B)
         requires memory { size_of self.old.layout ≤ B.extent bus.old }
         requires first { self.old.oldest_receive ≡ 0 }
@@ -94,10 +95,12 @@ impl Driver {
     }
 
     /// Resets the adapter and sets it up again as [`init`](Driver::init) did, with the groups joined now. Unlike
-    /// `init`, the call doesn't read the EEPROM, and doesn't wait for the link. A link that is up remains up. Frames
-    /// that are still to be sent, and frames that the driver hasn't taken, are lost. Frames that a receiver kept are
-    /// still in their buffers. The call allocates no memory, and can't fail. `bus` must have at least `layout().size()`
-    /// bytes.
+    /// `init`, the call doesn't read the EEPROM, and doesn't wait for the link. If the link is up and no MDIC command
+    /// is pending, the link remains up.
+    ///
+    /// Frames that are still to be sent, and frames that the driver hasn't taken, are lost. Frames that a receiver kept
+    /// are still in their buffers. The call allocates no memory, and can't fail. `bus` must have at least
+    /// `layout().size()` bytes.
     pub fn reset<B: Bus>(&mut self, bus: &mut B)
         requires memory { size_of self.old.layout ≤ B.extent bus.old }
         ensures keeps { Keeps B.Bus bus.old bus.new }

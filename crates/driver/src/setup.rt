@@ -33,7 +33,7 @@ impl Setup {
     }
 }
 
-/// Returns a copy of a list of VLANs, if there is one.
+/// Returns a copy of a list of VLANs, or `None` if there is no list.
 fn copied(vlans: &Option<ArrayVec<u16, MOST_VLANS>>) -> Option<ArrayVec<u16, MOST_VLANS>>
     ensures { result ≡ vlans.now }
 {

@@ -7,8 +7,8 @@ ghost use Rattle.dma_memory.specs.Layout.{descriptor_bytes, size_of};
 ghost use Rattle.descriptors.specs.Frames.{longest_frame, shortest_sent};
 ghost use Rattle.descriptors.specs.TxFields.{tx_dd};
 ghost use Rattle.bus.specs.Keeping.{Keeps};
-ghost use Rattle.driver_law.specs.Calls.{Ran, WhereUp, at, whole_descriptor};
-ghost use Rattle.driver_law.specs.DriverState.{transmit_slot, transmit_tail};
+ghost use Rattle.bus.specs.Calls.{Ran, WhereUp, at, whole_descriptor};
+ghost use Rattle.bus.specs.DriverState.{transmit_slot, transmit_tail};
 ghost use Rattle.driver.specs.SendSteps.{FreesOldest, HasWrongLength, LooksBack, Reclaims, Transmits};
 ghost use Rattle.driver.specs.SendSteps.{sent_now, sent_status_offset, with_transmit_slots};
 
@@ -47,15 +47,15 @@ fn descriptor_address(layout: Layout, slot: u16) -> u64
     layout.transmit_ring() + DESCRIPTOR_BYTES * u64::from(slot)
 }
 
-/// Returns whether a transmit descriptor has DD, so that it is written back.
+/// Returns whether a transmit descriptor has DD: the slot is written back.
 fn shows_done(bytes: &[u8; TX_DESC_BYTES]) -> bool
     ensures { result ≡ is_set (slice_index bytes.now sent_status_offset) tx_dd }
 {
     TxDesc::from_bytes(bytes).status.contains(TxStatus::DD)
 }
 
-/// Returns the descriptor of a frame in one buffer, with EOP, IFCS (insert the frame check sequence) and RS (report
-/// status).
+/// Returns the transmit descriptor of a frame of `size` bytes at the address `buffer`. The descriptor has EOP, IFCS
+/// (insert the frame check sequence) and RS (report status).
 fn whole_packet(buffer: u64, size: u16) -> [u8; TX_DESC_BYTES]
     ensures { result ≡ whole_descriptor buffer size }
 {
@@ -109,8 +109,9 @@ impl Driver {
         while self.free_oldest(bus) {}
     }
 
-    /// Sends a frame in the slot after the outstanding slots: stores the frame's bytes into the slot's buffer, then
-    /// the slot's descriptor, and then writes TDT.
+    /// Sends a frame of 14 to 1,518 bytes in the slot after the outstanding slots. Stores the frame's bytes into the
+    /// slot's buffer, then the slot's descriptor, and then writes TDT. At least two transmit slots must not be
+    /// outstanding.
     fn send<B: Bus>(&mut self, bus: &mut B, frame: &[u8])
         requires memory { size_of self.old.layout ≤ B.extent bus.old }
         requires room { self.old.sending + 1 < self.old.layout.tx }

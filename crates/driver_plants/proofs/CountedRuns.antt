@@ -1,4 +1,5 @@
--- Each run that left the ring is a frame that was shown, or a bad run.
+-- Frames taken and bad runs together are at most the slots that were outstanding. Without sockets, each frame taken is counted as
+-- unclaimed.
 use Rattle.std.proofs.Common.{Bool, not, ◌≡◌, ◌≤◌, ◌+◌, ◌∷◌, [], ℕ, List, length, map, refl, sym, ap, subst, ◌∙◌, length-append, arith}
 use Rattle.std.specs.List.{All, filter}
 use Rattle.std.proofs.lemmas.List.{length-map}
@@ -6,7 +7,7 @@ use Rattle.std.proofs.lemmas.List.Filters.{length-filter_both}
 use Rattle.std.proofs.lemmas.List.Recursion.{is_count_by}
 use Rattle.std.proofs.lemmas.List.Sums.{length-filter}
 use Rattle.bus.proofs.Lists.{all-head, all-tail}
-use Rattle.driver_law.specs.DriverState.{DriverState}
+use Rattle.bus.specs.DriverState.{DriverState}
 use Rattle.driver.specs.HandlerSteps.{GrowsBy, IfHandled, IsRun, RunOfSlots, ServesReceiver, bad_runs, run_buffers, whole_frames}
 use Rattle.driver.specs.declared.interrupt.Handled.{Handled}
 use Rattle.driver.specs.declared.interrupt.Handled.TheVariants.{NotMine}
@@ -19,12 +20,10 @@ use Rattle.packet_socket.specs.HostState.{HostState}
 use Rattle.packet_socket.specs.SocketKinds.{has_none}
 use Rattle.packet_socket.specs.declared.socket_kind.SocketKind.{SocketKind}
 
--- A statement about the result `Handled` may be replaced by a consequence.
 pub if-handled : {P Q : ℕ → Type 0} (result : Handled) → ((n : ℕ) → P n → Q n) → IfHandled result P → IfHandled result Q
 if-handled NotMine follows holds = tt
 if-handled (answers.Handled taken) follows holds = follows taken holds
 
--- Each run has at least one slot.
 runs-few : (runs : List RunOfSlots) → All IsRun runs → length runs ≤ length (run_buffers runs)
 runs-few [] all = omega arith
 runs-few (run ∷ later) all =
@@ -37,7 +36,6 @@ runs-few (run ∷ later) all =
       length-map run.parts (λ (part : Part). part.buffer),
     )
 
--- The number of frames and bad runs is at most the number of slots.
 runs-counted : (runs : List RunOfSlots) → All IsRun runs → length (whole_frames runs) + bad_runs runs ≤ length (run_buffers runs)
 runs-counted runs all =
     let whole : RunOfSlots → Bool = λ run. run.whole in
@@ -62,7 +60,6 @@ serves-counted receivers before after d d' n serves =
       length-append (run_buffers serves.runs) serves.ring.leave.rest,
     )
 
--- Without sockets, no frame has a socket.
 all-unclaimed : (shown : List Received) → unclaimed_of [] shown ≡ length shown
 all-unclaimed shown =
     sym (is_count_by length (λ (received : Received). has_none [] received.ether_type) refl (λ one later. omega arith) shown)

@@ -11,7 +11,6 @@ use Rattle.packet_socket.specs.SocketKinds.{goes_to}
 use Rattle.packet_socket.specs.declared.socket_kind.SocketKind.{SocketKind}
 use Rattle.packet_socket.specs.declared.socket_kind.SocketKind.TheVariants as kinds
 
--- The entries that were added to the first queue are those of frames of other EtherTypes.
 pub ether-first : (h h' : HostState) (n : ℕ) → HostServes h h' n → h.kinds ≡ kinds.All ∷ kinds.Ether 0x0806 ∷ []
     → (more : List Received) × ((queue_at h'.queues 0 ≡ queue_at h.queues 0 ++ more) × All (λ received. received.ether_type ≢ 0x0806) more)
 ether-first h h' n serves are =

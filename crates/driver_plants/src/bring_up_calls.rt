@@ -1,4 +1,4 @@
-//! The calls of `bring_up`.
+//! Twins of calls of `bring_up`.
 
 ghost use Rattle.std.specs.Prelude.{◌≡◌, ◌≤◌, ◌<◌, ◌+◌, ◌*◌, ◌↔◌, ℕ, Bool, IsOk, length};
 ghost use Rattle.dma_memory.specs.Layout.{descriptor_bytes};
@@ -10,13 +10,13 @@ ghost use Rattle.bring_up.specs.EepromReading.{ReadsImage};
 ghost use Rattle.bring_up.specs.Link.{AwaitsLink};
 ghost use Rattle.bring_up.specs.RingRegisters.{receive_writes};
 ghost use Rattle.bring_up.specs.SettingSteps.{SetsOnly};
-ghost use Rattle.driver_law.specs.Calls.{IsReadyOver, Ran, at, only};
-ghost use Rattle.driver_law.specs.DriverState.{DriverState, address_limit, receive_slot};
+ghost use Rattle.bus.specs.Calls.{IsReadyOver, Ran, at, only};
+ghost use Rattle.bus.specs.DriverState.{DriverState, address_limit, receive_slot};
 
 use bring_up::{Config, InitError};
 use bus::Bus;
 use dma_memory::Layout;
-use eeprom::Image;
+use eeprom_phy::Image;
 use rx_engine::TABLE_WORDS;
 
 /// A twin of [`bring_up::find_device`].

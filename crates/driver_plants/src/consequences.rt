@@ -1,8 +1,9 @@
-//! Consequences of the contract of a call. A body for which a consequence is false can't meet the contract.
+//! Each function makes a call, and states a consequence of the call's contract. A body for which a consequence is false
+//! can't meet the contract.
 
 ghost use Rattle.std.specs.Prelude.{◌≡◌, ◌≢◌, ◌*◌, ◌+◌, ◌≤◌, ◌++◌, ◌∷◌, [], All, IsOk, List, length};
 ghost use Rattle.dma_memory.specs.Layout.{size_of};
-ghost use Rattle.eeprom.specs.Image.{HasRightSum};
+ghost use Rattle.eeprom_phy.specs.Image.{HasRightSum};
 ghost use Rattle.bring_up.specs.EepromReading.{most_reads};
 ghost use Rattle.bring_up.specs.Link.{NeedsMoreThan};
 ghost use Rattle.driver.specs.HandlerSteps.{GrowsBy, IfHandled};
@@ -13,10 +14,10 @@ ghost use Rattle.packet_socket.specs.declared.socket_kind.SocketKind.TheVariants
 use bring_up::InitError;
 use bus::Bus;
 use driver::{Driver, Handled, Receiver};
-use eeprom::Image;
+use eeprom_phy::Image;
 use packet_socket::Host;
 
-/// Over a lively bus, a device with a right checksum is found if its link needs at most 2,000 ticks.
+/// Over a lively bus that obeys the law, a device with a right checksum is found if its link needs at most 2,000 ticks.
 pub fn sound_devices_are_found<B: Bus>(bus: &mut B, kilobytes: u8) -> Result<Image, InitError>
     ensures found { B.lively bus.old → B.honest bus.old → HasRightSum (B.world bus.old).adapter.image
         → ¬ (NeedsMoreThan (2 * most_reads) (B.world bus.old).adapter.phy.link) → IsOk result }
@@ -24,8 +25,8 @@ pub fn sound_devices_are_found<B: Bus>(bus: &mut B, kilobytes: u8) -> Result<Ima
     bring_up::find_device(bus, kilobytes)
 }
 
-/// Over any bus, the number of frames taken, plus the number of bad runs counted, is at most the number of slots that
-/// were outstanding.
+/// Over any bus, the number of frames taken plus bad runs counted is at most the number of receive slots that were
+/// outstanding.
 pub fn runs_have_slots<B: Bus, R: Receiver>(
     driver: &mut Driver,
     bus: &mut B,
@@ -37,7 +38,8 @@ pub fn runs_have_slots<B: Bus, R: Receiver>(
     driver.interrupt(bus, receiver)
 }
 
-/// Over any bus, a host without sockets counts each frame that it takes as unclaimed, up to the greatest u64.
+/// Over any bus, a host without sockets counts each frame that it takes as unclaimed, until the count is the greatest
+/// `u64`.
 pub fn frames_without_sockets_are_counted<B: Bus>(host: &mut Host, bus: &mut B) -> Handled
     requires memory { size_of host.old.driver.layout ≤ B.extent bus.old }
     ensures counted { IfHandled result (λ taken. host.old.kinds ≡ []
@@ -46,8 +48,8 @@ pub fn frames_without_sockets_are_counted<B: Bus>(host: &mut Host, bus: &mut B) 
     host.interrupt(bus)
 }
 
-/// Over any bus, a frame of an EtherType that has a socket (here 0x0806, ARP) doesn't go to a socket for all frames.
-/// This is so even if the socket for all frames comes first.
+/// Over any bus, let socket 0 be for all frames, and socket 1, the only other socket, for EtherType 0x0806 (ARP). Then
+/// no frame of EtherType 0x0806 is added to the queue of socket 0.
 pub fn ether_sockets_come_first<B: Bus>(host: &mut Host, bus: &mut B) -> Handled
     requires memory { size_of host.old.driver.layout ≤ B.extent bus.old }
     ensures sorted { IfHandled result (λ taken. host.old.kinds ≡ kinds.All ∷ kinds.Ether 0x0806 ∷ []

@@ -13,7 +13,7 @@ fn bytes_of(driver: &Driver) -> u64
     driver.layout().size()
 }
 
-/// Makes the same call twice, with equal drivers. An edit loosens the clause `exact` of the call, and nothing else.
+/// Makes the same call twice, with equal drivers. An edit loosens the clause `exact` of `bytes_of`, and nothing else.
 pub fn bytes_twice(one: &Driver, other: &Driver) -> (u64, u64)
     requires { one.now ≡ other.now }
     ensures { result.0 ≡ result.1 }

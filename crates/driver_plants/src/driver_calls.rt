@@ -1,10 +1,10 @@
-//! The calls of `Driver`.
+//! Twins of calls of `Driver`.
 
 ghost use Rattle.std.specs.Prelude.{◌<◌, ◌≤◌, ◌++◌, All, IfErr, take};
 ghost use Rattle.dma_memory.specs.Layout.{size_of};
 ghost use Rattle.dma_memory.specs.Owners.{HasNoSecondOwner, HaveSameNumbers};
-ghost use Rattle.driver_law.specs.Calls.{OffersAll, Runs, WhereReady, at, only};
-ghost use Rattle.driver_law.specs.DriverState.{owners};
+ghost use Rattle.bus.specs.Calls.{OffersAll, Runs, WhereReady, at, only};
+ghost use Rattle.bus.specs.DriverState.{owners};
 ghost use Rattle.driver.specs.HandlerSteps.{Handles, ReadsHeld, WhereReadyIn, scene};
 ghost use Rattle.driver.specs.Initialisation.{RefusesInit};
 ghost use Rattle.driver.specs.Parts.{IsWholeFrame, buffers_in, part_loads};

@@ -1,8 +1,8 @@
-//! The calls of `Driver` that change the joined groups.
+//! Twins of the calls of `Driver` that change the joined groups.
 
 ghost use Rattle.std.specs.Prelude.{◌≡◌};
 ghost use Rattle.std.specs.Result.{OnOk};
-ghost use Rattle.driver_law.specs.Calls.{WhereReady, at};
+ghost use Rattle.bus.specs.Calls.{WhereReady, at};
 ghost use Rattle.bring_up.specs.Groups.{ChangesJoined, HasNumber};
 
 use bring_up::GroupError;

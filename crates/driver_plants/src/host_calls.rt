@@ -1,4 +1,4 @@
-//! The calls of `Host`.
+//! Twins of calls of `Host`.
 
 ghost use Rattle.std.specs.Prelude.{◌≡◌, ◌↔◌, ◌<◌, ◌≤◌, [], Err, IfOk, length};
 ghost use Rattle.dma_memory.specs.Layout.{size_of};

@@ -1,12 +1,11 @@
-//! A lively bus with a new adapter, and a host.
+//! A configuration, a lively bus with a new adapter, and a host, for tests.
 
 use adapter::Adapter;
 use arrayvec::ArrayVec;
 use bring_up::{Config, InitError};
 use bus::Bus;
 use dma_memory::HostMemory;
-use eeprom::Image;
-use mdic_phy::Link;
+use eeprom_phy::{Image, Link};
 use packet_socket::{Host, SocketKind};
 use solo_bus::SoloBus;
 use std::alloc::{AllocError, Global};

@@ -2,7 +2,7 @@
 
 use bus::StoredBytes;
 use dma_memory::{HostMemory, LayoutError, OutOfRange, Pool};
-use eeprom::Image;
+use eeprom_phy::Image;
 use solo_bus::sound_buses::{with_buffered_frame, with_work};
 use std::alloc::Global;
 use std::test::Fail;
@@ -39,7 +39,8 @@ fn has_work(alloc: Global, image: &Image) -> bool {
     with_work(alloc, image).is_ok()
 }
 
-/// Each call may fail only if an allocation fails. So if one allocation fails, at least two of the three calls succeed.
+/// Each call may fail only if an allocation fails. So if only one allocation fails, at least two of the three calls
+/// succeed.
 #[test]
 fn stored_bytes_and_sound_buses_are_made(rt: HostRuntime) {
     let image = Image::with_address([0x02, 0, 0, 0, 0, 0x01]);

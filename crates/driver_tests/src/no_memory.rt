@@ -7,6 +7,7 @@ use bus::{Bus, HonestBus};
 use driver::Handled;
 use packet_socket::Host;
 use solo_bus::{SoloBus, SoloTick};
+use std::alloc::Global;
 use std::process::Abort;
 
 /// A broadcast frame.
@@ -21,10 +22,11 @@ fn calls<B: Bus>(rt: &impl Abort, host: &mut Host, bus: &mut B) {
     assert!(rt; size <= bus.size());
     let sent = host.send(bus, &FRAME).is_ok();
     let changed = host.join(bus, GROUP).is_ok() && host.leave(bus, GROUP).is_ok();
-    assert!(rt; sent && changed);
-    assert!(rt; host.interrupt(bus) == Handled::Handled { taken: 1 });
+    let handled = host.interrupt(bus);
     let mut bytes = [0; 1518];
-    assert!(rt; host.recv(bus, 0, &mut bytes) == Ok(60));
+    let received = host.recv(bus, 0, &mut bytes);
+    assert!(rt; sent && changed);
+    assert!(rt; handled == Handled::Handled { taken: 1 } && received == Ok(60));
 }
 
 /// Plays an arrival, and the steps by which the adapter writes the frame to memory.
@@ -61,13 +63,16 @@ fn session(rt: &impl Abort, host: &mut Host, bus: &mut SoloBus) {
     assert!(rt; !bus.line());
 }
 
+/// Makes a host, and plays the session unless an allocation fails.
+fn hosts(rt: &impl Abort, alloc: Global, bus: &mut SoloBus) {
+    if let Ok(mut host) = new_host(alloc, bus) {
+        session(rt, &mut host, bus);
+    }
+}
+
 #[test]
 fn calls_of_a_host_take_no_memory(rt: HostRuntime) {
-    let Ok(mut bus) = good_bus(rt.alloc()) else {
-        return;
-    };
-    let Ok(mut host) = new_host(rt.alloc(), &mut bus) else {
-        return;
-    };
-    session(&rt, &mut host, &mut bus);
+    if let Ok(mut bus) = good_bus(rt.alloc()) {
+        hosts(&rt, rt.alloc(), &mut bus);
+    }
 }

@@ -15,16 +15,16 @@ fn the_code_of_the_readme_of_packet_socket(rt: HostRuntime) -> Result<(), Fail> 
     let _ = table.try_push(SocketKind::All);
     let mut host = Host::new(rt.alloc(), &mut bus, &config(), table)?;
     let frame = [0xFF; 60]; // a broadcast frame
-    assert!(rt; host.layout().size() <= bus.size());
-    assert!(rt; host.send(&mut bus, &frame).is_ok());
+    assert!(rt; host.layout().size() <= bus.size() && host.send(&mut bus, &frame).is_ok());
     bus.arrive(&frame);
     bus.step(StepKind::RxData);
     bus.step(StepKind::RxDone);
     assert!(rt; host.layout().size() <= bus.size());
-    assert!(rt; host.interrupt(&mut bus) == Handled::Handled { taken: 1 });
+    let handled = host.interrupt(&mut bus);
     let mut bytes = [0; 1518];
-    assert!(rt; host.layout().size() <= bus.size());
-    assert!(rt; host.recv(&mut bus, 0, &mut bytes) == Ok(60));
-    assert!(rt; bytes.starts_with(&frame));
+    let received = host.recv(&mut bus, 0, &mut bytes);
+    assert!(rt;
+        handled == Handled::Handled { taken: 1 } && received == Ok(60) && bytes.starts_with(&frame)
+    );
     Ok(())
 }

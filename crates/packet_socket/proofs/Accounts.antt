@@ -1,4 +1,4 @@
--- The account of frames.
+-- The account of frames in an interval, and in two consecutive intervals together.
 use Rattle.std.proofs.Common.{◌≡◌, ◌+◌, ◌++◌, ℕ, cond, List, map, sym, ap, ◌∙◌}
 use Rattle.std.proofs.Common.{append_assoc, arith}
 use Rattle.std.specs.Prelude.{◌==◌}
@@ -23,7 +23,7 @@ pub without-append : (kinds : List SocketKind) (xs ys : List (List ℕ))
     → without_socket kinds (xs ++ ys) ≡ without_socket kinds xs + without_socket kinds ys
 without-append kinds xs ys = sum_by-append (λ (frame : List ℕ). cond (has_none kinds (ether_type frame)) 1 0) xs ys
 
--- Frames were taken off the ring, and went to the queues or were counted.
+-- If the frames taken off the ring went to the queues or were counted, the account of frames holds.
 pub accounts : (h : HostState) (a : World) (h' : HostState) (b : World) (given : List Given) (taken stored : List (List ℕ))
     → h'.kinds ≡ h.kinds
     → taken ++ frames_held h'.driver.oldest_receive b ≡ frames_held h.driver.oldest_receive a ++ stored
@@ -60,7 +60,6 @@ given-append socket xs ys =
     ap (map frame) (filter-append (λ (one : Given). one.socket == socket) xs ys)
     ∙ map-append frame (filter (λ (one : Given). one.socket == socket) xs) (filter (λ (one : Given). one.socket == socket) ys)
 
--- Two consecutive intervals join.
 pub accounts-join : (h1 h2 h3 : HostState) (a b c : World) (given more : List Given) (stored later : List (List ℕ))
     → Accounts h1 a h2 b given stored → Accounts h2 b h3 c more later
     → Accounts h1 a h3 c (given ++ more) (stored ++ later)

@@ -13,9 +13,9 @@ use Rattle.bus.specs.declared.event.Access.{Access}
 use Rattle.bus.specs.declared.event.Access.TheVariants.{Writes}
 use Rattle.rx_engine.specs.Addresses.{IsGroup}
 use Rattle.rx_engine.specs.GroupLists.{Removes}
-use Rattle.driver_law.proofs.Intervals.{joined-nothing}
-use Rattle.driver_law.specs.Calls.{IsRefilled, Moment, held_at}
-use Rattle.driver_law.specs.DriverState.{DriverState}
+use Rattle.bus.proofs.Intervals.{joined-nothing}
+use Rattle.bus.specs.Calls.{IsRefilled, Moment, held_at}
+use Rattle.bus.specs.DriverState.{DriverState}
 use Rattle.bring_up.specs.Groups.{ChangesJoined, SetsTable, with_groups, word_of}
 use Rattle.bring_up.specs.declared.groups.GroupError.TheVariants.{GroupsFull, Joined, NotGroup, NotJoined}
 use Rattle.bring_up.proofs.Numbers.{word_below}
@@ -64,7 +64,7 @@ groups-act bus old new kept group changes is others =
     (own-sets kept group new.driver.groups changes.accesses changes.sets)
     (last-sets kept group new.driver.groups changes.accesses changes.sets) ran.goes ran.follows
 
--- The remaining result if the others are impossible
+-- The effect of a join or a leave, by its result
 
 is-group : (group : List ℕ) (result : GroupAnswer) → ((result ≡ Err NotGroup) ↔ (¬ (IsGroup group))) → result ≢ Err NotGroup → IsGroup group
 is-group group result not_group other =

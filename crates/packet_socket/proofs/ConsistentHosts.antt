@@ -10,9 +10,9 @@ use Rattle.dma_memory.specs.OwnersLaws.{copies-append, known_from_no_second, len
 use Rattle.dma_memory.specs.Layout.{Counts}
 use Rattle.adapter.specs.World.{World}
 use Rattle.bus.proofs.Lists.{all-head, all-none, all-right, all-without}
-use Rattle.driver_law.proofs.Owners.{all-copies}
-use Rattle.driver_law.specs.DriverState.{DriverState, HandedOut, holding, owners}
-use Rattle.driver_law.specs.ReadyDrivers.{ReadyWith}
+use Rattle.bus.proofs.Owners.{all-copies}
+use Rattle.bus.specs.DriverState.{DriverState, HandedOut, holding, owners}
+use Rattle.bus.specs.ReadyDrivers.{ReadyWith}
 use Rattle.driver.specs.HandlerSteps.{IfHandled, IfNotMine, ServesReceiver}
 use Rattle.driver.specs.Parts.{AreFrames, IsWholeFrame, buffers_in, buffers_of}
 use Rattle.driver.specs.declared.interrupt.Handled.{Handled}
@@ -28,7 +28,6 @@ use Rattle.packet_socket.specs.declared.socket_kind.SocketKind.{SocketKind}
 use Rattle.packet_socket.proofs.QueueParts.{Splits, none-wait, splits}
 use Rattle.packet_socket.proofs.QueuedPieces.{buffers-append, buffers-first, copies-joined, entries-fit}
 
--- The oldest entry of a queue.
 pub entry-splits : (driver : DriverState) (before after : SocketsState) (socket count : ℕ) (received : Received) → AreOfHost driver before
     → socket < count → count ≡ length before.kinds
     → queue_at before.queues socket ≡ received ∷ queue_at after.queues socket
@@ -43,7 +42,6 @@ pub record CanComeBack (driver : DriverState) (received : Received) : Type 0 whe
   pub one_owner : HasNoSecondOwner driver.layout.buffers (buffers_in received.parts ++ owners driver)
   pub whole : IsWholeFrame received
 
--- A list without its middle part.
 middle-copies : (k : ℕ) (first last : List Received) (received : Received)
     → copies k (buffers_of (first ++ received ∷ last)) ≡ copies k (buffers_in received.parts) + copies k (buffers_of (first ++ last))
 middle-copies k first last received =
@@ -72,7 +70,7 @@ can-come-back driver sockets socket received later host parts =
           (all-right IsWholeFrame parts.first (received ∷ parts.last) (subst AreFrames parts.before host.sizes));
     }
 
--- The buffers return to the driver, and no number of owners changes.
+-- After the buffers of an entry returned to the driver, each buffer has the same number of owners.
 pub stays-owners : (driver driver' : DriverState) (before after : SocketsState) (socket : ℕ) (received : Received)
     → (parts : Splits before.queues socket received (queue_at after.queues socket))
     → after ≡ record before { queues = slice_set before.queues socket (queue_at after.queues socket) }
@@ -119,7 +117,6 @@ kept-are-frames before after shown kept sorts sizes =
     subst AreFrames (sym sorts.claimed)
     (All-filter (λ (r : Received). has_socket before.kinds r.ether_type) IsWholeFrame shown sizes)
 
--- The number of copies of a number in the queues after frames were kept.
 pub kept-copies : (k : ℕ) (kinds : List SocketKind) (before after : List (List Received)) (kept : List Received)
     → Queues kinds before after kept
     → copies k (buffers_of (all_of after)) ≡ copies k (buffers_of (all_of before)) + copies k (buffers_of kept)
@@ -130,7 +127,6 @@ kept-copies k kinds before after kept queues =
     ∙ sym (copies-joined k (all_of before ++ kept))
     ∙ buffers-append k (all_of before) kept
 
--- The queues have room for all frames that were kept.
 pub has-room : (driver driver' : DriverState) (before : SocketsState) (kept : List Received) → AreOfHost driver before → AreFrames kept
     → HaveSameNumbers (owners driver) (owners driver' ++ buffers_of kept) → length (all_of before.queues) + length kept ≤ before.room
 has-room driver driver' before kept host sizes numbers =
@@ -153,7 +149,7 @@ has-room driver driver' before kept host sizes numbers =
       host.room,
     )
 
--- In an interrupt
+-- A host handles an interrupt
 
 pub served-queues : (n : ℕ) (driver driver' : DriverState) (before after : SocketsState) → AreOfHost driver before
     → (serves : ServesReceiver (record { took = Sorts }) before after driver driver' n)
@@ -163,7 +159,6 @@ served-queues n driver driver' before after host serves =
     shows.shown.queues (has-room driver driver' before shows.kept host
     (kept-are-frames before after shows.received shows.kept shows.shown shows.frames.sizes) serves.owners)
 
--- No number of owners changes.
 served-owners : (n : ℕ) (driver driver' : DriverState) (before after : SocketsState) → AreOfHost driver before
     → ServesReceiver (record { took = Sorts }) before after driver driver' n
     → HaveSameNumbers (host_owners (host_with driver before)) (host_owners (host_with driver' after))
@@ -203,7 +198,6 @@ handled-host NotMine driver driver' before after host stays serves counts = subs
 handled-host (answers.Handled taken) driver driver' before after host stays serves counts =
     served-host taken driver driver' before after host serves counts
 
--- How the handler changes the sockets.
 pub sorts-all : (result : Handled) (driver driver' : DriverState) (before after : SocketsState) → AreOfHost driver before
     → IfHandled result (ServesReceiver (record { took = Sorts }) before after driver driver')
     → IfHandled result (HostServes (host_with driver before) (host_with driver' after))
@@ -224,7 +218,6 @@ sorts-all (answers.Handled taken) driver driver' before after host serves =
       owners = served-owners taken driver driver' before after host serves;
     }
 
--- The queues of a new host are empty.
 pub new-host : (driver : DriverState) (sockets : SocketsState) (kinds : List SocketKind) (room : ℕ)
     → sockets ≡ record { kinds = kinds; queues = replicate (length kinds) []; room = room; unclaimed = 0 } → room ≡ driver.layout.buffers
     → HasNoSecondOwner driver.layout.buffers (owners driver)

@@ -1,13 +1,13 @@
--- A call over a bus that takes and returns no frame.
+-- A call that takes and returns no frame, over a bus.
 use Rattle.std.proofs.Common.{Bool, ◌≡◌, [], ℕ, List, refl, sym, subst}
 use Rattle.std.specs.List.{All}
 use Rattle.bus.proofs.Composition.{happens_none}
 use Rattle.bus.proofs.Lists.{all-none}
 use Rattle.bus.specs.Pasts.{Past, nothing}
 use Rattle.bus.specs.declared.bus.Bus.{Ghosts}
-use Rattle.driver_law.proofs.Intervals.{work_kept}
-use Rattle.driver_law.specs.Calls.{DriverDid, DriverInWorld, FollowsWrites, GoesTo, IsRefilled, Moment, driver_did, driver_in}
-use Rattle.driver_law.specs.DriverState.{DriverState, holding}
+use Rattle.bus.proofs.Intervals.{work_kept}
+use Rattle.bus.specs.Calls.{DriverDid, DriverInWorld, FollowsWrites, GoesTo, IsRefilled, Moment, driver_did, driver_in}
+use Rattle.bus.specs.DriverState.{DriverState, holding}
 use Rattle.packet_socket.specs.HostActs.{ActKind, CallStages, IsAccessOf, IsOfDriver, OnlyLastWrites, OverBus, PassesStages, accesses_in}
 use Rattle.packet_socket.specs.HostActs.{changed_by, no_act}
 use Rattle.packet_socket.specs.HostCalls.{HostMoment, IsReadyHost, driver_at, driver_of, host_at}
@@ -15,7 +15,7 @@ use Rattle.packet_socket.specs.HostEffects.{MakesNoAccess}
 use Rattle.packet_socket.specs.HostState.{HostState}
 use Rattle.packet_socket.proofs.Intervals.{accounts-stay, driver-stays, host-happens, with_driver}
 
--- No access
+-- A call that makes no access
 
 no-acts : {up : Bool} {B : Type 0} (bus : Ghosts B) (now : HostMoment B) → IsReadyHost bus up now → OverBus bus up [] [] now now no_act
 no-acts {up} bus now is = record {
@@ -41,9 +41,9 @@ makes-none {up} {B} bus old b h' is same stays =
     (subst (λ (x : B). MakesNoAccess old.host old.host (OverBus bus up [] [] old (host_at x old.host))) (sym same)
     (record { stays = refl; runs = no-acts bus old is }))
 
--- Only the driver changes
+-- A call that changes only the driver
 
--- Calls of this kind are intervals in which no recorded cause is cleared.
+-- An interval in which no recorded cause is cleared meets `changed_by` for calls of this kind.
 abbrev pub GoesBy : ActKind → Bool → Type 0
 GoesBy kind up =
     (old new : DriverInWorld) (done : DriverDid) (past : Past) → GoesTo up old new done past → changed_by kind up old new done past

@@ -1,4 +1,4 @@
--- The accesses of a driver's calls are those of `IsOfDriver`.
+-- Each access of a driver's calls meets `IsOfDriver`, and only the last access of a call writes a register.
 use Rattle.std.proofs.Common.{◌≡◌, ◌<◌, ◌+◌, ◌%◌, ◌++◌, ◌∷◌, [], ℕ, List, length, inl, inr, map, refl, sym, subst}
 use Rattle.std.specs.List.{All}
 use Rattle.std.proofs.lemmas.List.{append-nil}
@@ -12,9 +12,9 @@ use Rattle.std.specs.List.{concat}
 use Rattle.bus.proofs.Lists.{all-head, all-none, all-tail}
 use Rattle.bus.specs.declared.event.Access.{Access}
 use Rattle.bus.specs.declared.event.Access.TheVariants.{Loads, Reads, Stores, Writes}
-use Rattle.driver_law.specs.Calls.{ether_type_load, receive_loads, send_accesses, stores_from, tail_buffer, tail_slot, tail_write}
-use Rattle.driver_law.specs.Calls.{takes_from, transmit_loads, whole_descriptor}
-use Rattle.driver_law.specs.DriverState.{DriverState, buffer_at, next_receive, receive_slot, transmit_slot, transmit_tail}
+use Rattle.bus.specs.Calls.{ether_type_load, receive_loads, send_accesses, stores_from, tail_buffer, tail_slot, tail_write}
+use Rattle.bus.specs.Calls.{takes_from, transmit_loads, whole_descriptor}
+use Rattle.bus.specs.DriverState.{DriverState, buffer_at, next_receive, receive_slot, transmit_slot, transmit_tail}
 use Rattle.driver.specs.HandlerSteps.{offering_accesses, taking_accesses}
 use Rattle.driver.specs.Parts.{part_loads}
 use Rattle.driver.specs.SendSteps.{loads_to_free, slots_looked_at}
@@ -23,7 +23,7 @@ use Rattle.packet_socket.specs.HostCalls.{receive_accesses}
 use Rattle.std.specs.Prelude.{⊤}
 use Rattle.packet_socket.specs.HostActs.{IsOfDriver, OnlyLastWrites}
 
--- Loads and stores are such accesses, and write no register
+-- Loads and stores meet `IsOfDriver`, and write no register
 
 abbrev IsOfMemory : Access → Type 0
 IsOfMemory (Reads offset value) = ⊥
@@ -117,7 +117,6 @@ tail-last : (slot : ℕ) (staged : List ℕ) → OnlyLastWrites (tail_write slot
 tail-last slot [] = tt
 tail-last slot (number ∷ later) = refl
 
--- Accesses of memory, then stores, then a write of RDT.
 offers-of_driver : (own counts : Counts) (first : List Access) (slot last : ℕ) (offered staged : List ℕ) → All IsOfMemory first
     → last < own.rx → All (IsOfDriver own) (first ++ (stores_from counts slot offered ++ tail_write last staged))
 offers-of_driver own counts first slot last offered staged memory below =
@@ -172,7 +171,6 @@ takes-memory counts slot (numbers ∷ later) =
     (All-append IsOfMemory (ether_type_load counts numbers) rest (type-memory counts numbers)
     (takes-memory counts (place counts.rx slot (length numbers)) later))
 
--- all loads of the handler
 handled-memory : (d : DriverState) (taken : List (List ℕ)) (loads : ℕ)
     → All IsOfMemory (takes_from d.layout d.oldest_receive taken
     ++ receive_loads d.layout (place d.layout.rx d.oldest_receive (length (concat taken))) loads)
@@ -181,7 +179,6 @@ handled-memory d taken loads =
     All-append IsOfMemory (takes_from d.layout d.oldest_receive taken) (receive_loads d.layout slot loads)
     (takes-memory d.layout d.oldest_receive taken) (looks-memory d.layout slot loads)
 
--- all accesses of the handler, stage by stage
 pub handles-of_driver : (own : Counts) (d : DriverState) (causes misses : ℕ) (taken : List (List ℕ)) (loads : ℕ) (offered : List ℕ)
     (last : ℕ) → last < own.rx
     → All (IsOfDriver own) (Reads ICR causes ∷ taking_accesses d misses taken loads ++ (offering_accesses d offered last ++ []))

@@ -1,4 +1,4 @@
--- An effect of a call, with another meaning of `Runs`.
+-- If a call has an effect for one meaning of `Runs`, it has this effect for every meaning that the first implies.
 use Rattle.std.proofs.Common.{Bool, ◌≡◌, ◌++◌, ℕ, List, ap, inl, inr, ◌∙◌}
 use Rattle.std.specs.List.{All}
 use Rattle.dma_memory.specs.Layout.{Counts}
@@ -9,7 +9,7 @@ use Rattle.bus.specs.declared.event.Access.{Access}
 use Rattle.driver.specs.declared.interrupt.Handled.{Handled}
 use Rattle.driver.specs.declared.interrupt.Handled.TheVariants.{NotMine}
 use Rattle.driver.specs.declared.interrupt.Handled.TheVariants as answers
-use Rattle.driver_law.specs.Calls.{DriverDid, DriverInWorld, FlowsTo}
+use Rattle.bus.specs.Calls.{DriverDid, DriverInWorld, FlowsTo}
 use Rattle.packet_socket.specs.HostActs.{ActKind, CallStages, Effect, Ends, HandlesInterrupt, HostAct, IsAccessOf, IsOfHost, MovesFrames}
 use Rattle.packet_socket.specs.HostActs.{PassesStages, SetsGroups, Then, accesses_in, changed_by}
 use Rattle.std.specs.Prelude.{Err, None, Ok, Option, Result, Some}
@@ -25,7 +25,6 @@ use Rattle.packet_socket.specs.declared.receive.RecvError.TheVariants.{Empty, No
 use Rattle.packet_socket.specs.HostEffects.{GroupAnswer, InterruptEffect, JoinEffect, LeaveEffect, MakesNoAccess, RecvEffect, SendEffect}
 use Rattle.packet_socket.specs.HostState.{HostState}
 
--- The accesses over a bus are those of the stages.
 pub passes-accesses : {B : Type 0} (bus : Ghosts B) (stages : CallStages) (old new : B) (past : Past) → PassesStages bus stages old new past
     → past.accesses ≡ accesses_in stages
 passes-accesses bus Ends old new past it = ap (λ (p : Past). p.accesses) it.1
@@ -34,14 +33,12 @@ passes-accesses bus (Then made Holds later) old new past it =
     ∙ ap (λ (list : List Access). list ++ it.behind.accesses) it.made_are
     ∙ ap (λ (list : List Access). made ++ list) (passes-accesses bus later it.middle new it.behind it.later)
 
--- What a call changes in the driver implies `FlowsTo`.
 pub flows-changed : (kind : ActKind) (up : Bool) (old new : DriverInWorld) (done : DriverDid) (past : Past)
     → changed_by kind up old new done past → FlowsTo up old new done past
 flows-changed HandlesInterrupt up old new done past it = it.flows
 flows-changed MovesFrames up old new done past it = it.flows
 flows-changed SetsGroups up old new done past it = it.flows
 
--- The accesses of a call are those of a host.
 pub own-host : (kind : ActKind) (counts : Counts) (accesses : List Access) → All (IsAccessOf kind counts) accesses
     → All (IsOfHost counts) accesses
 own-host HandlesInterrupt counts accesses own = λ k d below. inl (own k d below)
@@ -153,7 +150,6 @@ leave-map group (Err NotJoined) S h h' world Runs Also run it =
 leave-map group (Err errors.Joined) S h h' world Runs Also run it = absurd it
 leave-map group (Err GroupsFull) S h h' world Runs Also run it = absurd it
 
--- A `HostCall`
 answer-map : {R : Type 0} (result : Option R) (Does : R → Effect) → ((r : R) → Maps (Does r)) → Maps (OfAnswer result Does)
 answer-map (Some result) Does maps = maps result
 answer-map None Does maps = λ S h h' world Runs Also run it. absurd it

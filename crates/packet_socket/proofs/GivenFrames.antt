@@ -13,11 +13,11 @@ use Rattle.descriptors.specs.Frames.{longest_frame}
 use Rattle.bus.specs.Pasts.{Past, joined, nothing}
 use Rattle.bus.specs.declared.bus.Bus.{Ghosts}
 use Rattle.bus.specs.declared.event.Access.{Access}
-use Rattle.driver_law.proofs.Accesses.{ran_by-join}
-use Rattle.driver_law.proofs.Intervals.{joined-nothing, work_kept}
-use Rattle.driver_law.specs.Calls.{GoesTo, IsRefilled, Ran, at, driver_did, driver_in, only, stores_from, tail_write}
-use Rattle.driver_law.specs.DriverState.{DriverState, HandedOut, frame_of, holding, next_receive, piece_numbers, with_owners}
-use Rattle.driver_law.specs.ReadyDrivers.{ReadyWith, Stands}
+use Rattle.bus.proofs.DriverAccesses.{ran_by-join}
+use Rattle.bus.proofs.Intervals.{joined-nothing, work_kept}
+use Rattle.bus.specs.Calls.{GoesTo, IsRefilled, Ran, at, driver_did, driver_in, only, stores_from, tail_write}
+use Rattle.bus.specs.DriverState.{DriverState, HandedOut, frame_of, holding, next_receive, piece_numbers, with_owners}
+use Rattle.bus.specs.ReadyDrivers.{ReadyWith, Stands}
 use Rattle.driver.specs.RefillSteps.{Refills}
 use Rattle.driver.specs.Parts.{AreFrames, IsFrameSize, IsWholeFrame, buffers_in, part_loads, parts_of}
 use Rattle.driver.specs.declared.receiver.Received.{Received}
@@ -31,10 +31,9 @@ use Rattle.packet_socket.specs.declared.socket_kind.SocketKind.{SocketKind}
 use Rattle.packet_socket.proofs.Accounts.{accounts}
 use Rattle.packet_socket.proofs.QueueParts.{Splits}
 use Rattle.packet_socket.proofs.WaitingFrames.{AreLong, AreSame, IsLong, all-long, all-same, ends-as, parts-waiting, queue-frames-same}
-use Rattle.driver_law.proofs.Places.{place-below}
+use Rattle.bus.proofs.Places.{place-below}
 use Rattle.packet_socket.proofs.DriversAccesses.{receives-last, receives-of_driver}
 
--- Returned frames, by sockets
 given-here : (socket : ℕ) (frame : List ℕ) (other : ℕ) (goes : Bool) → (socket == other) ≡ goes
     → given_for other (record { socket = socket; frame = frame } ∷ []) ≡ cond goes (frame ∷ []) []
 given-here socket frame other goes is =
@@ -46,7 +45,6 @@ given-here socket frame other goes is =
     by-cases true = refl
     by-cases false = refl
 
--- How a call that returns buffers to the driver changes its host.
 pub gives-others : (d d' : DriverState) (before after : SocketsState) → d' ≡ with_owners d d'.buffers [] d'.pool []
     → after.kinds ≡ before.kinds → after.unclaimed ≡ before.unclaimed
     → host_with d' after ≡ record (host_with d before) { driver = with_owners d d'.buffers [] d'.pool []; queues = after.queues }
@@ -58,12 +56,10 @@ gives-others d d' before after driver kinds unclaimed =
     ∙ ap (λ (n : ℕ). let host : HostState = record
     { driver = made; kinds = before.kinds; queues = after.queues; unclaimed = n } in host) unclaimed
 
--- what is known if there is no entry
 pub if-none : {X : Type 0} {P : Type 0} (found : Option X) → found ≡ None → IfNone found P → P
 if-none None is p = p
 if-none (Some x) is p = absurd (cc)
 
--- The number of bytes that are returned is the size of the frame.
 pub front-long : (size : ℕ) (bytes : List ℕ) → length bytes ≡ longest_frame → IsFrameSize size → length (take size bytes) ≡ size
 front-long size bytes long legal = let fits = legal.most in grind (arith, common_steps)
 

@@ -12,13 +12,13 @@ use Rattle.adapter.specs.World.{World}
 use Rattle.bus.proofs.Composition.{happens_none}
 use Rattle.bus.proofs.Lists.{all-left, all-right}
 use Rattle.bus.specs.Pasts.{joined, nothing}
-use Rattle.driver_law.proofs.TakenSlots.{buffers_can_come_back}
+use Rattle.bus.proofs.TakenSlots.{buffers_can_come_back}
 use Rattle.bus.specs.declared.bus.Bus.{Ghosts}
-use Rattle.driver_law.specs.Calls.{FlowsTo, FollowsWrites, GoesTo, at, driver_did, driver_in}
-use Rattle.driver_law.proofs.Intervals.{joined-nothing}
-use Rattle.driver_law.proofs.Places.{place-below}
-use Rattle.driver_law.specs.DriverState.{DriverState, HandedOut, frame_of, holding, next_receive, piece_numbers, owners}
-use Rattle.driver_law.specs.ReadyDrivers.{ReadyWith, Stands}
+use Rattle.bus.specs.Calls.{FlowsTo, FollowsWrites, GoesTo, at, driver_did, driver_in}
+use Rattle.bus.proofs.Intervals.{joined-nothing}
+use Rattle.bus.proofs.Places.{place-below}
+use Rattle.bus.specs.DriverState.{DriverState, HandedOut, frame_of, holding, next_receive, piece_numbers, owners}
+use Rattle.bus.specs.ReadyDrivers.{ReadyWith, Stands}
 use Rattle.driver.specs.HandlerSteps.{Asked, DoesNothing, GrowsBy, Handles, HandlesIt, IfHandled, IfNotMine, IsSublist, OnlyReceives}
 use Rattle.driver.specs.HandlerSteps.{Scene, ServesReceiver}
 use Rattle.driver.specs.HandlerSteps.{held_in}
@@ -43,15 +43,14 @@ use Rattle.packet_socket.proofs.ConsistentHosts.{kept-copies}
 use Rattle.packet_socket.proofs.QueuedPieces.{all-joined, all-pieces, entries-fit, received-numbers, waiting-numbers}
 use Rattle.packet_socket.proofs.WaitingFrames.{AreLong, AreSame, IsLong, all-long, all-long-after, queue-frames-same, read-long}
 use Rattle.packet_socket.proofs.WaitingFrames.{read-pieces, read-stands}
-use Rattle.driver_law.proofs.Steps.{goes-happens}
-use Rattle.driver_law.proofs.Accesses.{follows-join}
+use Rattle.bus.proofs.Steps.{goes-happens}
+use Rattle.bus.proofs.DriverAccesses.{follows-join}
 use Rattle.packet_socket.proofs.Intervals.{accounts-stay, driver-stays, flows-hold, goes-hold, queues-stand}
 
 -- the moment of a host with this driver and these sockets
 abbrev pub host_in : {B : Type 0} → Scene B SocketsState → HostMoment B
 host_in now = record { bus = now.bus; host = host_with now.driver now.receiver }
 
--- The handler does nothing.
 leaves : {up : Bool} {B : Type 0} (bus : Ghosts B) (old : HostMoment B) (new : B) (asked : Asked bus up (driver_at bus old))
     → IsReadyHost bus up old → DoesNothing bus (driver_at bus old) (at new (driver_at bus old).driver) asked
     → FindsNoCause old.host old.host (OverBus bus up [] [] old (host_at new old.host))
@@ -107,7 +106,6 @@ leaves {up} {B} bus old new asked is it =
       };
     }
 
--- The queues have room for one frame for each outstanding slot.
 has-room : (driver : DriverState) (before : SocketsState) (n : ℕ) → AreOfHost driver before → n ≤ length driver.buffers
     → length (all_of before.queues) + n ≤ before.room
 has-room driver before n host few =
@@ -124,7 +122,8 @@ has-room driver before n host few =
       entries-fit (all_of before.queues) host.sizes,
     )
 
--- After the driver handled the causes, the queues hold the frames that it handed out, and the driver is ready.
+-- The queues contain the earlier frames, and then the frames `kept`. The driver is ready while the queues hold these frames. Each queue
+-- received its socket's frames of those in `taken`.
 pub record Sorted (up : Bool) (driver driver' : DriverState) (before after : SocketsState) (a b : World)
     (taken kept : List (List HandedOut)) : Type 0 where
   pub queues : Queues before.kinds before.queues after.queues (map received_of kept)
@@ -197,14 +196,13 @@ sorted {up} driver driver' before after a b taken kept sound sound' host counts 
           (queue-frames before.kinds socket frame kept taken part shown.claimed outs);
     }
 
--- The buffers of frames are those of their pieces.
 numbers-joined : (taken : List (List HandedOut)) → piece_numbers (pieces_of taken) ≡ concat (map piece_numbers taken)
 numbers-joined [] = refl
 numbers-joined (pieces ∷ later) =
     map-append (λ (one : HandedOut). one.number) pieces (pieces_of later)
     ∙ ap (λ (numbers : List ℕ). piece_numbers pieces ++ numbers) (numbers-joined later)
 
--- The handler handles the causes.
+-- If the driver handled the causes, the host's call has the effect `HandlesFrames`.
 works : {up : Bool} {B : Type 0} (bus : Ghosts B) (old new : Scene B SocketsState) (n : ℕ)
     → AreOfHost old.driver old.receiver → AreOfHost new.driver new.receiver → IsReadyHost bus up (host_in old)
     → (asked : Asked bus up (driver_at bus (host_in old)))
@@ -340,7 +338,6 @@ host-handles {up} {B} bus old new NotMine sound sound' is stays serves only_rece
 host-handles {up} {B} bus old new (answers.Handled taken) sound sound' is stays serves only_receives it =
     works bus old new taken sound sound' is it.asked it.then_does serves only_receives
 
--- A statement about the result `Handled` may be replaced by a consequence.
 pub taken-less : (result : Handled) (P Q : ℕ → Type 0) → ((n : ℕ) → P n → Q n) → IfHandled result P → IfHandled result Q
 taken-less NotMine P Q less holds = tt
 taken-less (answers.Handled taken) P Q less holds = less taken holds

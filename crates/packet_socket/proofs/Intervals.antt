@@ -7,10 +7,10 @@ use Rattle.adapter.specs.HostFrames.{frames_held}
 use Rattle.adapter.specs.World.{World}
 use Rattle.bus.specs.Law.{Happens}
 use Rattle.bus.specs.Pasts.{Past, joined}
-use Rattle.driver_law.proofs.Steps.{goes-happens}
-use Rattle.driver_law.specs.Calls.{DriverDid, DriverInWorld, FlowsTo, GoesTo, driver_did, driver_in}
-use Rattle.driver_law.specs.DriverState.{DriverState, HandedOut, holding}
-use Rattle.driver_law.specs.ReadyDrivers.{ReadyWith, Stands}
+use Rattle.bus.proofs.Steps.{goes-happens}
+use Rattle.bus.specs.Calls.{DriverDid, DriverInWorld, FlowsTo, GoesTo, driver_did, driver_in}
+use Rattle.bus.specs.DriverState.{DriverState, HandedOut, holding}
+use Rattle.bus.specs.ReadyDrivers.{ReadyWith, Stands}
 use Rattle.packet_socket.specs.HostCalls.{Accounts, HostDid, HostGoesTo, HostInWorld, HostInterval, HostReadyWith}
 use Rattle.packet_socket.specs.HostCalls.{did_both, did_nothing, driver_of, in_world, waiting_frame, waiting_frames}
 use Rattle.packet_socket.specs.HostState.{HostState, all_of, queue_at}
@@ -21,7 +21,6 @@ use Rattle.packet_socket.proofs.WaitingFrames.{AreSame, all-long, all-same, ends
 abbrev pub with_driver : DriverState → HostState → HostState
 with_driver driver host = record host { driver = driver }
 
--- Its queues stay: the frames in them are the same after an interval in which they stand.
 pub queues-stand : {up : Bool} (h : HostState) (d : DriverState) (a b : World) → HostReadyWith up h a → d.layout ≡ h.driver.layout
     → All (Stands d.layout b.memory) (driver_of h a).handed_out → AreSame h.driver.layout a.memory b.memory (all_of h.queues)
 queues-stand h d a b host counts stand =
@@ -33,7 +32,6 @@ pub driver-stays : {up : Bool} (h : HostState) (d : DriverState) (a b : World) �
 driver-stays h d a b host counts stand = ends-as (with_driver d h) b h.driver.layout a.memory (all_of h.queues) refl counts
     (queues-stand h d a b host counts stand)
 
--- Nothing is taken or given.
 pub accounts-stay : {up : Bool} (h : HostState) (d : DriverState) (a b : World) (stored : List (List ℕ)) → HostReadyWith up h a
     → d.layout ≡ h.driver.layout
     → All (Stands d.layout b.memory) (driver_of h a).handed_out
@@ -48,7 +46,7 @@ accounts-stay h d a b stored host counts stand holds =
     ∙ sym (append-nil (waiting_frames h socket a)))
     (record { least = omega arith; most = omega arith; exactly = λ below. omega arith })
 
--- The same interval, while others hold other frames at its end.
+-- `FlowsTo` also holds if others hold other pieces at the end, provided that the driver is ready with these pieces.
 abbrev pub flows-hold : {up : Bool} (d : DriverState) (a : World) (e : DriverState) (b : World) (taken sent : List (List ℕ)) (past : Past)
     (held : List HandedOut) → FlowsTo up (driver_in d a) (driver_in e b) (driver_did taken sent) past → ReadyWith up (holding held e) b
     → FlowsTo up (driver_in d a) (driver_in (holding held e) b) (driver_did taken sent) past
@@ -81,7 +79,6 @@ goes-hold d a e b taken sent past held goes ready = record {
   recorded = goes.recorded;
 }
 
--- Whatever happens between two calls.
 pub host-happens : {up : Bool} (h : HostState) (a b : World) (past : Past) → HostReadyWith up h a → Happens a b past
     → HostGoesTo up (in_world h a) (in_world h b) did_nothing past
 host-happens {up} h a b past host happens =
@@ -95,7 +92,7 @@ host-happens {up} h a b past host happens =
       accounts = accounts-stay h h.driver a b past.stored host refl stand goes.flows.holds;
     }
 
--- Two intervals of a driver's run are one.
+-- If `First` holds of an interval of a driver's run, and `Later` of the next interval, `Later` holds of both intervals together.
 abbrev pub Join : (First Later : DriverInWorld → DriverInWorld → DriverDid → Past → Type 0) → Type 0
 Join First Later =
     (d1 d2 d3 : DriverState) (a b c : World) (t1 t2 g1 g2 : List (List ℕ)) (first later : Past)
@@ -103,7 +100,7 @@ Join First Later =
     → Later (driver_in d2 b) (driver_in d3 c) (driver_did t2 g2) later
     → Later (driver_in d1 a) (driver_in d3 c) (driver_did (t1 ++ t2) (g1 ++ g2)) (joined first later)
 
--- So two intervals of its host's run are one.
+-- If `First` and `Later` join for a driver, they join for the host of the driver.
 pub host-join : (First Later : DriverInWorld → DriverInWorld → DriverDid → Past → Type 0) → Join First Later
     → (h1 h2 h3 : HostInWorld) (one two : HostDid) (first later : Past)
     → HostInterval First h1 h2 one first → HostInterval Later h2 h3 two later

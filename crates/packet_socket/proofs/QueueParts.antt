@@ -4,7 +4,7 @@ use Rattle.std.specs.List.{slice_set}
 use Rattle.driver.specs.declared.receiver.Received.{Received}
 use Rattle.packet_socket.specs.HostState.{all_of, queue_at}
 
--- The entries before and after this entry, with it and without it.
+-- All queued entries are `first`, then the entry `received`, and then `last`. Without this entry, they are `first` and then `last`.
 pub record Splits (queues : List (List Received)) (socket : ℕ) (received : Received) (later : List Received) : Type 0 where
   pub first : List Received
   pub last : List Received

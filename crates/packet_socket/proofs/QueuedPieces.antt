@@ -11,25 +11,22 @@ use Rattle.dma_memory.specs.Layout.{Counts}
 use Rattle.dma_memory.specs.Owners.{copies}
 use Rattle.dma_memory.specs.OwnersLaws.{copies-append}
 use Rattle.bus.proofs.Lists.{all-head, all-left, all-none, all-right, all-tail}
-use Rattle.driver_law.specs.DriverState.{HandedOut, piece_numbers}
+use Rattle.bus.specs.DriverState.{HandedOut, piece_numbers}
 use Rattle.driver.specs.Parts.{AreFrames, IsWholeFrame, buffers_in, buffers_of, lengths_in, part_of, parts_of, pieces_of, received_of}
 use Rattle.driver.specs.declared.parts.Part.{Part}
 use Rattle.driver.specs.declared.receiver.Received.{Received}
 use Rattle.packet_socket.specs.HostCalls.{waiting_piece, waiting_pieces}
 
--- A statement that holds for each item of joined lists holds for each item of each list.
 pub all-pieces : {X Y : Type 0} (P : Y → Type 0) (f : X → List Y) (xs : List X) → All P (flat_map f xs) → All (λ x. All P (f x)) xs
 all-pieces P f [] all = all-none (λ x. All P (f x))
 all-pieces P f (x ∷ xs) all =
     All-cons (λ y. All P (f y)) x xs (all-left P (f x) (flat_map f xs) all) (all-pieces P f xs (all-right P (f x) (flat_map f xs) all))
 
--- A statement that holds for each item of each list holds for each item of the joined lists.
 pub all-joined : {X Y : Type 0} (P : Y → Type 0) (f : X → List Y) (xs : List X) → All (λ x. All P (f x)) xs → All P (flat_map f xs)
 all-joined P f [] all = all-none P
 all-joined P f (x ∷ xs) all =
     All-append P (f x) (flat_map f xs) (all-head (λ y. All P (f y)) x xs all) (all-joined P f xs (all-tail (λ y. All P (f y)) x xs all))
 
--- Functions that agree on each item join to the same list.
 pub joined-same : {X Y : Type 0} (f g : X → List Y) (xs : List X) → All (λ x. f x ≡ g x) xs → flat_map f xs ≡ flat_map g xs
 joined-same f g [] same = refl
 joined-same f g (x ∷ xs) same =
@@ -45,12 +42,10 @@ buffers-append k xs ys =
     ap (copies k) (flat_map-append (λ (received : Received). buffers_in received.parts) xs ys)
     ∙ copies-append k (buffers_of xs) (buffers_of ys)
 
--- the buffers of an entry come before those of later entries
 pub buffers-first : (k : ℕ) (received : Received) (later : List Received)
     → copies k (buffers_of (received ∷ later)) ≡ copies k (buffers_in received.parts) + copies k (buffers_of later)
 buffers-first k received later = copies-append k (buffers_in received.parts) (buffers_of later)
 
--- copies of a number, entry by entry
 pub copies-joined : (k : ℕ) (list : List Received)
     → copies k (buffers_of list) ≡ sum_by (λ (received : Received). copies k (buffers_in received.parts)) list
 copies-joined k [] = refl
@@ -62,7 +57,6 @@ copies-joined k (received ∷ later) =
       sum_by-cons (λ (r : Received). copies k (buffers_in r.parts)) received later,
     )
 
--- The pieces that others hold are in these buffers.
 pub waiting-numbers : (counts : Counts) (memory : List ℕ) (list : List Received)
     → piece_numbers (flat_map (waiting_pieces counts memory) list) ≡ buffers_of list
 waiting-numbers counts memory [] = refl
@@ -73,7 +67,6 @@ waiting-numbers counts memory (received ∷ later) =
     (map-map number (waiting_piece counts memory) received.parts)
     ∙ ap (λ (numbers : List ℕ). buffers_in received.parts ++ numbers) (waiting-numbers counts memory later)
 
--- The pieces that the driver hands out are in these buffers.
 pub received-numbers : (list : List (List HandedOut)) → buffers_of (map received_of list) ≡ piece_numbers (pieces_of list)
 received-numbers [] = refl
 received-numbers (pieces ∷ later) =

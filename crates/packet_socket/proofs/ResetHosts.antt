@@ -1,12 +1,12 @@
--- A host whose driver reset its adapter.
+-- After a host's driver resets its adapter, the host is still consistent, and the queued frames are the same.
 use Rattle.std.proofs.Common.{Bool, ◌≡◌, ◌++◌, map, sym, ap, subst, ◌∙◌, arith}
 use Rattle.dma_memory.specs.Layout.{Counts}
 use Rattle.dma_memory.specs.Owners.{HasNoSecondOwner, HaveSameNumbers}
 use Rattle.dma_memory.specs.OwnersLaws.{copies-append}
 use Rattle.bus.specs.declared.bus.Bus.{Ghosts}
-use Rattle.driver_law.specs.Calls.{Moment, held_at}
-use Rattle.driver_law.specs.DriverState.{DriverState, holding, owners}
-use Rattle.driver_law.specs.ReadyDrivers.{Ready}
+use Rattle.bus.specs.Calls.{Moment, held_at}
+use Rattle.bus.specs.DriverState.{DriverState, holding, owners}
+use Rattle.bus.specs.ReadyDrivers.{Ready}
 use Rattle.driver.specs.Parts.{buffers_of}
 use Rattle.driver.specs.Resetting.{Resets}
 use Rattle.packet_socket.specs.HostCalls.{HostMoment, IsReadyHost, driver_at, driver_of, host_at, waiting_frame}
@@ -39,7 +39,6 @@ host-resets bus up old new is layout resets =
           ∙ queue-frames-same counts a.memory b.memory h.queues same socket;
     }
 
--- The buffers in the queues still have no second owner.
 pub reset-host : (driver driver' : DriverState) (sockets : SocketsState) → AreOfHost driver sockets → driver'.layout ≡ driver.layout
     → HaveSameNumbers (owners driver) (owners driver') → AreOfHost driver' sockets
 reset-host driver driver' sockets host layout same = record {

@@ -11,12 +11,12 @@ use Rattle.bus.specs.Pasts.{Past, joined, nothing}
 use Rattle.bus.specs.declared.bus.Bus.{Ghosts}
 use Rattle.bus.specs.declared.event.Access.{Access}
 use Rattle.bus.specs.declared.event.Access.TheVariants.{Stores, Writes}
-use Rattle.driver_law.proofs.FramesCounted.{slots_have_frames}
-use Rattle.driver_law.proofs.Intervals.{goes_join, joined-nothing}
-use Rattle.driver_law.specs.Calls.{FollowsWrites, GoesTo, IsRefilled, Moment, driver_did, driver_in, held_at, send_accesses}
-use Rattle.driver_law.specs.Calls.{transmit_buffer, whole_descriptor}
-use Rattle.driver_law.specs.DriverState.{DriverState, holding, transmit_slot, transmit_tail}
-use Rattle.driver_law.specs.ReadyDrivers.{Ready}
+use Rattle.bus.proofs.FramesCounted.{slots_have_frames}
+use Rattle.bus.proofs.Intervals.{goes_join, joined-nothing}
+use Rattle.bus.specs.Calls.{FollowsWrites, GoesTo, IsRefilled, Moment, driver_did, driver_in, held_at, send_accesses}
+use Rattle.bus.specs.Calls.{transmit_buffer, whole_descriptor}
+use Rattle.bus.specs.DriverState.{DriverState, holding, transmit_slot, transmit_tail}
+use Rattle.bus.specs.ReadyDrivers.{Ready}
 use Rattle.driver.specs.SendSteps.{HasWrongLength, SendAnswer, Sends, accepted_by, loads_to_free, with_transmit_slots}
 use Rattle.driver.specs.declared.transmit.SendError.TheVariants.{RingFull, TooLong, TooShort}
 use Rattle.packet_socket.specs.HostActs.{CallStages, IsOfDriver, MovesFrames, OnlyLastWrites, OverBus, PassesStages, accesses_in}
@@ -25,12 +25,12 @@ use Rattle.packet_socket.specs.HostEffects.{AreLeft, IsSendable, SendEffect}
 use Rattle.packet_socket.specs.HostState.{HostState}
 use Rattle.packet_socket.proofs.DriversAccesses.{frees-last, frees-of_driver, sends-last, sends-of_driver}
 use Rattle.packet_socket.proofs.DriverActs.{driver-acts, makes-none}
-use Rattle.driver_law.proofs.Accesses.{follows-join}
+use Rattle.bus.proofs.DriverAccesses.{follows-join}
 use Rattle.packet_socket.proofs.Intervals.{with_driver}
 
--- Sending
+-- A call that changes only the outstanding transmit slots
 
--- Only the outstanding transmit slots change.
+-- The host h with the driver d differs from h only in the outstanding transmit slots.
 abbrev pub OnlySends : HostState → DriverState → Type 0
 OnlySends h d = with_driver d h ≡ record h { driver = with_transmit_slots h.driver d.oldest_transmit d.sending }
 
@@ -47,14 +47,12 @@ send-acts bus old new accepted stages past is others passes own last goes follow
     (λ refilled. subst (λ (host : HostState). IsRefilled host.driver) (sym others) refilled)
     (λ offered. subst (λ (host : HostState). host.driver.staged ≡ []) (sym others) offered) passes own last goes follows
 
--- The remaining outstanding slots have frames that are still to be sent.
 left-over : (d : DriverState) (world : World) → Ready d world → written_back d.oldest_transmit world ≡ []
     → AreLeft d.oldest_transmit d.sending world
 left-over d world ready none =
     let count = (slots_have_frames d world ready).count in
     record { none = none; frames = omega (arith, count, ap length none) }
 
--- The accesses of sending depend only on the layout and the tail.
 sends-same : (d d' : DriverState) (frame : List ℕ) → d'.layout ≡ d.layout → transmit_tail d' ≡ transmit_tail d
     → send_accesses d' frame ≡ send_accesses d frame
 sends-same d d' frame counts tail =

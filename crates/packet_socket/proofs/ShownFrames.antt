@@ -1,4 +1,4 @@
--- Frames that the driver takes, as its sockets are shown them.
+-- The frames that a driver took, and those of them that the host's sockets keep.
 use Rattle.std.proofs.Common.{Bool, true, false, cond, ◌≡◌, ◌≤◌, ◌∷◌, [], ℕ, Option, Some, None, suc, List, length, map}
 use Rattle.std.proofs.Common.{refl, sym, ap, subst, ◌∙◌, arith}
 use Rattle.std.specs.List.{All, filter}
@@ -8,7 +8,7 @@ use Rattle.std.proofs.lemmas.List.Elements.{filter_passes}
 use Rattle.std.proofs.lemmas.List.Sums.{sum_by-cons}
 use Rattle.rx_engine.specs.Addresses.{ether_type}
 use Rattle.bus.proofs.Lists.{all-head, all-tail, all-unmapped}
-use Rattle.driver_law.specs.DriverState.{HandedOut, frame_of}
+use Rattle.bus.specs.DriverState.{HandedOut, frame_of}
 use Rattle.driver.specs.HandlerSteps.{IsSublist, part_none, part_with, part_without}
 use Rattle.driver.specs.Parts.{joined_frames, received_of}
 use Rattle.driver.specs.declared.receiver.Received.{Received}
@@ -23,13 +23,11 @@ has kinds one = has_socket kinds (ether_type (frame_of one))
 abbrev pub goes : List SocketKind → ℕ → List HandedOut → Bool
 goes kinds socket one = goes_to kinds socket (ether_type (frame_of one))
 
--- A part of a list isn't longer than the list.
 pub part-length : {some all : List (List HandedOut)} → IsSublist some all → length some ≤ length all
 part-length part_none = omega arith
 part-length (part_with rest) = let later = part-length rest in omega (arith, later)
 part-length (part_without rest) = let later = part-length rest in omega (arith, later)
 
--- A part of a list whose items pass a test isn't longer than the list of all items that pass.
 part-count : {some all : List (List HandedOut)} (p : List HandedOut → Bool) → IsSublist some all → All (λ one. p one ≡ true) some
     → length some ≤ length (filter p all)
 part-count p part_none passes = omega arith
@@ -45,7 +43,6 @@ part-count p (part_without {one = one} {some = some} {all = all} rest) passes =
     at true later = omega (arith, later)
     at false later = later
 
--- If both have the same length, the part is the list of all items that pass.
 part-is : {some all : List (List HandedOut)} (p : List HandedOut → Bool) → IsSublist some all → All (λ one. p one ≡ true) some
     → length some ≡ length (filter p all) → some ≡ filter p all
 part-is p part_none passes many = refl
@@ -63,7 +60,6 @@ part-is p (part_without {one = one} {some = some} {all = all} rest) passes many 
     at true most later more = absurd (omega (arith, more, most))
     at false most later same = later same
 
--- Filtering a mapped list.
 filter-mapped : {X Y : Type 0} (f : X → Y) (p : Y → Bool) (xs : List X) → filter p (map f xs) ≡ map f (filter (λ x. p (f x)) xs)
 filter-mapped f p [] = refl
 filter-mapped f p (x ∷ xs) = at (p (f x)) (filter-mapped f p xs)
@@ -74,7 +70,6 @@ filter-mapped f p (x ∷ xs) = at (p (f x)) (filter-mapped f p xs)
     at true rest = ap (λ list. f x ∷ list) rest
     at false rest = rest
 
--- Filtering by a stronger test after a weaker test.
 filter-stronger : {X : Type 0} (p q : X → Bool) → ((x : X) → q x ≡ false → p x ≡ false) → (xs : List X)
     → filter p (filter q xs) ≡ filter p xs
 filter-stronger p q so [] = refl
@@ -85,7 +80,6 @@ filter-stronger p q so (x ∷ xs) = at (q x) refl (filter-stronger p q so xs)
     at true is rest = ap (λ list. cond (p x) (x ∷ list) list) rest
     at false is rest = rest ∙ ap (λ (b : Bool). cond b (x ∷ filter p xs) (filter p xs)) (sym (so x is))
 
--- Those that the sockets keep are those of them that have one.
 pub kept-is : (kinds : List SocketKind) (kept taken : List (List HandedOut)) → IsSublist kept taken
     → map received_of kept ≡ claimed_of kinds (map received_of taken)
     → kept ≡ filter (has kinds) taken
@@ -103,7 +97,6 @@ kept-is kinds kept taken part is =
       length-map (filter (has kinds) taken) received_of,
     ))
 
--- Their frames, by sockets.
 kept-frames : (kinds : List SocketKind) (socket : ℕ) (frame : Received → List ℕ) (kept : List (List HandedOut))
     → All (λ (one : List HandedOut). frame (received_of one) ≡ frame_of one) kept
     → map frame (socket_entries kinds socket (map received_of kept)) ≡ joined_frames (filter (goes kinds socket) kept)
@@ -138,7 +131,6 @@ queue-frames kinds socket frame kept taken part is same =
     (λ one none. no-socket socket (socket_of kinds (ether_type (frame_of one))) none) taken)
     ∙ sym (filter-mapped frame_of (λ (f : List ℕ). goes_to kinds socket (ether_type f)) taken)
 
--- How many have no socket.
 pub unclaimed-frames : (kinds : List SocketKind) (taken : List (List HandedOut))
     → unclaimed_of kinds (map received_of taken) ≡ without_socket kinds (joined_frames taken)
 unclaimed-frames kinds [] = refl

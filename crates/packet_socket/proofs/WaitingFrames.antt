@@ -1,4 +1,4 @@
--- Frames that wait are in memory.
+-- The pieces of queued frames are in memory, and are the same in another memory in which they are still in their buffers.
 use Rattle.std.proofs.Common.{Bool, ◌≡◌, ◌<◌, ◌≤◌, ◌∷◌, [], ℕ, zero, suc, List, length, map, refl, ap, subst, ◌∙◌, arith}
 use Rattle.std.specs.List.{All, flat_map, slice_index_or}
 use Rattle.std.proofs.lemmas.List.Elements.{All-cons, All-map}
@@ -7,10 +7,10 @@ use Rattle.dma_memory.specs.Laws.{length-bytes_at}
 use Rattle.dma_memory.specs.Layout.{Counts, receive_buffer_bytes}
 use Rattle.adapter.specs.World.{World}
 use Rattle.bus.proofs.Lists.{all-head, all-left, all-none, all-right, all-tail, all-unmapped, map-same}
-use Rattle.driver_law.proofs.Buffers.{buffer-lies}
-use Rattle.driver_law.proofs.Owners.{all-copies, elsewhere-number}
-use Rattle.driver_law.specs.DriverState.{HandedOut, buffer_at, frame_of, holding, piece_numbers}
-use Rattle.driver_law.specs.ReadyDrivers.{Stands}
+use Rattle.bus.proofs.Buffers.{buffer-lies}
+use Rattle.bus.proofs.Owners.{all-copies, elsewhere-number}
+use Rattle.bus.specs.DriverState.{HandedOut, buffer_at, frame_of, holding, piece_numbers}
+use Rattle.bus.specs.ReadyDrivers.{Stands}
 use Rattle.driver.specs.Parts.{IsWholeFrame, part_of, parts_of}
 use Rattle.driver.specs.declared.parts.Part.{Part}
 use Rattle.driver.specs.declared.receiver.Received.{Received}
@@ -18,18 +18,17 @@ use Rattle.packet_socket.specs.HostCalls.{HostReadyWith, driver_of, waiting_fram
 use Rattle.packet_socket.specs.HostState.{HostState, all_of, queue_at}
 use Rattle.packet_socket.proofs.QueuedPieces.{all-pieces, joined-same}
 
--- What holds of all that wait holds of each queue.
 pub queue-all : (P : Received → Type 0) (queues : List (List Received)) (socket : ℕ) → All P (all_of queues)
     → All P (queue_at queues socket)
 queue-all P [] socket all = all-none P
 queue-all P (queue ∷ later) zero all = all-left P queue (all_of later) all
 queue-all P (queue ∷ later) (suc socket) all = queue-all P later socket (all-right P queue (all_of later) all)
 
--- Each piece has as many bytes as it says.
+-- A read of this piece from memory returns `part.length` bytes.
 abbrev pub IsLong : Counts → List ℕ → Part → Type 0
 IsLong counts memory part = length (bytes_at memory (buffer_at counts part.buffer) part.length) ≡ part.length
 
--- A piece fits into a buffer.
+-- This size is at most the size of a receive buffer.
 abbrev Fits : ℕ → Type 0
 Fits size = size ≤ receive_buffer_bytes
 
@@ -57,7 +56,7 @@ all-long h a host =
     let short = fits i p within in
     length-bytes_at a.memory _ _ (omega (arith, lies, short))
 
--- They stay in another memory, if they were handed out and are still there: their pieces are the same.
+-- The pieces of these queued frames are the same in both memories.
 abbrev pub AreSame : Counts → (memory memory' : List ℕ) → List Received → Type 0
 AreSame counts memory memory' list =
     All (λ (received : Received). waiting_pieces counts memory' received ≡ waiting_pieces counts memory received) list
@@ -82,7 +81,6 @@ all-same counts memory memory' list long stand =
     map-same (waiting_piece counts memory') (waiting_piece counts memory) received.parts
     (λ i p within. piece-same counts memory memory' (slice_index_or received.parts i p) (long k r below i p within) (there i p within))
 
--- So each piece is as long as before.
 pub all-long-after : (counts : Counts) (memory memory' : List ℕ) (list : List Received) → AreLong counts memory list
     → AreSame counts memory memory' list → AreLong counts memory' list
 all-long-after counts memory memory' list long same k r below =
@@ -100,7 +98,6 @@ all-long-after counts memory memory' list long same k r below =
         (ap (λ (one : HandedOut). length one.bytes) first ∙ all-head (λ (p : Part). length (f p).bytes ≡ p.length) part later all)
         (pairwise later f g rest (all-tail (λ (p : Part). length (f p).bytes ≡ p.length) part later all))
 
--- The driver at the end of an interval.
 pub ends-as : (h : HostState) (b : World) (counts : Counts) (memory : List ℕ) (list : List Received) → all_of h.queues ≡ list
     → h.driver.layout ≡ counts
     → AreSame counts memory b.memory list → driver_of h b ≡ holding (flat_map (waiting_pieces counts memory) list) h.driver
@@ -121,7 +118,6 @@ queue-frames-same counts memory memory' queues same socket =
 
 -- Pieces read from memory.
 
--- Pieces that are in memory are what is read there, and as long as they say.
 pub read-pieces : (counts : Counts) (memory : List ℕ) (pieces : List HandedOut) → All (Stands counts memory) pieces
     → map (waiting_piece counts memory) (parts_of pieces) ≡ pieces
 read-pieces counts memory [] stand = refl
@@ -138,7 +134,6 @@ pub read-long : (counts : Counts) (memory : List ℕ) (pieces : List HandedOut) 
 read-long counts memory pieces stand =
     All-map (IsLong counts memory) part_of pieces (λ k one below. ap length (stand k one below).bytes)
 
--- Each part of a frame that is read from memory is in its buffer.
 pub read-stands : (counts : Counts) (memory : List ℕ) (received : Received) → All (IsLong counts memory) received.parts
     → IsWholeFrame received → All (Stands counts memory) (waiting_pieces counts memory received)
 read-stands counts memory received long whole =
@@ -150,7 +145,6 @@ read-stands counts memory received long whole =
       short = omega (arith, long k part below, fits k part below);
     })
 
--- As parts, the pieces of an entry are those that it says.
 pub parts-waiting : (counts : Counts) (memory : List ℕ) (parts : List Part) → All (IsLong counts memory) parts
     → parts_of (map (waiting_piece counts memory) parts) ≡ parts
 parts-waiting counts memory [] long = refl

@@ -1,4 +1,4 @@
--- The effect of a `HostCall` (our choice).
+-- Calls of a host as plain data, their answers, and their effects (our choice).
 use Rattle.std.specs.Prelude.{⊤, ◌≡◌, [], ℕ, List, None, Ok, Option, Result, Some, drop}
 use Rattle.bus.specs.declared.bus.Bus.{Ghosts}
 use Rattle.driver.specs.Parts.{IsFrameSize}
@@ -29,7 +29,7 @@ call_request Interrupt = Interrupting
 call_request (Join group) = Joining group
 call_request (Leave group) = Leaving group
 
--- the answer, with a returned frame in place of its size: the frame is the first bytes of `into`
+-- the answer, in which the size of a returned frame is replaced by the frame: the first bytes of `into`, up to this size
 abbrev pub answer_in : (into : List ℕ) → HostAnswer ℕ → HostAnswer (List ℕ)
 answer_in into (Sent result) = Sent result
 answer_in into (Received result) = Received (frame_answer into result)
@@ -47,12 +47,12 @@ abbrev pub KeepsRest : HostAnswer ℕ → (before after : List ℕ) → Type 0
 KeepsRest (Received (Ok size)) before after = drop size after ≡ drop size before
 KeepsRest _ before after = after ≡ before
 
--- the frames that sockets returned in a call
+-- the frame that a socket returned in this call, if any
 abbrev pub given_in : Request → HostAnswer (List ℕ) → List Given
 given_in (Receiving socket) (Received result) = given_by socket result
 given_in request answer = []
 
--- the frames that the call accepted for sending
+-- the padded frame that the call accepted for sending, if any
 abbrev pub accepted_in : Request → HostAnswer (List ℕ) → List (List ℕ)
 accepted_in (Sending frame) (Sent result) = accepted_by result frame
 accepted_in request answer = []
@@ -89,7 +89,7 @@ abbrev pub OfAnswer : {R : Type 0} → Option R → (R → Effect) → Effect
 OfAnswer (Some result) Does = Does result
 OfAnswer None Does = λ h h' Runs world. ⊥
 
--- The effect of a call, by its answer.
+-- The effect of a call, by its request and its answer.
 abbrev pub EffectOf : Request → HostAnswer (List ℕ) → Effect
 EffectOf (Sending frame) answer = OfAnswer (sent_in answer) (SendEffect frame)
 EffectOf (Receiving socket) answer = OfAnswer (received_in answer) (RecvEffect socket)

@@ -1,6 +1,5 @@
--- What a call of a host does, stage by stage (our choice). An effect states the stages once; its argument `Runs` states
--- how they are run. Over a bus, `Runs` is `OverBus`. In the steps of a network, `Runs` is `InSteps` of the crate
--- `host_calls`.
+-- What a call of a host does, stage by stage (our choice). An effect states the stages once, and passes them to its argument `Runs`. Over a
+-- bus, `Runs` is `OverBus`; in the steps of a network, `Runs` is `InSteps` of the crate `host_calls`.
 use Rattle.std.specs.Prelude.{⊤, ◌≡◌, ◌<◌, ◌⊎◌, ◌+◌, ◌*◌, ◌++◌, ◌∷◌, [], ℕ, Bool, true, All, List}
 use Rattle.dma_memory.specs.Layout.{Counts}
 use Rattle.adapter.specs.World.{World}
@@ -10,7 +9,7 @@ use Rattle.bus.specs.Pasts.{Past, joined, nothing}
 use Rattle.bus.specs.declared.bus.Bus.{Ghosts}
 use Rattle.bus.specs.declared.event.Access.{Access}
 use Rattle.bus.specs.declared.event.Access.TheVariants.{Loads, Reads, Stores, Writes}
-use Rattle.driver_law.specs.Calls.{DriverDid, DriverInWorld, FlowsTo, FollowsWrites, GoesTo, HasNoForgottenWork, IsRefilled, driver_in}
+use Rattle.bus.specs.Calls.{DriverDid, DriverInWorld, FlowsTo, FollowsWrites, GoesTo, HasNoForgottenWork, IsRefilled, driver_in}
 use Rattle.packet_socket.specs.HostCalls.{Given, HostInterval, HostMoment, IsReadyHost, host_did, in_world}
 use Rattle.packet_socket.specs.HostState.{HostState}
 
@@ -46,12 +45,12 @@ pub record HostAct : Type 1 where
 abbrev pub no_act : HostAct
 no_act = record { stages = Ends; kind = MovesFrames; taken = [] }
 
--- The access is a write of RDT or TDT, with the index of a slot of the ring.
+-- A write of `value` at `offset` writes RDT or TDT, with the index of a slot of this register's ring.
 abbrev pub IsTailWrite : Counts → (offset value : ℕ) → Type 0
 IsTailWrite counts offset value = ((offset ≡ RDT) × (value < counts.rx)) ⊎ ((offset ≡ TDT) × (value < counts.tx))
 
 -- The access may be one of a call that handles an interrupt or moves frames. Such an access is a load, a store, a read of ICR or MPC, or a
--- write of RDT or TDT.
+-- write that meets `IsTailWrite`.
 abbrev pub IsOfDriver : Counts → Access → Type 0
 IsOfDriver counts (Reads offset value) = (offset ≡ ICR) ⊎ (offset ≡ MPC)
 IsOfDriver counts (Writes offset value) = IsTailWrite counts offset value
@@ -64,7 +63,7 @@ pub record IsGroupWord (offset : ℕ) : Type 0 where
   pub word : ℕ
   -- the table has such a word
   pub below : word < TABLE_WORDS
-  -- the offset is the one of this word
+  -- the offset is that of this word
   pub is : offset ≡ MTA + REGISTER_BYTES * word
 
 -- The access is a write of a word of the group table.
@@ -82,7 +81,7 @@ IsAccessOf SetsGroups = λ counts. IsGroupWrite
 abbrev pub IsOfHost : Counts → Access → Type 0
 IsOfHost counts access = IsOfDriver counts access ⊎ IsGroupWrite access
 
--- Only the last access may write a register. So a call puts a frame in the ring, or offers slots, only by its last access.
+-- Only the last access may write a register. So a call offers slots of a ring only by its last access.
 abbrev pub OnlyLastWrites : List Access → Type 0
 OnlyLastWrites [] = ⊤
 OnlyLastWrites (Reads offset value ∷ later) = OnlyLastWrites later
@@ -90,8 +89,8 @@ OnlyLastWrites (Writes offset value ∷ later) = later ≡ []
 OnlyLastWrites (Loads address size ∷ later) = OnlyLastWrites later
 OnlyLastWrites (Stores address bytes ∷ later) = OnlyLastWrites later
 
--- The first access reads ICR. `GoesTo` holds from a moment after this read, before the next access (`asked`), to the
--- end. So no cause is cleared after this moment.
+-- The first access reads ICR. `FlowsTo` holds for the whole interval. `GoesTo` holds from a moment after this read, before the next access
+-- (`asked`), to the end, so no cause is cleared after this moment.
 pub record ReadsThenGoes (up : Bool) (old new : DriverInWorld) (did : DriverDid) (past : Past) : Type 0 where
   pub flows : FlowsTo up old new did past
   -- the world at this moment
@@ -103,7 +102,7 @@ pub record ReadsThenGoes (up : Bool) (old new : DriverInWorld) (did : DriverDid)
   pub whole : past ≡ joined first later
   pub goes : GoesTo up (driver_in old.driver asked) new did later
 
--- What a call of this kind changes in the driver.
+-- What changes in the interval of a call of this kind. Only a call that handles an interrupt may clear causes, by its first access.
 abbrev pub changed_by : ActKind → (up : Bool) → DriverInWorld → DriverInWorld → DriverDid → Past → Type 0
 changed_by HandlesInterrupt up = ReadsThenGoes up
 changed_by MovesFrames up = GoesTo up
@@ -111,7 +110,8 @@ changed_by SetsGroups up = GoesTo up
 
 -- Over a bus
 
--- One stage over a bus. `Later` holds of the interval after this stage.
+-- The first stage of a call over a bus: its accesses are `made`, and `Holds` relates the worlds at its beginning and its end. `Later` holds
+-- of the bus at its end, and of what happened after this stage.
 pub record PassesStage {B : Type 0} (bus : Ghosts B) (made : List Access) (Holds : World → Past → World → Type 0) (old : B) (past : Past)
     (Later : B → Past → Type 0) : Type 0 where
   -- the bus when the stage ends: after its last access, before the next access
@@ -124,6 +124,7 @@ pub record PassesStage {B : Type 0} (bus : Ghosts B) (made : List Access) (Holds
   pub later : Later middle behind
   pub whole : past ≡ joined before behind
 
+-- The stages follow one another over a bus, and `past` happened in all of them together.
 abbrev pub PassesStages : {B : Type 0} → Ghosts B → CallStages → (old new : B) → Past → Type 0
 PassesStages bus Ends old new past = (new ≡ old) × (past ≡ nothing)
 PassesStages bus (Then made Holds later) old new past =

@@ -1,4 +1,4 @@
--- The frames that a host holds for its sockets, and what it does in its calls (our choice).
+-- The frames that a host holds for its sockets, and what the host does in its calls (our choice).
 use Rattle.std.specs.Prelude.{◌≡◌, ◌==◌, ◌≤◌, ◌<◌, ◌+◌, ◌-◌, ◌++◌, ◌∷◌, []}
 use Rattle.std.specs.Prelude.{ℕ, Bool, true, List, count_by}
 use Rattle.std.specs.Prelude.{All, drop, filter, flat_map, length, map, slice_set}
@@ -12,10 +12,10 @@ use Rattle.adapter.specs.World.{World}
 use Rattle.bus.specs.declared.bus.Bus.{Ghosts}
 use Rattle.bus.specs.Pasts.{Past}
 use Rattle.bus.specs.declared.event.Access.{Access}
-use Rattle.driver_law.specs.Calls.{DriverDid, DriverInWorld, FlowsTo, GoesTo, IsRefilled, Moment, driver_did, driver_in}
-use Rattle.driver_law.specs.Calls.{stores_from, tail_write}
-use Rattle.driver_law.specs.DriverState.{DriverState, HandedOut, buffer_at, frame_of, holding, next_receive, piece_numbers, with_owners}
-use Rattle.driver_law.specs.ReadyDrivers.{ReadyWith}
+use Rattle.bus.specs.Calls.{DriverDid, DriverInWorld, FlowsTo, GoesTo, IsRefilled, Moment, driver_did, driver_in}
+use Rattle.bus.specs.Calls.{stores_from, tail_write}
+use Rattle.bus.specs.DriverState.{DriverState, HandedOut, buffer_at, frame_of, holding, next_receive, piece_numbers, with_owners}
+use Rattle.bus.specs.ReadyDrivers.{ReadyWith}
 use Rattle.driver.specs.HandlerSteps.{AreFramesOf, AreOfOneFrame, GrowsBy, IsTaken, RunOfSlots}
 use Rattle.driver.specs.HandlerSteps.{ServesRing, count_limit}
 use Rattle.driver.specs.Parts.{AreFrames, IsFrameSize, part_loads, received_of}
@@ -43,10 +43,9 @@ waiting_frame counts memory received = frame_of (waiting_pieces counts memory re
 abbrev pub driver_of : HostState → World → DriverState
 driver_of host world = holding (flat_map (waiting_pieces host.driver.layout world.memory) (all_of host.queues)) host.driver
 
--- The host is ready, with its transmit side set up (`up`) or off: its driver is ready. Each queued frame has 60 to
--- 1,518 bytes, and pieces that fit into their buffers.
+-- The host is ready, with its transmit side set up (`up`) or off: its driver is ready, and the queued frames are valid.
 pub record HostReadyWith (up : Bool) (host : HostState) (world : World) : Type 0 where
-  -- each queued frame has a legal size, and pieces that fit into their buffers
+  -- each queued frame has a legal length, which is the sum of the sizes of its pieces, and each piece fits into a buffer
   pub sizes : AreFrames (all_of host.queues)
   -- the driver is ready; the queues hold the pieces of the queued frames
   pub ready : ReadyWith up (driver_of host world) world
@@ -91,7 +90,7 @@ unclaimed_in host world = host.unclaimed + without_socket host.kinds (frames_hel
 
 -- The account of frames, from the host h in the world a to the host h' in the world b. The table of sockets doesn't
 -- change. For each socket, the frames returned, followed by those held at the end, are those held at the beginning,
--- followed by those stored. Frames without a socket are counted, up to the greatest u64.
+-- followed by the stored frames that go to this socket. Frames without a socket are counted, up to the greatest u64.
 pub record Accounts (h : HostState) (a : World) (h' : HostState) (b : World) (given : List Given) (stored : List (List ℕ)) : Type 0 where
   -- the sockets are the same
   pub kinds : h'.kinds ≡ h.kinds
@@ -100,9 +99,9 @@ pub record Accounts (h : HostState) (a : World) (h' : HostState) (b : World) (gi
       ++ socket_frames h.kinds socket stored
   -- the count of unclaimed frames doesn't decrease
   pub least : h.unclaimed ≤ h'.unclaimed
-  -- only frames without a socket are counted as unclaimed
+  -- the number of frames without a socket, counted or held, grows by at most the number of such frames stored
   pub most : unclaimed_in h' b ≤ unclaimed_in h a + without_socket h.kinds stored
-  -- each frame without a socket is counted or still held, unless the count at the end is the greatest u64
+  -- if the count at the end is below the greatest u64, this number grows by exactly the number of such frames stored
   pub exactly : h'.unclaimed < count_limit - 1 → unclaimed_in h' b ≡ unclaimed_in h a + without_socket h.kinds stored
 
 -- A host with its world, at one point of a run.
@@ -135,18 +134,18 @@ host_did taken given accepted = record { driver = driver_did taken accepted; giv
 abbrev pub did_nothing : HostDid
 did_nothing = host_did [] [] []
 
--- what a host did in two consecutive intervals
+-- what a host did in two consecutive intervals together, in order
 abbrev pub did_both : (first later : HostDid) → HostDid
 did_both first later =
     host_did (first.driver.taken ++ later.driver.taken) (first.given ++ later.given) (first.driver.accepted ++ later.driver.accepted)
 
--- An interval in which the host took, accepted and returned the frames `done`. `Holds` relates the driver at the
--- beginning and at the end.
+-- An interval in which the host took, accepted and returned the frames `done`. `Holds` states what changed for the driver, with its world,
+-- in this interval.
 pub record HostInterval (Holds : DriverInWorld → DriverInWorld → DriverDid → Past → Type 0) (old new : HostInWorld) (done : HostDid)
     (past : Past) : Type 0 where
-  -- each queued frame has a legal size, and pieces that fit into their buffers
+  -- at the end, each queued frame has a legal length, the sum of the sizes of its pieces, and each piece fits into a buffer
   pub sizes : AreFrames (all_of new.host.queues)
-  -- what holds of the driver at the beginning and at the end
+  -- what changed for the driver, with its world
   pub driver : Holds (host_driver_in old) (host_driver_in new) done.driver past
   -- the account of frames
   pub accounts : Accounts old.host old.world new.host new.world done.given past.stored
@@ -180,8 +179,7 @@ pub record IsReadyHost {B : Type 0} (bus : Ghosts B) (up : Bool) (now : HostMome
 
 -- Receiving
 
--- The oldest entry of a socket's queue is removed, and no other part of the sockets changes. `size` is the entry's
--- length.
+-- The entry `received`, the oldest of a socket's queue, is removed, and no other part of the sockets changes. `size` is the entry's length.
 pub record LeavesQueue (h h' : HostState) (socket size : ℕ) (received : Received) : Type 0 where
   -- the entry was the oldest of this queue
   pub oldest : queue_at h.queues socket ≡ received ∷ queue_at h'.queues socket
@@ -201,9 +199,9 @@ receive_accesses d d' parts offered =
     part_loads d.layout parts
     ++ (stores_from d.layout (next_receive d) offered ++ tail_write (next_receive d') (d.staged ++ offered))
 
--- The contract of `recv` over any bus, if it returns Ok. The oldest entry of a queue is removed, its buffers return to
--- the driver, and slots are offered. The caller's bytes are `into` before the call and `into'` after it; the bytes
--- after the entry's length don't change.
+-- The contract of `recv` over any bus, if `recv` returns Ok. The oldest entry of a queue is removed, the entry's buffers return to the
+-- driver, and slots are offered. The caller's bytes are `into` before the call and `into'` after it; the bytes after the entry's length
+-- don't change.
 pub record Returns (h h' : HostState) (socket : ℕ) (into into' : List ℕ) (size : ℕ) : Type 0 where
   pub received : Received
   pub leaves : LeavesQueue h h' socket size received
@@ -231,7 +229,7 @@ unclaimed_of kinds list = count_by (λ (received : Received). has_none kinds rec
 
 -- The entries `kept` went to the ends of their sockets' queues, in order, and the queues changed in no other way.
 pub record Queues (kinds : List SocketKind) (before after : List (List Received)) (kept : List Received) : Type 0 where
-  -- each socket's entries went to the end of its queue, in order
+  -- each socket's entries went to the end of this socket's queue, in order
   pub ends : (socket : ℕ) → queue_at after socket ≡ queue_at before socket ++ socket_entries kinds socket kept
   -- no other entry was added, and no entry was removed
   pub all : IsPermutation (all_of before ++ kept) (all_of after)
@@ -246,8 +244,8 @@ pub record SortsFrames (h h' : HostState) (shown : List Received) : Type 0 where
   -- the frames without a socket were counted
   pub unclaimed : GrowsBy h.unclaimed h'.unclaimed (unclaimed_of h.kinds shown)
 
--- The contract of `interrupt` over any bus, if it returns `Handled`: runs left the driver's ring, and their whole
--- frames were queued or counted (`SortsFrames`).
+-- The contract of `interrupt` over any bus, if it returns `Handled`: runs left the driver's ring, n of them whole. The frames of the whole
+-- runs were queued or counted (`SortsFrames`).
 pub record HostServes (h h' : HostState) (n : ℕ) : Type 0 where
   pub runs : List RunOfSlots
   pub ring : ServesRing h.driver h'.driver runs n
@@ -263,7 +261,7 @@ pub record AreSorted (n : ℕ) (h h' : HostState) (taken : List (List HandedOut)
   pub count : length taken ≡ n
   -- each frame has at least one buffer, and no more buffers than the longest frame needs (`AreOfOneFrame`)
   pub groups : All AreOfOneFrame (map piece_numbers taken)
-  -- each frame has a legal size, fills all its buffers except the last, and its last piece isn't empty
+  -- each frame has a legal size and fills all its buffers except the last, which contains at least one byte
   pub each : All IsTaken taken
   -- each frame was queued or counted
   pub sorted : SortsFrames h h' (map received_of taken)

@@ -17,8 +17,8 @@ use Rattle.bring_up.specs.declared.config.TheConstants.{MOST_GROUPS}
 use Rattle.bus.specs.Pasts.{Past}
 use Rattle.bus.specs.declared.event.Access.{Access}
 use Rattle.bus.specs.declared.event.Access.TheVariants.{Reads}
-use Rattle.driver_law.specs.Calls.{HasNoForgottenWork, driver_in, frames_ended, send_accesses}
-use Rattle.driver_law.specs.DriverState.{HandedOut, next_receive, piece_numbers, with_owners}
+use Rattle.bus.specs.Calls.{HasNoForgottenWork, driver_in, frames_ended, send_accesses}
+use Rattle.bus.specs.DriverState.{HandedOut, next_receive, piece_numbers, with_owners}
 use Rattle.bring_up.specs.Groups.{HasTable, SetsTable, with_groups}
 use Rattle.bring_up.specs.declared.groups.GroupError.{GroupError}
 use Rattle.bring_up.specs.declared.groups.GroupError.TheVariants.{GroupsFull, Joined, NotGroup, NotJoined}
@@ -88,11 +88,12 @@ pub record FindsRingFull (frame : List ℕ) (h h' : HostState) (Runs : HostAct �
   pub sendable : IsSendable frame
   -- when the call begins, all slots except one have frames to be sent
   pub full : length (frames_to_send world) + 1 ≡ h.driver.layout.tx
-  -- all slots except one are outstanding
+  -- after the call, all slots except one are outstanding
   pub still_full : h'.driver.sending + 1 ≡ h.driver.layout.tx
   -- the host doesn't change
   pub stays : h' ≡ h
-  -- In its stage, the call loads the descriptor of the oldest slot. When this stage ends, no slot is written back.
+  -- In its stage, the call loads the descriptor of the oldest slot. When this stage ends, no slot is written back, and all outstanding
+  -- slots have frames to be sent.
   pub runs : Runs (record {
     stages = Then (loads_to_free h.driver h'.driver.sending) (λ old past new. AreLeft h'.driver.oldest_transmit h'.driver.sending new) Ends;
     kind = MovesFrames;
@@ -123,9 +124,9 @@ given_by socket (Err error) = []
 pub record ReturnsFrame (socket : ℕ) (frame : List ℕ) (h h' : HostState) (Runs : HostAct → Type 0) (world : World) : Type 0 where
   -- there is such a socket
   pub known : socket < length h.kinds
-  -- the entry of the queue
+  -- the oldest entry of the queue
   pub received : Received
-  -- the frame was the oldest in the queue, and is removed from it
+  -- this entry has the frame's length, and is removed from the queue
   pub leaves : LeavesQueue h h' socket (length frame) received
   -- In the driver, only the owners of buffers change, and no slot is staged. So its transmit slots and its counts don't change.
   pub others : h' ≡ record h { driver = with_owners h.driver h'.driver.buffers [] h'.driver.pool []; queues = h'.queues }
@@ -195,9 +196,9 @@ pub record HandlesFrames (n : ℕ) (h h' : HostState) (Runs : HostAct → Type 0
   pub only_receives : OnlyReceives h.driver h'.driver
   -- the number of descriptors that the last look loads
   pub loads : ℕ
-  -- In the first stage, ICR is read. In the second stage, MPC is read, frames are taken, and a last look loads
-  -- descriptors; when this stage ends, no frame ends in finished slots. In the third stage, slots are offered; when
-  -- this stage ends, no work is forgotten if RXT0 was in the mask when the call began.
+  -- In the first stage, ICR is read. In the second stage, MPC is read, frames are taken, and a last look loads descriptors. When this stage
+  -- ends, no frame ends in finished slots. In the third stage, slots are offered. When this stage ends, no work is forgotten if RXT0 was in
+  -- the mask when the call began.
   pub runs : Runs (record {
     stages = Then (Reads ICR causes ∷ []) (ClearsCauses causes)
         (Then (taking_accesses h.driver missed.misses (map piece_numbers taken) loads)
@@ -219,8 +220,8 @@ InterruptEffect (answers.Handled n) h h' Runs world = HandlesFrames n h h' Runs 
 abbrev pub with_joined : List (List ℕ) → HostState → HostState
 with_joined groups h = record h { driver = with_groups groups h.driver }
 
--- The act of a call that changes the joined groups by these accesses. If MTA has exactly the bits of the old joined
--- groups when the stage begins, it has exactly the bits of the new joined groups when the stage ends.
+-- The act of a call that changes the joined groups by these accesses. If MTA has exactly the bits of the old groups when the stage begins,
+-- it has exactly those of the new groups at the end.
 abbrev pub groups_act : (h h' : HostState) → List Access → HostAct
 groups_act h h' accesses = record {
   stages = Then accesses (λ old past new. HasTable h.driver.groups old → HasTable h'.driver.groups new) Ends;
@@ -228,7 +229,7 @@ groups_act h h' accesses = record {
   taken = [];
 }
 
--- Ok of a join: the group is joined, and nothing else changes.
+-- Ok of a join: the group is appended to the joined groups, and nothing else of the host changes.
 pub record JoinsGroup (group : List ℕ) (h h' : HostState) (Runs : HostAct → Type 0) : Type 0 where
   -- `group` is the address of a group
   pub group_is : IsGroup group
@@ -245,7 +246,7 @@ pub record JoinsGroup (group : List ℕ) (h h' : HostState) (Runs : HostAct → 
   -- there is no other access
   pub runs : Runs (groups_act h h' accesses)
 
--- Ok of a leave: the group is no longer joined, and nothing else changes.
+-- Ok of a leave: the group is no longer joined, and nothing else of the host changes.
 pub record LeavesGroup (group : List ℕ) (h h' : HostState) (Runs : HostAct → Type 0) : Type 0 where
   -- `group` is the address of a group
   pub group_is : IsGroup group

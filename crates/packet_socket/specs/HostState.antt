@@ -3,7 +3,7 @@ use Rattle.std.specs.Prelude.{◌≡◌, ◌++◌, ◌∷◌, ℕ, List, [], len
 use Rattle.driver.specs.declared.receiver.Received.{Received}
 use Rattle.bring_up.specs.declared.config.Config.{Config}
 use Rattle.driver.specs.Initialisation.{IsFresh}
-use Rattle.driver_law.specs.DriverState.{DriverState, owners}
+use Rattle.bus.specs.DriverState.{DriverState, owners}
 use Rattle.driver.specs.Parts.{buffers_of}
 use Rattle.packet_socket.specs.declared.socket_kind.SocketKind.{SocketKind}
 
@@ -16,14 +16,14 @@ abbrev pub all_of : List (List Received) → List Received
 all_of [] = []
 all_of (queue ∷ later) = queue ++ all_of later
 
--- The sockets of a host, with their queues.
+-- The sockets of a host, their queues, and the count of frames without a socket.
 pub record SocketsState : Type 0 where
   pub kinds : List SocketKind
   -- the frames queued for each socket, the oldest first
   pub queues : List (List Received)
   -- the number of frames that each queue has room for
   pub room : ℕ
-  -- the number of frames that no socket took; it saturates at the greatest u64
+  -- the number of received frames without a socket; this number saturates at the greatest u64
   pub unclaimed : ℕ
 
 -- The state of a host: its driver, its sockets, the frames queued for them, and the count of frames without a socket.
@@ -34,10 +34,10 @@ pub record HostState : Type 0 where
   pub kinds : List SocketKind
   -- the frames queued for each socket, the oldest first
   pub queues : List (List Received)
-  -- the number of frames that no socket took; it saturates at the greatest u64
+  -- the number of received frames without a socket; this number saturates at the greatest u64
   pub unclaimed : ℕ
 
--- The numbers of all buffers by owner: the owners in the driver's state, and the queues.
+-- The numbers of all buffers by owner: the owners in the driver's state, and then the queued frames.
 abbrev pub host_owners : HostState → List ℕ
 host_owners host = owners host.driver ++ buffers_of (all_of host.queues)
 

@@ -1,7 +1,7 @@
 -- How `Host` stores its state (our choice).
 use Rattle.std.specs.Prelude.{◌≡◌, ◌++◌, length}
 use Rattle.dma_memory.specs.Owners.{HasNoSecondOwner}
-use Rattle.driver_law.specs.DriverState.{DriverState, owners}
+use Rattle.bus.specs.DriverState.{DriverState, owners}
 use Rattle.driver.specs.Parts.{AreFrames, buffers_of}
 use Rattle.packet_socket.specs.HostState.{HostState, SocketsState, all_of}
 use Rattle.packet_socket.specs.declared.host.Host.TheInside.{Inside}
@@ -13,8 +13,8 @@ host_with driver sockets = record { driver = driver; kinds = sockets.kinds; queu
 abbrev pub host_inside : Inside → HostState
 host_inside host = host_with host.driver host.sockets
 
--- There is a queue for each socket. Each queue has room for all buffers, and each queued frame has a legal size and
--- pieces that fit into their buffers. No buffer has two owners; the queues count as owners.
+-- There is a queue for each socket, and each queue has room for all buffers. Each queued frame has a legal length, which is the sum of the
+-- sizes of its pieces, and each piece fits into a buffer. No buffer has two owners; the queues count as owners.
 pub record AreOfHost (driver : DriverState) (sockets : SocketsState) : Type 0 where
   pub room : sockets.room ≡ driver.layout.buffers
   pub count : length sockets.queues ≡ length sockets.kinds

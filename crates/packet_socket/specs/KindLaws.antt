@@ -1,4 +1,4 @@
--- Laws of the socket of an EtherType.
+-- If a socket takes the frames of an EtherType, these frames go to this socket and to no other socket.
 use Rattle.std.proofs.Common.{◌≡◌, ◌≢◌, inl, inr, true, false, ℕ, Some, List, refl, ap, ◌∙◌}
 use Rattle.std.proofs.lemmas.Bool.{eq-eqb}
 use Rattle.std.proofs.lemmas.Bool.Decides.{eqb_tells}

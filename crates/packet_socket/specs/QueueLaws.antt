@@ -19,7 +19,7 @@ queue-within [] socket = omega arith
 queue-within (queue ∷ later) zero = omega (arith, length-append queue (all_of later))
 queue-within (queue ∷ later) (suc socket) = omega (arith, queue-within later socket, length-append queue (all_of later))
 
--- If a frame is appended to a queue, all queues together have one frame more.
+-- If a frame is appended to a queue, all queues together contain this frame in addition to the earlier frames.
 pub all-pushed : (queues : List (List Received)) (socket : ℕ) (received : Received) → socket < length queues
     → IsPermutation (all_of queues ++ received ∷ []) (all_of (slice_set queues socket (queue_at queues socket ++ received ∷ [])))
 all-pushed [] socket received below = absurd (omega (arith, below))
@@ -35,7 +35,7 @@ all-pushed (queue ∷ later) (suc socket) received below =
     subst (λ (list : List Received). IsPermutation list (queue ++ rest)) (sym (append_assoc queue (all_of later) (received ∷ [])))
     (IsPermutation-append_right queue (all_of later ++ received ∷ []) rest (all-pushed later socket received there))
 
--- A frame went to the end of its socket's queue.
+-- If a frame goes to the end of its socket's queue, `Queues` holds for this frame.
 pub queues-pushed : (kinds : List SocketKind) (queues : List (List Received)) (socket : ℕ) (received : Received) → socket < length queues
     → socket_of kinds received.ether_type ≡ Some socket
     → Queues kinds queues (slice_set queues socket (queue_at queues socket ++ received ∷ [])) (received ∷ [])

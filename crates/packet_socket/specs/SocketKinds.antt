@@ -23,7 +23,7 @@ number_or_else None second = second
 abbrev pub socket_of : List SocketKind → ℕ → Option ℕ
 socket_of kinds ether_type = number_or_else (position (is_of_type ether_type) kinds) (position takes_all kinds)
 
--- whether the position found is that of this socket
+-- whether a position was found, and is the number of this socket
 abbrev pub is_position : ℕ → Option ℕ → Bool
 is_position socket None = false
 is_position socket (Some place) = place == socket

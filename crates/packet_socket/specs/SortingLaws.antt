@@ -1,4 +1,4 @@
--- Laws of sockets that sort frames.
+-- Laws of sockets that sort frames: no frame, one frame, and two consecutive intervals.
 use Rattle.std.proofs.Common.{◌≡◌, ◌+◌, ◌-◌, ◌<◌, ◌++◌, ◌∷◌, [], ℕ, cond, Option, Some, None, List, length, min, refl, sym}
 use Rattle.std.proofs.Common.{ap, subst, ◌∙◌, append_assoc, length-append, arith}
 use Rattle.std.specs.List.{slice_set}

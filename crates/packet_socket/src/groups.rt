@@ -25,7 +25,7 @@ impl Host {
     ///
     /// E23 [`NotGroup`](GroupError::NotGroup) if the low bit of the address's first byte is clear, else E26
     /// [`Joined`](GroupError::Joined) if the group is joined already, else E24 [`GroupsFull`](GroupError::GroupsFull)
-    /// if 32 groups are joined. If the call returns an error, it makes no access.
+    /// if 32 groups are joined. After an error, the host is unchanged, and there was no access.
     pub fn join<B: Bus>(&mut self, bus: &mut B, group: [u8; 6]) -> Result<(), GroupError>
         ensures keeps { Keeps B.Bus bus.old bus.new }
 
@@ -53,7 +53,8 @@ impl Host {
     /// # Errors
     ///
     /// E23 [`NotGroup`](GroupError::NotGroup) if the low bit of the address's first byte is clear, else E25
-    /// [`NotJoined`](GroupError::NotJoined) if the group isn't joined; both without an access.
+    /// [`NotJoined`](GroupError::NotJoined) if the group isn't joined. After an error, the host is unchanged, and there
+    /// was no access.
     pub fn leave<B: Bus>(&mut self, bus: &mut B, group: [u8; 6]) -> Result<(), GroupError>
         ensures keeps { Keeps B.Bus bus.old bus.new }
 

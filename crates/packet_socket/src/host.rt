@@ -9,7 +9,7 @@ ghost use Rattle.bring_up.specs.Device.{IsBeforeAccess};
 ghost use Rattle.bring_up.specs.declared.init_error.InitError.TheVariants as InitError;
 ghost use Rattle.registers.specs.Counting.{greatest_count};
 ghost use Rattle.bus.specs.Keeping.{Keeps};
-ghost use Rattle.driver_law.specs.DriverState.{owners};
+ghost use Rattle.bus.specs.DriverState.{owners};
 ghost use Rattle.driver.specs.Initialisation.{Initialises, RefusesInit};
 ghost use Rattle.driver.specs.SendSteps.{HasWrongLength, accepted_by, with_transmit_slots};
 ghost use Rattle.driver.specs.Parts.{AreFrames, buffers_of};
@@ -49,8 +49,8 @@ impl Model for Host {
 }
 
 impl Host {
-    /// Initializes the adapter by `config`, and makes a host with these sockets. Each queue has room for as many frames
-    /// as there are receive buffers, so no later call allocates memory.
+    /// Initializes the adapter by `config`, and returns a host with these sockets. Each queue has room for as many
+    /// frames as there are receive buffers, so no later call allocates memory.
     ///
     /// # Errors
     ///
@@ -98,8 +98,9 @@ impl Host {
         self.sockets.len()
     }
 
-    /// Returns the number of frames queued for a socket, or 0 if there is no such socket. Each queued frame has a
-    /// legal size, and pieces that fit into their buffers. No buffer has two owners; the queues count as owners.
+    /// Returns the number of frames queued for a socket, or 0 if there is no such socket. Each queued frame has a legal
+    /// length, which is the sum of the sizes of its pieces, and each piece fits into a buffer. No buffer has two
+    /// owners; the queues count as owners.
     pub fn waiting(&self, socket: usize) -> usize
         ensures count { result ≡ length (queue_at self.now.queues socket) }
         ensures table { length self.now.queues ≡ length self.now.kinds }
@@ -118,7 +119,7 @@ impl Host {
     }
 
     /// Returns the driver's sum of missed frames, and whether this sum is exact. A sum below 0xFFFF_FFFF is exact. If
-    /// the sum isn't exact, more frames may have been missed before the last read of MPC.
+    /// the sum isn't exact, more frames than the sum may have been missed before the last read of MPC.
     pub fn missed(&self) -> (u64, bool)
         ensures sum { result.0 ≡ self.now.driver.missed }
         ensures exact { result.1 ≡ self.now.driver.exact }

@@ -14,9 +14,9 @@ use driver::Handled;
 
 impl Host {
     /// Handles an interrupt by [`Driver::interrupt`](driver::Driver::interrupt). Each frame that the driver takes goes
-    /// to the end of its socket's queue; a frame without a socket is counted ([`unclaimed`](Host::unclaimed)). If the
-    /// bus obeys the law and the host is ready, the call clears no cause that is recorded after its read of ICR. `bus`
-    /// must have at least `layout().size()` bytes.
+    /// to the end of the queue of the frame's socket. A frame without a socket is counted
+    /// ([`unclaimed`](Host::unclaimed)). If the bus obeys the law and the host is ready, the call clears no cause that
+    /// is recorded after its read of ICR. `bus` must have at least `layout().size()` bytes.
     pub fn interrupt<B: Bus>(&mut self, bus: &mut B) -> Handled
         requires memory { size_of self.old.driver.layout ≤ B.extent bus.old }
         ensures keeps { Keeps B.Bus bus.old bus.new }

@@ -8,8 +8,8 @@ ghost use Rattle.packet_socket.specs.HostCalls.{HostDid, HostFlowsTo, HostGoesTo
 ghost use Rattle.packet_socket.specs.HostCalls.{did_nothing, in_world};
 ghost use Rattle.packet_socket.specs.HostState.{HostState};
 
-/// Between two calls, a host remains ready, whatever steps and deliveries happen. These steps and deliveries form an
-/// interval of the host's run in which no frame is taken, returned or accepted for sending.
+/// A host that is ready remains ready between two calls, whatever steps and deliveries happen. These steps and
+/// deliveries form an interval of the host's run in which no frame is taken, returned or accepted for sending.
 pub fn hosts_go_on()
     ensures { (up : Bool) (h : HostState) (a b : World) (past : Past)
         → HostReadyWith up h a → Happens a b past → HostGoesTo up (in_world h a) (in_world h b) did_nothing past }

@@ -49,8 +49,8 @@ fn first_for_all(table: &[SocketKind]) -> Option<usize>
     table.iter().position(|kind| kind.takes_all())
 }
 
-/// Returns the index of the socket that takes the frames of an EtherType: the first `Ether` socket of this EtherType,
-/// else the first `All` socket, else `None`.
+/// Returns the index of the socket that takes frames of this EtherType. This is the first `Ether` socket of the
+/// EtherType, else the first `All` socket, else `None`.
 pub(crate) fn socket_of(table: &[SocketKind], ether_type: u16) -> Option<usize>
     ensures socket { result ≡ kinds.socket_of table.now ether_type }
     ensures there { IfSome result (λ socket. socket < length table.now) }

@@ -23,7 +23,7 @@ pub(crate) struct Sockets {
     queues: Vec<HeapCircularBuffer<Received>>,
     /// The number of frames that each queue has room for.
     room: usize,
-    /// The number of frames that no socket took; it saturates at the greatest `u64`.
+    /// The number of received frames without a socket; this number saturates at the greatest `u64`.
     unclaimed: u64,
 }
 
@@ -40,7 +40,7 @@ impl Model for Sockets {
 }
 
 impl Sockets {
-    /// Returns sockets with empty queues, each with room for `room` frames.
+    /// Returns sockets with empty queues, each with room for `room` frames. Returns an error if an allocation fails.
     pub(crate) fn new(
         alloc: Global,
         kinds: ArrayVec<SocketKind, MOST_SOCKETS>,
@@ -83,7 +83,7 @@ impl Sockets {
         }
     }
 
-    /// Returns the number of frames that no socket took.
+    /// Returns the number of received frames without a socket.
     pub(crate) fn unclaimed(&self) -> u64
         ensures { result ≡ self.now.unclaimed }
     {
@@ -110,8 +110,8 @@ impl Receiver for Sockets {
 
     ghost took = { Sorts };
 
-    /// Puts a frame at the end of its socket's queue. In a host, the queue has room for the frame. A frame without a
-    /// socket is counted, and its buffers are returned at once.
+    /// Puts a frame at the end of the queue of its socket, and returns no buffer. In a host, the queue has room for the
+    /// frame. A frame without a socket is counted, and its buffers are returned at once.
     fn take(&mut self, received: Received) -> Parts {
         let Some(socket) = socket_of(self.kinds.as_slice(), received.ether_type) else {
             self.unclaimed = self.unclaimed.saturating_add(1);

@@ -1,8 +1,8 @@
 use Rattle.std.proofs.Common.{◌≡◌, ◌+◌, ◌*◌, ◌∷◌, [], Bool, false, ℕ, add-one, sym, subst, arith}
 use Rattle.bus.proofs.Keeping.{keeps-here, keeps-on}
-use Rattle.driver_law.specs.Calls.{Ran, at, only}
-use Rattle.driver_law.specs.DriverState.{DriverState}
-use Rattle.driver_law.proofs.Accesses.{ran_by-join, ran_by-stays}
+use Rattle.bus.specs.Calls.{Ran, at, only}
+use Rattle.bus.specs.DriverState.{DriverState}
+use Rattle.bus.proofs.DriverAccesses.{ran_by-join, ran_by-stays}
 use Rattle.bring_up.specs.ClearedDescriptors.{clears, clears_from}
 use Rattle.bring_up.proofs.descriptors_clearing.clear_descriptors.Goals as goal
 

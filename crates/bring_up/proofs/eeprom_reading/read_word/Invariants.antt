@@ -3,7 +3,7 @@ use Rattle.bus.specs.Keeping.{Keeps}
 use Rattle.bring_up.proofs.EepromWords.{Awaits}
 use Rattle.bring_up.proofs.eeprom_reading.read_word.Given as goal
 
--- The word was requested, and the register was read this number of times. Over a lively bus the first read shows DONE.
+-- The word was requested, and EERD was read this number of times. Over a lively bus the first read shows DONE.
 abbrev pub invariant-loop : goal.invariant-loop
 invariant-loop g l = record {
   keeps : Keeps g.B.Bus l.fn.bus l.bus;

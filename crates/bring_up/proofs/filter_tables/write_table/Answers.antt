@@ -17,7 +17,6 @@ loop-word-init g c = record {
   sets = λ honest. only-nothing g.B.Bus g.met.B.Bus.composes.stays c.args.bus.now;
 }
 
--- The words written so far, and one more.
 more : (first index : ℕ) (words : List ℕ) → index < length words
     → table_writes first (take index words) ++ write_at (first + 4 * index) (get_or words index 0) ∷ []
     ≡ table_writes first (take (index + 1) words)

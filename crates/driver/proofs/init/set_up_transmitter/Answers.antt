@@ -4,7 +4,7 @@ use Rattle.bring_up.specs.DriverSteps.{SetsTransmitRing}
 use Rattle.bring_up.specs.RingRegisters.{ring_setup_writes}
 use Rattle.bring_up.specs.declared.ring_registers.RingPlace.{RingPlace}
 use Rattle.dma_memory.specs.Layout.{Counts, IsAllowed}
-use Rattle.driver_law.specs.Calls.{Ran, at, only}
+use Rattle.bus.specs.Calls.{Ran, at, only}
 use Rattle.driver.proofs.Initialisation.{sets-transmitter}
 use Rattle.driver.proofs.init.set_up_transmitter.Goals as goal
 

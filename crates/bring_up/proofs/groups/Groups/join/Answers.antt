@@ -3,7 +3,7 @@ use Rattle.std.specs.Prelude.{true, false, IsTrue, ◌==◌}
 use Rattle.std.proofs.lemmas.Bool.Decides.{nat_tests}
 use Rattle.rx_engine.specs.Addresses.{IsGroup}
 use Rattle.rx_engine.specs.NumberTables.{numbers_of_groups}
-use Rattle.driver_law.specs.Calls.{at}
+use Rattle.bus.specs.Calls.{at}
 use Rattle.bring_up.specs.Groups.{AreJoined, ChangesJoined, HasNumber, group_number_of, with_groups}
 use Rattle.bring_up.proofs.Numbers.{elsewhere, group-added, shared-more}
 use Rattle.bring_up.proofs.JoinedLists.{joined-more}

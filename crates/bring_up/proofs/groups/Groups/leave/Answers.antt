@@ -3,7 +3,7 @@ use Rattle.std.specs.Prelude.{true, false, IsTrue, slice_get, Some}
 use Rattle.std.specs.List.{remove}
 use Rattle.rx_engine.specs.NumberTables.{numbers_of_groups}
 use Rattle.rx_engine.specs.GroupLists.{Removes}
-use Rattle.driver_law.specs.Calls.{at}
+use Rattle.bus.specs.Calls.{at}
 use Rattle.bring_up.specs.Groups.{AreJoined, ChangesJoined, HasNumber, group_number_of, with_groups}
 use Rattle.bring_up.proofs.Numbers.{elsewhere, group-removed, shared-fewer, turned}
 use Rattle.bring_up.proofs.JoinedLists.{joined-fewer, removed-at, removed-had}

@@ -1,7 +1,7 @@
 use Rattle.std.proofs.Common.{refl, Bool, ◌&&◌, ◌≡◌, ◌<◌, ◌-◌, ◌+◌, ◌^◌, ◌∷◌, [], ℕ, min, sym, ap, subst, ◌∙◌, arith}
 use Rattle.bus.specs.declared.event.Access.TheVariants.{Reads}
-use Rattle.driver_law.proofs.RegisterAccesses.{ran_by-misses}
-use Rattle.driver_law.specs.DriverState.{DriverState, holding}
+use Rattle.bus.proofs.RegisterAccesses.{ran_by-misses}
+use Rattle.bus.specs.DriverState.{DriverState, holding}
 use Rattle.driver.specs.InsideDriver.{driver_state_of}
 use Rattle.driver.proofs.driver.Driver.count_missed.Given.{Over}
 use Rattle.driver.proofs.driver.Driver.count_missed.Goals as goal
@@ -9,7 +9,7 @@ use Rattle.driver.proofs.driver.Driver.count_missed.Goals.{then-self, else-self}
 use Rattle.adapter.specs.Table.{register_at}
 use Rattle.adapter.specs.World.{World, world_after_read}
 use Rattle.rx_engine.specs.Registers.{FilterRegisters}
-use Rattle.driver_law.specs.Calls.{Ran, adds_exactly, at, only, with_missed}
+use Rattle.bus.specs.Calls.{Ran, adds_exactly, at, only, with_missed}
 
 is_exact : (g : Over) (c : goal.After-self-2-1 g)
     → c.if-self.self ≡ (c.self.inside.exact && adds_exactly c.self.inside.missed c.read-value.result)
@@ -20,7 +20,6 @@ is_exact g c =
       | else-self w ↦ w.self-is ∙ w.if-self.false ∙ ap both (sym w.if-self.false)
     ]
 
--- What it leaves.
 left : (g : Over) (c : goal.After-self-2-1 g)
     → driver_state_of (record c.self.inside { missed = c.saturating_add-self-inside.result; exact = c.if-self.self })
     ≡ with_missed c.read-value.result (driver_state_of c.self.inside)
@@ -45,7 +44,6 @@ returns-clause-ran g c = rw (← c.self.view_is) (λ up held is.
     (ran_by-misses g.B.Bus c.args.bus.now new d c.read-value.result below
     (c.read-value.ensures.acts is.honest) is.ready))
 
--- A read of MPC clears it, and leaves RCTL.
 read-clears : (world : World) → (world_after_read 0x4010 world).adapter.missed_packets ≡ 0
 unfolding register_at
 read-clears world = refl

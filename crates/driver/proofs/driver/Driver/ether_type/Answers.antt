@@ -7,10 +7,10 @@ use Rattle.dma_memory.specs.Layout.{Counts}
 use Rattle.bus.specs.declared.event.Access.{Access}
 use Rattle.bus.specs.declared.event.Access.TheVariants.{Loads}
 use Rattle.bus.proofs.Lists.{all-head}
-use Rattle.driver_law.proofs.Accesses.{ran_by-stays}
-use Rattle.driver_law.proofs.ReceiveAccesses.{frame-read, ran_by-reads}
-use Rattle.driver_law.specs.Calls.{Ran, at, ether_type_load, only}
-use Rattle.driver_law.specs.DriverState.{buffer_at, holding}
+use Rattle.bus.proofs.DriverAccesses.{ran_by-stays}
+use Rattle.bus.proofs.ReceiveAccesses.{frame-read, ran_by-reads}
+use Rattle.bus.specs.Calls.{Ran, at, ether_type_load, only}
+use Rattle.bus.specs.DriverState.{buffer_at, holding}
 use Rattle.driver.specs.Parts.{buffers_in}
 use Rattle.driver.specs.declared.parts.Part.{Part}
 use Rattle.driver.proofs.driver.Driver.ether_type.Given.{Over}
@@ -57,7 +57,6 @@ receive_buffer-requires g c =
       first-known (λ (number : ℕ). number < c.self.inside.layout.buffers) c.args.parts.now c.in-Some.first.now some.some some.part known,
     )
 
--- The address of the load.
 place_is : (g : Over) (c : goal.After-from_be_bytes g)
     → c.receive_buffer.result + 12 ≡ buffer_at c.args.self.now.layout c.in-Some.first.now.buffer + 12
 place_is g c = rw (← c.self.view_is) (ap (λ (start : ℕ). start + 12) c.receive_buffer.ensures.start

@@ -9,9 +9,9 @@ use Rattle.bring_up.specs.RingRegisters.{receive_writes}
 use Rattle.bring_up.specs.declared.init_error.InitError.TheVariants.{Memory}
 use Rattle.bring_up.specs.declared.init_error.InitError.TheVariants as errors
 use Rattle.bring_up.proofs.RestingRings.{drivers_begin_at_rest}
-use Rattle.driver_law.specs.Beginnings.{new_driver}
-use Rattle.driver_law.specs.DriverState.{DriverSetup, DriverState, owners}
-use Rattle.driver_law.specs.Calls.{Ran, at, only}
+use Rattle.bus.specs.Beginnings.{new_driver}
+use Rattle.bus.specs.DriverState.{DriverSetup, DriverState, owners}
+use Rattle.bus.specs.Calls.{Ran, at, only}
 use Rattle.bus.proofs.Keeping.{keeps-on}
 use Rattle.bus.specs.Pasts.{nothing}
 use Rattle.bring_up.specs.Groups.{AreNamedOnce}
@@ -36,7 +36,7 @@ returns-in_err-driver-clause-refuses g c honest =
     subst (λ result. IfErr result (RefusesInit g.B.Bus c.args.bus.now c.args.bus.now)) (sym is)
     (record { past = nothing; reports = g.met.B.Bus.composes.stays c.args.bus.now; why = refl; why_lively = λ lively. tt })
 
--- The driver that is made, with the adapter's address.
+-- the setup of the configuration, with the address in the EEPROM
 abbrev kept : (g : Over) (c : goal.After-enable_interrupts g) → DriverSetup
 kept g c = setup_of c.args.config.now c.in_ok-address.address
 
@@ -59,7 +59,6 @@ offered g c =
     subst (λ (d : DriverState). OffersFirst g.B.Bus (at c.find_ring.new.bus d) (at c.offer_first.new.bus c.offer_first.new.self))
     (made g c) c.offer_first.ensures.offers
 
--- It has joined the groups of the configuration.
 named : (g : Over) (c : goal.After-enable_interrupts g) → AreNamedOnce c.args.config.now.groups.items c.of-groups.result
 named g c = subst (λ (groups : List (List ℕ)). AreNamedOnce groups c.of-groups.result) c.as_slice.ensures.value c.of-groups.ensures
 

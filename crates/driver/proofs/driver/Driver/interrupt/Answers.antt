@@ -1,8 +1,8 @@
 use Rattle.std.proofs.Common.{◌≡◌, true, false, ◌++◌, length, length-append, ap, refl, subst, ◌∙◌, arith}
 use Rattle.bus.proofs.Keeping.{keeps-on}
 use Rattle.registers.specs.Bits.{Meet}
-use Rattle.driver_law.proofs.RegisterAccesses.{reads-causes}
-use Rattle.driver_law.specs.DriverState.{DriverState, holding}
+use Rattle.bus.proofs.RegisterAccesses.{reads-causes}
+use Rattle.bus.specs.DriverState.{DriverState, holding}
 use Rattle.bring_up.specs.WrittenRegisters.{handled_causes}
 use Rattle.driver.specs.HandlerSteps.{TakesSlots, run_buffers, scene}
 use Rattle.driver.specs.Parts.{pieces_of}
@@ -44,7 +44,7 @@ returns-clause-keeps g c =
     let k3 = on c.count_missed.new.bus c.take_finished-taken.new.bus k2 c.take_finished-taken.ensures.keeps in
     on c.take_finished-taken.new.bus c.refill.new.bus k3 c.refill.ensures.keeps
 
--- What the three calls leave as it was.
+-- `count_missed`, `take_finished` and `refill` change only the driver's receive side and its counts.
 pub returns-clause-only_receives : goal.returns-clause-only_receives
 returns-clause-only_receives g c =
     let counted = c.count_missed.ensures.others in

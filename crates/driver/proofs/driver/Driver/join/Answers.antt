@@ -1,4 +1,4 @@
-use Rattle.driver_law.specs.DriverState.{holding}
+use Rattle.bus.specs.DriverState.{holding}
 use Rattle.driver.specs.InsideDriver.{driver_state_of}
 use Rattle.driver.proofs.driver.Driver.join.Goals as goal
 

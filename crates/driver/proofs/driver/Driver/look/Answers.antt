@@ -2,8 +2,8 @@ use Rattle.std.proofs.Common.{ℕ, ◌≡◌, Bool, List, length, length-set, re
 use Rattle.std.proofs.Common.{◌∙◌, arith}
 use Rattle.std.specs.Prelude.{IsTrue}
 use Rattle.bus.proofs.Keeping.{keeps-here, keeps-on}
-use Rattle.driver_law.specs.Calls.{IsReadyOver, at, held_at}
-use Rattle.driver_law.specs.DriverState.{DriverState, HandedOut, holding}
+use Rattle.bus.specs.Calls.{IsReadyOver, at, held_at}
+use Rattle.bus.specs.DriverState.{DriverState, HandedOut, holding}
 use Rattle.adapter.specs.HostFrames.{finished_pieces}
 use Rattle.driver.specs.declared.look.Run.{Run}
 use Rattle.driver.specs.InsideDriver.{driver_state_of}
@@ -33,7 +33,6 @@ loop-run-init g c =
           (ap (λ (r : Run). r.count) is) (ap (λ (r : Run). r.length) is) (ap (λ (r : Run). r.whole) is) ready.ready;
     }
 
--- What a load shows.
 next : (g : Over) (c : After-descriptor_after-descriptor g) (up : Bool) (held : List HandedOut)
     → IsReadyOver g.B.Bus up (held_at held (at c.args.bus.now c.args.self.now))
     → LoadsNext g.B.Bus c.loop-run.run c.descriptor_after-descriptor.result up (holding held c.args.self.now) c.args.bus.now
@@ -46,7 +45,6 @@ next g c up held is =
     (c.descriptor_after-descriptor.ensures.looks up held
     (record { honest = i.keeps.honest is.honest; ready = sees.ran.goes.flows.ready }))
 
--- How many slots are outstanding.
 outstanding : (inside : Inside) (d : DriverState) (all staged : ℕ) → Receives inside → driver_state_of inside ≡ d
     → all ≡ length inside.buffers.items → staged ≡ inside.staged → all - staged ≡ length d.buffers
 outstanding inside d all staged receives shown long some =
@@ -64,7 +62,7 @@ returns-then-not-is_done-clause-looks g c up held is =
           c.from.ensures,
     ))
 
--- It is finished.
+-- The next slot is finished.
 
 abbrev loaded : (g : Over) → After-add g → After-descriptor_after-descriptor g
 loaded g c = c.before.before.before.before.before.before
@@ -87,7 +85,7 @@ whole : (g : Over) (c : After-add g) (up : Bool) (held : List HandedOut)
     → IsReadyOver g.B.Bus up (held_at held (at c.args.bus.now c.args.self.now)) → IsTrue c.add.new.self.whole
 whole g c up held is = c.add.ensures.whole.1 ((shown g c up held is).sound, (next g (loaded g c) up held is).sees.whole)
 
--- What holds of the run with it, whether a frame ends in it or not.
+-- The run with the next slot, whether or not a frame ends in this slot.
 room : (g : Over) (c : After-add g) → length c.add.new.self.lengths ≡ 6
 room g c =
     let run = c.loop-run.run in
@@ -107,7 +105,7 @@ inside g c =
           c.from.ensures,
     )
 
--- A frame ends in it: if the run is whole, the slots before it are full.
+-- A frame ends in the next slot. If the run is whole, the buffers of the slots before are full.
 pub returns-then-is_ended-clause-finds : goal.returns-then-is_ended-clause-finds
 returns-then-is_ended-clause-finds g c =
     let there = c.before.before.before.before.before in

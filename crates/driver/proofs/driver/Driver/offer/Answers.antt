@@ -1,10 +1,10 @@
 use Rattle.std.proofs.Common.{◌≡◌, ◌∷◌, [], List, length, sym, ap, subst, ◌∙◌}
 use Rattle.bus.specs.declared.event.Access.{Access}
 use Rattle.bus.specs.declared.event.Access.TheVariants.{Writes}
-use Rattle.driver_law.proofs.Accesses.{ran_by-stays}
-use Rattle.driver_law.proofs.ReceiveAccesses.{ran_by-offers}
-use Rattle.driver_law.specs.Calls.{Ran, at, only, tail_write}
-use Rattle.driver_law.specs.DriverState.{DriverState, holding, next_receive}
+use Rattle.bus.proofs.DriverAccesses.{ran_by-stays}
+use Rattle.bus.proofs.ReceiveAccesses.{ran_by-offers}
+use Rattle.bus.specs.Calls.{Ran, at, only, tail_write}
+use Rattle.bus.specs.DriverState.{DriverState, holding, next_receive}
 use Rattle.driver.specs.InsideDriver.{driver_state_of}
 use Rattle.driver.proofs.BufferQueue.{no_second-inside, none-staged, owners-offered, offered-inside, queue-split, tail_write-none}
 use Rattle.driver.proofs.BufferQueue.{tail_write-some}

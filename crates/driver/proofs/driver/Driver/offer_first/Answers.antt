@@ -1,7 +1,7 @@
 use Rattle.std.proofs.Common.{◌≡◌, ◌<◌, ◌-◌, ◌*◌, ◌∷◌, [], ℕ, false, ap, sym, subst, ◌∙◌, arith}
 use Rattle.bring_up.specs.ClearedDescriptors.{clears}
-use Rattle.driver_law.specs.Calls.{IsReadyOver, Ran, at, only}
-use Rattle.driver_law.specs.DriverState.{DriverState}
+use Rattle.bus.specs.Calls.{IsReadyOver, Ran, at, only}
+use Rattle.bus.specs.DriverState.{DriverState}
 use Rattle.driver.specs.Initialisation.{OffersFirst}
 use Rattle.driver.specs.RefillSteps.{Stages}
 use Rattle.driver.proofs.FirstSlots.{offers-first}

@@ -1,7 +1,7 @@
 use Rattle.std.proofs.Common.{false, ◌≡◌, ◌<◌, ◌-◌, ◌*◌, ◌++◌, ℕ, List, length, ap, subst, ◌∙◌, arith}
 use Rattle.dma_memory.specs.Layout.{Counts}
-use Rattle.driver_law.specs.Calls.{Ran, at, only}
-use Rattle.driver_law.specs.DriverState.{DriverState}
+use Rattle.bus.specs.Calls.{Ran, at, only}
+use Rattle.bus.specs.DriverState.{DriverState}
 use Rattle.bring_up.specs.ClearedDescriptors.{clears_from}
 use Rattle.driver.proofs.FreeSlots.{offers-free}
 use Rattle.driver.proofs.driver.Driver.offer_free.Goals as goal

@@ -1,7 +1,7 @@
 use Rattle.std.proofs.Common.{◌≡◌, ◌<◌, ◌^◌, ◌++◌, ◌∷◌, [], ℕ, List, sym, ap, subst, ◌∙◌, arith}
 use Rattle.dma_memory.specs.Owners.{copies}
-use Rattle.driver_law.specs.Calls.{Ran, at, ether_type_load, only}
-use Rattle.driver_law.specs.DriverState.{DriverState, holding, piece_numbers, owners}
+use Rattle.bus.specs.Calls.{Ran, at, ether_type_load, only}
+use Rattle.bus.specs.DriverState.{DriverState, holding, piece_numbers, owners}
 use Rattle.driver.specs.HandlerSteps.{Shows}
 use Rattle.driver.specs.Parts.{buffers_in}
 use Rattle.driver.specs.declared.receiver.Received.{Received}
@@ -30,8 +30,8 @@ pub ether_type-ether_type-requires-clause-known : goal.ether_type-ether_type-req
 ether_type-ether_type-requires-clause-known g c =
     known-all c.args.self.now.layout.buffers (buffers_in c.args.parts) (owners c.args.self.now) c.requires.one_owner
 
--- The run is whole: the frame that is shown has all of the run's parts, and its length.
--- They are those of a frame, by what is required of the run and its parts.
+-- The run is whole. The frame that is shown has the parts and the length of the run, which are those of a frame by the precondition
+-- `parts`.
 pub returns-clause-hands : goal.returns-clause-hands
 returns-clause-hands g c =
     let whole = c.if-not-run.false in

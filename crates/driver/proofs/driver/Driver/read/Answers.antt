@@ -4,9 +4,9 @@ use Rattle.std.proofs.lemmas.List.{length-map, take_all}
 use Rattle.std.proofs.lemmas.Slice.{drop-put_mid, take-put_mid}
 use Rattle.bus.proofs.Keeping.{keeps-here, keeps-on}
 use Rattle.dma_memory.specs.Layout.{receive_buffer_bytes}
-use Rattle.driver_law.proofs.Accesses.{ran_by-stays}
-use Rattle.driver_law.specs.Calls.{Ran, at, only}
-use Rattle.driver_law.specs.DriverState.{buffer_at, frame_of, holding}
+use Rattle.bus.proofs.DriverAccesses.{ran_by-stays}
+use Rattle.bus.specs.Calls.{Ran, at, only}
+use Rattle.bus.specs.DriverState.{buffer_at, frame_of, holding}
 use Rattle.driver.specs.Parts.{part_loads, part_of}
 use Rattle.driver.specs.declared.parts.Part.{Part}
 use Rattle.driver.proofs.ReadFrames.{all-values, bytes-next, copied-long, frame-next}

@@ -1,6 +1,6 @@
--- Each turn frees one slot, and the last finds that none is left to be freed.
+-- Each iteration except the last frees one slot. After the last iteration, no outstanding slot is written back.
 use Rattle.bus.proofs.Keeping.{keeps-here, keeps-on}
-use Rattle.driver_law.specs.Calls.{at}
+use Rattle.bus.specs.Calls.{at}
 use Rattle.driver.proofs.FreedSlots.{has_freed-all, has_freed-more, has_freed-none}
 use Rattle.driver.proofs.driver.Driver.reclaim.Goals as goal
 

@@ -1,5 +1,5 @@
 use Rattle.bus.specs.Keeping.{Keeps}
-use Rattle.driver_law.specs.Calls.{at}
+use Rattle.bus.specs.Calls.{at}
 use Rattle.driver.proofs.FreedSlots.{HasFreed}
 use Rattle.driver.proofs.driver.Driver.reclaim.Given as goal
 

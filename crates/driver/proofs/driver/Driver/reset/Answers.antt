@@ -17,11 +17,11 @@ use Rattle.bring_up.specs.DriverSteps.{LetsFramesIn}
 use Rattle.bring_up.specs.RestingRings.{HasNewRings, HasReceiveRing, SetsAtRest}
 use Rattle.bring_up.specs.RingRegisters.{receive_writes, ring_setup_writes}
 use Rattle.bring_up.specs.declared.ring_registers.RingPlace.{RingPlace}
-use Rattle.driver_law.proofs.Accesses.{ran_by-join}
-use Rattle.driver_law.specs.Calls.{IsRefilled, Ran, at, only, with_missed}
-use Rattle.driver_law.specs.DriverState.{DriverSetup, DriverState, holding, owners, with_owners}
-use Rattle.driver_law.specs.ReadyDrivers.{ReadyWith}
-use Rattle.driver_law.specs.Resets.{reset_driver}
+use Rattle.bus.proofs.DriverAccesses.{ran_by-join}
+use Rattle.bus.specs.Calls.{IsRefilled, Ran, at, only, with_missed}
+use Rattle.bus.specs.DriverState.{DriverSetup, DriverState, holding, owners, with_owners}
+use Rattle.bus.specs.ReadyDrivers.{ReadyWith}
+use Rattle.bus.specs.Resets.{reset_driver}
 use Rattle.driver.specs.Resetting.{Resets, free_accesses, stop_accesses}
 use Rattle.driver.specs.InsideSetup.{setup_in}
 use Rattle.driver.proofs.Initialisation.{vlans-named}

@@ -1,9 +1,9 @@
--- The slot is the one after the outstanding ones, as the driver keeps it.
+-- The frame's slot, `next_transmit`, is the slot after the outstanding slots.
 use Rattle.std.proofs.Common.{◌≡◌, ◌+◌, ◌%◌, ℕ, length, true, sym, ap, subst, ◌∙◌, arith}
 use Rattle.bus.proofs.Keeping.{keeps-on}
-use Rattle.driver_law.proofs.TransmitRuns.{run-sends}
-use Rattle.driver_law.specs.DriverState.{DriverState, holding, transmit_slot, transmit_tail}
-use Rattle.driver_law.specs.Calls.{Ran, at, transmit_buffer, whole_descriptor}
+use Rattle.bus.proofs.TransmitRuns.{run-sends}
+use Rattle.bus.specs.DriverState.{DriverState, holding, transmit_slot, transmit_tail}
+use Rattle.bus.specs.Calls.{Ran, at, transmit_buffer, whole_descriptor}
 use Rattle.driver.proofs.SentFrames.{next-slot, sending-more}
 use Rattle.driver.specs.SendSteps.{sent_now}
 use Rattle.driver.specs.InsideDriver.{IsSending}

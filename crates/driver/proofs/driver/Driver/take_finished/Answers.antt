@@ -1,7 +1,7 @@
 use Rattle.std.proofs.Common.{Bool, ◌≡◌, ◌+◌, ◌++◌, ◌∷◌, [], length, sum, ap, sym, subst, ◌∙◌, arith}
 use Rattle.bus.proofs.Keeping.{keeps-here, keeps-on}
 use Rattle.dma_memory.specs.Layout.{size_of}
-use Rattle.driver_law.specs.DriverState.{DriverState}
+use Rattle.bus.specs.DriverState.{DriverState}
 use Rattle.driver.specs.HandlerSteps.{run_with, whole_frames}
 use Rattle.driver.specs.Parts.{FitIntoBuffers, pieces_of}
 use Rattle.driver.proofs.SeenSlots.{fills-fit}
@@ -16,7 +16,7 @@ loop-run-init g c = record {
       c.args.bus.now c.args.receiver.now c.args.self.now;
 }
 
--- The run that was found, in parts.
+-- The parts have the lengths of the run that was found.
 pub pass_on-requires-clause-parts : goal.pass_on-requires-clause-parts
 pass_on-requires-clause-parts g c =
     let found = c.in-Some.ensures.finds in
@@ -28,7 +28,7 @@ pass_on-requires-clause-parts g c =
       fits = λ whole. subst FitIntoBuffers (sym lengths) (fills-fit _ (found.full whole));
     }
 
--- A run was shown, or it was bad.
+-- A run was passed on: its frame was shown, or the run is bad.
 
 pub loop-run-preserved-then-pass_on : goal.loop-run-preserved-then-pass_on
 loop-run-preserved-then-pass_on g c =

@@ -1,21 +1,20 @@
 use Rattle.std.proofs.Common.{◌≡◌, ◌+◌, ◌%◌, ◌++◌, ℕ, List, length, length-take, take, drop, sym, ap, subst, ◌∙◌, arith}
 use Rattle.circular_buffer.specs.Buffer.{buffer}
 use Rattle.dma_memory.specs.Owners.{HasNoSecondOwner}
-use Rattle.driver_law.specs.DriverState.{DriverState, owners}
+use Rattle.bus.specs.DriverState.{DriverState, owners}
 use Rattle.driver.specs.InsideDriver.{driver_state_of}
 use Rattle.driver.specs.Parts.{buffers_in}
 use Rattle.driver.proofs.TakenBuffers.{HasTaken, taken-inside, with_queue}
 use Rattle.driver.proofs.driver.Driver.take_run.Goals as goal
 
--- There is a length for each slot.
 count : (c : goal.After-self-1) → length (take c.args.run.now.count c.args.run.now.lengths) ≡ c.args.run.now.count
 count c = omega (arith, length-take c.args.run.now.count c.args.run.now.lengths, c.requires.size, c.requires.few)
 
--- where the oldest slot is then
+-- the place of the oldest slot after the run left the ring
 abbrev next : goal.After-self-1 → ℕ
 next c = (c.self.inside.oldest_receive + c.args.run.now.count) % c.rx.result
 
--- the buffers of the slots that remain
+-- the buffers of the slots that remain outstanding
 abbrev others : goal.After-self-1 → List ℕ
 others c = (driver_state_of (with_queue c.self.inside (next c) c.take_parts-parts.new.queue)).buffers
 
@@ -28,7 +27,6 @@ taken c =
     (ap (λ (k : ℕ). (d.oldest_receive + n) % k) c.rx.ensures.count)
     (c.take_parts-parts.ensures.left ∙ ap (λ (k : ℕ). buffer (drop k d.buffers.items) d.buffers.capacity) (count c))
 
--- The parts have the first buffers.
 first : (c : goal.After-self-1) → buffers_in c.take_parts-parts.result ≡ take c.args.run.now.count c.self.inside.buffers.items
 first c = c.take_parts-parts.ensures.buffers ∙ ap (λ (k : ℕ). take k c.self.inside.buffers.items) (count c)
 

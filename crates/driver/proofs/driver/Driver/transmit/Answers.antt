@@ -1,10 +1,10 @@
 -- Slots are freed, and then the frame is sent if there is room.
 use Rattle.std.proofs.Common.{◌≡◌, ◌+◌, ◌∙◌, sym, ap, arith}
 use Rattle.bus.proofs.Keeping.{keeps-on}
-use Rattle.driver_law.proofs.Accesses.{ran_by-stays}
-use Rattle.driver_law.proofs.Calls.{ready-on}
-use Rattle.driver_law.specs.Calls.{at, held_at}
-use Rattle.driver_law.specs.DriverState.{DriverState, holding}
+use Rattle.bus.proofs.DriverAccesses.{ran_by-stays}
+use Rattle.bus.proofs.Calls.{ready-on}
+use Rattle.bus.specs.Calls.{at, held_at}
+use Rattle.bus.specs.DriverState.{DriverState, holding}
 use Rattle.driver.specs.SendSteps.{with_transmit_slots}
 use Rattle.driver.proofs.SentFrames.{frees-and-sends, was-full}
 use Rattle.driver.proofs.driver.Driver.transmit.Goals as goal

@@ -6,7 +6,7 @@ use Rattle.bring_up.specs.Configuration.{CanBeHad}
 use Rattle.bring_up.specs.declared.init_error.InitError.TheVariants.{Memory}
 use Rattle.bring_up.specs.declared.init_error.InitError.TheVariants as errors
 use Rattle.bus.specs.Pasts.{nothing}
-use Rattle.driver_law.specs.DriverState.{owners}
+use Rattle.bus.specs.DriverState.{owners}
 use Rattle.driver.specs.Initialisation.{RefusesInit}
 use Rattle.packet_socket.proofs.ConsistentHosts.{new-host, new-ready}
 use Rattle.packet_socket.proofs.host.Host.new.Goals as goal
