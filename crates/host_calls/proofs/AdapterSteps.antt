@@ -47,7 +47,8 @@ use Rattle.host_calls.proofs.PiecesLeft.{count_ending, ending-most, held-counted
 use Rattle.packet_socket.specs.HostCalls.{host_did}
 use Rattle.host_calls.specs.ConnectedHosts.{connected}
 
--- One step that was taken, with this outcome.
+-- The adapter of host `number` takes a step of this kind with the outcome `answer`, which leads from the stations `a`
+-- to `b`.
 pub record TakesStep (number : ℕ) (kind : StepKind) (answer : FrameOutcome) (a b : List StationState) : Type 0 where
   pub adapter : IsAdapter (world_at a number).adapter
   pub answers : Answers kind true (world_at a number).memory (world_at a number).adapter answer
@@ -83,7 +84,6 @@ elsewhere number k event other =
       | inr differ ↦ subst (λ (here : Bool). (if here then event ∷ [] else []) ++ [] ≡ []) (sym differ.0) refl
     ]
 
--- In a step of its adapter, the host makes no access, and takes, returns and accepts no frame.
 pub step-runs : (number : ℕ) (kind : StepKind) (answer : FrameOutcome) (a b : List StationState) (h : HostState)
     → CanBeDrained h (world_at a number) → TakesStep number kind answer a b
     → HostRuns number (At number (Steps kind true answer) ∷ []) (host_did [] [] []) (connected h a) (connected h b)
@@ -93,7 +93,6 @@ step-runs number kind answer a b h stands takes =
     (happens-alone number number steps a b (ticks number kind answer) takes.leads)
     (none-alone number steps (ticks number kind answer))
 
--- The number of frames that are finished, in progress or in the packet buffer doesn't change.
 held-stays : (number n : ℕ) (played : List AtomicStep) (a b : List StationState) (h : HostState) → LeadsTo number played a b
     → happened_in played ≡ replicate n (Moved number) → HostRuns number played (host_did [] [] []) (connected h a) (connected h b)
     → length (frames_held h.driver.oldest_receive (world_at b number)) ≡ length (frames_held h.driver.oldest_receive (world_at a number))
@@ -103,7 +102,7 @@ held-stays number n played a b h leads moved runs =
     (nothing-stored number number played a b n leads moved) in
     omega (arith, holds)
 
--- The steps that remain for a piece in progress
+-- The steps that the measure counts for a piece in progress
 
 pub work-counted : (work : Option Work) → work ≢ None → (length (slot_of_work work) ≡ 1) × ((line : ℕ) → count_pending work line ≡ 3)
 work-counted None some = absurd (some refl)
@@ -113,7 +112,7 @@ pub work-none : (work : Option Work) → work ≡ None → (length (slot_of_work
 work-none None none = (refl, λ line. refl)
 work-none (Some work) none = absurd (cc none)
 
--- The pieces of an adapter
+-- What the measure counts of an adapter
 
 abbrev count_buffered : World → ℕ
 count_buffered world = length world.adapter.receiver.buffer
@@ -129,7 +128,8 @@ count_ends world = count_ending world.adapter.receiver.work
 abbrev count_asked : World → ℕ
 count_asked world = count_pending world.adapter.receiver.work (count_line world.adapter.causes)
 
--- A step of an adapter is a step of the drain if it reduces the measure, and nothing else happens.
+-- A step of the adapter is `steps` steps of a drain if `moves` frames are moved, the measure decreases, and the filter
+-- doesn't change.
 step-on : (steps moves number : ℕ) (kind : StepKind) (answer : FrameOutcome) (a b : List StationState) (h : HostState)
     → (kind ≡ RxData) ⊎ (kind ≡ RxDone) → CanBeDrained h (world_at a number) → TakesStep number kind answer a b
     → happened_in (At number (Steps kind true answer) ∷ []) ≡ replicate moves (Moved number)
@@ -167,7 +167,6 @@ step-on steps moves number kind answer a b h receives stands takes moved buffere
       };
     }
 
--- The descriptor of the piece in progress is written back.
 done-steps : (number : ℕ) (a b : List StationState) (h : HostState) → CanBeDrained h (world_at a number)
     → TakesStep number RxDone outcome.Done a b → StepsOn 1 number [] (connected h a) (connected h b)
 done-steps number a b h stands takes =
@@ -183,7 +182,6 @@ done-steps number a b h stands takes =
     (ap (λ (w : World). w.adapter.filter) takes.world) (omega (arith, before.0, left, ends, pending, pending'))
     (omega (arith, before.0, behind.0, left))
 
--- A step with the outcome Nothing that changes no adapter is no step of the drain.
 idle-steps : (number : ℕ) (kind : StepKind) (a b : List StationState) (h : HostState) → (kind ≡ RxData) ⊎ (kind ≡ RxDone)
     → CanBeDrained h (world_at a number)
     → TakesStep number kind outcome.Nothing a b → (world_at b number).adapter ≡ (world_at a number).adapter
@@ -197,7 +195,6 @@ idle-steps number kind a b h receives stands takes same =
     step-on 0 0 number kind outcome.Nothing a b h receives stands takes refl (omega (arith, buffer))
     (ap (λ (s : AdapterState). s.filter) same) (omega (arith, left, ends, pending)) (omega (arith, left, work))
 
--- The outcome of RxDone is Done, or Nothing if no piece was in progress.
 pub finishes-done : (number : ℕ) (a b : List StationState) (h : HostState) (result : Outcome (Unit {0})) → number < length a
     → Occurs (Steps RxDone true (framed result (world_at a number).adapter)) (world_at a number)
     → b ≡ stations_after number (Steps RxDone true (framed result (world_at a number).adapter)) a → result ≡ outcome.Done
@@ -216,7 +213,6 @@ finishes-none number a b h outcome.Nothing below occurs is other stands =
 finishes-none number a b h outcome.Done below occurs is other stands = absurd (other refl)
 finishes-none number a b h result below occurs is other stands = absurd occurs.1
 
--- After RxDone no piece is in progress.
 pub finishes-free : (number : ℕ) (a b : List StationState) (result : Outcome (Unit {0})) → number < length a
     → Occurs (Steps RxDone true (framed result (world_at a number).adapter)) (world_at a number)
     → b ≡ stations_after number (Steps RxDone true (framed result (world_at a number).adapter)) a
@@ -229,7 +225,7 @@ finishes-free number a b outcome.Nothing below occurs is =
     ap (λ (w : World). w.adapter.receiver.work) takes.world ∙ occurs.1
 finishes-free number a b result below occurs is = absurd occurs.1
 
--- The last piece of a frame is moved out of the packet buffer.
+-- RxData moves the last piece of a frame out of the packet buffer
 
 some-buffered : (frames : List (List ℕ)) → frames ≢ [] → 0 < length frames
 some-buffered [] some = absurd (some refl)
@@ -261,7 +257,6 @@ moved-steps number a b h stands free takes =
     (omega (arith, left, one, ends, ap (λ (work : Option Work). count_ending work) free, pending, pending'))
     (omega (arith, before.0, behind.0, left, one))
 
--- A piece that isn't the last is moved out of the packet buffer.
 part-steps : (number : ℕ) (a b : List StationState) (h : HostState) → CanBeDrained h (world_at a number)
     → (world_at a number).adapter.receiver.work ≡ None → TakesStep number RxData outcome.Part a b
     → StepsOn 1 number [] (connected h a) (connected h b)

@@ -1,4 +1,4 @@
--- `IsAdapter` remains true in each event.
+-- `IsAdapter` remains true in each event; after a tick of the EEPROM, `IsAdapter` is true.
 use Rattle.std.proofs.Common.{◌≡◌, ◌≢◌, ◌≤◌, ◌<◌, ◌-◌, ◌/◌, ◌^◌, ◌∷◌, ◌++◌, []}
 use Rattle.std.proofs.Common.{Bool, true, false, ℕ, zero, suc, List, Option}
 use Rattle.std.proofs.Common.{Some, None, All}
@@ -10,8 +10,8 @@ use Rattle.std.proofs.lemmas.Nat.{mod_below}
 use Rattle.std.proofs.lemmas.List.Elements.{All-append, All-cons, All-drop}
 use Rattle.std.proofs.lemmas.List.Sums.{sum_by-take-drop}
 use Rattle.bus.proofs.Lists.{all-head, all-none}
-use Rattle.mdic_phy.specs.declared.mdic.Ticked.{Ticked}
-use Rattle.mdic_phy.specs.Mdic.{told}
+use Rattle.eeprom_phy.specs.declared.mdic.Ticked.{Ticked}
+use Rattle.eeprom_phy.specs.Mdic.{told}
 use Rattle.registers.specs.Bits.{field}
 use Rattle.registers.specs.ReceiveControl.{buffer_size_of}
 use Rattle.descriptors.specs.Frames.{IsLegal, longest_frame}
@@ -64,14 +64,12 @@ by-row : (kept : Option ℕ) (register : Register) (value : ℕ) (state : Adapte
 by-row None register value state = by-rule register value state
 by-row (Some kept) register value state = by-kept register (bit_and value kept) state
 
--- a statement about the piece in progress, if there is no piece, and if there is one
 none-in_work : (P : Work → Type 0) → ForSome None P
 none-in_work P work is = absurd (cc)
 
 one-in_work : (P : Work → Type 0) (work : Work) → P work → ForSome (Some work) P
 one-in_work P work holds other is = let same : work ≡ other = cc in subst P same holds
 
--- an empty engine meets its invariant
 is-empty : IsReceiver new_receiver
 is-empty = record {
   room = omega arith;
@@ -81,7 +79,6 @@ is-empty = record {
   most = none-in_work (λ (work : Work). work.length ≤ longest_frame);
 }
 
--- a reset empties the engine, and any other write doesn't change it
 reset-or : (resets : Bool) (state other : AdapterState) → IsReceiver state.receiver → other.receiver ≡ state.receiver
     → IsReceiver (if resets then after_reset state else other).receiver
 reset-or true state other is same = is-empty
@@ -105,12 +102,10 @@ after-putting : (answer : FrameOutcome) (state : AdapterState) → (after_put an
 after-putting (Put frame) state = refl
 after-putting _ state = refl
 
--- the oldest frame is legal
 first-legal : (frames : List (List ℕ)) → frames ≢ [] → All IsLegal frames → IsLegal (oldest frames)
 first-legal [] some are = absurd (some refl)
 first-legal (frame ∷ later) some are = all-head IsLegal frame later are
 
--- a receive buffer has at least one byte
 some-sized : (code : ℕ) → code < 4 → 1 ≤ buffer_size_of code
 some-sized zero small = omega arith
 some-sized (suc zero) small = omega arith
@@ -121,7 +116,6 @@ some-sized (suc (suc (suc (suc code)))) small = absurd (omega (arith, small))
 some-bytes : (control : ℕ) → 1 ≤ buffer_bytes control
 some-bytes control = some-sized (field control 16 2) (mod_below (control / 2 ^ 16) 4 (omega arith))
 
--- the next piece of a frame isn't empty, and isn't longer than the frame
 sized-piece : (control : ℕ) (engine : Receiver) → IsReceiver engine → engine.buffer ≢ []
     → (1 ≤ length (next_piece control engine)) × (length (next_piece control engine) ≤ longest_frame)
 sized-piece control engine is some =
@@ -185,7 +179,6 @@ after-stepping PhyTick wire_free answer memory state is answers =
 
 -- The receive engine after arrivals: a frame is stored if there is room for it
 
--- an arrival doesn't change the number of bytes of the oldest frame that have been moved
 still-begun : (frames : List (List ℕ)) (frame : List ℕ) (moved : ℕ) → moved ≤ length (oldest frames) - 1
     → moved ≤ length (oldest (frames ++ frame ∷ [])) - 1
 still-begun [] frame moved begun = omega (arith, begun)
@@ -228,7 +221,6 @@ after-access (Writes offset value) world is =
 after-access (Loads address size) world is = is
 after-access (Stores address bytes) world is = is
 
--- After one event.
 pub adapter-after : (event : Event) (world : World) → IsAdapter world.adapter → Occurs event world
     → IsAdapter (world_after event world).adapter
 adapter-after (Steps kind wire_free answer) world is occurs =
@@ -238,12 +230,12 @@ adapter-after (Arrives frame fate) world is occurs =
     of-event (Arrive fate frame) world.adapter is (after-arriving fate frame world.adapter is occurs.1)
 adapter-after (Accesses access) world is occurs = after-access access world is
 
--- After several events.
 pub adapter-behind : (events : List Event) (a b : World) → Trail events a b → IsAdapter a.adapter → IsAdapter b.adapter
 adapter-behind [] a b trail is = subst (λ (world : World). IsAdapter world.adapter) (sym trail) is
 adapter-behind (event ∷ later) a b trail is = adapter-behind later (world_after event a) b trail.1 (adapter-after event a is trail.0)
 
--- If the EEPROM took a step among the events, `IsAdapter` held before this step, so it holds after the events.
+-- `Occurs` of a step or a delivery states `IsAdapter`. So `IsAdapter` holds after a trail in which the EEPROM took a
+-- step.
 pub adapter-ticked : (events : List Event) (a b : World) → Trail events a b → 0 < (past_of events).eeprom_ticks → IsAdapter b.adapter
 adapter-ticked [] a b trail some = absurd (omega (arith, some))
 adapter-ticked (Steps kind wire_free answer ∷ later) a b trail some =

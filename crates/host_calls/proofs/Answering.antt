@@ -1,4 +1,4 @@
--- The laws of an interrupt handler's answer.
+-- The laws of the value that an interrupt handler reads from ICR.
 use Rattle.std.proofs.Common.{◌≡◌, ◌++◌, ◌∷◌, [], ℕ, List, Option, inl, inr, refl, sym, ap, subst, ◌∙◌, append_assoc}
 use Rattle.std.specs.List.{All}
 use Rattle.registers.specs.Bits.{HasBit, Meet, union}
@@ -38,7 +38,6 @@ use Rattle.host_calls.specs.CausesLaws.{AnswerTells}
 use Rattle.host_calls.specs.ConnectedHosts.{ConnectedHost}
 use Rattle.host_calls.specs.InterruptCauses.{HadCause, ReadsIcrFirst, TellsCauses, WasQuiet}
 
--- A read of ICR returns the recorded causes.
 icr-answers : (adapter : AdapterState) → answer_at ICR adapter ≡ adapter.causes.recorded
 icr-answers adapter = ap (λ (found : Option Register). answer_of found adapter) (register_at-there Icr tt)
 
@@ -55,7 +54,6 @@ sums caller early a b causes run =
     ∙ causes_are_those_of_steps (events_at caller early) (world_at a caller) (world_at b caller)
     (leaves-alone (events_at caller early) (steps-alone caller early run.ticks)) (trail-of caller caller early a b run.leads)
 
--- No cause that a driver handles was read.
 pub quiet-answer : (caller : ℕ) (early : List AtomicStep) (a b : List StationState) (causes oldest_receive oldest_transmit : ℕ)
     → EarlyRun caller early a b causes → Sound oldest_receive oldest_transmit (world_at a caller)
     → ¬ (Meet causes handled_causes)
@@ -75,7 +73,6 @@ quiet-answer caller early a b causes r t run sound none =
           (trail-of caller caller early a b run.leads) sound at_end,
     )
 
--- A cause that a driver handles was read.
 pub mine-answer : (caller : ℕ) (early : List AtomicStep) (a b : List StationState) (causes : ℕ) → EarlyRun caller early a b causes
     → Meet causes handled_causes
     → HadCause caller (world_at a caller).adapter early
@@ -95,7 +92,6 @@ mine-answer caller early a b causes run some =
       ]
     ]
 
--- For any call whose first access reads ICR: what the value implies about the steps before the read.
 pub steps-tell_causes : (caller : ℕ) (steps : List AtomicStep) (a b : List StationState) (causes : ℕ) (more : List Access) (h : HostState)
     → HostReady h (world_at a caller) → LeadsTo caller steps a b → (past_at caller steps).accesses ≡ Reads ICR causes ∷ more
     → TellsCauses caller steps causes (world_at a caller).adapter

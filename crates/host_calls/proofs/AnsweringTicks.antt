@@ -1,4 +1,4 @@
--- The outcome of a step, by the counts of the adapter.
+-- The outcome of a step that is no fault, by the counts of the adapter.
 use Rattle.std.proofs.Common.{◌≡◌, ◌≢◌, ◌==◌, ◌&&◌, ◌||◌, ◌⊎◌, ◌-◌, [], ◌∷◌}
 use Rattle.std.proofs.Common.{ℕ, suc, Bool, true, false, not, Option, Some, None, List, length}
 use Rattle.std.proofs.Common.{if◌then◌else◌, inl}
@@ -7,12 +7,12 @@ use Rattle.std.proofs.Common.{sym, ap, ◌∙◌, arith}
 use Rattle.std.specs.Prelude.{is_some, nat_le}
 use Rattle.std.proofs.lemmas.List.{length-map}
 use Rattle.std.proofs.lemmas.Bool.Decides.{eqb_tells}
-use Rattle.eeprom.specs.Eerd.{is_pending}
-use Rattle.mdic_phy.specs.declared.mdic.Operation.{Operation}
-use Rattle.mdic_phy.specs.declared.phy.Negotiation.{Negotiation}
-use Rattle.mdic_phy.specs.declared.phy.Negotiation.TheVariants.{NotStarted, Running, Complete}
-use Rattle.mdic_phy.specs.Mdic.{has_work}
-use Rattle.mdic_phy.specs.Phy.{PhyState, is_running}
+use Rattle.eeprom_phy.specs.Eerd.{is_pending}
+use Rattle.eeprom_phy.specs.declared.mdic.Operation.{Operation}
+use Rattle.eeprom_phy.specs.declared.phy.Negotiation.{Negotiation}
+use Rattle.eeprom_phy.specs.declared.phy.Negotiation.TheVariants.{NotStarted, Running, Complete}
+use Rattle.eeprom_phy.specs.Mdic.{has_work}
+use Rattle.eeprom_phy.specs.Phy.{PhyState, is_running}
 use Rattle.registers.specs.Bits.{HasBit, is_set}
 use Rattle.registers.specs.Places.{rctl_en, tctl_en}
 use Rattle.rx_engine.specs.Receiver.{oldest}
@@ -25,7 +25,6 @@ use Rattle.adapter.specs.declared.outcome.Outcome.TheVariants.{Done, Fault, Move
 use Rattle.host_calls.specs.Counts.{bytes_left, counts_of, negotiation_ticks, phy_counts}
 use Rattle.host_calls.specs.StepOutcomes.{has_idle_phy, has_nothing_to_move, has_nothing_to_take, left_of_oldest, moved_or_part, nothing_if}
 
--- the outcome is Nothing if the test is true, and the other outcome if the test is false
 idles : (test : Bool) (other : FrameOutcome) → test ≡ true → Nothing ≡ nothing_if test other
 idles true other is = refl
 idles false other is = absurd (cc)
@@ -34,7 +33,6 @@ acts : (test : Bool) (other : FrameOutcome) → test ≡ false → other ≡ not
 acts false other is = refl
 acts true other is = absurd (cc)
 
--- two tests: one of them holds, or neither does
 one : (n m k l : ℕ) → (n ≡ k) ⊎ (m ≡ l) → (n == k || m == l) ≡ true
 one n m k l holds = elim (eqb_tells n k) [
   | inl same ↦ rw same.0 refl
@@ -54,7 +52,6 @@ stands-runs : (stopped : Bool) → stopped ≡ true → stopped ≡ false → �
 stands-runs true stands runs = absurd (cc)
 stands-runs false stands runs = absurd (cc)
 
--- a bit is 1 or isn't
 bit-tells : (value place : ℕ) → (is_set value place ≡ true × HasBit value place) ⊎ (is_set value place ≡ false × (¬ (HasBit value place)))
 bit-tells value place = eqb_tells _ _
 
@@ -94,7 +91,6 @@ first-left : (moved : ℕ) (frames : List (List ℕ)) → left_of_oldest (bytes_
 first-left moved [] = omega arith
 first-left moved (frame ∷ frames) = refl
 
--- whether the outcome is Moved or Part
 last-or-part : (moved size : ℕ) (frames : List (List ℕ)) (last : Bool) → nat_le (length (oldest frames) - moved) size ≡ last
     → nat_le (left_of_oldest (bytes_left moved frames)) size ≡ last
 last-or-part moved size frames last is = ap (λ (n : ℕ). nat_le n size) (first-left moved frames) ∙ is
@@ -119,7 +115,8 @@ free : {X : Type 0} (work : Option X) (frames : List (List ℕ)) (head tail : �
 free (Some x) frames head tail ready some apart = absurd (cc)
 free None frames head tail ready some apart = none (length frames) head 0 tail (λ zero. some (empty frames zero)) apart
 
--- the test, by whether the side is enabled, and the number of frames in the packet buffer
+-- The test that RxData has nothing to move. `on` states whether the side is enabled, and `frames` is the number of
+-- frames in the packet buffer.
 abbrev barred-when : AdapterState → Bool → ℕ → Bool
 barred-when a on frames = not on || (is_some a.receiver.work || (frames == 0 || a.receive_ring.head == a.receive_ring.tail))
 
@@ -181,7 +178,6 @@ pub eeprom-answer : (a : AdapterState) (answer : FrameOutcome) → answer ≡ ti
     → answer ≡ nothing_if (not (counts_of a).is_reading) Ticked
 eeprom-answer a answer is = is ∙ tick-answer (is_pending a.eerd)
 
--- a tick does something if the countdown runs or a command is pending
 idle-phy : (value : ℕ) (pending : Option Operation) (phy : PhyState)
     → not (has_work (record { value = value; pending = pending }) phy)
     ≡ has_idle_phy (phy_counts (record { value = value; pending = pending }) phy)

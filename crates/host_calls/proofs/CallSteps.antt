@@ -1,4 +1,4 @@
--- The calls of a host in a drain.
+-- A call of a host without ticks is one step of a drain.
 use Rattle.std.proofs.Common.{◌≡◌, ◌≢◌, ◌≤◌, ◌<◌, ◌+◌, ◌++◌, ◌∷◌, [], ℕ, Bool, zero, suc, None, List, bit_and, length, map, min}
 use Rattle.std.proofs.Common.{refl, ap, subst, take, ◌∙◌, arith, if◌then◌else◌, ⊎_elim}
 use Rattle.std.specs.List.{All}
@@ -73,7 +73,6 @@ quiet number played a b counts leads none own =
       only = drain-steps number played are;
     }
 
--- If the interrupt line isn't asserted before a call, it isn't asserted after the call.
 line-stays : (a b : AdapterState) → LeavesEngine a b → count_line b.causes ≤ count_line a.causes
 line-stays a b leaves = ⊎_elim
     (λ (same : b.causes.recorded ≡ a.causes.recorded).
@@ -86,7 +85,7 @@ line-stays a b leaves = ⊎_elim
     ap (λ (r : ℕ). bit_and r b.causes.mask) none ∙ and_zero_l b.causes.mask in
     omega (arith, e)) leaves.recorded
 
--- The numbers of frames that a call moves between ring, queues and sink.
+-- An equation and a bound on the numbers of frames that a call takes off the ring, and that its sockets return.
 record Flows (number : ℕ) (a b : List StationState) (h h' : HostState) (taken : List (List ℕ)) (given : List Given) : Type 0 where
   ring : length taken + length (frames_held h'.driver.oldest_receive (world_at b number)) ≡ length (frames_held h.driver.oldest_receive
       (world_at a number))
@@ -109,7 +108,8 @@ flows number n played a b h h' taken given leads none runs fits fits' known =
       queues = omega (arith, all, known);
     }
 
--- One step of the drain that is a call.
+-- A call without ticks is one step of a drain if no piece is in progress. The call must return one frame, or clear an
+-- asserted line and return at most one frame.
 one-call : (number n : ℕ) (played : List AtomicStep) (a b : List StationState) (h h' : HostState) (taken : List (List ℕ))
     (given : List Given)
     → HostReady h (world_at a number) → LeadsTo number played a b → without_go is_go (map tick_of played) ≡ []
@@ -175,7 +175,6 @@ clears number played early a b counts causes leads none own first =
     (subst (λ (list : List Event). All (IsOfDriver counts) (past_of list).accesses) is own)
     (subst (λ (list : List Event). Trail list (world_at a number) (world_at b number)) is trail)
 
--- The handler reads ICR first.
 reads-first : (result : Handled) (k : ℕ) (steps : List AtomicStep) (old new : ConnectedHost)
     → InterruptEffect result old.host new.host (InSteps k [] steps old new) (world_at old.stations k)
     → ((causes : ℕ) × TellsCauses k steps causes (world_at old.stations k).adapter)
@@ -226,7 +225,6 @@ given-steps number socket frame a b heard accesses h h' ready calls free =
     one-call number n runs.steps a b h h' runs.taken (given_by socket (Ok frame)) ready of_call.leads of_call.played runs.runs
     stay (omega arith) (omega arith) (omega (arith, known)) free (omega arith) (omega (arith, line))
 
--- If a frame is queued for a socket, a call of this socket returns no error.
 pub not-refused : (result : Result (List ℕ) RecvError) (error : RecvError) (socket : ℕ) (h h' : HostState) (Runs : HostAct → Type 0)
     (world : World) → RecvEffect socket result h h' Runs world → socket < length h.kinds → queue_at h.queues socket ≢ []
     → result ≡ Err error → ⊥
@@ -263,7 +261,6 @@ no-other socket into (Interrupted result) h h' Runs world not does = does
 no-other socket into (Joined result) h h' Runs world not does = does
 no-other socket into (Left result) h h' Runs world not does = does
 
--- The sink has room for the frame.
 pub room-left : (h : HostState) (world : World) (socket left : ℕ) → queue_at h.queues socket ≢ [] → count_frames h world ≤ left
     → 0 < left
 room-left h world socket left some room =

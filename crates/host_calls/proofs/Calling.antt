@@ -1,4 +1,4 @@
--- A call over a lent bus, and the remaining ticks.
+-- A call over a lent bus followed by the remaining ticks, and what every other host does during the call.
 use Rattle.std.proofs.Common.{◌≡◌, ◌≢◌, ◌++◌, [], ℕ, true, List, refl, sym, ap, subst, ◌∙◌}
 use Rattle.std.specs.List.{All}
 use Rattle.std.proofs.lemmas.List.{append-nil}
@@ -17,8 +17,8 @@ use Rattle.stations.specs.LentBuses.{Finished, HappenedLent, world_here}
 use Rattle.stations.specs.ToldTicks.{ComposesTold}
 use Rattle.stations.specs.declared.lent_bus.LentBus.{LentBus}
 use Rattle.stations.specs.declared.observer.Observer.{Ghosts as OfObserver}
-use Rattle.driver_law.proofs.Intervals.{flows_join, work_kept}
-use Rattle.driver_law.specs.Calls.{FlowsTo, HasNoForgottenWork, IsRefilled}
+use Rattle.bus.proofs.Intervals.{flows_join, work_kept}
+use Rattle.bus.specs.Calls.{FlowsTo, HasNoForgottenWork, IsRefilled}
 use Rattle.packet_socket.proofs.Intervals.{host-happens, host-join}
 use Rattle.packet_socket.specs.HostCalls.{Given, HostDid, HostFlowsTo, HostGoesTo, HostReady, host_did, driver_of, in_world}
 use Rattle.packet_socket.specs.HostState.{HostState}
@@ -29,7 +29,6 @@ use Rattle.packet_socket.specs.HostActs.{IsOfHost, OnlyLastWrites}
 use Rattle.host_calls.proofs.HostTrails.{happens-alone, happens-elsewhere, none-alone, none-elsewhere}
 use Rattle.host_calls.specs.ConnectedHosts.{PlayedCall, connected, played_call}
 
--- Whether work is forgotten doesn't depend on the pieces in the sockets' queues.
 pub work-held : (h : HostState) (a world : World) → HasNoForgottenWork h.driver world → HasNoForgottenWork (driver_of h a) world
 work-held h a world work = record { enabled = work.enabled; asked = work.asked }
 
@@ -47,7 +46,6 @@ pub ready-behind : (h : HostState) (a : World) (h' : HostState) (b : World) (tak
     → HostFlowsTo true (in_world h a) (in_world h' b) (host_did taken given accepted) past → HostReady h' b
 ready-behind h a h' b taken given accepted past flows = record { sizes = flows.sizes; ready = flows.driver.ready }
 
--- No work is forgotten in an interval in which no recorded cause is cleared.
 pub work-goes : (h : HostState) (a : World) (h' : HostState) (b : World) (taken : List (List ℕ)) (given : List Given)
     (accepted : List (List ℕ)) (past : Past)
     → HostGoesTo true (in_world h a) (in_world h' b) (host_did taken given accepted) past
@@ -55,7 +53,6 @@ pub work-goes : (h : HostState) (a : World) (h' : HostState) (b : World) (taken 
 work-goes h a h' b taken given accepted past goes work =
     work-unheld h' b b (work_kept (driver_of h a) (driver_of h' b) a b taken accepted past goes.driver (work-held h a a work))
 
--- What a host that makes no access does.
 pub runs-alone : (k : ℕ) (steps : List AtomicStep) (a b : List StationState) (h : HostState) → HostReady h (world_at a k)
     → Happens (world_at a k) (world_at b k) (past_at k steps) → (past_at k steps).accesses ≡ []
     → HostRuns k steps (host_did [] [] []) (connected h a) (connected h b)
@@ -70,7 +67,7 @@ runs-alone k steps a b h ready happens none =
       offered = λ offered. offered;
     }
 
--- Two consecutive intervals of a host's run.
+-- What a host does in two consecutive intervals: the lists of frames are joined.
 pub runs-join : (k : ℕ) (first later : List AtomicStep) (a b c : List StationState) (h1 h2 h3 : HostState) (t1 t2 : List (List ℕ))
     (given more : List Given) (s1 s2 : List (List ℕ))
     → h2.driver.layout ≡ h1.driver.layout
@@ -92,7 +89,6 @@ runs-join k first later a b c h1 h2 h3 t1 t2 given more s1 s2 counts one two = r
   offered = λ offered. two.offered (one.offered offered);
 }
 
--- Ticks after a call add no access.
 pub whole-accesses : (k : ℕ) (first last : List AtomicStep) → (past_at k last).accesses ≡ []
     → (past_at k (first ++ last)).accesses ≡ (past_at k first).accesses
 whole-accesses k first last none =
@@ -100,11 +96,12 @@ whole-accesses k first last none =
     ∙ ap (λ (accesses : List Access). (past_at k first).accesses ++ accesses) none
     ∙ append-nil (past_at k first).accesses
 
--- the call of a lent bus, from its beginning to the end of the remaining ticks
+-- the call over a lent bus that begins with the bus `a` and ends, after the remaining ticks, with the bus `b`
 abbrev pub lent_call : {O : Type 0} {g : OfObserver O} (a b : LentBus O g) → PlayedCall
 lent_call {O} {g} a b = played_call a.host a.ticks.now (g.heard a.observer.now b.observer.now) b.accesses
 
--- A call over a lent bus, and the remaining ticks.
+-- `CallRuns` holds for a call over a lent bus followed by the remaining ticks. Its steps are those of the call, followed by those of the
+-- remaining ticks.
 pub call-runs_by : {O : Type 0} {g : OfObserver O} → ComposesTold g.heard
     → (a m b : LentBus O g) (past : Past) (h h' : HostState) (taken : List (List ℕ)) (given : List Given)
     (accepted : List (List ℕ))
@@ -172,7 +169,6 @@ call-runs_by composes a m b past h h' taken given accepted zero interval flows a
       refl,
     )
 
--- What every other host does during a call.
 pub others-run : (caller k : ℕ) (steps : List AtomicStep) (a b : List StationState) (h : HostState) → k ≢ caller
     → LeadsTo caller steps a b → HostReady h (world_at a k) → HostRuns k steps (host_did [] [] []) (connected h a) (connected h b)
 others-run caller k steps a b h other leads ready =

@@ -22,7 +22,6 @@ use Rattle.host_calls.specs.InterruptCauses.{ReadsIcrFirst}
 abbrev bears_zero : Numbered → Bool
 bears_zero one = one.accesses == 0
 
--- After an access no outcome has the number 0.
 skipped : (n : ℕ) (outcome : FrameOutcome) (rest : List Numbered) → 0 < n
     → filter bears_zero ((let one : Numbered = record { accesses = n; outcome = outcome } in one) ∷ rest) ≡ filter bears_zero rest
 skipped n outcome rest some =
@@ -40,7 +39,6 @@ late-bear_none n (At host (Accesses access) ∷ later) some = late-bear_none (mi
 late-bear_none n (Idles tick ∷ later) some =
     skipped n (step_outcome (Idles tick)) (noted_of n later) some ∙ late-bear_none n later some
 
--- Before any access all outcomes have the number 0.
 early-bear_zero : (early : List AtomicStep) → All IsTick early → filter bears_zero (noted_of 0 early) ≡ map noted_first early
 early-bear_zero [] are = refl
 early-bear_zero (At host (Steps kind wire_free answer) ∷ later) are =

@@ -1,4 +1,4 @@
--- When a drain ends, and what it did.
+-- The end of a drain: the bounds of its steps, and when no frame is held.
 use Rattle.std.proofs.Common.{◌≡◌, ◌≢◌, ◌≤◌, ◌<◌, ◌+◌, ◌*◌, ◌^◌, ◌++◌, ◌∷◌, []}
 use Rattle.std.proofs.Common.{ℕ, zero, suc, None, Some, List, Option, bit_and}
 use Rattle.std.proofs.Common.{length, map}
@@ -24,9 +24,9 @@ use Rattle.bus.specs.declared.event.Event.{Event}
 use Rattle.bus.specs.Trails.{Trail}
 use Rattle.driver.specs.declared.receiver.Received.{Received}
 use Rattle.driver.specs.Parts.{buffers_of}
-use Rattle.driver_law.specs.Calls.{driver_in, frames_ended}
-use Rattle.driver_law.specs.DriverState.{DriverState, buffer_at, piece_numbers, owners}
-use Rattle.driver_law.specs.ReadyDrivers.{Ready}
+use Rattle.bus.specs.Calls.{driver_in, frames_ended}
+use Rattle.bus.specs.DriverState.{DriverState, buffer_at, piece_numbers, owners}
+use Rattle.bus.specs.ReadyDrivers.{Ready}
 use Rattle.packet_socket.proofs.QueuedPieces.{entries-fit, waiting-numbers}
 use Rattle.packet_socket.specs.HostCalls.{Given, driver_of, given_for, held_for_socket, socket_frames, waiting_frame}
 use Rattle.packet_socket.specs.HostCalls.{without_socket}
@@ -57,7 +57,6 @@ is-empty (x ∷ xs) none = absurd (none (λ same. absurd (cc same)))
 
 -- The number of owners
 
--- each buffer is free, in an outstanding slot, or in a queue
 buffers-counted : (h : HostState) (world : World) → CanBeDrained h world
     → length h.driver.pool + (length h.driver.buffers + length (buffers_of (all_of h.queues))) ≡ h.driver.layout.buffers
 buffers-counted h world stands =
@@ -74,7 +73,6 @@ buffers-counted h world stands =
       handed,
     )
 
--- the outstanding slots are the finished ones, the one in progress, and the offered ones
 slots-counted : (h : HostState) (world : World) → CanBeDrained h world
     → length h.driver.buffers
     ≡ length (finished h.driver.oldest_receive world) + (length (in_work world) + length (offered (receive_ring world)))
@@ -93,7 +91,6 @@ slots-counted h world stands =
       length-map h.driver.buffers (buffer_at h.driver.layout),
     )
 
--- The number of frames that a host holds is at most the number of its buffers, plus the frames in the packet buffer.
 pub held-at_most : (h : HostState) (world : World) → CanBeDrained h world → IsAdapter world.adapter
     → count_frames h world ≤ h.driver.layout.buffers + MOST_FRAMES
 held-at_most h world stands adapter =
@@ -123,7 +120,6 @@ none-ended h world stands quiet = ⊎_elim
     let both = (HasBit-intersection world.adapter.causes.recorded world.adapter.causes.mask rxt0).1 (asked, stands.work.enabled) in
     absurd (quiet (positive (bit_and world.adapter.causes.recorded world.adapter.causes.mask) rxt0 both))) stands.work.asked
 
--- If no frame ends in finished slots, there are at most five of them.
 finished-most : (h : HostState) (world : World) → CanBeDrained h world → frames_ended (driver_in h.driver world) ≡ []
     → length (finished h.driver.oldest_receive world) ≤ 5
 finished-most h world stands none =
@@ -133,7 +129,8 @@ finished-most h world stands none =
       length-map (finished h.driver.oldest_receive world) (piece_in world.memory),
     )
 
--- If no frame ends in finished slots, no piece is in progress, and no frame is queued, a slot is offered.
+-- A slot is offered: at most five slots are finished, the driver has at least 8 slots and 8 buffers, and it refills the
+-- ring.
 some-offered : (h : HostState) (world : World) → CanBeDrained h world → frames_ended (driver_in h.driver world) ≡ []
     → world.adapter.receiver.work ≡ None → all_of h.queues ≡ [] → 8 ≤ h.driver.layout.rx → 8 ≤ h.driver.layout.buffers
     → world.adapter.receive_ring.head ≢ world.adapter.receive_ring.tail
@@ -158,7 +155,8 @@ holds-none h world none = record {
   queued = none-long (all_of h.queues) (omega (arith, none));
 }
 
--- No frame is held if no piece is in progress, the line isn't asserted, no frame waits for a socket, and no piece is moved.
+-- If the line isn't asserted, no frame ends in finished slots; then a slot is offered, so `MovesNone` implies that the
+-- packet buffer is empty.
 pub nothing-left : (number : ℕ) (a b : List StationState) (h : HostState) → CanBeDrained h (world_at a number) → MovesNone number a b h
     → (world_at a number).adapter.receiver.work ≡ None
     → ¬ (Meet (world_at a number).adapter.causes.recorded (world_at a number).adapter.causes.mask) → all_of h.queues ≡ []
@@ -198,7 +196,6 @@ steps-most h world stands =
       queued-least (all_of h.queues) stands.ready.sizes,
     )
 
--- the number of steps fits into a u64
 pub steps-fit : (h : HostState) (world : World) → CanBeDrained h world → IsAdapter world.adapter → count_steps h world + 1 < 2 ^ 64
 steps-fit h world stands adapter =
     let engine = world.adapter.receiver in
@@ -211,7 +208,6 @@ steps-fit h world stands adapter =
       stands.ready.ready.driver_is.addresses,
     )
 
--- If no frame is held, no piece is in progress or still to be moved.
 none-asked : (d : DriverState) (world : World) → Ready d world → frames_held d.oldest_receive world ≡ [] → count_adapter_steps world ≡ 0
 none-asked d world ready none =
     let engine = world.adapter.receiver in
@@ -321,7 +317,6 @@ drains-into steps number a b h h' before behind room left into none stands adapt
   drains = drains steps number a b h h' into.given into.on none stands adapter;
 }
 
--- If no frame is queued for any socket, all queues are empty.
 pub all-wait_for_none : (queues : List (List Received)) (n : ℕ) → length queues ≤ n
     → ((k : ℕ) → k < n → queue_at queues k ≡ []) → all_of queues ≡ []
 all-wait_for_none [] n fits none = refl

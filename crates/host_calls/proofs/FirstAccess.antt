@@ -15,7 +15,8 @@ use Rattle.stations.proofs.HostTrails.{steps-alone}
 use Rattle.stations.specs.AtomicRunLaws.{past_join}
 use Rattle.stations.specs.AtomicRuns.{IsOfCall, IsTick, LeadsTo, events_at, past_at}
 
--- This is the caller's first access among these steps, with the state right before it.
+-- The access is the caller's first one among these steps from the stations `a`; `middle` are the stations right before
+-- the access.
 pub record FirstAccess (caller : ℕ) (steps : List AtomicStep) (a : List StationState) (access : Access) : Type 0 where
   pub early : List AtomicStep
   pub later : List AtomicStep
@@ -25,7 +26,6 @@ pub record FirstAccess (caller : ℕ) (steps : List AtomicStep) (a : List Statio
   pub leads : LeadsTo caller early a middle
   pub answered : IsAnswered access (world_at middle caller)
 
--- A tick may come before the first access.
 behind-tick : (caller : ℕ) (step : AtomicStep) (steps : List AtomicStep) (a : List StationState) (access : Access) → IsTick step
     → CanHappen step a → IsOfCall caller step → FirstAccess caller steps (after step a) access → FirstAccess caller (step ∷ steps) a access
 behind-tick caller step steps a access is happens of_call first = record {
@@ -38,7 +38,6 @@ behind-tick caller step steps a access is happens of_call first = record {
   answered = first.answered;
 }
 
--- A tick isn't an access.
 pub tick-accesses : (k : ℕ) (step : AtomicStep) (later : List AtomicStep) → IsTick step
     → (past_at k (step ∷ later)).accesses ≡ (past_at k later).accesses
 tick-accesses k step later is =

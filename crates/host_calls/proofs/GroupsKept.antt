@@ -27,7 +27,6 @@ use Rattle.host_calls.specs.CallsInSteps.{InSteps}
 use Rattle.host_calls.specs.CallsOfHosts.{GroupsStay}
 use Rattle.host_calls.specs.ConnectedHosts.{ConnectedHost}
 
--- without an access
 pub stay-alone : (k : ℕ) (steps : List AtomicStep) (old new : ConnectedHost) → new.host ≡ old.host → (past_at k steps).accesses ≡ []
     → GroupsStay k steps old new
 stay-alone k steps old new same none = record {
@@ -37,7 +36,6 @@ stay-alone k steps old new same none = record {
       (all-none (IsOfDriver old.host.driver.layout));
 }
 
--- two consecutive intervals
 pub stay-join : (k : ℕ) (first later : List AtomicStep) (a b c : ConnectedHost) → b.host.driver.layout ≡ a.host.driver.layout
     → GroupsStay k first a b → GroupsStay k later b c → GroupsStay k (first ++ later) a c
 stay-join k first later a b c counts one two = record {

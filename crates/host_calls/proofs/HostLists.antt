@@ -1,4 +1,5 @@
--- The lists of each host follow from the events at this host.
+-- The lists of frames of each host (put, stored, reached) and its number of missed frames follow from the events at
+-- this host.
 use Rattle.std.proofs.Common.{◌≡◌, ◌+◌, ◌++◌, ◌∷◌, [], ◌==◌, ℕ, Bool, true, false, List, if◌then◌else◌, refl, sym, ap, ◌∙◌}
 use Rattle.std.proofs.Common.{arith, sum_by}
 use Rattle.std.proofs.lemmas.Grind.{flat_map-append}
@@ -11,8 +12,8 @@ use Rattle.adapter.specs.World.{World}
 use Rattle.adapter.specs.declared.outcome.Outcome.TheVariants as outcome
 use Rattle.adapter.specs.declared.step.StepKind.{StepKind}
 use Rattle.adapter.specs.declared.step.StepKind.TheVariants.{EepromTick, PhyTick, RxData, RxDone, TxPut, TxTake}
-use Rattle.eeprom.specs.Eerd.{is_pending}
-use Rattle.mdic_phy.specs.Mdic.{has_work}
+use Rattle.eeprom_phy.specs.Eerd.{is_pending}
+use Rattle.eeprom_phy.specs.Mdic.{has_work}
 use Rattle.rx_engine.specs.Arriving.{kept}
 use Rattle.rx_engine.specs.declared.arrival.Fate.{Fate}
 use Rattle.bus.specs.StepsAndArrivals.{past_of_step}
@@ -51,7 +52,6 @@ never-ticked : (works : Bool) (frame : List ℕ) (fate : Fate) → outcome.Deliv
 never-ticked true frame fate is = absurd (cc)
 never-ticked false frame fate is = absurd (cc)
 
--- no step delivers a frame
 never-delivers : (kind : StepKind) (wire_free : Bool) (world : World) (frame : List ℕ) (fate : Fate)
     → Occurs (Steps kind wire_free (outcome.Delivered frame fate)) world → ⊥
 never-delivers TxTake wire_free world frame fate occurs = occurs.1
@@ -95,7 +95,8 @@ chosen-more : {X : Type 0} (g : Event → List X) (here : Bool) (event : Event) 
 chosen-more g true event later = refl
 chosen-more g false event later = refl
 
--- for each event at a host, `f` finds the list `g event` in the event's happenings if this host is k, else the empty list
+-- For each event at a host, `f` finds the list `g event` in the event's happenings if this host is k, else the empty
+-- list.
 abbrev pub Tells : {X : Type 0} → (Happening → List X) → (Event → List X) → (k : ℕ) → Type 0
 Tells f g k =
     (host : ℕ) (event : Event) (world : World) → Occurs event world
@@ -247,7 +248,7 @@ pub reached-told : (caller k : ℕ) (steps : List AtomicStep) (a b : List Statio
     → reached k (happened_in steps) ≡ flat_map arrived_in (events_at k steps)
 reached-told caller k steps a b leads = by-events (reached_by k) arrived_in caller k steps a b leads (reached-event k)
 
--- Marks: arrivals at the packet buffer, and frames that left it
+-- Marks: frames that arrived, and frames that were moved to memory
 
 abbrev pub marks_of_answer : FrameOutcome → List Mark
 marks_of_answer answer = by_answer (λ frame. []) (Went ∷ []) answer

@@ -1,4 +1,4 @@
--- The counts after each event.
+-- The counts after each event: `counts_after` of an event agrees with the adapter after the event.
 use Rattle.std.proofs.Common.{◌≡◌, ◌+◌, ◌-◌, ℕ, Bool, true, false, Option, Some, None, List, [], ◌∷◌, drop, length, inl, inr, refl, sym}
 use Rattle.std.proofs.Common.{ap, if◌then◌else◌, subst, ◌∙◌}
 use Rattle.std.proofs.Common.{◌≤◌, ◌<◌, ◌++◌, ◌||◌, arith, cond, length-append, length-drop, length-take, map, take}
@@ -7,15 +7,15 @@ use Rattle.std.specs.List.{All}
 use Rattle.std.proofs.lemmas.Bool.{leb-false}
 use Rattle.std.proofs.lemmas.Bool.Decides.{leb_tells}
 use Rattle.std.proofs.lemmas.List.{append-nil, map-append}
-use Rattle.eeprom.specs.Eerd as eeprom
-use Rattle.eeprom.specs.declared.eerd.ReadState.{ReadState}
-use Rattle.eeprom.specs.declared.eerd.ReadState.TheVariants as reading
-use Rattle.mdic_phy.specs.declared.mdic.Operation.{Operation}
-use Rattle.mdic_phy.specs.declared.mdic.Ticked.{Ticked}
-use Rattle.mdic_phy.specs.declared.phy.Negotiation.{Negotiation}
-use Rattle.mdic_phy.specs.declared.phy.Negotiation.TheVariants.{NotStarted, Running, Complete}
-use Rattle.mdic_phy.specs.Mdic.{has_work, phy_after_tick, told}
-use Rattle.mdic_phy.specs.Phy.{PhyState, counted, is_running}
+use Rattle.eeprom_phy.specs.Eerd as eeprom
+use Rattle.eeprom_phy.specs.declared.eerd.ReadState.{ReadState}
+use Rattle.eeprom_phy.specs.declared.eerd.ReadState.TheVariants as reading
+use Rattle.eeprom_phy.specs.declared.mdic.Operation.{Operation}
+use Rattle.eeprom_phy.specs.declared.mdic.Ticked.{Ticked}
+use Rattle.eeprom_phy.specs.declared.phy.Negotiation.{Negotiation}
+use Rattle.eeprom_phy.specs.declared.phy.Negotiation.TheVariants.{NotStarted, Running, Complete}
+use Rattle.eeprom_phy.specs.Mdic.{has_work, phy_after_tick, told}
+use Rattle.eeprom_phy.specs.Phy.{PhyState, counted, is_running}
 use Rattle.rx_engine.specs.declared.arrival.Fate.{Fate}
 use Rattle.rx_engine.specs.declared.arrival.Fate.TheVariants.{Off, Illegal, Filtered, Missed, Stored}
 use Rattle.rx_engine.specs.Receiver.{oldest}
@@ -56,7 +56,7 @@ use Rattle.host_calls.specs.Counts.{
 }
 use Rattle.host_calls.specs.Counts.{counts_behind, counts_of, emptied, negotiation_ticks, phy_counts}
 
--- the counts after a step with this outcome
+-- the counts of the adapter after this step are those of `after_outcome`
 abbrev StepGoes : StepKind → Bool → FrameOutcome → World → Type 0
 StepGoes kind wire_free answer w =
     Answers kind wire_free w.memory w.adapter answer
@@ -97,13 +97,11 @@ put-goes outcome.Nothing wire_free w answers = refl
 put-goes outcome.WireFull wire_free w answers = refl
 put-goes _ wire_free w answers = absurd answers
 
--- the oldest frame left the packet buffer
 left-after_last : (moved : ℕ) (frames : List (List ℕ)) → bytes_left 0 (drop 1 frames) ≡ drop 1 (bytes_left moved frames)
 left-after_last moved [] = refl
 left-after_last moved (frame ∷ []) = refl
 left-after_last moved (frame ∷ second ∷ later) = ap (λ (n : ℕ). n ∷ map length later) (omega arith)
 
--- a piece of the oldest frame was moved, and more pieces are left
 left-after_part : (moved size : ℕ) (frames : List (List ℕ)) → nat_le (length (oldest frames) - moved) size ≡ false
     → bytes_left (moved + length (take size (drop moved (oldest frames)))) frames ≡ after_piece size (bytes_left moved frames)
 left-after_part moved size [] more = refl
@@ -149,7 +147,6 @@ eeprom-goes answer wire_free w answers = read-left w.adapter.image w.adapter.eer
 
 -- The PHY
 
--- a tick lowers the countdown that runs
 lowered : (negotiation : Negotiation) → is_running negotiation ≡ true
     → negotiation_ticks (counted negotiation) ≡ negotiation_ticks negotiation - 1
 lowered NotStarted runs = absurd (cc)
@@ -159,7 +156,6 @@ lowered (Running left) runs = elim (leb_tells left 1) [
   | inr more ↦ rw more.0 (omega (arith, more.1))
 ]
 
--- a tick ends a pending command, which may start a countdown
 countdown-left : (value : ℕ) (pending : Option Operation) (phy : PhyState)
     → has_work (record { value = value; pending = pending }) phy ≡ true
     → negotiation_ticks (phy_after_tick (record { value = value; pending = pending }) phy).negotiation
@@ -202,7 +198,7 @@ step-goes PhyTick wire_free answer w answers = phy-goes answer wire_free w answe
 none-stored : (a : AdapterState) → counts_of a ≡ counts_after (Arrives [] Off) (counts_of a)
 none-stored a = with-left (counts_of a) _ _ (sym (append-nil (bytes_left a.receiver.moved a.receiver.buffer)))
 
--- no byte of a stored frame has been moved yet
+-- a stored frame is appended with its whole length, because none of its bytes has been moved
 left-stored : (moved : ℕ) (frames : List (List ℕ)) (frame : List ℕ) → moved ≤ length (oldest frames) - 1
     → bytes_left moved (frames ++ frame ∷ []) ≡ bytes_left moved frames ++ length frame ∷ []
 left-stored moved [] frame begun = ap (λ (n : ℕ). n ∷ []) (omega (arith, begun))
@@ -277,7 +273,6 @@ event-goes (Accesses (Writes offset value)) w counted occurs =
 event-goes (Accesses (Loads address size)) w counted occurs = refl
 event-goes (Accesses (Stores address bytes)) w counted occurs = refl
 
--- The counts after a trail of events.
 pub trail-goes : (events : List Event) (a b : World) → All IsCounted (past_of events).accesses → Trail events a b
     → counts_of b.adapter ≡ counts_behind events (counts_of a.adapter)
 trail-goes [] a b counted trail = ap (λ (w : World). counts_of w.adapter) trail

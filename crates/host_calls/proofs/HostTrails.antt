@@ -15,7 +15,6 @@ use Rattle.stations.proofs.HostTrails.{steps-alone, trail-of}
 use Rattle.stations.specs.AtomicRuns.{IsOfCall, IsTick, LeadsTo, events_at, past_at}
 use Rattle.bus.proofs.StepsThenAccess.{no_access}
 
--- another host makes no access in a call
 elsewhere : (caller k host : ℕ) (event : Event) → k ≢ caller → IsOfCall caller (At host event) → (later : List Event) → All IsStep later
     → All IsStep ((if k == host then event ∷ [] else []) ++ later)
 elsewhere caller k host (Steps kind wire_free answer) other is later are = chosen (k == host)
@@ -42,14 +41,12 @@ steps-elsewhere caller k (At host event ∷ later) a b other leads =
     (steps-elsewhere caller k later (after (At host event) a) b other leads.2)
 steps-elsewhere caller k (Idles tick ∷ later) a b other leads = steps-elsewhere caller k later a b other leads.2
 
--- Every host except the caller obeys the bus law (`Happens`), and makes no access.
 pub happens-elsewhere : (caller k : ℕ) (steps : List AtomicStep) (a b : List StationState) → k ≢ caller → LeadsTo caller steps a b
     → Happens (world_at a k) (world_at b k) (past_at k steps)
 happens-elsewhere caller k steps a b other leads =
     trail_happens (events_at k steps) (world_at a k) (world_at b k) (steps-elsewhere caller k steps a b other leads)
     (trail-of caller k steps a b leads)
 
--- If only ticks are played, every host obeys the bus law (`Happens`), and makes no access.
 pub happens-alone : (caller k : ℕ) (steps : List AtomicStep) (a b : List StationState) → All IsTick steps → LeadsTo caller steps a b
     → Happens (world_at a k) (world_at b k) (past_at k steps)
 happens-alone caller k steps a b are leads =

@@ -1,4 +1,4 @@
--- One host of a network is called.
+-- What holds of one host and the stations during a call holds of the network, of which only this host changes.
 use Rattle.std.proofs.Common.{◌≡◌, ◌<◌, ℕ, List, length, length-set, set-set, Some, slice_get, slice_set, slice_index_or}
 use Rattle.std.proofs.Common.{arith, refl, sym, ap, subst, ◌∙◌}
 use Rattle.std.proofs.lemmas.List.{set-get_or}
@@ -17,7 +17,6 @@ use Rattle.host_calls.specs.Networks.{IsHost, NetworkState, OnlyHostChanges, con
 abbrev pub network : List HostState → List StationState → NetworkState
 network hosts stations = record { hosts = hosts; stations = stations }
 
--- The k-th host, found by its number.
 pub host-found : (hosts : List HostState) (stations : List StationState) (n : NetworkState) (k : ℕ) (h : HostState)
     → network hosts stations ≡ n → k < length n.hosts → h ≡ slice_index_or hosts k h → h ≡ nth_host n k
 host-found hosts stations n k h shown below found =
@@ -26,25 +25,21 @@ host-found hosts stations n k h shown below found =
     ∙ sym (ap host_or_empty (slice_get-get_or hosts k h (subst (λ (list : List HostState). k < length list) (sym same) below)))
     ∙ ap (λ (list : List HostState). host_or_empty (slice_get list k)) same
 
--- If there is a k-th host, `nth_host` is this host.
 pub host-there : (n : NetworkState) (k : ℕ) → k < length n.hosts → IsHost n k (nth_host n k)
 host-there n k below =
     let found = slice_get-get_or n.hosts k (nth_host n k) below in
     found ∙ ap (λ (host : HostState). Some host) (sym (ap host_or_empty found))
 
--- The k-th host after it was replaced.
 pub host-behind : (hosts : List HostState) (stations : List StationState) (k : ℕ) (h : HostState) → k < length hosts
     → nth_host (network (slice_set hosts k h) stations) k ≡ h
 host-behind hosts stations k h below = ap host_or_empty (slice_get-set_same hosts k h below)
 
--- The host and the stations before a call of the k-th host.
 pub before-call : (hosts : List HostState) (stations : List StationState) (n : NetworkState) (k : ℕ) (h : HostState)
     → network hosts stations ≡ n → k < length n.hosts → h ≡ slice_index_or hosts k h → connected h stations ≡ connected_at n k
 before-call hosts stations n k h shown below found =
     ap (λ (one : HostState). connected one stations) (host-found hosts stations n k h shown below found)
     ∙ ap (λ (one : NetworkState). connected (nth_host n k) one.stations) shown
 
--- If the k-th host is ready, the host that was found by its number is ready.
 pub ready-before : (hosts : List HostState) (stations : List StationState) (n : NetworkState) (k : ℕ) (h : HostState)
     → network hosts stations ≡ n → k < length n.hosts → h ≡ slice_index_or hosts k h → HostReady (nth_host n k) (world_at n.stations k)
     → HostReady h (world_at stations k)
@@ -56,7 +51,7 @@ inside : (hosts : List HostState) (stations : List StationState) (n : NetworkSta
     → k < length n.hosts → k < length hosts
 inside hosts stations n k shown below = subst (λ (one : NetworkState). k < length one.hosts) (sym shown) below
 
--- What holds of the host, the stations and the observer after a call holds of the network and the observer, because the
+-- What holds of the host, the stations and the observer after a call holds of the network and the observer. The
 -- stations and the observer were lent to the call.
 pub after-call : {O : Type 0} (Holds : O → ConnectedHost → ConnectedHost → Type 0) (hosts : List HostState) (stations : List StationState)
     (n : NetworkState) (k : ℕ) (h h' : HostState) (left back : List StationState) (told told' : O) → network hosts stations ≡ n
@@ -78,7 +73,6 @@ others-stay hosts stations n k h' left shown below =
     ap (λ (one : NetworkState). slice_set one.hosts k h') shown
     ∙ ap (λ (one : HostState). slice_set n.hosts k one) (sym behind)
 
--- A call doesn't change the number of stations.
 pub same-stations : {given : List Given} {accepted : List (List ℕ)} (call : PlayedCall) (hosts : List HostState)
     (a left back : List StationState) (k : ℕ) (h h' : HostState) → CallRuns call given accepted (connected h a) (connected h' left)
     → back ≡ left → length a ≡ length hosts → length back ≡ length (slice_set hosts k h')
@@ -86,12 +80,10 @@ same-stations call hosts a left back k h h' runs returned same =
     ap (λ (list : List StationState). length list) returned
     ∙ length-stays call.caller runs.steps a left runs.of_call.leads ∙ same ∙ sym (length-set hosts k h')
 
--- A tick doesn't change the number of stations.
 pub length-played : (step : AtomicStep) (stations : List StationState) → length (after step stations) ≡ length stations
 length-played (At host event) stations = length-event host event stations
 length-played (Idles tick) stations = refl
 
--- If only stations change, what holds of the k-th host and the stations holds of the network.
 pub stations-changed : (Holds : ConnectedHost → ConnectedHost → Type 0) (hosts : List HostState) (stations : List StationState)
     (n : NetworkState) (k : ℕ) (left : List StationState) → network hosts stations ≡ n
     → Holds (connected (nth_host n k) stations) (connected (nth_host n k) left)
@@ -100,7 +92,6 @@ stations-changed Holds hosts stations n k left shown =
     subst (λ (one : NetworkState). Holds (connected (nth_host one k) stations) (connected (nth_host one k) left)
     → Holds (connected_at one k) (connected_at (network hosts left) k)) shown (λ holds. holds)
 
--- The stations are those of the network.
 pub stations-are : (hosts : List HostState) (stations : List StationState) (n : NetworkState) → network hosts stations ≡ n
     → n.stations ≡ stations
 stations-are hosts stations n shown = sym (ap (λ (one : NetworkState). one.stations) shown)
@@ -109,9 +100,8 @@ pub station-there : (hosts : List HostState) (stations : List StationState) (n :
     → length stations ≡ length hosts → k < length n.hosts → k < length stations
 station-there hosts stations n k shown same below = omega (arith, same, inside hosts stations n k shown below)
 
--- Of all hosts only one changed
+-- At most one host changed
 
--- no host changed
 pub only-same : (a b : NetworkState) (k : ℕ) → k < length a.hosts → b.hosts ≡ a.hosts → OnlyHostChanges k a b
 only-same a b k below same =
     let own = nth_host b k in
@@ -119,7 +109,6 @@ only-same a b k below same =
     ap (λ (list : List HostState). host_or_empty (slice_get list k)) same ∙ ap host_or_empty (slice_get-get_or a.hosts k own below) in
     same ∙ sym (ap (λ (host : HostState). slice_set a.hosts k host) found ∙ set-get_or a.hosts k own)
 
--- the same host changed twice
 pub only-join : (a b c : NetworkState) (k : ℕ) → OnlyHostChanges k a b → OnlyHostChanges k b c → OnlyHostChanges k a c
 only-join a b c k one two =
     two

@@ -1,4 +1,4 @@
--- Consecutive steps of a drain.
+-- Consecutive steps of a drain are joined, and are steps into a sink.
 use Rattle.std.proofs.Common.{◌≡◌, ◌<◌, length, ◌+◌, ◌++◌, [], ℕ, zero, suc, Bool, false, List, replicate, refl, sym, ap, subst, ◌∙◌}
 use Rattle.std.proofs.Common.{arith, length-append}
 use Rattle.std.proofs.lemmas.List.{replicate-append-replicate}
@@ -24,7 +24,6 @@ use Rattle.host_calls.specs.DrainedHosts.{CanBeDrained, IsDrainStep}
 use Rattle.host_calls.specs.ConnectedHosts.{connected}
 use Rattle.host_calls.specs.DrainSteps.{StepsInto, StepsOn, frame_sink, steps_of}
 
--- The host can still be drained.
 pub stands-on : (steps number : ℕ) (a b : List StationState) (h h' : HostState) (given : List Given)
     → StepsOn steps number given (connected h a) (connected h' b)
     → CanBeDrained h (world_at a number) → CanBeDrained h' (world_at b number)
@@ -36,7 +35,6 @@ stands-on steps number a b h h' given on stands = record {
   enabled = subst (λ (filter : FilterRegisters). HasBit filter.rctl rctl_en) (sym on.moves.filter) stands.enabled;
 }
 
--- No step.
 pub steps-none : (number : ℕ) (a : List StationState) (h : HostState) → CanBeDrained h (world_at a number)
     → StepsOn 0 number [] (connected h a) (connected h a)
 steps-none number a h stands = record {
@@ -51,7 +49,6 @@ steps-none number a h stands = record {
   counts = record { most = omega arith; least = omega arith; held = omega arith };
 }
 
--- Some steps, and then further steps.
 pub steps-join : (m n number : ℕ) (a b c : List StationState) (h1 h2 h3 : HostState) (given more : List Given)
     → StepsOn m number given (connected h1 a) (connected h2 b) → StepsOn n number more (connected h2 b) (connected h3 c)
     → StepsOn (m + n) number (given ++ more) (connected h1 a) (connected h3 c)
@@ -87,7 +84,6 @@ steps-join m n number a b c h1 h2 h3 given more one two =
       };
     }
 
--- First, a step was tried that didn't apply; then further steps follow.
 pub steps-after : (first : Bool) (n number : ℕ) (a b c : List StationState) (h m h' : HostState) (given : List Given) → first ≡ false
     → StepsOn (steps_of first) number [] (connected h a) (connected m b) → StepsOn n number given (connected m b) (connected h' c)
     → StepsOn n number given (connected h a) (connected h' c)

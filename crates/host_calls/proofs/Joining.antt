@@ -97,7 +97,7 @@ fates-append registers room n m l (SwitchedOn ∷ first) later one two =
 fates-append registers room n m l (Emptied ∷ first) later one two =
     fates-append registers room (record n { buffered = [] }) m l first later one two
 
--- Right fates are right from each mark on.
+-- After the marks `first`, the reception is known, and the fates of the marks `later` are right from this reception on.
 record After (registers : FilterRegisters) (room : ℕ) (start : Reception) (first later : List Mark) (final : Reception) : Type 0 where
   groups : List (List ℕ)
   are : AreGroupsAfter start.groups first groups

@@ -1,4 +1,4 @@
--- The laws of delivery, put together.
+-- The laws of a call's outcomes: for any steps that play a call, and for a call over a lent bus.
 use Rattle.std.proofs.Common.{◌≡◌, ◌++◌, ℕ, List, sym, ap, subst, ◌∙◌}
 use Rattle.bus.specs.Pasts.{Past}
 use Rattle.bus.specs.TickGroups.{without_go}
@@ -32,7 +32,6 @@ outcomes-tell caller ticks accesses first last a m b plays = record {
   counted = counted-all first last plays.are_ticks;
 }
 
--- Calls over a lent bus.
 pub lent-calls : {O : Type 0} {g : OfObserver O} → ComposesTold g.heard
     → (a m b : LentBus O g) (past : Past) (told : HappenedLent a m past) (finished : Finished m b)
     → a.accesses ≡ 0 → IsToldCall a m b past told.steps finished.plays.steps

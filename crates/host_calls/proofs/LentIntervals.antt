@@ -17,7 +17,6 @@ use Rattle.stations.specs.declared.tick.Tick.{Tick}
 use Rattle.stations.specs.declared.tick.Tick.TheVariants.{Go}
 use Rattle.host_calls.specs.CallsOfHosts.{EndsWithAccess}
 
--- The steps of two consecutive intervals are those of both.
 pub lent_intervals-join : {O : Type 0} {g : OfObserver O} → ComposesTold g.heard
     → (a b c : LentBus O g) (first later : Past) (one : HappenedLent a b first) (two : HappenedLent b c later)
     → ((both : HappenedLent a c (joined first later)) × (both.steps ≡ one.steps ++ two.steps))

@@ -1,4 +1,4 @@
--- What a host does over a lent bus, it does in the steps of its network.
+-- A host does in the steps of its network what it does over a lent bus.
 use Rattle.std.proofs.Common.{◌≡◌, ◌++◌, [], ℕ, true, List, sym, ap, subst, ◌∙◌, append_assoc}
 use Rattle.std.specs.List.{All}
 use Rattle.std.proofs.lemmas.List.{append_cancel_right}
@@ -40,7 +40,7 @@ use Rattle.host_calls.proofs.Calling.{call-runs_by, lent_call, whole-accesses}
 use Rattle.host_calls.proofs.HostTrails.{none-alone}
 use Rattle.host_calls.proofs.LentIntervals.{lent_interval-ends, lent_intervals-join}
 
--- `HappenedLent` of a lent bus, whose steps, followed by the remaining ticks, make these stages.
+-- `HappenedLent` from the lent bus `a` to `m`; its steps, followed by the steps `last`, are those of these stages.
 abbrev pub Told : {O : Type 0} {g : OfObserver O} (stages : CallStages) (a m : LentBus O g) (last : List AtomicStep) → Past → Type 0
 Told stages a m last past = (interval : HappenedLent a m past) × MakesStages a.host stages (interval.steps ++ last) a.stations.now
 
@@ -80,7 +80,6 @@ part-append : (kinds : List SocketKind) (socket : ℕ) (xs ys : List (List ℕ))
     → socket_frames kinds socket (xs ++ ys) ≡ socket_frames kinds socket xs ++ socket_frames kinds socket ys
 part-append kinds socket xs ys = filter-append (λ (frame : List ℕ). goes_to kinds socket (ether_type frame)) xs ys
 
--- If the taken and the remaining frames are the held and the stored ones, a queue grows by the taken frames that go to its socket.
 queue-grows : (kinds : List SocketKind) (socket : ℕ) (waiting before taken now held stored : List (List ℕ))
     → taken ++ now ≡ held ++ stored
     → waiting ++ socket_frames kinds socket now ≡ (before ++ socket_frames kinds socket held) ++ socket_frames kinds socket stored
@@ -110,7 +109,8 @@ queues-grow k socket steps a b h h' taken given accepted runs =
     ∙ append_assoc gave waiting (socket_frames h'.kinds socket now)
     ∙ accounts.sockets socket)
 
--- An act over a lent bus, and the remaining ticks.
+-- An act over a lent bus is an act in the steps of the network (`InSteps`): the steps of the call, followed by the
+-- remaining ticks.
 pub lift-act : {O : Type 0} {g : OfObserver O} → ComposesTold g.heard → (a m b : LentBus O g) (h h' : HostState) (given : List Given)
     (accepted : List (List ℕ)) → a.accesses ≡ 0 → HostReady h (world_here a) → Finished m b
     → (act : HostAct) → OverBus lent true given accepted (host_at a h) (host_at m h') act
@@ -153,7 +153,8 @@ lift-act composes a m b h h' given accepted zero ready finished act it =
       },
     )
 
--- A call with any effect.
+-- A call over a lent bus has the same effect in the steps of the network, for each effect whose acts can be replaced
+-- (`Maps`).
 pub lift-calls : {O : Type 0} {g : OfObserver O} → ComposesTold g.heard → (a m b : LentBus O g) (h h' : HostState) (given : List Given)
     (accepted : List (List ℕ)) (Does : Effect) → Maps Does → a.accesses ≡ 0 → HostReady h (world_here a) → Finished m b
     → Does h h' (OverBus lent true given accepted (host_at a h) (host_at m h')) (world_here a)

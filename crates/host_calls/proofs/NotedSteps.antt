@@ -1,4 +1,5 @@
--- What is noted of the steps of a call, by the numbers of their outcomes.
+-- What is noted of the steps of a call: the frames of those outcomes whose number of earlier accesses is at most a
+-- limit.
 use Rattle.std.proofs.Common.{◌≡◌, ◌<◌, ◌≤◌, ◌+◌, ◌&&◌, ◌==◌, ◌++◌, ◌∷◌, [], ℕ, Bool, false, true, List, if◌then◌else◌, inl, inr}
 use Rattle.std.proofs.Common.{arith, refl, sym, ap, ◌∙◌, length, min}
 use Rattle.std.specs.Prelude.{nat_le}
@@ -21,7 +22,8 @@ use Rattle.host_calls.specs.Notes.{early_put, first_stored, frames_put, frames_s
 use Rattle.host_calls.proofs.FirstAccess.{tick-accesses}
 use Rattle.host_calls.proofs.SplitSteps.{own-accesses}
 
--- what is noted of a tick of a host whose number passes a test
+-- what is noted of a tick: its frames if the tick is of host k and its number of accesses passes the test, else no
+-- frame
 abbrev pub picked : (test : ℕ → Bool) → (frames : FrameOutcome → List (List ℕ)) → (k : ℕ) → TickTold → List (List ℕ)
 picked test frames k told = if is_of_host k told.tick && test told.accesses then frames told.outcome else []
 
@@ -60,7 +62,6 @@ put-told = record { at = put-at; none = refl }
 stored-told : AreTold frames_stored stored_by
 stored-told = record { at = stored-at; none = refl }
 
--- Two numbers are the same in either order.
 same-either_way : (a b : ℕ) → (a == b) ≡ (b == a)
 same-either_way a b = elim (eqb_tells a b) [
   | inl same ↦ same.0 ∙ sym (eq-eqb b a (sym same.1))
@@ -116,7 +117,6 @@ all-picked test frames by are k limit n (Idles tick ∷ steps) a b leads passing
     ap (λ (list : List (List ℕ)). list ++ flat_map (picked test frames k) (steps_told n steps)) none
     ∙ all-picked test frames by are k limit n steps a b leads.2 passing few
 
--- While the number of accesses is above the limit, no tick is noted.
 none-picked : (test : ℕ → Bool) (frames : FrameOutcome → List (List ℕ)) (k limit n : ℕ) (steps : List AtomicStep)
     → ((m : ℕ) → limit < m → test m ≡ false) → limit < n → limit < most_accesses
     → flat_map (picked test frames k) (steps_told n steps) ≡ []
@@ -136,7 +136,7 @@ none-picked test frames k limit n (Idles tick ∷ steps) failing above small =
     (fails (is_of_host k tick) (test n) (frames Nothing) (failing n above))
     ∙ none-picked test frames k limit n steps failing above small
 
--- The two tests.
+-- The two tests: at most 2 accesses, and no access
 
 up-to : (m : ℕ) → m ≤ 2 → nat_le m 2 ≡ true
 up-to m few = le-leb m 2 few
@@ -144,7 +144,6 @@ up-to m few = le-leb m 2 few
 beyond : (m : ℕ) → 2 < m → nat_le m 2 ≡ false
 beyond m many = lt-leb m 2 many
 
--- The frames put by ticks with at most 2 accesses before them.
 pub early-puts : (k n : ℕ) (steps : List AtomicStep) (a b : List StationState) → LeadsTo k steps a b
     → n + length (past_at k steps).accesses ≤ 2 → flat_map (early_put k) (steps_told n steps) ≡ put k (happened_in steps)
 early-puts k n steps a b leads few = all-picked (λ m. nat_le m 2) frames_put put_in_one put-told k 2 n steps a b leads up-to few
@@ -152,7 +151,6 @@ early-puts k n steps a b leads few = all-picked (λ m. nat_le m 2) frames_put pu
 pub no-late_puts : (k n : ℕ) (steps : List AtomicStep) → 2 < n → flat_map (early_put k) (steps_told n steps) ≡ []
 no-late_puts k n steps late = none-picked (λ m. nat_le m 2) frames_put k 2 n steps beyond late (omega arith)
 
--- The frames stored by ticks with no access before them.
 pub first-stores : (k : ℕ) (steps : List AtomicStep) (a b : List StationState) → LeadsTo k steps a b
     → (past_at k steps).accesses ≡ [] → flat_map (first_stored k) (steps_told 0 steps) ≡ stored k (happened_in steps)
 first-stores k steps a b leads none =

@@ -15,13 +15,12 @@ use Rattle.bus.specs.LivelyBuses.{most_accesses}
 use Rattle.stations.specs.AtomicRuns.{IsTick, LeadsTo, counted_of, is_go, noted_of}
 use Rattle.host_calls.specs.TickNumbers.{numbers, noted_numbers}
 
--- One more tick.
 next : (i n j : ℕ) (ticks : List Tick) (others : List ℕ) → min i n ≡ j → numbers ticks i n ≡ others
     → (let list : List ℕ = min i n ∷ numbers ticks i n in list) ≡ j ∷ others
 next i n j ticks others same rest =
     ap (λ (number : ℕ). let list : List ℕ = number ∷ numbers ticks i n in list) same ∙ ap (λ (list : List ℕ). j ∷ list) rest
 
--- Counts saturate.
+-- The greatest u64 may replace a greater number of Gos, because each number is at most `n`.
 capped : (ticks : List Tick) (i n : ℕ) → n ≤ most_accesses → numbers ticks i n ≡ numbers ticks (min i most_accesses) n
 capped [] i n most = refl
 capped (Go ∷ ticks) i n most =
@@ -32,7 +31,6 @@ capped (Go ∷ ticks) i n most =
 capped (Step host kind ∷ ticks) i n most = next i n (min (min i most_accesses) n) ticks _ (omega (arith, most)) (capped ticks i n most)
 capped (Deliver host ∷ ticks) i n most = next i n (min (min i most_accesses) n) ticks _ (omega (arith, most)) (capped ticks i n most)
 
--- After the last access a Go changes no number.
 late : (ticks : List Tick) (i n : ℕ) → n ≤ i → numbers ticks i n ≡ numbers (without_go is_go ticks) n n
 late [] i n behind = refl
 late (Go ∷ ticks) i n behind = late ticks (i + 1) n (omega (arith, behind))
@@ -53,7 +51,6 @@ grows (At host (Accesses access) ∷ later) i most =
     record { least = omega (arith, most, rest.least); most = rest.most }
 grows (Idles tick ∷ later) i most = grows later i most
 
--- The ticks of some steps, and then other ticks.
 numbered-steps :
     (caller i n : ℕ) (steps : List AtomicStep) (others : List Tick) (a b : List StationState) → LeadsTo caller steps a b
     → i ≤ most_accesses → n ≤ most_accesses → counted_of i steps ≤ n
@@ -77,7 +74,6 @@ numbered-steps caller i n (Idles (Deliver host) ∷ later) others a b leads low 
     next i n i (map tick_of later ++ others) _ (omega (arith, within, (grows later i low).least))
     (numbered-steps caller i n later others a b leads.2 low most within)
 
--- A group, and the ticks after its Go.
 numbered-group :
     (ticks others : List Tick) (i n : ℕ) → numbers others (i + 1) n ≡ numbers (behind_group is_go ticks) (i + 1) n
     → numbers (group_of is_go ticks ++ Go ∷ others) i n ≡ numbers ticks i n
@@ -86,7 +82,6 @@ numbered-group (Go ∷ ticks) others i n same = same
 numbered-group (Step host kind ∷ ticks) others i n same = ap (λ (list : List ℕ). min i n ∷ list) (numbered-group ticks others i n same)
 numbered-group (Deliver host ∷ ticks) others i n same = ap (λ (list : List ℕ). min i n ∷ list) (numbered-group ticks others i n same)
 
--- The ticks that are played, and the remaining ticks.
 numbered-played :
     (accesses : List Access) (ticks : List Tick) (i n : ℕ)
     → numbers (played_in is_go Go [] accesses ticks ++ waiting_after is_go accesses ticks) i n ≡ numbers ticks i n
@@ -123,6 +118,5 @@ numbered-all caller ticks accesses first last a m b leads are later played ended
     ∙ sym (map-append (λ (one : Numbered). one.accesses) (noted_of 0 first) (noted_of n last))
     ∙ ap noted_numbers (sym (noted_join 0 first last))
 
--- The last ticks of a call don't change the number of its accesses.
 pub counted-all : (first last : List AtomicStep) → All IsTick last → counted_of 0 (first ++ last) ≡ counted_of 0 first
 counted-all first last are = counted_join 0 first last ∙ counted-ticks (counted_of 0 first) last are

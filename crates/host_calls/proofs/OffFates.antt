@@ -1,13 +1,14 @@
--- While the receive side is disabled, each frame that arrives is dropped, and no frame leaves the packet buffer.
+-- While the receive side is disabled, each frame that arrives has the fate Off, and no frame is moved out of the packet
+-- buffer.
 use Rattle.std.proofs.Common.{◌≡◌, ◌∷◌, [], ℕ, Bool, true, false, Option, Some, None, List, All, refl, subst, sym, ap}
 use Rattle.std.proofs.Common.{if◌then◌else◌, ◌∙◌}
 use Rattle.std.proofs.lemmas.List.{append-nil}
 use Rattle.std.specs.List.{flat_map}
 use Rattle.registers.specs.Bits.{HasBit}
 use Rattle.registers.specs.Places.{rctl_en}
-use Rattle.eeprom.specs.Eerd.{is_pending}
-use Rattle.mdic_phy.specs.Mdic as mdi
-use Rattle.mdic_phy.specs.declared.mdic.Ticked.{Ticked}
+use Rattle.eeprom_phy.specs.Eerd.{is_pending}
+use Rattle.eeprom_phy.specs.Mdic as mdi
+use Rattle.eeprom_phy.specs.declared.mdic.Ticked.{Ticked}
 use Rattle.rx_engine.specs.declared.arrival.Fate.{Fate}
 use Rattle.rx_engine.specs.declared.arrival.Fate.TheVariants.{Off, Illegal, Filtered, Missed, Stored}
 use Rattle.rx_engine.specs.Registers.{FilterRegisters}
@@ -56,7 +57,6 @@ never-moved : (works : Bool) → outcome.Moved ≡ ticked works → ⊥
 never-moved true is = absurd (cc)
 never-moved false is = absurd (cc)
 
--- no step moves a frame
 step-off : (kind : StepKind) (wire_free : Bool) (answer : FrameOutcome) (w : World) → Answers kind wire_free w.memory w.adapter answer
     → IsOff w → AreOff (marks_of_answer answer)
 step-off TxTake wire_free outcome.Moved w answers off = absurd answers

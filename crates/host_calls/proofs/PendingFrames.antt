@@ -1,4 +1,5 @@
--- The frames that a ready host has to send and those that it holds can be read; bounds of their numbers.
+-- Bounds of the numbers of frames that a ready host has to send and that it holds. The areas from which these frames
+-- are read are in memory.
 use Rattle.std.proofs.Common.{◌≡◌, ◌≤◌, ◌<◌, ◌+◌, ◌++◌, [], ℕ, None, Some, List, Option, arith, inl, length, length-append}
 use Rattle.std.proofs.Common.{slice_index_or, subst, sym, ap}
 use Rattle.std.specs.List.{All}
@@ -26,9 +27,9 @@ use Rattle.adapter.specs.World.{World, receive_ring, transmit_ring}
 use Rattle.bus.proofs.EachArea.{OfAreas, of-areas}
 use Rattle.bus.proofs.Lists.{all-head, all-left, all-unmapped, all-weaker}
 use Rattle.bus.proofs.Rings.{dealt-right, outstanding-inside}
-use Rattle.driver_law.proofs.FramesCounted.{slots_have_frames}
-use Rattle.driver_law.specs.DriverState.{DriverState, buffer_at}
-use Rattle.driver_law.specs.ReadyDrivers.{Ready}
+use Rattle.bus.proofs.FramesCounted.{slots_have_frames}
+use Rattle.bus.specs.DriverState.{DriverState, buffer_at}
+use Rattle.bus.specs.ReadyDrivers.{Ready}
 use Rattle.packet_socket.specs.HostCalls.{HostReady}
 use Rattle.packet_socket.specs.HostState.{HostState}
 use Rattle.stations.specs.Stations.{StationState, world_at}
@@ -39,7 +40,6 @@ use Rattle.host_calls.proofs.HostsOfNetworks.{host-found, network, ready-before,
 use Rattle.host_calls.proofs.PiecesLeft.{ending-most, held-counted}
 use Rattle.host_calls.proofs.SocketCounts.{ended-few}
 
--- All areas that the conditions of the law name are in memory.
 lying : (d : DriverState) (w : World) → Ready d w → OfAreas (λ area. LiesIn w.memory area.address area.size) d.oldest_receive w
 lying d w ready = of-areas (λ area. LiesIn w.memory area.address area.size) d.oldest_receive w ready.law.sound.separate.lie
 
@@ -58,7 +58,7 @@ can-read_sending d w ready =
           (all-unmapped (CanTransmit w.memory) (address_of ring) (offered_places ring) ready.law.runs.transmittable);
     }
 
--- The piece in progress.
+-- The piece in progress
 
 of-slot : (P : ℕ → Type 0) (work : Option Work) → All P (slot_of_work work) → ForSome work (λ work. P work.descriptor)
 of-slot P None all = λ one is. absurd (cc is)
@@ -98,11 +98,9 @@ can-read_held d w ready =
       };
     }
 
--- Fewer frames are to be sent than the transmit ring has slots.
 pub sending-at_most : (d : DriverState) (w : World) → Ready d w → length (frames_to_send w) + 1 ≤ d.layout.tx
 sending-at_most d w ready = (slots_have_frames d w ready).most
 
--- The number of held frames is at most the number of receive slots, plus MOST_FRAMES for the packet buffer.
 pub held-in_room : (d : DriverState) (w : World) → Ready d w → IsAdapter w.adapter
     → length (frames_held d.oldest_receive w) ≤ d.layout.rx + MOST_FRAMES
 held-in_room d w ready adapter =
@@ -141,7 +139,7 @@ found-host hosts stations n k h shown below found ready adapter = record {
   adapter = subst (λ (list : List StationState). IsAdapter (world_at list k).adapter) (stations-are hosts stations n shown) adapter;
 }
 
--- the frames to be sent and those held are the same if they are read from the network's value
+-- `IsBeforeReset` of host k holds if it holds of the host that was found and of the machine's world
 pub found-before : (n : NetworkState) (stations : List StationState) (k : ℕ) (h : HostState) (found : GivenUp) → IsFound n stations k h
     → n.stations ≡ stations → found.sending.items ≡ frames_to_send (world_at stations k)
     → found.holding.items ≡ frames_held h.driver.oldest_receive (world_at stations k)

@@ -20,9 +20,9 @@ use Rattle.adapter.specs.World.{World}
 use Rattle.bus.proofs.Lists.{all-head, all-right, all-tail}
 use Rattle.driver.specs.Parts.{AreFrames, IsWholeFrame}
 use Rattle.driver.specs.declared.receiver.Received.{Received}
-use Rattle.driver_law.proofs.TakenSlots.{parts_are_few}
-use Rattle.driver_law.specs.DriverState.{DriverState}
-use Rattle.driver_law.specs.ReadyDrivers.{Ready}
+use Rattle.bus.proofs.TakenSlots.{parts_are_few}
+use Rattle.bus.specs.DriverState.{DriverState}
+use Rattle.bus.specs.ReadyDrivers.{Ready}
 use Rattle.host_calls.specs.DrainedHosts.{buffers_for, count_left, count_pieces, count_queued_pieces, pieces_left}
 use Rattle.host_calls.specs.DrainSteps.{count_pending}
 
@@ -70,19 +70,16 @@ pub left-most : (moved : ℕ) (buffer : List (List ℕ)) → pieces_left moved b
 left-most moved [] = omega arith
 left-most moved (frame ∷ later) = omega (arith, pieces-cons frame later)
 
--- If at least one full buffer of the oldest frame has been moved, one piece less is to be moved.
 pub left-begun : (moved : ℕ) (buffer : List (List ℕ)) → receive_buffer_bytes ≤ length (take moved (oldest buffer))
     → pieces_left moved buffer + 1 ≤ count_pieces buffer
 left-begun moved [] full = absurd (omega (arith, full, length-take moved (oldest [])))
 left-begun moved (frame ∷ later) full = omega (arith, full, length-take moved frame, pieces-cons frame later)
 
--- A piece is moved that isn't the last of its frame.
 pub left-part : (moved : ℕ) (buffer : List (List ℕ)) → receive_buffer_bytes < length (oldest buffer) - moved
     → pieces_left moved buffer ≡ 1 + pieces_left (moved + receive_buffer_bytes) buffer
 left-part moved [] more = absurd (omega (arith, more))
 left-part moved (frame ∷ later) more = omega (arith, more)
 
--- The last piece of a frame is moved.
 pub left-last : (moved : ℕ) (buffer : List (List ℕ)) → buffer ≢ [] → All IsLegal buffer → moved ≤ length (oldest buffer) - 1
     → length (oldest buffer) - moved ≤ receive_buffer_bytes
     → pieces_left moved buffer ≡ 1 + pieces_left 0 (drop 1 buffer)
@@ -108,7 +105,6 @@ pub ending-most : (work : Option Work) → count_ending work ≤ length (slot_of
 ending-most None = omega arith
 ending-most (Some work) = omega (arith, ending-few work.ends)
 
--- The held frames are those that end in finished slots, the frame that ends in the piece in progress, and those in the packet buffer.
 pub held-counted : (oldest : ℕ) (world : World)
     → length (frames_held oldest world)
     ≡ length (frames_of (finished_pieces oldest world))
@@ -180,7 +176,6 @@ parts-only begun (Part bytes ∷ later) none =
     }
 parts-only begun (Last bytes ∷ later) none = absurd (cc none)
 
--- If no frame ends in finished slots, there are at most five of them.
 pub finished-few : (d : DriverState) (world : World) → Ready d world → frames_of (finished_pieces d.oldest_receive world) ≡ []
     → length (finished_pieces d.oldest_receive world) ≤ 5
 finished-few d world ready none =

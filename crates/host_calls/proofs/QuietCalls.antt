@@ -1,4 +1,5 @@
--- Calls in which no tick is played. Their steps are accesses of one driver, and don't change the receive engine.
+-- Calls in which no tick is played: their steps are accesses of the calling host's driver, and don't change the receive
+-- engine.
 use Rattle.std.specs.Bool.{⊤}
 use Rattle.std.proofs.Common.{◌≡◌, ◌≢◌, ◌<◌, ◌⊎◌, ◌==◌, ◌++◌, ◌∷◌, [], ℕ, Bool, true, false, List, map, inl, inr, ⊎_elim}
 use Rattle.std.proofs.Common.{if◌then◌else◌, refl, sym, ap, subst, ◌∙◌}
@@ -27,7 +28,8 @@ use Rattle.host_calls.specs.Happenings.{happened_in}
 use Rattle.packet_socket.specs.HostActs.{IsOfDriver, IsTailWrite}
 use Rattle.host_calls.specs.DrainedHosts.{IsDrainStep}
 
--- The engine, the filter and the mask of causes don't change. The recorded causes don't change or are all cleared.
+-- The receive engine, the filter and the mask of causes don't change. The recorded causes don't change or are all
+-- cleared.
 pub record LeavesEngine (a b : AdapterState) : Type 0 where
   pub receiver : b.receiver ≡ a.receiver
   pub filter : b.filter ≡ a.filter
@@ -54,7 +56,7 @@ leaves-join a b c one two = record {
       (λ (none : c.causes.recorded ≡ 0). inr none) two.recorded;
 }
 
--- One access.
+-- One access
 
 read-leaves : (offset : ℕ) (state : AdapterState) → (offset ≡ ICR) ⊎ (offset ≡ MPC) → LeavesEngine state (after_read offset state)
 unfolding register_at
@@ -84,7 +86,7 @@ read-clears : (state : AdapterState) → (after_read ICR state).causes.recorded 
 unfolding register_at
 read-clears state = refl
 
--- Trails of accesses.
+-- Trails of accesses
 
 abbrev pub IsAccess : Event → Type 0
 IsAccess (Steps kind wire_free answer) = ⊥
@@ -103,7 +105,6 @@ trail-leaves counts (Accesses access ∷ later) a b are own trail =
     (trail-leaves counts later (world_after_access access a) b (all-tail IsAccess (Accesses access) later are)
     (all-tail (IsOfDriver counts) access (past_of later).accesses own) trail.1)
 
--- If ICR is read in a trail of accesses, no cause is recorded at its end.
 pub trail-clears : (counts : Counts) (first : List Event) (causes : ℕ) (later : List Event) (a b : World)
     → All IsAccess (first ++ Accesses (Reads ICR causes) ∷ later)
     → All (IsOfDriver counts) (past_of (first ++ Accesses (Reads ICR causes) ∷ later)).accesses
@@ -123,9 +124,9 @@ trail-clears counts (Accesses access ∷ first) causes later a b are own trail =
     (all-tail IsAccess (Accesses access) (first ++ Accesses (Reads ICR causes) ∷ later) are)
     (all-tail (IsOfDriver counts) access (past_of (first ++ Accesses (Reads ICR causes) ∷ later)).accesses own) trail.1
 
--- Steps of a call without ticks.
+-- Steps of a call without ticks
 
--- an access of this host
+-- the atomic step is an access of the host `caller`
 abbrev pub IsAccessAt : (caller : ℕ) → AtomicStep → Type 0
 IsAccessAt caller (At host (Steps kind wire_free answer)) = ⊥
 IsAccessAt caller (At host (Arrives frame fate)) = ⊥
@@ -147,7 +148,6 @@ accesses-alone caller (At host (Accesses access) ∷ later) a b leads none =
     (accesses-alone caller later (after (At host (Accesses access)) a) b leads.2 none)
 accesses-alone caller (Idles tick ∷ later) a b leads none = absurd (idle-none tick (map tick_of later) leads.1 none)
 
--- The steps of a call without ticks are steps that a drain may take.
 pub drain-steps : (caller : ℕ) (steps : List AtomicStep) → All (IsAccessAt caller) steps → All (IsDrainStep caller) steps
 drain-steps caller [] are = all-none (IsDrainStep caller)
 drain-steps caller (At host (Steps kind wire_free answer) ∷ later) are =
@@ -160,7 +160,6 @@ drain-steps caller (At host (Accesses access) ∷ later) are =
     (drain-steps caller later (all-tail (IsAccessAt caller) (At host (Accesses access)) later are))
 drain-steps caller (Idles tick ∷ later) are = absurd (all-head (IsAccessAt caller) (Idles tick) later are)
 
--- Accesses have no happenings.
 pub nothing-happened : (caller : ℕ) (steps : List AtomicStep) → All (IsAccessAt caller) steps → happened_in steps ≡ []
 nothing-happened caller [] are = refl
 nothing-happened caller (At host (Steps kind wire_free answer) ∷ later) are =
@@ -171,7 +170,6 @@ nothing-happened caller (At host (Accesses access) ∷ later) are =
     nothing-happened caller later (all-tail (IsAccessAt caller) (At host (Accesses access)) later are)
 nothing-happened caller (Idles tick ∷ later) are = absurd (all-head (IsAccessAt caller) (Idles tick) later are)
 
--- At each host, the events are only accesses.
 pub events-here : (caller k : ℕ) (steps : List AtomicStep) → All (IsAccessAt caller) steps → All IsAccess (events_at k steps)
 events-here caller k [] are = all-none IsAccess
 events-here caller k (At host (Steps kind wire_free answer) ∷ later) are =
@@ -187,7 +185,6 @@ events-here caller k (At host (Accesses access) ∷ later) are =
     chosen false rest = rest
 events-here caller k (Idles tick ∷ later) are = absurd (all-head (IsAccessAt caller) (Idles tick) later are)
 
--- There is no event at any other host.
 pub events-elsewhere : (caller k : ℕ) (steps : List AtomicStep) → k ≢ caller → All (IsAccessAt caller) steps → events_at k steps ≡ []
 events-elsewhere caller k [] other are = refl
 events-elsewhere caller k (At host (Steps kind wire_free answer) ∷ later) other are =

@@ -1,11 +1,12 @@
--- If no cause that a driver handles is recorded at the end of a trail, no event of the trail records such a cause.
+-- If no cause that a driver handles is recorded at the end of a trail of steps and deliveries, its events are quiet
+-- (`AreQuietEvents`).
 use Rattle.std.proofs.Common.{◌≡◌, ◌<◌, ◌^◌, ◌++◌, ◌∷◌, [], ◌∙◌}
 use Rattle.std.proofs.Common.{ℕ, Bool, true, false, Option, Some, None, List, refl, sym, ap, subst}
 use Rattle.std.proofs.Common.{arith}
 use Rattle.std.specs.List.{All}
 use Rattle.std.proofs.lemmas.Nat.{and_comm}
-use Rattle.mdic_phy.specs.Mdic.{told}
-use Rattle.mdic_phy.specs.declared.mdic.Ticked.{Ticked}
+use Rattle.eeprom_phy.specs.Mdic.{told}
+use Rattle.eeprom_phy.specs.declared.mdic.Ticked.{Ticked}
 use Rattle.registers.specs.Bits.{HasBit, Meet}
 use Rattle.registers.specs.Laws.{Meet-places}
 use Rattle.rx_engine.specs.Receiver.{Receiver}
@@ -34,7 +35,7 @@ use Rattle.bus.proofs.StepsThenAccess.{no_access}
 use Rattle.stations.specs.AtomicSteps.{outcome_of_event}
 use Rattle.host_calls.specs.InterruptCauses.{AreQuietEvents, IsQuietOutcome, ends_after}
 
--- Sets of causes.
+-- Sets of causes
 
 handled-fits : handled_causes < 2 ^ 32
 handled-fits = omega arith
@@ -49,12 +50,10 @@ common causes meet =
     let both = (Meet-places handled_causes causes handled-fits).0
     (subst (λ (n : ℕ). 0 < n) (and_comm causes handled_causes) meet) in (both.0, both.2, both.1)
 
--- Events without accesses clear no cause.
 pub leaves-alone : (events : List Event) → All IsStep events → All LeavesCauses (past_of events).accesses
 leaves-alone events are =
     subst (λ (list : List Access). All LeavesCauses list) (sym (no_access events are)) (all-none LeavesCauses)
 
--- If each frame in the packet buffer is to be reported (RS), the oldest frame is to be reported.
 front-reports : (buffer more : List Queued) → All Reports (buffer ++ more) → IfFront buffer (λ queued. queued.report ≡ true)
 front-reports [] more all = tt
 front-reports (queued ∷ later) more all = all-head Reports queued (later ++ more) all
@@ -84,11 +83,11 @@ not-ending : (ends : Bool) → (ends ≡ true → ⊥) → ends ≡ false
 not-ending true none = absurd (none refl)
 not-ending false none = refl
 
--- the piece in progress is the last of its frame
+-- whether the piece in progress is the last of its frame
 abbrev pub ends_in : World → Bool
 ends_in world = is_ending world.adapter.receiver.work
 
--- One event, if no later access clears the causes that it records.
+-- The first event of a trail is quiet, because no later access clears the causes that this event records.
 quiet-event : (event : Event) (later : List Event) (a b : World) (oldest_receive oldest_transmit : ℕ) → IsStep event
     → All LeavesCauses (past_of later).accesses → Trail (event ∷ later) a b → Sound oldest_receive oldest_transmit a
     → ¬ (Meet b.adapter.causes.recorded handled_causes) → IsQuietOutcome (ends_in a) (outcome_of_event event)
@@ -117,7 +116,7 @@ quiet-event (Arrives frame Filtered) later a b r t is leaves trail sound none = 
 quiet-event (Arrives frame Stored) later a b r t is leaves trail sound none = tt
 quiet-event (Accesses access) later a b r t is leaves trail sound none = absurd is
 
--- Whether the piece in progress is the last of its frame, after an event.
+-- Whether the piece in progress is the last of its frame, after an event
 
 tick-ends : (ends has_work : Bool) (answer : FrameOutcome) → answer ≡ ticked has_work → ends ≡ ends_after ends answer
 tick-ends ends true answer is = subst (λ (s : FrameOutcome). ends ≡ ends_after ends s) (sym is) refl
@@ -156,7 +155,6 @@ ends-on (Arrives frame Missed) world is occurs = refl
 ends-on (Arrives frame Stored) world is occurs = refl
 ends-on (Accesses access) world is occurs = absurd is
 
--- All events of a trail.
 pub quiet-events : (events : List Event) (a b : World) (oldest_receive oldest_transmit : ℕ) → All IsStep events → Trail events a b
     → Sound oldest_receive oldest_transmit a → ¬ (Meet b.adapter.causes.recorded handled_causes)
     → AreQuietEvents (ends_in a) events

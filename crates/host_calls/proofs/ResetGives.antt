@@ -1,4 +1,5 @@
--- The frames that a reset gives up, by the notes of its ticks. The number of accesses up to the second write of RCTL.
+-- The frames that are lost in a reset, by the notes of its ticks. Also the number of accesses up to the second write of
+-- RCTL.
 use Rattle.std.proofs.Common.{◌≡◌, ◌≤◌, ◌+◌, ◌-◌, ◌*◌, ◌%◌, ◌++◌, ◌∷◌, [], ℕ, zero, suc, List, drop, length, length-append, min, take}
 use Rattle.std.proofs.Common.{refl, sym, ap, ◌∙◌, append_assoc, arith}
 use Rattle.std.specs.List.{flat_map}
@@ -19,8 +20,8 @@ use Rattle.bring_up.specs.ClearedDescriptors.{clears, clears_from}
 use Rattle.bring_up.specs.DriverSteps.{accesses_of}
 use Rattle.bring_up.specs.FilterTables.{address_writes, table_writes}
 use Rattle.bring_up.specs.RingRegisters.{receive_control, ring_setup_writes}
-use Rattle.driver_law.specs.Calls.{stores_from}
-use Rattle.driver_law.specs.DriverState.{DriverSetup, DriverState, receive_slot}
+use Rattle.bus.specs.Calls.{stores_from}
+use Rattle.bus.specs.DriverState.{DriverSetup, DriverState, receive_slot}
 use Rattle.stations.proofs.HostTrails.{trail-of}
 use Rattle.stations.specs.AtomicRunLaws.{leads_join, past_join, steps_told_join}
 use Rattle.stations.specs.AtomicRuns.{LeadsTo, counted_of, events_at, past_at, steps_told}
@@ -40,7 +41,6 @@ use Rattle.host_calls.specs.NotesLaws.{take-whole}
 use Rattle.host_calls.specs.ResetSteps.{PartsAccess, ResetParts, ResetValues, at_rest, before_reset, disable_of, enable_of, reset_of}
 use Rattle.host_calls.specs.ResetsInSteps.{GivesUp, ResetsInSteps}
 
--- There are two accesses before the write of CTRL.RST.
 before-accesses : (k : ℕ) (counts : Counts) (setup : DriverSetup) (values : ResetValues) (parts : ResetParts)
     → PartsAccess k counts setup values parts
     → (past_at k (before_reset k parts)).accesses ≡ Writes RCTL 0 ∷ Reads MPC values.misses ∷ []
@@ -50,7 +50,6 @@ before-accesses k counts setup values parts are =
     ∙ own-accesses k k (Writes RCTL 0) parts.stopping refl
     ∙ ap (λ (list : List Access). Writes RCTL 0 ∷ list) are.stopping
 
--- The frames stored before the write of CTRL.RST were stored before the write of 0 to RCTL.
 before-stored : (k : ℕ) (parts : ResetParts) → (past_at k parts.stopping).stored ≡ []
     → (past_at k (before_reset k parts)).stored ≡ (past_at k parts.early).stored
 before-stored k parts none =
@@ -61,7 +60,6 @@ before-stored k parts none =
     ∙ ap (λ (list : List (List ℕ)). (past_at k parts.early).stored ++ list) none
     ∙ append-nil (past_at k parts.early).stored
 
--- The frames that the reset gives up.
 pub gives-up : (k : ℕ) (steps : List AtomicStep) (old new : ConnectedHost) (it : ResetsInSteps k steps old new)
     → GivesUp (frames_to_send (world_at it.last k)) (frames_held old.host.driver.oldest_receive (world_at it.last k)) k
     old.host.driver.oldest_receive it.parts (world_at old.stations k) (world_at it.last k)
@@ -100,7 +98,6 @@ puts-noted k steps old new it =
     ∙ early-puts k 0 before old.stations it.last it.stops.leads (omega (arith, two))
     ∙ (frames-move k k before old.stations it.last it.stops.leads).put
 
--- The first of two parts of steps.
 leads-first : (k : ℕ) (first later : List AtomicStep) (a b : List StationState) → LeadsTo k (first ++ later) a b
     → ((middle : List StationState) × LeadsTo k first a middle)
 leads-first k [] later a b leads = (a, refl)
@@ -131,7 +128,7 @@ stores-noted k steps old new it =
 
 -- What the notes contain
 
--- the notes of a host before a reset; these frames are held
+-- the notes of host k before the ticks of a reset, with the held frames `holding`
 abbrev pub first_notes : (k most : ℕ) → List (List ℕ) → Notes
 first_notes k most holding = record { host = k; most = most; put = 0; holding = holding }
 
@@ -139,7 +136,8 @@ drop-first : {X : Type 0} (xs ys : List X) → drop (length xs) (xs ++ ys) ≡ y
 drop-first [] ys = refl
 drop-first (x ∷ xs) ys = drop-first xs ys
 
--- The frames that were to be sent, without those that were put.
+-- Dropping the noted number of frames from those to be sent at the beginning yields those to be sent at the write of
+-- CTRL.RST.
 pub sending-noted : (k most : ℕ) (steps : List AtomicStep) (old new : ConnectedHost) (it : ResetsInSteps k steps old new)
     (holding : List (List ℕ)) (count taken : ℕ) → length (frames_to_send (world_at old.stations k)) ≤ most_accesses
     → count ≡ (noted_after (steps_told 0 steps) (first_notes k most holding)).put
@@ -156,7 +154,6 @@ sending-noted k most steps old new it holding count taken few noted taken_is =
     ∙ ap (drop (length puts)) (sym since)
     ∙ drop-first puts (frames_to_send (world_at it.last k))
 
--- The list has room for the frames that are held at the write of CTRL.RST.
 last-in_room : (k : ℕ) (steps : List AtomicStep) (old new : ConnectedHost) (it : ResetsInSteps k steps old new)
     → IsAdapter (world_at old.stations k).adapter
     → length (frames_held old.host.driver.oldest_receive (world_at it.last k)) ≤ old.host.driver.layout.rx + MOST_FRAMES
@@ -165,7 +162,7 @@ last-in_room k steps old new it adapter =
     held-in_room _ (world_at it.last k) it.stops.goes.driver.flows.ready
     (adapter-behind (events_at k (before_reset k it.parts)) (world_at old.stations k) (world_at it.last k) trail adapter)
 
--- The frames that were held, and those stored before the write of 0 to RCTL.
+-- The list in the notes contains the frames held at the write of CTRL.RST.
 pub holding-noted : (k most : ℕ) (steps : List AtomicStep) (old new : ConnectedHost) (it : ResetsInSteps k steps old new)
     → IsAdapter (world_at old.stations k).adapter → old.host.driver.layout.rx + MOST_FRAMES ≤ most
     → (noted_after (steps_told 0 steps)

@@ -1,4 +1,4 @@
--- The parts of a reset, in atomic steps.
+-- The parts of a reset as intervals of atomic steps: their accesses, and when the receive side is disabled in them.
 use Rattle.std.proofs.Common.{◌≡◌, ◌++◌, ◌∷◌, [], ℕ, Bool, List, Option, if◌then◌else◌, refl, sym, ap, subst, ◌∙◌}
 use Rattle.std.proofs.Common.{append_assoc}
 use Rattle.std.specs.List.{All}
@@ -49,7 +49,7 @@ own-world k access a b leads =
 pub own-past : (k : ℕ) (access : Access) → past_at k (At k (Accesses access) ∷ []) ≡ record nothing { accesses = access ∷ [] }
 own-past k access = ap past_of (events-own k access)
 
--- A part of a reset: these accesses were made, and the last step is one of them.
+-- The atomic steps of one part of a reset, with its accesses `made`. The last step, if there is one, is an access.
 pub record Interval (k : ℕ) (made : List Access) (past : Past) (a b : List StationState) : Type 0 where
   pub steps : List AtomicStep
   pub leads : LeadsTo k steps a b
@@ -69,7 +69,7 @@ interval k a b past made host happened made_are =
       ends = lent_interval-ends a b past happened;
     }
 
--- No frame arrives while RCTL is 0
+-- No frame is stored or missed while RCTL is 0
 
 pub arrivals-join : (first later : Past) → NoArrival first → NoArrival later → NoArrival (joined first later)
 arrivals-join first later one two = record {
@@ -84,7 +84,6 @@ frames-join first later one two = record {
   none_missed = rw (one.none_missed, two.none_missed) refl;
 }
 
--- Ticks keep the receive side disabled, and no frame is stored or missed in them.
 pub off-ticks : (k : ℕ) (steps : List AtomicStep) (a b : List StationState) → All IsTick steps → LeadsTo k steps a b
     → IsOff (world_at a k) → NoArrival (past_at k steps) × IsOff (world_at b k)
 off-ticks k steps a b are leads off =
@@ -93,7 +92,6 @@ off-ticks k steps a b are leads off =
       subst (λ (filter : FilterRegisters). ¬ (HasBit filter.rctl rctl_en)) (sym happens.steady.registers.filter) off,
     )
 
--- The step in which RCTL is written with 0.
 pub off-written : (k : ℕ) (a b : List StationState) → LeadsTo k (At k (Accesses (Writes RCTL 0)) ∷ []) a b → IsOff (world_at b k)
 off-written k a b leads =
     let w = world_at a k in
@@ -101,12 +99,10 @@ off-written k a b leads =
     (sym (register_at-there Rctl tt)) (HasBit-zero rctl_en) in
     subst IsOff (sym (own-world k (Writes RCTL 0) a b leads)) off
 
--- A read of MPC doesn't change RCTL.
 read-leaves : (misses : ℕ) (w : World) → IsOff w → IsOff (world_after_access (Reads MPC misses) w)
 read-leaves misses w off =
     subst (λ (found : Option Register). ¬ (HasBit (left_by_read found w.adapter).filter.rctl rctl_en)) (sym (register_at-there Mpc tt)) off
 
--- Steps in which MPC is read keep the receive side disabled, and no frame is stored or missed in them.
 pub off-read : (k misses : ℕ) (steps : List AtomicStep) (a b : List StationState) → LeadsTo k steps a b
     → (past_at k steps).accesses ≡ Reads MPC misses ∷ [] → IsOff (world_at a k) → NoArrival (past_at k steps) × IsOff (world_at b k)
 off-read k misses steps a b leads is off =
@@ -132,7 +128,8 @@ off-read k misses steps a b leads is off =
       two.1,
     )
 
--- The parts of a list, in another order of brackets.
+-- The same list in two orders of brackets: by the intervals of the driver's reset, and by the three writes that divide
+-- the steps.
 pub regroup : {X : Type 0} (e t1 t2 s3 q s5 s6 : List X) (d r n : X)
     → ((e ++ d ∷ t1) ++ ((t2 ++ r ∷ []) ++ (s3 ++ ((q ++ n ∷ []) ++ s5)))) ++ s6
     ≡ (e ++ d ∷ (t1 ++ t2)) ++ ((r ∷ ((s3 ++ q) ++ n ∷ [])) ++ (s5 ++ s6))

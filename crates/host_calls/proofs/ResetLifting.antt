@@ -1,4 +1,4 @@
--- A reset over a lent bus, and the remaining ticks, in the steps of the network.
+-- A reset over a lent bus followed by the remaining ticks, in the steps of the network.
 use Rattle.std.proofs.Common.{◌≡◌, ◌++◌, ◌∷◌, [], ℕ, true, List, refl, sym, ap, subst, ◌∙◌}
 use Rattle.registers.specs.Places.{alone, ctrl_rst}
 use Rattle.adapter.specs.HostFrames.{frames_held, frames_to_send}
@@ -14,9 +14,9 @@ use Rattle.stations.specs.Stations.{world_at}
 use Rattle.stations.specs.ToldTicks.{ComposesTold}
 use Rattle.stations.specs.declared.lent_bus.LentBus.{LentBus}
 use Rattle.stations.specs.declared.observer.Observer.{Ghosts as OfObserver}
-use Rattle.driver_law.specs.Calls.{GoesTo, HasNoForgottenWork, SumsMisses, driver_did, driver_in, with_missed}
-use Rattle.driver_law.specs.DriverState.{DriverSetup, DriverState, holding, with_owners}
-use Rattle.driver_law.specs.Resets.{reset_driver}
+use Rattle.bus.specs.Calls.{GoesTo, HasNoForgottenWork, SumsMisses, driver_did, driver_in, with_missed}
+use Rattle.bus.specs.DriverState.{DriverSetup, DriverState, holding, with_owners}
+use Rattle.bus.specs.Resets.{reset_driver}
 use Rattle.bring_up.specs.ConfiguredAdapters.{HasSetup}
 use Rattle.bring_up.specs.Groups.{HasTable}
 use Rattle.driver.specs.Resetting.{later_accesses, quiet_accesses, stop_accesses}
@@ -32,7 +32,8 @@ use Rattle.host_calls.proofs.LentIntervals.{lent_intervals-join}
 use Rattle.host_calls.specs.CallsOfHosts.{StepsOfCall}
 use Rattle.host_calls.specs.LentCalls.{lent}
 
--- A reset over a lent bus, from `a` to `m`. The remaining ticks lead to `b`.
+-- A ready host is reset over a lent bus, from `a` to `m`. The remaining ticks lead to `b`. In the host, only the driver
+-- changes.
 pub record LentReset {O : Type 0} {g : OfObserver O} (a m b : LentBus O g) (h h' : HostState) : Type 0 where
   pub ready : HostReady h (world_here a)
   pub host : h' ≡ record h { driver = h'.driver }
@@ -41,7 +42,7 @@ pub record LentReset {O : Type 0} {g : OfObserver O} (a m b : LentBus O g) (h h'
   pub resets : HostResets lent true (host_at a h) (host_at m h')
   pub finished : Finished m b
 
--- In the driver only the slots, the pool and the count of missed frames change.
+-- The driver's state is stated without the pieces that the queues hold (`driver_of`).
 pub begins-again : (h h' : HostState) (a b : World) (d : DriverState) (pool list : List ℕ) (misses : ℕ)
     → d ≡ with_missed misses (driver_of h a)
     → driver_of h' b ≡ with_owners (reset_driver pool d) list [] (driver_of h' b).pool (driver_of h a).handed_out
@@ -121,7 +122,6 @@ reset-ran a m b h h' it =
       link = λ link. subst HasLink at (r.link link);
     }
 
--- The steps of a reset are those of a call.
 pub reset-steps : {O : Type 0} {g : OfObserver O} → ComposesTold g.heard → (a m b : LentBus O g) (h h' : HostState) → a.accesses ≡ 0
     → (it : LentReset a m b h h')
     → StepsOfCall (lent_call a b) (steps_ran (reset-ran a m b h h' it)) a.stations.now b.stations.now

@@ -1,4 +1,4 @@
--- A host of a network is reset.
+-- A reset of a host of a network: what `Network::reset` derives from the reset over a lent bus and from the notes.
 use Rattle.std.proofs.Common.{◌≡◌, ◌≤◌, ◌+◌, ◌<◌, ℕ, true, List, drop, length, length-set, min, slice_index_or, slice_set}
 use Rattle.std.proofs.Common.{arith, refl, sym, ap, subst, ◌∙◌}
 use Rattle.rx_engine.specs.declared.engine.TheConstants.{MOST_FRAMES}
@@ -51,7 +51,6 @@ runs-reset composes a m b h h' zero ready host setup groups resets finished =
       resets = resets-are a.host h h' a.stations.now b.stations.now (reset-ran a m b h h' it) ready;
     }
 
--- A reset doesn't change the number of stations.
 pub stations-back : (call : PlayedCall) (hosts : List HostState) (a left back : List StationState) (k : ℕ) (h h' : HostState)
     → RunsReset call (connected h a) (connected h' left) → back ≡ left → length a ≡ length hosts
     → length back ≡ length (slice_set hosts k h')
@@ -59,7 +58,6 @@ stations-back call hosts a left back k h h' runs returned same =
     ap (λ (list : List StationState). length list) returned
     ∙ length-stays call.caller runs.steps a left runs.of_call.leads ∙ same ∙ sym (length-set hosts k h')
 
--- The steps of a call, with another statement of what the observer was told.
 with-heard : (call : PlayedCall) (heard : List TickTold → Type 0) (steps : List AtomicStep) (a b : List StationState)
     → StepsOfCall call steps a b → heard (steps_told 0 steps)
     → StepsOfCall (played_call call.caller call.ticks heard call.accesses) steps a b
@@ -72,7 +70,6 @@ with-heard call heard steps a b of_call told = record {
   counted = of_call.counted;
 }
 
--- A reset, with a weaker statement of what the observer was told.
 pub runs-told : (k accesses : ℕ) (ticks : List Tick) (heard heard' : List TickTold → Type 0) (old new : ConnectedHost)
     → ((told : List TickTold) → heard told → heard' told) → RunsReset (played_call k ticks heard accesses) old new
     → RunsReset (played_call k ticks heard' accesses) old new
@@ -83,7 +80,8 @@ runs-told k accesses ticks heard heard' old new tells runs = record {
   resets = runs.resets;
 }
 
--- The notes before and after a reset, and its result.
+-- What is known of the notes before and after a reset of host k, and of the values that `Network::reset` computes from
+-- the notes.
 pub record Answered (k most : ℕ) (old : ConnectedHost) (before after : Notes) (sending holding : List (List ℕ)) (on_after : ℕ) : Type 0
   where
     pub adapter : IsAdapter (world_at old.stations k).adapter
@@ -127,7 +125,7 @@ makes-reset k most accesses on_after ticks heard old new before after sending ho
       enabled_after = is.on_after_is ∙ sym (enabled-after k runs.steps old new it is.small);
     }
 
--- `Answered` for the host and the values that were found.
+-- `Answered` for the host, the notes and the values in the body of `Network::reset`.
 pub answered : (hosts : List HostState) (stations : List StationState) (n : NetworkState) (k : ℕ) (h : HostState) (rx most wide : ℕ)
     (found : GivenUp) (before after : Notes) (sending holding : List (List ℕ)) → network hosts stations ≡ n → k < length n.hosts
     → h ≡ slice_index_or hosts k h → HostReady (nth_host n k) (world_at n.stations k) → IsAdapter (world_at n.stations k).adapter
@@ -154,6 +152,5 @@ answered hosts stations n k h rx most wide found before after sending holding sh
       small = omega (arith, addresses);
     }
 
--- A value that was lent is the same after the call.
 pub told-back : {O : Type 0} (Holds : O → Type 0) (told told' : O) → told' ≡ told → Holds told → Holds told'
 told-back Holds told told' same holds = subst Holds (sym same) holds

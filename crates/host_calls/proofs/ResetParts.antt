@@ -1,4 +1,4 @@
--- A reset of a host in its network, from its parts.
+-- `ResetsInSteps` of a host, from the intervals of its reset.
 use Rattle.std.proofs.Common.{◌≡◌, ◌++◌, ◌∷◌, [], ℕ, true, IsTrue, List, refl, sym, ap, subst, ◌∙◌, append_assoc, arith}
 use Rattle.std.specs.List.{All}
 use Rattle.std.proofs.lemmas.List.{append-nil}
@@ -24,11 +24,11 @@ use Rattle.stations.specs.AtomicRunLaws.{leads_join, past_join}
 use Rattle.stations.specs.AtomicRuns.{IsTick, LeadsTo, past_at}
 use Rattle.stations.specs.AtomicSteps.{AtomicStep, after}
 use Rattle.stations.specs.Stations.{StationState, world_at}
-use Rattle.driver_law.proofs.Steps.{goes-happens}
-use Rattle.driver_law.proofs.Intervals.{goes_join}
-use Rattle.driver_law.specs.Calls.{GoesTo, HasNoForgottenWork, SumsMisses, driver_did, driver_in, with_missed}
-use Rattle.driver_law.specs.DriverState.{DriverState, holding}
-use Rattle.driver_law.specs.ReadyDrivers.{Stands}
+use Rattle.bus.proofs.Steps.{goes-happens}
+use Rattle.bus.proofs.Intervals.{goes_join}
+use Rattle.bus.specs.Calls.{GoesTo, HasNoForgottenWork, SumsMisses, driver_did, driver_in, with_missed}
+use Rattle.bus.specs.DriverState.{DriverState, holding}
+use Rattle.bus.specs.ReadyDrivers.{Stands}
 use Rattle.driver.proofs.SummedMisses.{sums-as, sums-join}
 use Rattle.driver.specs.Initialisation.{AreFilterTables}
 use Rattle.driver.specs.Resetting.{free_accesses, later_accesses, quiet_accesses, quiet_writes, stop_accesses}
@@ -47,11 +47,11 @@ use Rattle.host_calls.specs.ResetSteps.{whole_reset}
 use Rattle.host_calls.specs.ResetsInSteps.{HostBeginsAgain, KeepsInReset, ResetsInSteps, RestartsInSteps, RestsInSteps, StopsInSteps}
 use Rattle.host_calls.specs.ResetsInSteps.{stopped_host}
 
--- the driver's accesses in each part
+-- the driver's accesses in the intervals of a reset
 abbrev pub rest_accesses : (causes : ℕ) → List Access
 rest_accesses causes = Writes IMC 0xFFFFFFFF ∷ Reads ICR causes ∷ []
 
--- The parts of a reset, with the stations between them, and the ticks after the last access.
+-- The five intervals of a reset, with the stations after each interval, and the ticks after the last access.
 pub record ResetRan (k : ℕ) (h h' : HostState) (a0 a6 : List StationState) : Type 0 where
   pub values : ResetValues
   pub p1 : Past
@@ -94,7 +94,7 @@ pub record ResetRan (k : ℕ) (h h' : HostState) (a0 a6 : List StationState) : T
 abbrev pub steps_ran : {k : ℕ} {h h' : HostState} {a b : List StationState} → ResetRan k h h' a b → List AtomicStep
 steps_ran ran = (ran.s1.steps ++ (ran.s2.steps ++ (ran.s3.steps ++ (ran.s4.steps ++ ran.s5.steps)))) ++ ran.s6
 
--- The steps split at the three writes.
+-- The steps of the intervals, split at the three writes to RCTL, CTRL and RCTL.
 record Cuts (k : ℕ) (h h' : HostState) (a b : List StationState) (ran : ResetRan k h h' a b) : Type 0 where
   one : SplitSteps k (Writes RCTL 0) [] (Reads MPC ran.values.misses ∷ []) ran.s1.steps a ran.a1
   two : SplitSteps k (Writes CTRL (alone ctrl_rst)) [] [] ran.s2.steps ran.a1 ran.a2
@@ -180,7 +180,7 @@ accesses-are k h h' a b ran cut = record {
 
 -- Before CTRL.RST is written
 
--- An interval of the driver is an interval of its host, if the frames in the queues don't change.
+-- An interval of the driver is an interval of its host, because the frames in the queues don't change.
 driver-goes : (h : HostState) (d : DriverState) (a b : World) (past : Past) → HostReady h a
     → GoesTo true (driver_in (driver_of h a) a) (driver_in (holding (driver_of h a).handed_out d) b) (driver_did [] []) past
     → HostGoesTo true (in_world h a) (in_world (with_driver d h) b) did_nothing past
@@ -227,7 +227,7 @@ stops-are k h h' a b ran cut ready =
       none_missed = ap (λ (past : Past). past.missed) stopping_is ∙ none.none_missed;
     }
 
--- While the adapter is at rest
+-- From the write of CTRL.RST to the second write of RCTL
 
 rest-is : {X : Type 0} (r n : X) (s q : List X) → (r ∷ []) ++ (s ++ (q ++ n ∷ [])) ≡ r ∷ ((s ++ q) ++ n ∷ [])
 rest-is r n s q = ap (λ (list : List _). r ∷ list) (sym (append_assoc s q (n ∷ [])))
@@ -284,9 +284,8 @@ restarts-are k h h' a b ran cut =
       none_to_send = none.1;
     }
 
--- What the reset doesn't change
+-- What the reset keeps
 
--- Sums of missed frames depend only on the driver's sum, and on whether it is exact.
 pub sums-held : (d d' e e' : DriverState) (a b : World) (past : Past) → e.missed ≡ d.missed → e.exact ≡ d.exact → e'.missed ≡ d'.missed
     → e'.exact ≡ d'.exact → SumsMisses (driver_in d a) (driver_in d' b) past → SumsMisses (driver_in e a) (driver_in e' b) past
 sums-held d d' e e' a b past missed exact missed' exact' sums = record {
@@ -354,7 +353,6 @@ keeps-are k h h' a b ran =
         → All (Stands h.driver.layout b.memory) (driver_of h a).handed_out
     host-stands h a b past ready happens = (goes-happens (driver_of h a) a b past ready.ready happens).flows.ready.stand
 
--- The whole reset.
 pub resets-are : (k : ℕ) (h h' : HostState) (a b : List StationState) (ran : ResetRan k h h' a b) → HostReady h (world_at a k)
     → ResetsInSteps k (steps_ran ran) (connected h a) (connected h' b)
 resets-are k h h' a b ran ready =

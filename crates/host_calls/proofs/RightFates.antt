@@ -1,4 +1,4 @@
--- The fates of frames are right in atomic steps.
+-- The fates of frames that reach a host are right in atomic steps whose accesses don't change how the host receives.
 use Rattle.std.proofs.Common.{◌≡◌, ◌<◌, ◌⊎◌, ◌+◌, ◌*◌, ◌++◌, ◌∷◌, [], ℕ, Bool, true, false, Option, Some, None, List, All, drop}
 use Rattle.std.proofs.Common.{inl, inr, refl, subst, sym, ap, ◌∙◌}
 use Rattle.std.proofs.lemmas.List.{append-nil}
@@ -6,9 +6,9 @@ use Rattle.std.specs.List.{flat_map}
 use Rattle.std.specs.Prelude.{IfSome}
 use Rattle.registers.specs.Bits.{HasBit}
 use Rattle.registers.specs.Places.{rctl_en}
-use Rattle.eeprom.specs.Eerd.{is_pending}
-use Rattle.mdic_phy.specs.Mdic as mdi
-use Rattle.mdic_phy.specs.declared.mdic.Ticked.{Ticked}
+use Rattle.eeprom_phy.specs.Eerd.{is_pending}
+use Rattle.eeprom_phy.specs.Mdic as mdi
+use Rattle.eeprom_phy.specs.declared.mdic.Ticked.{Ticked}
 use Rattle.rx_engine.specs.declared.arrival.Fate.{Fate}
 use Rattle.rx_engine.specs.declared.arrival.Fate.TheVariants.{Off, Illegal, Filtered, Missed, Stored}
 use Rattle.rx_engine.specs.Arriving.{kept}
@@ -56,7 +56,7 @@ use Rattle.host_calls.specs.Reception.{IsNotOfReception, LeavesReception, Receiv
 abbrev Has : List (List ℕ) → AdapterState → Type 0
 Has groups a = HasNumbers a.filter.mta (numbers_of_groups groups)
 
--- If the filter registers are the same except MTA, the right fates are the same.
+-- If the filter registers are the same except MTA, the right fates are the same, because `in_force` doesn't use MTA.
 judged-alike : (a b : FilterRegisters) (room : ℕ) (now final : Reception) (all : List Mark) → SameButGroups a b
     → AreRightFates b room now all final → AreRightFates a room now all final
 unfolding filter_of
@@ -119,7 +119,6 @@ receives-append g1 g2 g3 a b c first later one two = record {
       one.kilobytes two.fates));
 }
 
--- No frame arrived or left.
 same : (groups : List (List ℕ)) (a b : AdapterState) → b.filter ≡ a.filter → b.receive_kilobytes ≡ a.receive_kilobytes
     → b.receiver.buffer ≡ a.receiver.buffer → ReceivesRightly groups a [] groups b
 same groups a b filter kilobytes buffer = record {
@@ -173,7 +172,6 @@ step-receives groups PhyTick wire_free _ w answers = phy-receives groups (mdi.to
 
 -- Arrivals
 
--- The registers' filter is the one in force.
 same-sets : (groups : List (List ℕ)) (a : AdapterState) → Has groups a → SameSets (filter_of a.filter) (in_force a.filter groups)
 unfolding filter_of
 same-sets groups a has = record {
@@ -284,7 +282,6 @@ access-receives groups (Writes offset value) w leaves = found-write groups (regi
 access-receives groups (Loads address size) w leaves = receives-none groups w.adapter
 access-receives groups (Stores address bytes) w leaves = receives-none groups w.adapter
 
--- a write of RDT or TDT is such an access
 pub tails-leave_reception : (offset value : ℕ) → (offset ≡ RDT) ⊎ (offset ≡ TDT) → LeavesReception (Writes offset value)
 tails-leave_reception offset value is = elim is [
   | inl receive ↦
@@ -303,7 +300,6 @@ event-receives groups (Arrives frame fate) w has leave enabled occurs = arrival-
 event-receives groups (Accesses access) w has leave enabled occurs =
     access-receives groups access w (all-head LeavesReception access [] leave)
 
--- no event of an adapter joins or leaves a group
 answer-keeps : (answer : FrameOutcome) → KeepsGroups (marks_of_answer answer)
 answer-keeps (outcome.Put frame) = tt
 answer-keeps outcome.Moved = tt
@@ -314,7 +310,6 @@ event-keeps (Steps kind wire_free answer) = answer-keeps answer
 event-keeps (Arrives frame fate) = tt
 event-keeps (Accesses access) = tt
 
--- The filter doesn't change, whatever arrives.
 event-filter : (event : Event) (w : World) → All LeavesReception (past_of_event event).accesses → Occurs event w
     → (world_after event w).adapter.filter ≡ w.adapter.filter
 event-filter (Steps kind wire_free answer) w leave occurs =
@@ -383,7 +378,6 @@ changes-receives _ groups groups' a b changes filter kilobytes buffer = absurd c
 pub changes-alone : GroupsChangeAlone
 changes-alone mark groups groups' a changes = changes-receives mark groups groups' a a changes refl refl refl
 
--- the adapter after a write of a word of MTA
 written-word : (word value : ℕ) (a : World) → word < 128
     → (world_after_write (0x5200 + 4 * word) value a).adapter ≡ write_of (Mta word) value a.adapter
 written-word word value a within = ap (λ (found : Option Register). left_by_write found value a.adapter) (register_at-mta word within)

@@ -1,4 +1,4 @@
--- The number of offered slots of a ring.
+-- The laws of the number of offered slots of a ring.
 use Rattle.std.proofs.Common.{◌≡◌, ◌<◌, ◌≤◌, ◌+◌, ◌-◌, ◌%◌, ℕ, sym, ap, ◌∙◌, arith, ⊎_elim}
 use Rattle.std.proofs.lemmas.Bool.{cases_lt}
 use Rattle.std.proofs.lemmas.Nat.{mod_below}
@@ -7,7 +7,6 @@ use Rattle.descriptors.specs.RingLaws.{distance-around, distance-forward, distan
 use Rattle.host_calls.specs.Counts.{offered_in}
 use Rattle.host_calls.specs.AnswersLaws.{NoSlotIsOffered, OneIsTaken, TailsOfferSlots}
 
--- Distances between slots add up.
 distance-joins : (n h t v : ℕ) → h < n → t < n → v < n
     → (v + n - h) % n ≡ ((t + n - h) % n + (v + n - t) % n) % n
 distance-joins n h t v slot_h slot_t slot_v = ⊎_elim
@@ -29,7 +28,6 @@ distance-joins n h t v slot_h slot_t slot_v = ⊎_elim
     less : (x y : ℕ) → x < n → y ≡ x → x ≡ y % n
     less x y below same = sym (ap (λ (k : ℕ). k % n) same ∙ mod-eq_of_lt below)
 
--- No slot is offered exactly if head equals tail.
 pub none-offered : NoSlotIsOffered
 none-offered ring has = (
   λ none. ⊎_elim
@@ -42,7 +40,6 @@ none-offered ring has = (
   λ same. distance-forward ring.slots ring.head ring.tail has.tail (omega (arith, same)) ∙ omega (arith, same),
 )
 
--- If a slot is offered and the head advances by one, one slot less is offered.
 pub one-taken : OneIsTaken
 one-taken ring has apart =
     let step = distance-step ring.slots ring.head ring.tail has.head has.tail apart in (
@@ -50,7 +47,6 @@ one-taken ring has apart =
       omega (arith, step),
     )
 
--- The distance to the place d slots further is d.
 places-on : (n t d : ℕ) → t < n → d < n → ((t + d) % n + n - t) % n ≡ d
 places-on n t d slot few = ⊎_elim
     (λ (within : t + d < n). rw (mod-eq_of_lt within, distance-forward n t (t + d) within (omega arith)) (omega arith))

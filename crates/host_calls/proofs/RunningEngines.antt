@@ -1,11 +1,12 @@
--- Engines that aren't stopped remain so if no step is a fault, whatever is written. A reset starts stopped engines.
+-- If no step is a fault, engines that aren't stopped aren't stopped later, whatever is written. A reset starts stopped
+-- engines.
 use Rattle.std.proofs.Common.{◌≡◌, ◌≢◌, ◌==◌, ℕ, Bool, true, false, Option, Some, None, List, [], ◌∷◌, refl, sym, ap, subst, ◌∙◌}
 use Rattle.std.proofs.Common.{if◌then◌else◌}
 use Rattle.std.specs.List.{All}
 use Rattle.std.proofs.lemmas.Bool.{eqb-true}
 use Rattle.std.proofs.lemmas.List.Elements.{All-append, All-cons}
-use Rattle.mdic_phy.specs.Mdic.{told}
-use Rattle.mdic_phy.specs.declared.mdic.Ticked.{Ticked}
+use Rattle.eeprom_phy.specs.Mdic.{told}
+use Rattle.eeprom_phy.specs.declared.mdic.Ticked.{Ticked}
 use Rattle.rx_engine.specs.declared.arrival.Fate.{Fate}
 use Rattle.rx_engine.specs.declared.arrival.Fate.TheVariants.{Missed, Stored}
 use Rattle.adapter.specs.Outcomes.{FrameOutcome}
@@ -33,7 +34,6 @@ use Rattle.stations.specs.AtomicSteps.{At, AtomicStep, Idles, step_outcome, outc
 use Rattle.stations.specs.declared.tick.Tick.{Tick}
 use Rattle.host_calls.specs.StepOutcomes.{IsTickOf, OfEachTick}
 
--- if the flags `stopped` are the same in a and b, and no engine is stopped in a, no engine is stopped in b
 same : (a b : AdapterState) → b.receiver.stopped ≡ a.receiver.stopped → b.transmitter.stopped ≡ a.transmitter.stopped
     → EnginesRun a → EnginesRun b
 same a b receiver transmitter run = record { receiver = receiver ∙ run.receiver; transmitter = transmitter ∙ run.transmitter }
@@ -101,7 +101,7 @@ trail-runs (event ∷ later) a b well trail run =
     trail-runs later (world_after event a) b (all-tail IsNoFault event later well) trail.1
     (event-runs event a (all-head IsNoFault event later well) run)
 
--- The events of steps without a fault
+-- Events without a fault
 
 abbrev pub NoFaultAt : List AtomicStep → Tick → FrameOutcome → Type 0
 NoFaultAt before tick outcome = outcome ≢ Fault

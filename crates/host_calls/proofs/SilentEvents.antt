@@ -4,8 +4,8 @@ use Rattle.std.proofs.Common.{if◌then◌else◌, refl, sym, ap, subst, ◌∙�
 use Rattle.std.specs.List.{All}
 use Rattle.std.proofs.lemmas.Bool.Decides.{eqb_tells}
 use Rattle.std.proofs.lemmas.List.Elements.{All-cons}
-use Rattle.mdic_phy.specs.Mdic.{has_work}
-use Rattle.mdic_phy.specs.declared.mdic.Ticked.{Ticked}
+use Rattle.eeprom_phy.specs.Mdic.{has_work}
+use Rattle.eeprom_phy.specs.declared.mdic.Ticked.{Ticked}
 use Rattle.registers.specs.Bits.{HasBit}
 use Rattle.registers.specs.Laws.{HasBit-union, HasBit-zero}
 use Rattle.adapter.specs.State.{AdapterState}
@@ -24,7 +24,6 @@ use Rattle.stations.specs.AtomicSteps.{At, AtomicStep, Idles, outcome_of_event}
 use Rattle.stations.specs.AtomicRuns.{events_at}
 use Rattle.host_calls.specs.InterruptCauses.{DidSomething}
 
--- the outcome of the event is Nothing
 abbrev pub IsSilent : Event → Type 0
 IsSilent event = outcome_of_event event ≡ Nothing
 
@@ -32,7 +31,6 @@ is-nothing : (outcome : FrameOutcome) → (outcome ≡ Nothing) ⊎ (outcome ≢
 is-nothing Nothing = inl refl
 is-nothing _ = inr (λ same. absurd (cc same))
 
--- A tick of the PHY that does nothing records no cause.
 silent-tick : (work : Bool) (tells : Ticked) → Nothing ≡ ticked work → causes_by_tick (if work then Some tells else None) ≡ 0
 silent-tick true tells same = absurd (cc same)
 silent-tick false tells same = refl
@@ -73,7 +71,7 @@ silent-events (event ∷ later) a b number trail silent set =
           silent-events later (world_after event a) b number trail.1 (all-tail IsSilent event later silent) behind
     ]
 
--- One of the steps at a host has an outcome other than Nothing, or the outcome of each is Nothing
+-- An event at the caller has an outcome other than Nothing, or the outcome of each event at the caller is Nothing
 
 did-before : (caller : ℕ) (step : AtomicStep) (later : List AtomicStep) → DidSomething caller later → DidSomething caller (step ∷ later)
 did-before caller step later did = record {

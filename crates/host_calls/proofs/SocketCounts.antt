@@ -1,4 +1,4 @@
--- The number of frames of all sockets.
+-- The numbers of frames that a host takes, queues and returns, summed over all its sockets.
 use Rattle.std.proofs.Common.{◌≡◌, ◌≢◌, ◌≤◌, ◌<◌, ◌+◌, ◌==◌, ◌++◌, ◌∷◌, [], ℕ, zero, suc, Bool, true, false, cond, Option, Some, None}
 use Rattle.std.proofs.Common.{List, length, map}
 use Rattle.std.proofs.Common.{inl, inr, refl, sym, ap, subst, ◌∙◌, arith, length-append}
@@ -38,7 +38,6 @@ pub sum-plus : (n : ℕ) (one two : ℕ → ℕ) → sum_to n (λ k. one k + two
 sum-plus zero one two = refl
 sum-plus (suc n) one two = omega (arith, sum-plus n (λ k. one (suc k)) (λ k. two (suc k)))
 
--- all queues together
 pub queues-sum : (queues : List (List Received)) (n : ℕ) → length queues ≤ n
     → sum_to n (λ socket. length (queue_at queues socket)) ≡ length (all_of queues)
 queues-sum [] n fits = sum-none n (λ socket. length (queue_at [] socket)) (λ socket. refl)
@@ -102,7 +101,6 @@ frames-sum n kinds (frame ∷ later) =
         length-filter goes (frame ∷ later) ∙ sum_by-cons (λ (f : List ℕ). cond (goes f) 1 0) frame later
         ∙ ap (λ (k : ℕ). cond (goes frame) 1 0 + k) (sym (length-filter goes later))
 
--- A frame that was returned is counted at one socket.
 socket-sum : (n socket : ℕ) → socket < n → sum_to n (λ k. cond (socket == k) 1 0) ≡ 1
 socket-sum zero socket below = absurd (omega (arith, below))
 socket-sum (suc n) zero below =
@@ -129,19 +127,18 @@ given-sum n one below =
 
 -- Frames held
 
--- The number of frames is at most the number of pieces.
 pub ended-few : (begun : List ℕ) (pieces : List Piece) → length (frames_from begun pieces) ≤ length pieces
 ended-few begun [] = omega arith
 ended-few begun (Part bytes ∷ later) = omega (arith, ended-few (begun ++ bytes) later)
 ended-few begun (Last bytes ∷ later) = omega (arith, ended-few [] later)
 
--- If no frame is stored, frames leave the ring and the adapter only when they are taken.
 pub held-flows : (taken now held stored : List (List ℕ)) → taken ++ now ≡ held ++ stored → stored ≡ []
     → length taken + length now ≡ length held
 held-flows taken now held stored holds none =
     omega (arith, ap length holds, length-append taken now, length-append held stored, ap length none)
 
--- For each socket, the number of frames returned and queued after is the number of frames queued before and taken.
+-- For each socket, the number of frames returned and queued at the end is the number queued at the beginning plus those
+-- taken for it.
 socket-flows : (h : HostState) (a : World) (h' : HostState) (b : World) (taken : List (List ℕ)) (given : List Given)
     (stored : List (List ℕ))
     → Accounts h a h' b given stored
@@ -174,7 +171,8 @@ socket-flows h a h' b taken given stored accounts holds socket =
       length-map (queue_at h.queues socket) (waiting_frame h.driver.layout a.memory),
     )
 
--- For all queues together, the frames returned and queued after are at most those queued before and taken.
+-- For the first n sockets together, the number of frames returned and queued at the end is at most that of frames
+-- queued at the beginning and taken.
 pub queues-flow : (n : ℕ) (h : HostState) (a : World) (h' : HostState) (b : World) (taken : List (List ℕ)) (given : List Given)
     (stored : List (List ℕ))
     → Accounts h a h' b given stored

@@ -15,7 +15,8 @@ use Rattle.stations.specs.AtomicRuns.{IsOfCall, IsTick, LeadsTo, counted_of, eve
 use Rattle.host_calls.specs.CallsOfHosts.{EndsWithAccess}
 use Rattle.host_calls.proofs.FirstAccess.{tick-accesses}
 
--- The caller makes this access among these steps, after the accesses `first` and before the accesses `later`.
+-- The steps from the stations `a` to `b` contain the access of host k, after its accesses `first` and before its
+-- accesses `later`.
 pub record SplitSteps (k : ℕ) (access : Access) (first later : List Access) (steps : List AtomicStep) (a b : List StationState) : Type 0
   where
     pub before : List AtomicStep
@@ -28,13 +29,11 @@ pub record SplitSteps (k : ℕ) (access : Access) (first later : List Access) (s
     pub leads : LeadsTo k before a middle
     pub rest : LeadsTo k (At k (Accesses access) ∷ behind) middle b
 
--- An access of the caller is the first of the accesses from this step on.
 pub own-accesses : (k host : ℕ) (one : Access) (later : List AtomicStep) → host ≡ k
     → (past_at k (At host (Accesses one) ∷ later)).accesses ≡ one ∷ (past_at k later).accesses
 own-accesses k host one later is =
     ap (λ (here : Bool). (past_of ((if here then Accesses one ∷ [] else []) ++ events_at k later)).accesses) (eq-eqb k host (sym is))
 
--- A tick may come before the access.
 tick-before : (k : ℕ) (step : AtomicStep) (steps : List AtomicStep) (a b : List StationState) (access : Access) (first later : List Access)
     → IsTick step → CanHappen step a → IsOfCall k step → SplitSteps k access first later steps (after step a) b
     → SplitSteps k access first later (step ∷ steps) a b
@@ -95,7 +94,6 @@ split-steps k (At host (Accesses one) ∷ steps) a b access (other ∷ first) la
       rest = found.rest;
     }
 
--- Steps without an access are ticks.
 pub ticks-alone : (k : ℕ) (steps : List AtomicStep) (a b : List StationState) → LeadsTo k steps a b → (past_at k steps).accesses ≡ []
     → All IsTick steps
 ticks-alone k [] a b leads none = all-none IsTick
@@ -112,7 +110,7 @@ ticks-alone k (Idles tick ∷ steps) a b leads none =
 ticks-alone k (At host (Accesses one) ∷ steps) a b leads none =
     let some : one ∷ (past_at k steps).accesses ≡ [] = sym (own-accesses k host one steps leads.1) ∙ none in absurd (cc some)
 
--- If an access is the last step, no tick is after it.
+-- If the last step is an access and no access follows the split one, no tick follows the split one
 
 no-tick_last : (step : AtomicStep) → IsTick step → ¬ IsNoAccess step → ⊥
 no-tick_last (At host (Steps kind wire_free answer)) is last = last tt
@@ -141,7 +139,6 @@ nothing-behind k access first steps a b found ends =
     (ticks-alone k found.behind (after step found.middle) b found.rest.2 found.behind_are)
     (ends-behind found.before step found.behind (subst EndsWithAccess found.split ends))
 
--- The number of accesses after steps.
 pub counted-accesses : (k n : ℕ) (steps : List AtomicStep) (a b : List StationState) → LeadsTo k steps a b
     → n + length (past_at k steps).accesses ≤ most_accesses → counted_of n steps ≡ n + length (past_at k steps).accesses
 counted-accesses k n [] a b leads few = omega arith

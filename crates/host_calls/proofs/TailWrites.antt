@@ -1,4 +1,4 @@
--- The counts after writes: those of RDT and TDT, and those that enable or disable neither side.
+-- The counts after writes of RDT and TDT, and after writes that enable or disable neither side.
 use Rattle.std.proofs.Common.{◌≡◌, ◌<◌, ℕ, Option, Some, None, [], ◌∷◌, refl, ap, ◌∙◌, arith}
 use Rattle.std.specs.List.{All}
 use Rattle.std.specs.Prelude.{IfSome, bit_and}
@@ -22,7 +22,6 @@ use Rattle.host_calls.specs.AnswersLaws.{ReceiveTailWritesAreCounted, SidesStayE
 use Rattle.host_calls.specs.CountedHosts.{IsNotControl, LeavesEnabled}
 use Rattle.host_calls.specs.Counts.{HostCounts, after_outcome, counts_after_write, counts_after}
 
--- an index of a ring fits into the register
 tail-is : (value : ℕ) → value < 65536 → bit_and value (ring_kept Tail) ≡ value
 tail-is value below = and_mask value 16 ∙ omega (arith, below)
 
@@ -42,7 +41,7 @@ transmit-tail-counted value counts slot fits =
     ap (λ (found : Option Register). counts_after_write found value counts) (register_at-there (Transmit Tail) tt)
     ∙ ap (with-transmit-tail counts) (tail-is value (omega (arith, slot, fits)))
 
--- Both sides remain enabled or disabled
+-- Each side remains enabled or disabled
 
 record StaysEnabled (counts new : HostCounts) : Type 0 where
   receives : new.receive.is_enabled ≡ counts.receive.is_enabled

@@ -17,7 +17,6 @@ use Rattle.stations.specs.AtomicRuns.{IsOfCall, IsTick, LeadsTo, counted_by, is_
 use Rattle.host_calls.specs.DeliveryLaws.{LeadsAlone}
 use Rattle.host_calls.specs.Happenings.{Happening, happened_in, tick_happenings, lone_tick_happenings, outcome_happenings}
 
--- The outcomes of some steps, for the ticks of these steps.
 pub told-steps :
     (caller n : ℕ) (steps : List AtomicStep) (a b : List StationState) → LeadsTo caller steps a b
     → tick_happenings (map tick_of steps) (noted_of n steps) ≡ happened_in steps
@@ -37,7 +36,6 @@ told-steps caller n (Idles Go ∷ later) a b leads = let never = leads.1 in absu
 told-steps caller n (Idles (Step host kind) ∷ later) a b leads = told-steps caller n later a b leads.2
 told-steps caller n (Idles (Deliver host) ∷ later) a b leads = told-steps caller n later a b leads.2
 
--- A Go has no happening.
 pub told-without_go : (ticks : List Tick) (outcomes : List Numbered) → tick_happenings (without_go is_go ticks) outcomes
     ≡ tick_happenings ticks outcomes
 told-without_go [] outcomes = refl
@@ -72,7 +70,6 @@ played-and_waiting (access ∷ later) ticks =
     ∙ ap (λ (behind : List Tick). without_go is_go group ++ behind) (played-and_waiting later rest)
     ∙ group-and_behind ticks
 
--- a list without Gos doesn't change
 without-twice : (ticks : List Tick) → without_go is_go (without_go is_go ticks) ≡ without_go is_go ticks
 without-twice [] = refl
 without-twice (Go ∷ ticks) = without-twice ticks
@@ -92,7 +89,6 @@ same-ticks ticks accesses first last played ended =
     (without-twice (waiting_after is_go accesses ticks))
     ∙ played-and_waiting accesses ticks
 
--- The outcomes of a call determine the happenings of its steps.
 pub said-all :
     (caller : ℕ) (ticks : List Tick) (accesses : List Access) (first last : List AtomicStep) (a m b : List StationState)
     → LeadsTo caller first a m → LeadsTo caller last m b → map tick_of first ≡ played_in is_go Go [] accesses ticks
@@ -123,7 +119,6 @@ said-alone a b tick outcome plays =
     (sym plays.outcome_is)
     ∙ alone-step plays.step
 
--- the step of a tick that isn't Go can be part of a call of any host
 record IsLone (step : AtomicStep) : Type 0 where
   is_tick : IsTick step
   of_call : (caller : ℕ) → IsOfCall caller step

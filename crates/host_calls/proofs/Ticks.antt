@@ -1,4 +1,4 @@
--- The laws: the outcome of each tick follows from the counts at the start.
+-- The laws of outcomes: the outcome of each tick follows from the counts and the waiting frames at the start.
 use Rattle.std.proofs.Common.{◌≡◌, ◌≢◌, ◌==◌, ◌++◌, ℕ, Bool, true, false, Option, Some, None, List, [], ◌∷◌, length, slice_get, inl, inr}
 use Rattle.std.proofs.Common.{refl}
 use Rattle.std.proofs.Common.{sym, ap, subst, ◌∙◌, append_assoc, arith, if◌then◌else◌}
@@ -84,7 +84,7 @@ engines-run a b stays run = record {
   transmitter = runs a.transmitter.stopped b.transmitter.stopped stays.transmitter run.transmitter;
 }
 
--- no access of the steps from this one on resets the adapter
+-- no access of this host in the steps resets its adapter
 abbrev ResetNothing : (host : ℕ) → List AtomicStep → Type 0
 ResetNothing host steps = All IsNoReset (past_at host steps).accesses
 
@@ -101,7 +101,6 @@ first-event host event later = elim (eqb_tells host host) [
   | inr other ↦ absurd (other.1 refl)
 ]
 
--- if no access resets the adapter and both engines run at the end, the first step is no fault
 no-fault : (caller host : ℕ) (event : Event) (later : List AtomicStep) (a b : List StationState)
     → LeadsTo caller (At host event ∷ later) a b → ResetNothing host (At host event ∷ later) → EnginesRun (world_at b host).adapter
     → IsNoFault event
@@ -111,7 +110,6 @@ no-fault caller host event later a b leads none run =
     all-head IsNoFault event (events_at host later)
     (subst (λ (events : List Event). All IsNoFault events) (first-event host event later) whole)
 
--- if no access resets the adapter and both engines run at the end, both engines run at the beginning
 run-before : (caller host : ℕ) (steps : List AtomicStep) (a b : List StationState) → LeadsTo caller steps a b → ResetNothing host steps
     → EnginesRun (world_at b host).adapter → EnginesRun (world_at a host).adapter
 run-before caller host steps a b leads none run =
@@ -138,7 +136,7 @@ fault-never-comes caller host steps a b leads none run = record {
       run of_host;
 }
 
--- A fact about each tick, for some steps and then for others
+-- Each tick without a fault: in a part of the steps, and in two consecutive parts
 
 each-before : (host : ℕ) (first : AtomicStep) (later : List AtomicStep) → OfEachTick host (first ∷ later) NoFaultAt
     → OfEachTick host later NoFaultAt
@@ -156,7 +154,6 @@ each-joins host (one ∷ first) later each rest (two ∷ before) behind step sam
     let tails : first ++ later ≡ before ++ step ∷ behind = cc in
     each-joins host first later (each-before host one first each) rest before behind step tails of_host
 
--- an access isn't a tick of its host
 access-first : (host : ℕ) (access : Access) → OfEachTick host (At host (Accesses access) ∷ []) NoFaultAt
 access-first host access [] behind step same of_host =
     let is : At host (Accesses access) ≡ step = cc in
@@ -201,12 +198,11 @@ absent-nothing caller host steps a b leads absent before later step same of_host
 
 -- Outcomes
 
--- what is known of a host before one of its steps
+-- after the steps `before`, the host's counts are those of `counts_at`, and no engine of the host is stopped
 record Known (host : ℕ) (before : List AtomicStep) (a : List StationState) : Type 0 where
   counts : counts_of (world_at (stations_behind before a) host).adapter ≡ counts_at a before host
   run : EnginesRun (world_at (stations_behind before a) host).adapter
 
--- if a buffer isn't empty, its number of frames isn't 0
 some-queued : (buffer : List Queued) → buffer ≢ [] → (length buffer == 0) ≡ false
 some-queued [] some = absurd (some refl)
 some-queued (queued ∷ buffer) some =
@@ -271,7 +267,6 @@ no-delivery : (waiting : List (List ℕ)) → waiting ≡ [] → IsDelivery wait
 no-delivery [] none = refl
 no-delivery (first ∷ later) none = absurd (cc)
 
--- the outcome of a tick of a host that doesn't exist is Nothing
 idle-step : (start : List StationState) (before : List AtomicStep) (host : ℕ) (kind : StepKind) (found : Option StationState) → found ≡ None
     → IsStepOutcome start before host (counts_of (world_of found).adapter) kind Nothing
 idle-step start before host TxTake None none = refl
@@ -282,7 +277,6 @@ idle-step start before host EepromTick None none = refl
 idle-step start before host PhyTick None none = refl
 idle-step start before host kind (Some s) none = absurd (cc)
 
--- The outcome of a tick of a host without a fault, in the state after the steps before the tick.
 tick-answer : (caller host : ℕ) (before : List AtomicStep) (step : AtomicStep) (a : List StationState)
     → LeadsTo caller before a (stations_behind before a) → CanHappen step (stations_behind before a)
     → Known host before a → IsTickOf host (tick_of step) → step_outcome step ≢ Fault
@@ -307,7 +301,6 @@ tick-answer caller host before (Idles (Step other kind)) a leads happens known o
 tick-answer caller host before (Idles (Deliver other)) a leads happens known of_host well =
     no-delivery (waiting_at a before other) (sym (run-waiting caller other before a (stations_behind before a) leads) ∙ happens)
 
--- if no step is a fault, none of the first steps is a fault
 each-first : (host : ℕ) (first rest : List AtomicStep) → OfEachTick host (first ++ rest) NoFaultAt → OfEachTick host first NoFaultAt
 each-first host first rest each before behind step same of_host =
     each before (behind ++ rest) step

@@ -76,7 +76,6 @@ around-same middle ticks others outcomes same =
     ∙ ap (λ (list : List Tick). tick_happenings_around middle list outcomes) (sym same)
     ∙ around-without_go middle others outcomes
 
--- Ticks before any access.
 around-first : (middle : List Happening) (first rest : List AtomicStep) → All IsTick first
     → tick_happenings_around middle (map tick_of (first ++ rest)) (noted_of 0 (first ++ rest))
     ≡ happened_in first ++ tick_happenings_around middle (map tick_of rest) (noted_of 0 rest)
@@ -99,7 +98,6 @@ around-first middle (Idles (Step host kind) ∷ first) rest are =
 around-first middle (Idles (Deliver host) ∷ first) rest are =
     around-first middle first rest (all-tail IsTick (Idles (Deliver host)) first are)
 
--- Ticks after n accesses.
 told-ticks : (n : ℕ) (steps : List AtomicStep) → All IsTick steps → tick_happenings (map tick_of steps) (noted_of n steps)
     ≡ happened_in steps
 told-ticks n [] are = refl
@@ -117,7 +115,6 @@ told-ticks n (Idles Go ∷ later) are = let never = all-head IsTick (Idles Go) l
 told-ticks n (Idles (Step host kind) ∷ later) are = told-ticks n later (all-tail IsTick (Idles (Step host kind)) later are)
 told-ticks n (Idles (Deliver host) ∷ later) are = told-ticks n later (all-tail IsTick (Idles (Deliver host)) later are)
 
--- Ticks after one access.
 around-last : (middle : List Happening) (steps : List AtomicStep) → All IsTick steps
     → tick_happenings_around middle (map tick_of steps) (noted_of 1 steps) ≡ middle ++ happened_in steps
 around-last middle [] are = sym (append-nil middle)

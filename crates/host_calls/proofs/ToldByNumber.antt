@@ -1,4 +1,4 @@
--- The happenings of outcomes whose numbers of accesses pass a test.
+-- The happenings of the outcomes, and of the steps, whose numbers of earlier accesses pass a test.
 use Rattle.std.proofs.Common.{◌≡◌, ◌≤◌, ◌++◌, ◌∷◌, [], Bool, true, false, ℕ, List, map, if◌then◌else◌, refl, sym, ap}
 use Rattle.std.proofs.Common.{append_assoc, arith, ◌∙◌}
 use Rattle.bus.specs.LivelyBuses.{most_accesses}
@@ -27,7 +27,6 @@ where-without_go is_such (Deliver host ∷ ticks) (one ∷ outcomes) =
     ap (λ (list : List Happening). (if is_such one.accesses then outcome_happenings host one.outcome else []) ++ list)
     (where-without_go is_such ticks outcomes)
 
--- the happenings by the ticks of the steps
 where-told : (is_such : ℕ → Bool) (caller n : ℕ) (steps : List AtomicStep) (a b : List StationState) → LeadsTo caller steps a b
     → tick_happenings_where is_such (map tick_of steps) (noted_of n steps) ≡ happened_where is_such n steps
 where-told is_such caller n [] a b leads = refl
@@ -79,7 +78,6 @@ more-counted n (step ∷ later) within =
     let rest = more-counted (counted_by n step) later one.1 in
     (omega (arith, one.0, rest.0), rest.1)
 
--- All numbers pass the test, or none does.
 pub where-all : (is_such : ℕ → Bool) (n : ℕ) (steps : List AtomicStep) → n ≤ most_accesses
     → ((m : ℕ) → n ≤ m → m ≤ counted_of n steps → is_such m ≡ true) → happened_where is_such n steps ≡ happened_in steps
 where-all is_such n [] within all = refl

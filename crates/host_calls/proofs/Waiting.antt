@@ -1,4 +1,4 @@
--- Frames that wait at a host's end of its wire.
+-- The frames that waited at a host's end, followed by those put toward the host, have reached the host or wait.
 use Rattle.std.proofs.Common.{◌≡◌, ◌++◌, ◌∷◌, [], ◌==◌, ◌&&◌, not, ℕ, Bool, true, false, Option, Some, None, List, drop}
 use Rattle.std.proofs.Common.{append_assoc, if◌then◌else◌, inl, inr, option_map, refl, slice_get, subst, sym, ap, ◌∙◌}
 use Rattle.std.proofs.lemmas.Bool.{cases_Bool}
@@ -18,7 +18,7 @@ use Rattle.stations.specs.AtomicRuns.{LeadsTo, events_at}
 use Rattle.host_calls.proofs.HostLists.{arrived_in, frames_in, none-chosen, put-chosen, put-occurs, reached-told, step-told}
 use Rattle.host_calls.specs.Happenings.{happened_in, reached, share_wire, outcome_happenings, toward, toward_by}
 
--- There is a host with this number, on this wire.
+-- The host with this number exists and is on this wire.
 record Stands (ss : List StationState) (host wire : ℕ) : Type 0 where
   station : StationState
   is : slice_get ss host ≡ Some station
@@ -79,7 +79,6 @@ backlog-here ss host event itself occurs =
     ∙ ap Some (here host at.station.wire event at.station itself))
     ∙ ap (λ (o : Option StationState). backlog_after event (backlog_of o)) (sym at.is)
 
--- the frame that arrives is the oldest frame that waits
 oldest-first : (backlog : List (List ℕ)) (frame : List ℕ) → slice_get backlog 0 ≡ Some frame → frame ∷ drop 1 backlog ≡ backlog
 oldest-first [] frame oldest = absurd (cc)
 oldest-first (first ∷ later) frame oldest =
@@ -143,7 +142,7 @@ toward-step wires k host event later ss occurs =
     ∙ ap (λ (frames : List (List ℕ)). if not (k == host) && share_wire (wires k) (wires host) then frames else [])
     (put-occurs event (world_at ss host) occurs.occurs))
 
--- The frames that waited, and then those put toward a host, have reached it or wait
+-- All steps
 
 waits-events : (caller k : ℕ) (wires : ℕ → Option ℕ) (steps : List AtomicStep) (a b : List StationState)
     → ((host : ℕ) → wire_at a host ≡ wires host) → LeadsTo caller steps a b

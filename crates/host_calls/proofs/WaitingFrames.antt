@@ -125,7 +125,7 @@ run-waiting caller host steps a b leads = run-from caller a host steps a b (λ k
 
 -- Full wires
 
--- another end of the wire has no room for one more frame
+-- the end of another host on the wire has no room for one more frame
 record FullEnd (stations : List StationState) (sender wire : ℕ) : Type 0 where
   other : ℕ
   station : StationState
@@ -134,12 +134,11 @@ record FullEnd (stations : List StationState) (sender wire : ℕ) : Type 0 where
   on_wire : station.wire ≡ wire
   full : end_frames ≤ length station.backlog
 
--- the ends before a place have room
+-- each end of the first n hosts that is on the wire and isn't the sender's has room for one more frame
 abbrev HaveRoom : List StationState → (sender wire n : ℕ) → Type 0
 HaveRoom stations sender wire n =
     (host : ℕ) (station : StationState) → host < n → slice_get stations host ≡ Some station → HasRoomFrom sender wire host station
 
--- one more place
 one-place : (stations : List StationState) (sender wire n : ℕ) (found : Option StationState) → slice_get stations n ≡ found
     → HaveRoom stations sender wire n → FullEnd stations sender wire ⊎ HaveRoom stations sender wire (suc n)
 one-place stations sender wire n None is room = inr (λ host station below there. elim (cases_eq host n) [
@@ -181,11 +180,9 @@ some-end-full stations sender wire none = elim (full-or-room stations sender wir
   | inr room ↦ absurd (none (λ host station is. room host station (slice_get_within stations host station is) is))
 ]
 
--- equal numbers of wires pass the test
 same-wire : (wire wire' : ℕ) → wire ≡ wire' → (wire == wire') ≡ true
 same-wire wire wire' same = elim (eqb_tells wire wire') [ inl is ↦ is.0 | inr other ↦ absurd (other.1 same) ]
 
--- if not every other end has room, another end is full, by the frames that wait
 pub full-by-counting : (caller host wire : ℕ) (before : List AtomicStep) (a b : List StationState) → LeadsTo caller before a b
     → wire_at b host ≡ Some wire → (WireHasRoom b host wire → ⊥) → WireIsFull a before host
 full-by-counting caller host wire before a b leads on none =
@@ -204,7 +201,6 @@ full-by-counting caller host wire before a b leads on none =
       full = subst (λ (frames : List (List ℕ)). end_frames ≤ length frames) (sym waits) end.full;
     }
 
--- if each other end has room, no end is full
 none-full : (host wire other : ℕ) (b : List StationState) (found : Option StationState) → slice_get b other ≡ found
     → WireHasRoom b host wire → other ≢ host → is_same_wire (wire_of found) (Some wire) ≡ true
     → end_frames ≤ length (backlog_of found) → ⊥

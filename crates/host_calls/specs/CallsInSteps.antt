@@ -19,31 +19,31 @@ use Rattle.host_calls.specs.CallsOfHosts.{CallRuns, EndsWithAccess}
 use Rattle.host_calls.specs.ConnectedHosts.{ConnectedHost, PlayedCall}
 use Rattle.host_calls.specs.InterruptCauses.{TellsCauses}
 
--- A stage of a call of host k. The first of these steps are the accesses of the stage and the ticks before each of
--- them. The last of these first steps is an access; if the stage makes no access, there are no first steps. `Later`
--- holds of the remaining steps.
+-- The steps `steps` begin with those of one stage of a call of host k: its accesses `made`, and the ticks before each
+-- of these accesses. The fact `Holds` is true of the stage, and `Later` of the remaining steps.
 pub record MakesStage (k : ℕ) (made : List Access) (Holds : World → Past → World → Type 0) (steps : List AtomicStep)
     (old : List StationState) (Later : List AtomicStep → List StationState → Type 0) : Type 0 where
-  -- the steps of this stage
+  -- the steps of this stage; no step if the stage makes no access
   pub first : List AtomicStep
   -- the steps of later stages
   pub rest : List AtomicStep
   -- `first`, followed by `rest`, are all steps
   pub split : steps ≡ first ++ rest
-  -- the host's accesses in this stage
+  -- the host's accesses in this stage are `made`
   pub made_are : (past_at k first).accesses ≡ made
   -- the stage ends with an access of the host, or has no step
   pub ends : EndsWithAccess first
-  -- the stations right after the last access, before any further step
+  -- the stations right after the stage's last access, before any further step; `old` if the stage makes no access
   pub middle : List StationState
   -- the steps lead to these stations
   pub leads : LeadsTo k first old middle
-  -- what holds right after the stage's last access
+  -- `Holds` relates the host's world before the stage, what happened in the stage, and the world right after its last
+  -- access
   pub holds : Holds (world_at old k) (past_at k first) (world_at middle k)
-  -- what holds of the later stages
+  -- `Later` holds of the steps of later stages
   pub later : Later rest middle
 
--- The stages of a call, in order. After the last access of the call only ticks are played.
+-- The steps are those of the stages of a call of host k, in order. After the last stage, host k makes no access.
 abbrev pub MakesStages : (k : ℕ) → CallStages → List AtomicStep → (old : List StationState) → Type 0
 MakesStages k Ends steps old = (past_at k steps).accesses ≡ []
 MakesStages k (Then made Holds later) steps old =
@@ -51,12 +51,12 @@ MakesStages k (Then made Holds later) steps old =
 
 -- Host k ran the act `act` in the steps `steps`, and its sockets returned the frames `given`.
 pub record InSteps (k : ℕ) (given : List Given) (steps : List AtomicStep) (old new : ConnectedHost) (act : HostAct) : Type 0 where
-  -- the accesses, stage by stage
+  -- the steps are those of the act's stages
   pub stages : MakesStages k act.stages steps old.stations
-  -- each access may be one of a call of this kind
+  -- each access of host k is permitted in a call of the act's kind (`IsAccessOf`)
   pub own : All (IsAccessOf act.kind old.host.driver.layout) (past_at k steps).accesses
-  -- The frames taken off the receive ring, followed by those held at the end, are those held when the call began,
-  -- followed by those stored during the call.
+  -- The frames taken off the receive ring, followed by those held at the end, are those held at the beginning, followed
+  -- by those stored.
   pub left : act.taken ++ frames_held new.host.driver.oldest_receive (world_at new.stations k)
       ≡ frames_held old.host.driver.oldest_receive (world_at old.stations k) ++ (past_at k steps).stored
   -- The taken frames that go to a socket are appended to the socket's queue, in order. The frames that a socket
@@ -68,12 +68,12 @@ pub record InSteps (k : ℕ) (given : List Given) (steps : List AtomicStep) (old
   pub icr : (causes : ℕ) (more : List Access) → accesses_in act.stages ≡ Reads ICR causes ∷ more
       → TellsCauses k steps causes (world_at old.stations k).adapter
 
--- A call with its ticks (`runs`), and its effect in the atomic steps of the call (`does`).
+-- The call `call` was made with its ticks (`runs`), and had the effect `Does` in its atomic steps (`does`).
 pub record Calls (call : PlayedCall) (given : List Given) (accepted : List (List ℕ)) (Does : Effect) (old new : ConnectedHost) : Type 0
   where
     pub runs : CallRuns call given accepted old new
     pub does : Does old.host new.host (InSteps call.caller given runs.steps old new) (world_at old.stations call.caller)
 
--- A call had the effect of its answer.
+-- The call for the request `request` returned `answer`, and had the effect of this answer (`EffectOf`).
 abbrev pub MakesCall : PlayedCall → Request → HostAnswer (List ℕ) → (old new : ConnectedHost) → Type 0
 MakesCall call request answer = Calls call (given_in request answer) (accepted_in request answer) (EffectOf request answer)

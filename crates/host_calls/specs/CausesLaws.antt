@@ -24,7 +24,7 @@ use Rattle.host_calls.specs.CallsInSteps.{InSteps}
 use Rattle.host_calls.specs.ConnectedHosts.{ConnectedHost}
 use Rattle.host_calls.specs.InterruptCauses.{AnswersCauses, ReadsIcrFirst, TellsCauses}
 
--- If a host that is ready is called over a lent bus and its first access reads ICR, `TellsCauses` holds of the value.
+-- If a host is ready and the first access of its call over a lent bus reads ICR, `TellsCauses` holds of the value read.
 abbrev pub CallsTellCauses : {O : Type 0} → OfObserver O → Type 0
 CallsTellCauses {O} g =
     (a b : LentBus O g) (h : HostState) (causes : ℕ) (past : Past) (more : List Access) → HostReady h (world_here a)
@@ -57,7 +57,7 @@ FirstReadsStay =
 abbrev pub noted_first : AtomicStep → Numbered
 noted_first step = record { accesses = 0; outcome = step_outcome step }
 
--- The outcomes of a call with 0 accesses before them are those of the early steps.
+-- The outcomes of a call with 0 accesses before them are those of the steps before the read of ICR.
 abbrev pub EarlyOutcomesBearZero : Type 0
 EarlyOutcomesBearZero =
     (caller : ℕ) (steps early : List AtomicStep) (causes : ℕ) → ReadsIcrFirst caller steps early causes

@@ -1,11 +1,11 @@
--- A host in its network, and a call of this host with its ticks (our choice).
+-- A host with the stations of its network, and a call of a host with its ticks (our choice).
 use Rattle.std.specs.Prelude.{ℕ, List}
 use Rattle.packet_socket.specs.HostState.{HostState}
 use Rattle.stations.specs.ToldTicks.{TickTold}
 use Rattle.stations.specs.Stations.{StationState}
 use Rattle.stations.specs.declared.tick.Tick.{Tick}
 
--- A host, and the stations of all hosts of its network, including its own.
+-- A host, and the stations of all hosts of its network, including the station of this host.
 pub record ConnectedHost : Type 0 where
   -- the host
   pub host : HostState
@@ -16,14 +16,15 @@ pub record ConnectedHost : Type 0 where
 abbrev pub connected : HostState → List StationState → ConnectedHost
 connected host stations = record { host = host; stations = stations }
 
--- A call of a host, with the ticks that are played before its accesses and after the last one.
+-- A call of a host: its ticks, what its observer was told, and its number of accesses.
 pub record PlayedCall : Type 1 where
   -- the host's number
   pub caller : ℕ
+  -- the ticks that are played before the accesses of the call and after its last access
   pub ticks : List Tick
-  -- the observer was told exactly this list, from the start of the call to the end of its last tick
+  -- `heard list`: the observer was told exactly `list`, from the start of the call to the end of the call's last tick
   pub heard : List TickTold → Type 0
-  -- the number of accesses of the call; it saturates at the greatest u64
+  -- the number of accesses of the call, which saturates at the greatest u64
   pub accesses : ℕ
 
 abbrev pub played_call : (caller : ℕ) → List Tick → (heard : List TickTold → Type 0) → (accesses : ℕ) → PlayedCall

@@ -1,4 +1,5 @@
--- Accesses whose effect on the counts is known, and hosts that can receive and send (our choice).
+-- Accesses whose effect on the counts is known, accesses that enable or disable neither side, and adapters with both
+-- sides enabled (our choice).
 use Rattle.std.specs.Prelude.{⊤, ℕ, IfSome}
 use Rattle.registers.specs.Bits.{HasBit}
 use Rattle.registers.specs.Places.{rctl_en, tctl_en}
@@ -17,14 +18,15 @@ abbrev pub IsNotMdic : Register → Type 0
 IsNotMdic Mdic = ⊥
 IsNotMdic register = ⊤
 
--- The counts determine the effect of the access: it isn't a write of MDIC.
+-- The access isn't a write of MDIC, so the counts before the access determine the counts after it.
 abbrev pub IsCounted : Access → Type 0
 IsCounted (Reads offset value) = ⊤
 IsCounted (Writes offset value) = IfSome (register_at offset) IsNotMdic
 IsCounted (Loads address size) = ⊤
 IsCounted (Stores address bytes) = ⊤
 
--- The register isn't CTRL, RCTL or TCTL, so a write of the register enables or disables neither side.
+-- The register isn't CTRL, RCTL or TCTL. So a write of the register enables or disables neither the receive side nor
+-- the transmit side.
 abbrev pub IsNotControl : Register → Type 0
 IsNotControl Ctrl = ⊥
 IsNotControl Rctl = ⊥
@@ -50,7 +52,6 @@ pub record AreEnabled (receive_control transmit_control : ℕ) (receive_ring tra
   -- TDH and TDT are indices of descriptors in the ring.
   pub transmit : HasValidIndices transmit_ring
 
--- Both sides of the adapter are enabled, and each head and tail is the index of a slot of its ring. This is true after
--- initialization and after each call.
+-- Both sides of the adapter are enabled, and each head and tail is the index of a slot of its ring.
 abbrev pub CanAnswer : AdapterState → Type 0
 CanAnswer state = AreEnabled state.filter.rctl state.transmit_control (ring_of state.receive_ring) (ring_of state.transmit_ring)

@@ -1,5 +1,6 @@
--- Counts of a host's adapter, and how outcomes and accesses change them (our choice). If no step is a fault, the counts determine the
--- outcomes of the adapter's steps, except WireFull and the frame of Put.
+-- Counts of a host's adapter, and how outcomes and accesses change these counts (our choice). If no step is a fault,
+-- the counts determine the outcomes of the adapter's steps. Only whether the wire is full, and which frame is put,
+-- don't follow from the counts.
 use Rattle.std.specs.Prelude.{◌<◌, ◌+◌, ◌-◌, ◌/◌, ◌%◌, ◌++◌, ℕ, Bool, true, false, Option, Some, None, List, [], ◌∷◌, bit_and, drop}
 use Rattle.std.specs.Prelude.{is_some, length, map, max, min, if◌then◌else◌}
 use Rattle.registers.specs.Bits.{is_set}
@@ -7,11 +8,11 @@ use Rattle.registers.specs.Kept.{receive_control_mask, transmit_control_mask}
 use Rattle.registers.specs.Places.{ctrl_rst, rctl_en, tctl_en}
 use Rattle.descriptors.specs.declared.ring.Ring.{Ring}
 use Rattle.descriptors.specs.Ring.{count_of}
-use Rattle.eeprom.specs.Eerd.{has_start, is_pending}
-use Rattle.mdic_phy.specs.declared.phy.Negotiation.{Negotiation}
-use Rattle.mdic_phy.specs.declared.phy.Negotiation.TheVariants.{NotStarted, Running, Complete}
-use Rattle.mdic_phy.specs.Mdic.{MdicState, phy_after_tick}
-use Rattle.mdic_phy.specs.Phy.{PhyState}
+use Rattle.eeprom_phy.specs.Eerd.{has_start, is_pending}
+use Rattle.eeprom_phy.specs.declared.phy.Negotiation.{Negotiation}
+use Rattle.eeprom_phy.specs.declared.phy.Negotiation.TheVariants.{NotStarted, Running, Complete}
+use Rattle.eeprom_phy.specs.Mdic.{MdicState, phy_after_tick}
+use Rattle.eeprom_phy.specs.Phy.{PhyState}
 use Rattle.rx_engine.specs.Arriving.{kept}
 use Rattle.rx_engine.specs.Moving.{buffer_bytes}
 use Rattle.adapter.specs.declared.register.Register.{Register}
@@ -47,9 +48,9 @@ pub record ReceiveCounts : Type 0 where
   pub is_enabled : Bool
   -- The size of a receive buffer in bytes, by RCTL.BSIZE.
   pub buffer_size : ℕ
-  -- For each frame in the packet buffer, the oldest first, the number of bytes that are still to be moved.
+  -- For each frame in the receive packet buffer, the oldest first, the number of bytes that are still to be moved.
   pub left : List ℕ
-  -- Whether a piece is in progress.
+  -- Whether a piece of a frame is in progress: moved to memory, but its descriptor isn't written back.
   pub is_working : Bool
 
 -- The counts of the transmit side.
@@ -63,9 +64,9 @@ pub record TransmitCounts : Type 0 where
 
 -- The counts of the PHY.
 pub record PhyCounts : Type 0 where
-  -- The number of ticks that are left of a negotiation; 0 if no negotiation runs.
+  -- The number of PHY ticks that are left of a negotiation; 0 if no negotiation is running.
   pub countdown : ℕ
-  -- If a command of MDIC is pending, the countdown after its end.
+  -- The countdown after the end of the pending command of MDIC; None if no command is pending.
   pub command : Option ℕ
 
 -- The counts of a host's adapter.
@@ -92,13 +93,13 @@ pub record HasSlots (ring : RingCounts) : Type 0 where
 abbrev pub offered_in : RingCounts → ℕ
 offered_in ring = (ring.tail + ring.slots - ring.head) % ring.slots
 
--- The number of ticks that are left of this negotiation: at least 1 while it is running, else 0.
+-- The number of PHY ticks that are left of this negotiation: at least 1 while it is running, else 0.
 abbrev pub negotiation_ticks : Negotiation → ℕ
 negotiation_ticks NotStarted = 0
 negotiation_ticks (Running left) = max left 1
 negotiation_ticks Complete = 0
 
--- The counts of MDIC and the PHY. A pending command ends at the next tick, and may start a negotiation.
+-- The counts of MDIC and the PHY. A pending command of MDIC ends at the next PHY tick, and may start a negotiation.
 abbrev pub phy_counts : MdicState → PhyState → PhyCounts
 phy_counts mdic phy = record {
   countdown = negotiation_ticks phy.negotiation;
@@ -133,21 +134,24 @@ counts_of state = record {
 abbrev pub one_taken : RingCounts → RingCounts
 one_taken ring = record ring { head = (ring.head + 1) % ring.slots }
 
--- For each frame, the number of bytes to be moved after a piece of at most `size` bytes of the oldest frame was moved.
+-- For each frame, the number of bytes still to be moved after a piece of at most `size` bytes of the oldest frame was
+-- moved.
 abbrev pub after_piece : (size : ℕ) → List ℕ → List ℕ
 after_piece size [] = []
 after_piece size (oldest ∷ later) = (oldest - size) ∷ later
 
--- The receive side after the adapter took a slot for a piece, with these numbers of bytes to be moved.
+-- The counts of the receive side after the adapter took a slot for a piece. `left` contains the number of bytes still
+-- to be moved of each frame.
 abbrev pub with_piece : (left : List ℕ) → ReceiveCounts → ReceiveCounts
 with_piece left counts = record counts { ring = one_taken counts.ring; left = left; is_working = true }
 
--- The countdown after a tick of the PHY: the countdown of a pending command, if there is one, else the running countdown minus one.
+-- The countdown after a tick of the PHY: `left` if a command with this countdown is pending, else the countdown minus
+-- one, but at least 0.
 abbrev pub countdown_after : (command : Option ℕ) → (countdown : ℕ) → ℕ
 countdown_after None countdown = countdown - 1
 countdown_after (Some left) countdown = left
 
--- The counts after a tick of the EEPROM or of the PHY that did something.
+-- The counts after a tick of the EEPROM or of the PHY with the outcome Ticked. A step of another kind changes no count.
 abbrev pub counts_after_tick : StepKind → HostCounts → HostCounts
 counts_after_tick EepromTick counts = record counts { is_reading = false }
 counts_after_tick PhyTick counts =
@@ -167,7 +171,7 @@ after_outcome kind Done counts = record counts { receive = record counts.receive
 after_outcome kind Ticked counts = counts_after_tick kind counts
 after_outcome kind _ counts = counts
 
--- The counts of a ring after one of its registers got the value `number`.
+-- The counts of a ring after one of its registers stored the value `number`.
 abbrev pub ring_with : RingRegister → ℕ → RingCounts → RingCounts
 ring_with BaseLow number ring = ring
 ring_with BaseHigh number ring = ring
@@ -183,8 +187,8 @@ ring_counts_written part value ring = ring_with part (bit_and value (ring_kept p
 abbrev pub no_ring : RingCounts
 no_ring = record { slots = 0; head = 0; tail = 0 }
 
--- The counts after a reset: rings and packet buffers are empty, both sides are disabled, and no piece, read or command
--- is in progress. The countdown isn't reset.
+-- The counts after a reset: the rings have no slots, the packet buffers are empty, and both sides are disabled. Receive
+-- buffers have the size for RCTL 0. No piece, read or command is in progress; the countdown isn't reset.
 abbrev pub emptied : HostCounts → HostCounts
 emptied counts = record {
   receive = record { ring = no_ring; is_enabled = false; buffer_size = buffer_bytes 0; left = []; is_working = false };
@@ -193,12 +197,12 @@ emptied counts = record {
   phy = record { countdown = counts.phy.countdown; command = None };
 }
 
--- The counts of the receive side after RCTL got the value `number`.
+-- The counts of the receive side after RCTL stored the value `number`.
 abbrev pub counts_with_control : ℕ → ReceiveCounts → ReceiveCounts
 counts_with_control number counts = record counts { is_enabled = is_set number rctl_en; buffer_size = buffer_bytes number }
 
--- The counts after a write of a word to a register. For a write of MDIC the result has no meaning
--- (`IsCounted`), because the counts don't determine the effect of this write.
+-- The counts after a write of a value to a register, or to an offset without a register (`None`). For a write of MDIC
+-- the result has no meaning (`IsCounted`), because the counts don't determine the effect of this write.
 abbrev pub counts_after_write : Option Register → ℕ → HostCounts → HostCounts
 counts_after_write (Some Ctrl) value counts = if is_set value ctrl_rst then emptied counts else counts
 counts_after_write (Some Rctl) value counts =

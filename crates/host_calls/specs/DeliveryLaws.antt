@@ -1,4 +1,4 @@
--- Laws of outcomes, of the effect of atomic steps on frames, and of consecutive happenings.
+-- Laws of outcomes, of the effect of atomic steps on frames, of fates, and of consecutive happenings (our choice).
 use Rattle.std.specs.Prelude.{◌≡◌, ◌⊎◌, ◌<◌, ◌+◌, ◌*◌, ◌++◌, ◌∷◌, [], ℕ, Bool, false, Option, List, All, length, map}
 use Rattle.std.specs.Prelude.{if◌then◌else◌}
 use Rattle.registers.specs.Bits.{HasBit}
@@ -44,18 +44,19 @@ use Rattle.host_calls.specs.Happenings.{tick_happenings_around, tick_happenings_
 use Rattle.host_calls.specs.Reception.{LeavesReception, ReceivesRightly}
 use Rattle.host_calls.specs.TickNumbers.{numbers, noted_numbers}
 
--- A call of a host, with the atomic steps that are played in it.
+-- A call of host `caller`: its ticks, its accesses, and its atomic steps.
 pub record CallWithSteps : Type 0 where
   pub caller : ℕ
   -- The ticks that are passed to the call.
   pub ticks : List Tick
   pub accesses : List Access
-  -- The steps up to and including the last access, and the steps after it.
+  -- The steps up to and including the last access; no step if there is no access.
   pub first : List AtomicStep
+  -- The steps after the last access.
   pub last : List AtomicStep
 
--- The steps `first` are the accesses of the call, each after the ticks up to its Go, and the steps `last` are all
--- remaining ticks.
+-- The steps `first` lead from the stations `a` to `m`, and the steps `last` from `m` to `b`. `first` are the accesses
+-- of the call, each after the ticks up to its Go, and `last` are the remaining ticks except each Go.
 pub record PlaysCall (call : CallWithSteps) (a m b : List StationState) : Type 0 where
   pub leads : LeadsTo call.caller call.first a m
   pub are_ticks : All IsTick call.last
@@ -63,10 +64,10 @@ pub record PlaysCall (call : CallWithSteps) (a m b : List StationState) : Type 0
   pub played : map tick_of call.first ≡ played_in is_go Go [] call.accesses call.ticks
   pub waited : map tick_of call.last ≡ without_go is_go (waiting_after is_go call.accesses call.ticks)
 
--- The outcomes that were noted in a call determine what happened in its steps, and their numbers of accesses are those of
--- `numbers`.
+-- The outcomes that were noted in a call determine the happenings of its steps. The noted numbers of accesses are those
+-- of `numbers`.
 pub record IsToldByOutcomes (ticks : List Tick) (first last : List AtomicStep) : Type 0 where
-  -- Without accesses and Gos, the steps are the ticks of the call, in order.
+  -- The steps that aren't accesses are the ticks of the call except each Go, in order.
   pub played : without_go is_go (map tick_of (first ++ last)) ≡ without_go is_go ticks
   pub said : tick_happenings ticks (noted_of 0 (first ++ last)) ≡ happened_in (first ++ last)
   pub numbered : numbers ticks 0 (counted_of 0 first) ≡ noted_numbers (noted_of 0 (first ++ last))
@@ -76,8 +77,8 @@ abbrev pub OutcomesTellSteps : Type 0
 OutcomesTellSteps =
     (call : CallWithSteps) (a m b : List StationState) → PlaysCall call a m b → IsToldByOutcomes call.ticks call.first call.last
 
--- `PlaysCall` holds for a call over a lent bus after `finish`. The observer was told the outcome of each tick, and the
--- bus counted the accesses.
+-- `PlaysCall` holds for a call that leads from the lent bus `a` to `m`, and for `finish`, which leads from `m` to `b`.
+-- The observer was told the outcome of each tick except each Go, and the bus counted the accesses.
 pub record IsToldCall {O : Type 0} {g : OfObserver O} (a m b : LentBus O g) (past : Past) (first last : List AtomicStep) : Type 0 where
   pub plays : PlaysCall
       (record { caller = a.host; ticks = a.ticks.now; accesses = past.accesses; first = first; last = last })
@@ -90,7 +91,8 @@ LentCallsAreTold {O} g =
     (a m b : LentBus O g) (past : Past) (told : HappenedLent a m past) (finished : Finished m b) → a.accesses ≡ 0
     → IsToldCall a m b past told.steps finished.plays.steps
 
--- The happenings `said` are those of the ticks, with what the call itself did (`middle`) between two parts of them.
+-- The happenings `said` are those of the ticks (`ticked`), with what the call itself did (`middle`) inserted at one
+-- place.
 pub record IsBetween (middle ticked said : List Happening) : Type 0 where
   pub before : List Happening
   pub behind : List Happening
@@ -102,12 +104,13 @@ CallsAreToldBetweenTicks =
     (middle : List Happening) (ticks : List Tick) (outcomes : List Numbered)
     → IsBetween middle (tick_happenings ticks outcomes) (tick_happenings_around middle ticks outcomes)
 
--- If a call did nothing, the happenings are those of its ticks.
+-- If the call itself has no happening, the happenings of the call are those of its ticks.
 abbrev pub OnlyTicksAreTold : Type 0
 OnlyTicksAreTold = (ticks : List Tick) (outcomes : List Numbered) → tick_happenings_around [] ticks outcomes
     ≡ tick_happenings ticks outcomes
 
--- If a call made one access, what it did is between the happenings before this access and those after it.
+-- If a call made exactly one access, what the call itself did (`middle`) is between the happenings of the steps before
+-- and after this access.
 abbrev pub OneAccessIsToldAtItsPlace : Type 0
 OneAccessIsToldAtItsPlace =
     (caller : ℕ) (ticks : List Tick) (access : Access) (first last : List AtomicStep) (middle : List Happening)
@@ -116,20 +119,22 @@ OneAccessIsToldAtItsPlace =
     → tick_happenings_around middle ticks (noted_of 0 (first ++ At caller (Accesses access) ∷ last))
     ≡ happened_in first ++ (middle ++ happened_in last)
 
--- If a call made no access, what it did is after the happenings of its ticks.
+-- If a call made no access, what the call itself did (`middle`) is after the happenings of all its ticks.
 abbrev pub NoAccessIsToldAtTheEnd : Type 0
 NoAccessIsToldAtTheEnd =
     (ticks : List Tick) (steps : List AtomicStep) (middle : List Happening) → All IsTick steps
     → without_go is_go (map tick_of steps) ≡ without_go is_go ticks
     → tick_happenings_around middle ticks (noted_of 0 steps) ≡ happened_in steps ++ middle
 
--- The happenings of those steps whose numbers of accesses before them meet a condition, if n accesses were made before the first step.
+-- The happenings of the steps for whose number of earlier accesses `is_such` is true, if n accesses were made before
+-- the first step.
 abbrev pub happened_where : (is_such : ℕ → Bool) → (n : ℕ) → List AtomicStep → List Happening
 happened_where is_such n [] = []
 happened_where is_such n (step ∷ later) =
     (if is_such n then happened_by step else []) ++ happened_where is_such (counted_by n step) later
 
--- The outcomes whose numbers of accesses meet a condition determine the happenings of the steps with these numbers.
+-- The outcomes whose numbers of accesses meet a condition determine the happenings of the steps with such a number of
+-- earlier accesses.
 abbrev pub OutcomesTellByNumber : Type 0
 OutcomesTellByNumber =
     (is_such : ℕ → Bool) (caller : ℕ) (ticks : List Tick) (steps : List AtomicStep) (a b : List StationState) → LeadsTo caller steps a b
@@ -142,8 +147,8 @@ OneOutcomeTellsItsStep =
     (old new : List StationState) (tick : Tick) (outcome : FrameOutcome) (plays : PlaysTick old tick outcome new)
     → lone_tick_happenings tick (record { accesses = 0; outcome = outcome } ∷ []) ≡ happened_in (plays.step ∷ [])
 
--- An atomic step that isn't an access, and leads from the old state of all stations to the new one, in a call of any
--- host.
+-- The atomic step is a tick other than Go. The step can happen in a call of any host, and leads from the stations `old`
+-- to `new`.
 pub record LeadsAlone (step : AtomicStep) (old new : List StationState) : Type 0 where
   pub is_tick : IsTick step
   pub leads : (caller : ℕ) → LeadsTo caller (step ∷ []) old new
@@ -153,13 +158,14 @@ OneTickLeads =
     (old new : List StationState) (tick : Tick) (outcome : FrameOutcome) (plays : PlaysTick old tick outcome new) → is_go tick ≡ false
     → LeadsAlone plays.step old new
 
--- What these atomic steps from one state to another do to the frames of host k, as happenings.
+-- What the atomic steps from the stations `a` to `b` do to the frames of host k: the happenings agree with the host's
+-- record (`past_at`) and with the frames that wait.
 pub record MovesFrames (k : ℕ) (steps : List AtomicStep) (a b : List StationState) : Type 0 where
   pub put : put k (happened_in steps) ≡ (past_at k steps).put
   pub stored : stored k (happened_in steps) ≡ (past_at k steps).stored
   pub missed : missed k (happened_in steps) ≡ (past_at k steps).missed
-  -- The frames that waited at the host's end, and then those that other hosts put on its wire, have reached the host in
-  -- this order or still wait.
+  -- The frames that waited at the host's end, followed by those put toward the host, have reached the host in this
+  -- order or still wait.
   pub waits : reached k (happened_in steps) ++ backlog_at b k ≡ backlog_at a k ++ toward (wire_at a) k (happened_in steps)
   pub wires : wire_at b k ≡ wire_at a k
   pub hosts : length b ≡ length a
@@ -171,8 +177,8 @@ abbrev pub StepsMoveFrames : Type 0
 StepsMoveFrames =
     (caller k : ℕ) (steps : List AtomicStep) (a b : List StationState) → LeadsTo caller steps a b → MovesFrames k steps a b
 
--- The fates of the frames that reach a host are right, while the host has joined these groups. At the end, MTA has exactly
--- the bits of these groups.
+-- From the adapter `a` to `b`, the fates in `all` are right (`ReceivesRightly`). The joined groups are `groups` at the
+-- beginning and at the end. At the end, MTA has exactly the bits of these groups.
 pub record KeepsReceiving (groups : List (List ℕ)) (a : AdapterState) (all : List Mark) (b : AdapterState) : Type 0 where
   pub right : ReceivesRightly groups a all groups b
   pub has : HasNumbers b.filter.mta (numbers_of_groups groups)
@@ -186,8 +192,8 @@ FatesAreRight =
     → HasNumbers (world_at a k).adapter.filter.mta (numbers_of_groups groups)
     → KeepsReceiving groups (world_at a k).adapter (marks k (happened_in steps)) (world_at b k).adapter
 
--- While the receive side of a host is disabled, each frame that reaches the host is dropped. No frame is moved from its receive packet
--- buffer to memory. The receive side remains disabled.
+-- While the receive side of a host is disabled, each frame that reaches the host has the fate Off. No frame is moved
+-- from the host's receive packet buffer to memory. The receive side remains disabled.
 pub record StaysTurnedOff (a : World) (all : List Mark) (b : World) : Type 0 where
   pub fates : (registers : FilterRegisters) (room : ℕ) (groups buffered : List (List ℕ))
       → (let off : Reception = record { groups = groups; buffered = buffered; enabled = false } in AreRightFates registers room off all off)
@@ -195,21 +201,21 @@ pub record StaysTurnedOff (a : World) (all : List Mark) (b : World) : Type 0 whe
   -- An empty packet buffer remains empty.
   pub empty : a.adapter.receiver.buffer ≡ [] → b.adapter.receiver.buffer ≡ []
 
--- If RCTL.EN is 0, the receive side remains disabled while RCTL isn't written, whatever else the driver writes,
--- including CTRL.RST.
+-- If RCTL.EN is 0 at the start and the host's driver doesn't write RCTL, `StaysTurnedOff` holds. The driver may write
+-- all other registers, including CTRL with RST.
 abbrev pub FatesAreOff : Type 0
 FatesAreOff =
     (caller k : ℕ) (steps : List AtomicStep) (a b : List StationState) → LeadsTo caller steps a b
     → All LeavesReceiver (writes_in (past_at k steps).accesses) → IsOff (world_at a k)
     → StaysTurnedOff (world_at a k) (marks k (happened_in steps)) (world_at b k)
 
--- If no access of a host changes how it receives (`LeavesReception`), the filter doesn't change.
+-- If no access of a host changes how the host receives (`LeavesReception`), the registers of its filter don't change.
 abbrev pub FilterStays : Type 0
 FilterStays =
     (caller k : ℕ) (steps : List AtomicStep) (a b : List StationState) → LeadsTo caller steps a b
     → All LeavesReception (past_at k steps).accesses → (world_at b k).adapter.filter ≡ (world_at a k).adapter.filter
 
--- The mark joins or leaves a group: `groups` are joined before it, and `groups'` after it.
+-- The mark is a join or a leave of a group. `groups` are joined before the mark, and `groups'` after it.
 abbrev pub ChangesGroups : Mark → (groups groups' : List (List ℕ)) → Type 0
 ChangesGroups (Joins group) groups groups' = groups' ≡ groups ++ group ∷ []
 ChangesGroups (Quits group) groups groups' = Removes group groups groups'
@@ -227,11 +233,12 @@ GroupsChangeAlone =
     (mark : Mark) (groups groups' : List (List ℕ)) (a : AdapterState) → ChangesGroups mark groups groups'
     → ReceivesRightly groups a (mark ∷ []) groups' a
 
--- A write of RDT or TDT doesn't change how a host receives.
+-- A write of RDT or TDT doesn't change how a host receives (`LeavesReception`).
 abbrev pub TailWritesLeaveReception : Type 0
 TailWritesLeaveReception = (offset value : ℕ) → (offset ≡ RDT) ⊎ (offset ≡ TDT) → LeavesReception (Writes offset value)
 
--- Each list of host k for two consecutive lists of happenings is its list for the first, followed by its list for the later one.
+-- For two consecutive lists of happenings, each list of host k is that for `first`, followed by that for `later`. The
+-- numbers of missed frames are added.
 pub record ListsJoin (k : ℕ) (first later : List Happening) : Type 0 where
   pub accepted : accepted k (first ++ later) ≡ accepted k first ++ accepted k later
   pub put : put k (first ++ later) ≡ put k first ++ put k later
@@ -251,8 +258,8 @@ WiresDecideToward =
     (wires others : ℕ → Option ℕ) (k : ℕ) (happened : List Happening) → ((host : ℕ) → wires host ≡ others host)
     → toward wires k happened ≡ toward others k happened
 
--- In each of two consecutive intervals, the frames that waited at a host's end, followed by those that others put on its wire, have reached
--- the host or wait. Then the same is true of both intervals together.
+-- The frames that reached a host, followed by those that wait, are those that waited at first, followed by those put
+-- toward the host. If this is true of two consecutive intervals with the same wires, it is true of both together.
 abbrev pub WaitsJoin : Type 0
 WaitsJoin =
     (k : ℕ) (wires others : ℕ → Option ℕ) (first later : List Happening) (old mid new : List (List ℕ))
@@ -260,13 +267,14 @@ WaitsJoin =
     → reached k later ++ new ≡ mid ++ toward others k later
     → reached k (first ++ later) ++ new ≡ old ++ toward wires k (first ++ later)
 
--- If the fates of two lists are right, and the second begins with the final reception of the first, the joined fates are right.
+-- If the fates of two lists of marks are right, those of the joined list are right. The second list must begin with the
+-- final reception of the first.
 abbrev pub RightFatesJoin : Type 0
 RightFatesJoin =
     (registers : FilterRegisters) (room : ℕ) (n m l : Reception) (first later : List Mark) → AreRightFates registers room n first m
     → AreRightFates registers room m later l → AreRightFates registers room n (first ++ later) l
 
--- `ReceivesRightly` of two consecutive intervals holds for both together.
+-- If `ReceivesRightly` holds in each of two consecutive intervals, it holds in both together.
 abbrev pub ReceptionsJoin : Type 0
 ReceptionsJoin =
     (g1 g2 g3 : List (List ℕ)) (a b c : AdapterState) (first later : List Mark) → ReceivesRightly g1 a first g2 b

@@ -1,4 +1,5 @@
--- A drained host: its sockets returned all frames that it held for them (our choice).
+-- A drain of a host: what the drain requires, the counts of the host's frames and pieces, and the drain's effect (our
+-- choice).
 use Rattle.std.specs.Prelude.{◌≡◌, ◌≢◌, ◌≤◌, ◌+◌, ◌-◌, ◌*◌, ◌/◌, ◌<◌, ◌⊎◌, ◌++◌, ◌∷◌}
 use Rattle.std.specs.Prelude.{[]}
 use Rattle.std.specs.Prelude.{ℕ, All, IsTrue, List, length, replicate}
@@ -16,7 +17,7 @@ use Rattle.stations.specs.AtomicSteps.{At, AtomicStep, Idles}
 use Rattle.stations.specs.Stations.{StationState, backlog_at, world_at}
 use Rattle.stations.specs.AtomicRuns.{LeadsTo}
 use Rattle.host_calls.specs.Happenings.{Moved, happened_in}
-use Rattle.driver_law.specs.Calls.{HasNoForgottenWork, IsRefilled, sum_limit}
+use Rattle.bus.specs.Calls.{HasNoForgottenWork, IsRefilled, sum_limit}
 use Rattle.driver.specs.HandlerSteps.{GrowsBy}
 use Rattle.driver.specs.declared.receiver.Received.{Received}
 use Rattle.packet_socket.specs.HostCalls.{Given, HostReady, host_did, given_for, held_for_socket, without_socket}
@@ -46,7 +47,7 @@ buffers_for size = (size + (receive_buffer_bytes - 1)) / receive_buffer_bytes
 abbrev pub count_pieces : List (List ℕ) → ℕ
 count_pieces frames = sum_by (λ (frame : List ℕ). buffers_for (length frame)) frames
 
--- the number of pieces of the frames in these queues
+-- the number of pieces of these queued frames
 abbrev pub count_queued_pieces : List Received → ℕ
 count_queued_pieces list = sum_by (λ (received : Received). buffers_for received.length) list
 
@@ -63,7 +64,8 @@ pieces_left moved (frame ∷ later) = buffers_for (length frame - moved) + count
 abbrev pub count_left : World → ℕ
 count_left world = pieces_left world.adapter.receiver.moved world.adapter.receiver.buffer
 
--- the number of adapter steps that a host needs: two for each piece still to be moved, and one for a piece in progress
+-- the number of adapter steps in a drain of a host: two for each piece still to be moved, and one for a piece in
+-- progress
 abbrev pub count_adapter_steps : World → ℕ
 count_adapter_steps world = 2 * count_left world + length (in_work world)
 
@@ -89,17 +91,17 @@ pub record KeepsMisses (h : HostState) (a : World) (h' : HostState) (b : World) 
       → h'.driver.missed + b.adapter.missed_packets ≡ h.driver.missed + a.adapter.missed_packets
   -- a sum of at least the greatest u64 remains at least the greatest u64
   pub sticks : sum_limit - 1 ≤ h.driver.missed + a.adapter.missed_packets → sum_limit - 1 ≤ h'.driver.missed + b.adapter.missed_packets
-  -- if the driver's sum is exact, MPC is below its greatest value, and the sum of both fits into a u64, the driver's sum
-  -- remains exact, and MPC remains below its greatest value
+  -- The driver's sum remains exact, and MPC remains below its greatest value. Both must be true at the beginning, and
+  -- the sum plus MPC must fit into a u64.
   pub exact :
       IsTrue h.driver.exact → a.adapter.missed_packets < greatest_count → h.driver.missed + a.adapter.missed_packets < sum_limit
       → IsTrue h'.driver.exact × (b.adapter.missed_packets < greatest_count)
 
--- Bounds of the number of steps of a drain.
+-- Bounds of the number `steps` of a drain's steps, in which `given` frames were returned.
 pub record AreStepsOf (steps number given : ℕ) (old : ConnectedHost) : Type 0 where
-  -- at most four for each piece of the frames that the host held, plus one
+  -- at most four for each piece of the frames that the host held before the drain, plus one
   pub at_most : steps ≤ 4 * count_held old.host (world_at old.stations number) + 1
-  -- at least the adapter's steps, plus one for each frame returned
+  -- at least the adapter's steps (`count_adapter_steps`), plus one for each frame returned
   pub at_least : count_adapter_steps (world_at old.stations number) + given ≤ steps
 
 -- The drained host's frames to be sent, the frames that wait at ends of wires, and every other host's adapter and
@@ -130,9 +132,9 @@ pub record GoesBy (number : ℕ) (given : List Given) (old new : ConnectedHost) 
   -- each frame of the receive packet buffer was moved to memory, and there is no other happening
   pub moved : happened_in played ≡ replicate (length (world_at old.stations number).adapter.receiver.buffer) (Moved number)
 
--- A drain of a host: its sockets returned the frames `given`, in `steps` steps.
+-- A drain of host `number`: its sockets returned the frames `given`, in `steps` steps.
 pub record Drains (steps number : ℕ) (given : List Given) (old new : ConnectedHost) : Type 0 where
-  -- the number of steps
+  -- the bounds of the number of steps
   pub steps_are : AreStepsOf steps number (length given) old
   -- Each socket returned exactly the frames that were held for it, in order.
   pub all_given : (socket : ℕ) → given_for socket given ≡ held_for_socket old.host socket (world_at old.stations number)

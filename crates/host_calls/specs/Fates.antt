@@ -1,5 +1,5 @@
--- The right fate of a frame, by the groups in force, the frames in the receive packet buffer, and whether the receive
--- side is enabled (our choice; the filter: "3.2.1 Packet Address Filtering"; RCTL.EN: "13.4.22 Receive Control").
+-- The right fate of a frame, by the groups in force, the receive packet buffer, and whether the receive side is enabled
+-- (our choice; the filter: "3.2.1 Packet Address Filtering"; RCTL.EN: "13.4.22 Receive Control").
 use Rattle.std.specs.Prelude.{⊤, ◌≡◌, ◌≢◌, ◌++◌, ℕ, Bool, true, false, IsTrue, List, [], ◌∷◌, drop}
 use Rattle.std.specs.List.{Contains, flat_map}
 use Rattle.descriptors.specs.Frames.{IsLegal}
@@ -28,10 +28,10 @@ pub data Mark : Type 0 where
   SwitchedOff : Mark
   -- The receive side was enabled.
   SwitchedOn : Mark
-  -- A reset dropped all frames in the buffer.
+  -- A reset dropped all frames in the receive packet buffer.
   Emptied : Mark
 
--- The mark of a happening, if it is at host k.
+-- The mark of a happening at host k, as a list. The list is empty for another host, and for Accepted, Put and Given.
 abbrev pub mark_by : ℕ → Happening → List Mark
 mark_by k (Reached host frame fate) = of_host k host (Came frame fate ∷ [])
 mark_by k (Moved host) = of_host k host (Went ∷ [])
@@ -42,7 +42,7 @@ mark_by k (Enabled host) = of_host k host (SwitchedOn ∷ [])
 mark_by k (GivenUp host sending holding) = of_host k host (Emptied ∷ [])
 mark_by k other = []
 
--- The marks of host k, in order.
+-- The marks of these happenings at host k, in order.
 abbrev pub marks : ℕ → List Happening → List Mark
 marks k happened = flat_map (mark_by k) happened
 
@@ -64,9 +64,9 @@ reception groups buffered = record { groups = groups; buffered = buffered; enabl
 abbrev pub in_force : FilterRegisters → (groups : List (List ℕ)) → ReceiveFilter
 in_force registers groups = record (filter_of registers) { groups = λ number. Contains (numbers_of_groups groups) number }
 
--- The fate is the first one that applies, with this filter in force, if the buffer of `room` bytes contains these
--- frames. While the receive side is disabled, each frame has the fate Off. While it is enabled, no frame has
--- this fate.
+-- The fate is the first of Off, Illegal, Filtered, Missed and Stored that applies to the frame, with this filter in
+-- force. The receive packet buffer of `room` bytes contains the frames `buffered`. Off applies exactly while the
+-- receive side is disabled.
 abbrev pub IsRightFate : ReceiveFilter → (room : ℕ) → (enabled : Bool) → (buffered : List (List ℕ)) → List ℕ → Fate → Type 0
 IsRightFate filter room false buffered frame fate = fate ≡ Off
 IsRightFate filter room true buffered frame Off = ⊥
@@ -75,9 +75,9 @@ IsRightFate filter room true buffered frame Filtered = IsLegal frame × (¬ (Pas
 IsRightFate filter room true buffered frame Missed = IsLegal frame × Passes filter frame × LacksRoomFor room buffered frame
 IsRightFate filter room true buffered frame Stored = IsLegal frame × Passes filter frame × HasRoomFor room buffered frame
 
--- Each fate is the right one (`IsRightFate`) for the reception when the frame arrives. The marks lead from the reception `now` to the
--- reception `final`. A frame is removed from the buffer only if the buffer isn't empty and the receive side is enabled, and only a
--- joined group is left.
+-- Each fate is the right one (`IsRightFate`) for the reception when the frame arrives. The marks lead from the
+-- reception `now` to the reception `final`. The oldest frame is moved only out of a buffer that isn't empty, while the
+-- receive side is enabled. Only a joined group is left.
 abbrev pub AreRightFates : FilterRegisters → (room : ℕ) → (now : Reception) → List Mark → (final : Reception) → Type 0
 AreRightFates registers room now [] final = final ≡ now
 AreRightFates registers room now (Came frame fate ∷ later) final =
@@ -93,8 +93,8 @@ AreRightFates registers room now (SwitchedOff ∷ later) final = AreRightFates r
 AreRightFates registers room now (SwitchedOn ∷ later) final = AreRightFates registers room (record now { enabled = true }) later final
 AreRightFates registers room now (Emptied ∷ later) final = AreRightFates registers room (record now { buffered = [] }) later final
 
--- The frames in the buffer after these marks: those at the start, followed by those stored since. Frames that left or that a reset dropped
--- are not among them.
+-- The frames in the receive packet buffer after these marks: those at the start, followed by those stored since. Frames
+-- that were moved to memory, or that a reset dropped, are no longer in the buffer.
 abbrev pub buffered_after : (buffered : List (List ℕ)) → List Mark → List (List ℕ)
 buffered_after buffered [] = buffered
 buffered_after buffered (Came frame fate ∷ later) = buffered_after (buffered ++ kept fate frame) later
@@ -117,15 +117,15 @@ AreGroupsAfter groups (Joins group ∷ later) now = AreGroupsAfter (groups ++ gr
 AreGroupsAfter groups (Quits group ∷ later) now = (fewer : List (List ℕ)) × Removes group groups fewer × AreGroupsAfter fewer later now
 AreGroupsAfter groups (other ∷ later) now = AreGroupsAfter groups later now
 
--- No group is joined or left.
+-- No mark is a join or a leave of a group.
 abbrev pub KeepsGroups : List Mark → Type 0
 KeepsGroups [] = ⊤
 KeepsGroups (Joins group ∷ later) = ⊥
 KeepsGroups (Quits group ∷ later) = ⊥
 KeepsGroups (other ∷ later) = KeepsGroups later
 
--- A frame's fate is right after the marks before the frame: by the groups in force, the frames in the buffer, and whether the receive side
--- is enabled.
+-- The fate is right for a frame that arrives after the marks `before`, which begin with the reception `start`. The
+-- groups in force, the frames in the buffer, and whether the receive side is enabled determine the right fate.
 pub record IsRightThere (registers : FilterRegisters) (room : ℕ) (start : Reception) (before : List Mark) (frame : List ℕ) (fate : Fate)
     : Type 0 where
   pub groups : List (List ℕ)
@@ -133,7 +133,7 @@ pub record IsRightThere (registers : FilterRegisters) (room : ℕ) (start : Rece
   pub right : IsRightFate (in_force registers groups) room (enabled_after start.enabled before) (buffered_after start.buffered before)
       frame fate
 
--- Each frame's fate is the right one for the marks before the frame (`IsRightThere`).
+-- Each frame's fate in the marks `all` is the right one for the marks before the frame (`IsRightThere`).
 abbrev pub AreRightByList : FilterRegisters → (room : ℕ) → (start : Reception) → List Mark → Type 0
 AreRightByList registers room start all =
     (before later : List Mark) (frame : List ℕ) (fate : Fate) → all ≡ before ++ Came frame fate ∷ later

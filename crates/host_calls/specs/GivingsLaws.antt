@@ -1,4 +1,5 @@
--- The ticks that were told and noted in two consecutive intervals are told and noted in both together.
+-- If ticks were told and noted in each of two consecutive intervals, the joined ticks were told and noted in both
+-- together.
 use Rattle.std.proofs.Common.{List, refl, ◌∙◌}
 use Rattle.stations.specs.ToldTicks.{ComposesTold, TickTold}
 use Rattle.host_calls.specs.Givings.{TellsAndNotes}

@@ -1,5 +1,5 @@
--- Happenings: what happens in a run to frames, joined groups and receive sides, in order. Ticks, their outcomes and
--- the answers of events determine them (our choice).
+-- Happenings: what happens in a run to frames, joined groups and receive sides, in order. Ticks, their outcomes and the
+-- answers of events determine the happenings (our choice).
 use Rattle.std.specs.Prelude.{◌==◌, ◌&&◌, not, ◌++◌, ℕ, Bool, false, Option, Some, None, List, [], ◌∷◌, sum_by, if◌then◌else◌}
 use Rattle.std.specs.List.{flat_map}
 use Rattle.rx_engine.specs.Arriving.{kept}
@@ -42,7 +42,8 @@ tick_host Go = 0
 tick_host (Step host kind) = host
 tick_host (Deliver host) = host
 
--- The happening of a tick at a host, by its outcome: Put, Delivered and Moved have a happening.
+-- The happening of a tick of a host, by the tick's outcome, as a list. The list is empty unless the outcome is Put,
+-- Delivered or Moved.
 abbrev pub outcome_happenings : (host : ℕ) → FrameOutcome → List Happening
 outcome_happenings host (outcome.Put frame) = Put host frame ∷ []
 outcome_happenings host (outcome.Delivered frame fate) = Reached host frame fate ∷ []
@@ -58,7 +59,7 @@ tick_happenings (Step host kind ∷ ticks) (one ∷ outcomes) = outcome_happenin
 tick_happenings (Deliver host ∷ ticks) [] = []
 tick_happenings (Deliver host ∷ ticks) (one ∷ outcomes) = outcome_happenings host one.outcome ++ tick_happenings ticks outcomes
 
--- The happenings of those ticks whose numbers of accesses meet a condition, in order.
+-- `tick_happenings` of only those ticks for whose number of earlier accesses `is_such` is true.
 abbrev pub tick_happenings_where : (is_such : ℕ → Bool) → List Tick → List Numbered → List Happening
 tick_happenings_where is_such [] outcomes = []
 tick_happenings_where is_such (Go ∷ ticks) outcomes = tick_happenings_where is_such ticks outcomes
@@ -69,8 +70,8 @@ tick_happenings_where is_such (Deliver host ∷ ticks) [] = []
 tick_happenings_where is_such (Deliver host ∷ ticks) (one ∷ outcomes) =
     (if is_such one.accesses then outcome_happenings host one.outcome else []) ++ tick_happenings_where is_such ticks outcomes
 
--- The happenings of the ticks of a call, with what the call itself did (`middle`) after the first ticks whose outcomes have
--- 0 accesses.
+-- The happenings of a call: those of its ticks, with what the call itself did (`middle`). `middle` comes before the
+-- first tick whose outcome has an access before it, or at the end if there is no such tick.
 abbrev pub tick_happenings_around : (middle : List Happening) → List Tick → List Numbered → List Happening
 tick_happenings_around middle [] outcomes = middle
 tick_happenings_around middle (Go ∷ ticks) outcomes = tick_happenings_around middle ticks outcomes
@@ -83,7 +84,7 @@ tick_happenings_around middle (Deliver host ∷ ticks) (one ∷ outcomes) =
     if one.accesses == 0 then outcome_happenings host one.outcome ++ tick_happenings_around middle ticks outcomes
     else middle ++ tick_happenings (Deliver host ∷ ticks) (one ∷ outcomes)
 
--- The happenings of a tick outside a call, by its outcome.
+-- The happenings of a tick outside a call, by the first of these outcomes; no happening if there is no outcome.
 abbrev pub lone_tick_happenings : Tick → List Numbered → List Happening
 lone_tick_happenings tick [] = []
 lone_tick_happenings tick (one ∷ outcomes) = outcome_happenings (tick_host tick) one.outcome
@@ -131,7 +132,8 @@ abbrev pub missed_of : ℕ → Happening → ℕ
 missed_of k (Reached host frame fate) = if k == host then missed_by fate else 0
 missed_of k other = 0
 
--- Whether both hosts exist and are on the same wire.
+-- Whether two hosts, which have these wires, exist and are on the same wire. A host that doesn't exist has no wire
+-- (`None`).
 abbrev pub share_wire : Option ℕ → Option ℕ → Bool
 share_wire None other = false
 share_wire (Some wire) None = false

@@ -1,5 +1,5 @@
--- What the answer of an interrupt handler implies about its adapter (13.4.17 "Interrupt Cause Read Register"). That a
--- handler is called over a lent bus is our choice.
+-- What the value that an interrupt handler reads from ICR implies about the adapter and the steps before the read
+-- (13.4.17 "Interrupt Cause Read Register"). That a handler is called over a lent bus is our choice.
 use Rattle.std.specs.Prelude.{⊤, ◌≡◌, ◌≢◌, ◌⊎◌, ◌++◌, ◌∷◌, [], ℕ, Bool, true, false, List, All}
 use Rattle.registers.specs.Bits.{Meet}
 use Rattle.rx_engine.specs.declared.arrival.Fate.TheVariants.{Missed}
@@ -28,23 +28,25 @@ pub record ReadsIcrFirst (caller : ℕ) (steps early : List AtomicStep) (causes 
   -- the early steps are ticks
   pub ticks : All IsTick early
 
--- Whether the piece in progress is the last of its frame, after an event with this outcome. Moved is the outcome for a
--- last piece, and Part for another piece. After Done no piece is in progress.
+-- Whether the piece in progress is the last of its frame, after an event with this outcome; `ends` states this before
+-- the event. Moved is the outcome for a last piece, and Part for another piece. After Done no piece is in progress.
 abbrev pub ends_after : (ends : Bool) → FrameOutcome → Bool
 ends_after ends Moved = true
 ends_after ends Part = false
 ends_after ends Done = false
 ends_after ends outcome = ends
 
--- By an event with this outcome, no frame was put or missed, and no frame's last piece was written back. So the event
--- records none of TXDW, RXO and RXT0. `ends` states whether the piece in progress is the last of its frame.
+-- By an event with this outcome, no frame was put or missed, and no frame's last piece was written back. So none of
+-- TXDW, RXO and RXT0 is recorded. `ends` states whether the piece in progress before the event is the last of its
+-- frame.
 abbrev pub IsQuietOutcome : (ends : Bool) → FrameOutcome → Type 0
 IsQuietOutcome ends (Put frame) = ⊥
 IsQuietOutcome ends Done = ends ≡ false
 IsQuietOutcome ends (Delivered frame Missed) = ⊥
 IsQuietOutcome ends outcome = ⊤
 
--- The outcomes of these events are quiet (`IsQuietOutcome`), in order.
+-- Each of these events, in order, has a quiet outcome (`IsQuietOutcome`). `ends` states whether the piece in progress
+-- before the first event is the last of its frame.
 abbrev pub AreQuietEvents : (ends : Bool) → List Event → Type 0
 AreQuietEvents ends [] = ⊤
 AreQuietEvents ends (event ∷ later) =
@@ -69,7 +71,7 @@ abbrev pub WasQuiet : (caller : ℕ) → AdapterState → (early : List AtomicSt
 WasQuiet caller adapter early =
     (¬ (Meet adapter.causes.recorded handled_causes)) × AreQuietEvents (is_ending adapter.receiver.work) (events_at caller early)
 
--- A cause that a driver handles was recorded when the call began, or an early step or delivery at the caller had an
+-- When the call began, a cause that a driver handles was recorded. Or an early step or delivery at the caller had an
 -- outcome other than Nothing.
 abbrev pub HadCause : (caller : ℕ) → AdapterState → (early : List AtomicStep) → Type 0
 HadCause caller adapter early = Meet adapter.causes.recorded handled_causes ⊎ DidSomething caller early
@@ -86,7 +88,8 @@ pub record TellsCauses (caller : ℕ) (steps : List AtomicStep) (causes : ℕ) (
   -- if the value has a cause that a driver handles, `HadCause` holds
   pub mine : Meet causes handled_causes → HadCause caller adapter early
 
--- What the result of an interrupt handler implies about the adapter and about the steps before the read of ICR.
+-- What the result of an interrupt handler implies about the adapter and about the steps before the read of ICR:
+-- `WasQuiet` for NotMine, and `HadCause` for Handled.
 abbrev pub AnswersCauses : Handled → (caller : ℕ) → AdapterState → (early : List AtomicStep) → Type 0
 AnswersCauses NotMine = WasQuiet
 AnswersCauses (answers.Handled taken) = HadCause

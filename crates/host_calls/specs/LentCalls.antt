@@ -5,7 +5,7 @@ use Rattle.stations.specs.LentBuses.{HappenedLent, SameLent, bytes_here, world_h
 use Rattle.stations.specs.declared.lent_bus.LentBus.{LentBus}
 use Rattle.stations.specs.declared.observer.Observer.{Ghosts as OfObserver}
 
--- the ghost members of a lent bus
+-- the ghost members of a lent bus: each lent bus obeys the bus law, and none is lively
 abbrev pub lent : {O : Type 0} {g : OfObserver O} → Ghosts (LentBus O g)
 lent = record {
   extent = bytes_here;

@@ -22,17 +22,17 @@ abbrev pub holding_in_one : ℕ → Happening → List (List ℕ)
 holding_in_one k (GivenUp host sending holding) = of_host k host holding
 holding_in_one k other = []
 
--- The frame that host k accepted in this happening, if any, padded.
+-- The frame that host k accepted in this happening, if any, padded, as a list.
 abbrev pub padded_in_one : ℕ → Happening → List (List ℕ)
 padded_in_one k one = map padded (accepted_in_one k one)
 
--- The frames that are due on the wire of host k: those to be sent at the beginning, followed by the accepted ones, padded. Frames that a
--- reset dropped are not among them.
+-- The happenings change the frames due on host k's wire from `begin` to `end`: accepted frames are appended, padded,
+-- and resets remove dropped frames from the end.
 abbrev pub AreDue : (k : ℕ) (begin : List (List ℕ)) → List Happening → (end : List (List ℕ)) → Type 0
 AreDue k = ListGoes (padded_in_one k) (sending_in_one k)
 
--- The frames that have come to host k: those held at the beginning, followed by those stored. Frames that a reset dropped are not among
--- them.
+-- The happenings change the frames that have come to host k from `begin` to `end`: stored frames are appended, and
+-- resets remove dropped frames from the end.
 abbrev pub HaveCome : (k : ℕ) (begin : List (List ℕ)) → List Happening → (end : List (List ℕ)) → Type 0
 HaveCome k = ListGoes (stored_by k) (holding_in_one k)
 
@@ -49,13 +49,13 @@ GoesBehind =
     (adds drops : Happening → List (List ℕ)) (front begin end : List (List ℕ)) (happened : List Happening)
     → ListGoes adds drops begin happened end → ListGoes adds drops (front ++ begin) happened (front ++ end)
 
--- The beginning and the happenings determine the end.
+-- The list `begin` and the happenings determine the list `end`.
 abbrev pub GoesToOneEnd : Type 0
 GoesToOneEnd =
     (adds drops : Happening → List (List ℕ)) (begin end other : List (List ℕ)) (happened : List Happening)
     → ListGoes adds drops begin happened end → ListGoes adds drops begin happened other → end ≡ other
 
--- If no frame is dropped, the list at the end is the list at the beginning, followed by all frames that were added.
+-- If no happening drops a frame, `ListGoes` holds exactly if `end` is `begin`, followed by all frames that were added.
 abbrev pub GoesWithoutDrops : Type 0
 GoesWithoutDrops =
     (adds drops : Happening → List (List ℕ)) (begin end : List (List ℕ)) (happened : List Happening) → flat_map drops happened ≡ []

@@ -26,17 +26,17 @@ abbrev pub frames_stored : FrameOutcome → List (List ℕ)
 frames_stored (Delivered frame Stored) = frame ∷ []
 frames_stored outcome = []
 
--- the frame that the host put, if at most 2 accesses came before the tick
+-- the frame that the host put in this tick, if any, as a list; empty if more than 2 accesses came before the tick
 abbrev pub early_put : (host : ℕ) → TickTold → List (List ℕ)
 early_put host told = if is_of_host host told.tick && nat_le told.accesses 2 then frames_put told.outcome else []
 
--- the frame that the host stored, if no access came before the tick
+-- the frame that the host stored in this tick, if any, as a list; empty if an access came before the tick
 abbrev pub first_stored : (host : ℕ) → TickTold → List (List ℕ)
 first_stored host told = if is_of_host host told.tick && told.accesses == 0 then frames_stored told.outcome else []
 
--- The notes of a host's ticks: the number of frames that the host put after at most 2 accesses, up to the greatest
--- u64. They contain a list of at most `most` frames: those held at the start, and then those stored before the first
--- access.
+-- The notes of the ticks of the host `host`. `put` is the number of frames that the host put after at most 2 accesses,
+-- which saturates at the greatest u64. `holding` are at most `most` frames: those held at the start, followed by those
+-- stored before the first access.
 pub record Notes : Type 0 where
   pub host : ℕ
   pub most : ℕ
@@ -47,7 +47,7 @@ pub record NotesFit (notes : Notes) : Type 0 where
   pub put : notes.put ≤ most_accesses
   pub holding : length notes.holding ≤ notes.most
 
--- the notes after these ticks
+-- the notes `before`, after these ticks were noted
 abbrev pub noted_after : List TickTold → Notes → Notes
 noted_after told before = record {
   host = before.host;
@@ -60,6 +60,6 @@ pub record Noting (before after : Notes) (told : List TickTold) : Type 0 where
   pub notes : after ≡ noted_after told before
   pub within : NotesFit after
 
--- The ticks that were told were noted.
+-- If the notes `before` fit (`NotesFit`), `after` are these notes after the ticks were noted, and fit, too.
 abbrev pub NotesTicks : Notes → Notes → List TickTold → Type 0
 NotesTicks before after told = NotesFit before → Noting before after told

@@ -19,8 +19,8 @@ IsNotOfReception Tctl = ⊤
 IsNotOfReception Ims = ⊤
 IsNotOfReception register = ⊥
 
--- The access is a load, a store, a read, a write of one of these registers (`IsNotOfReception`), or a write to an offset without a
--- register. Such an access changes neither the filter nor the receive packet buffer and its size.
+-- The access doesn't write a register, except one of those that `IsNotOfReception` permits. Such an access changes
+-- neither the filter nor the receive packet buffer and its size.
 abbrev pub LeavesReception : Access → Type 0
 LeavesReception (Reads offset value) = ⊤
 LeavesReception (Writes offset value) = IfSome (register_at offset) IsNotOfReception
@@ -31,14 +31,14 @@ LeavesReception (Stores address bytes) = ⊤
 abbrev pub SameButGroups : FilterRegisters → FilterRegisters → Type 0
 SameButGroups a b = b ≡ record a { mta = b.mta }
 
--- Between two states of an adapter, the filter except MTA and the room of the packet buffer don't change. The fates of the frames that
--- arrived are right. For these fates, the receive side is enabled at the beginning and at the end. The host has joined `groups` in the
--- first state and `groups'` in the second.
+-- From the adapter `a` to `b`, the filter except MTA, and the room of the receive packet buffer, don't change. The
+-- fates of the frames that arrived are right, for a receive side that is enabled at the beginning and at the end. The
+-- joined groups are `groups` at the beginning, and `groups'` at the end.
 pub record ReceivesRightly (groups : List (List ℕ)) (a : AdapterState) (all : List Mark) (groups' : List (List ℕ)) (b : AdapterState)
     : Type 0 where
   -- The registers of the receive filter, which include RCTL, are the same at the end, except MTA.
   pub filter : SameButGroups a.filter b.filter
-  -- MTA is the same, too, if no group is joined or left.
+  -- If no group is joined or left, MTA is the same, too.
   pub unchanged : KeepsGroups all → b.filter ≡ a.filter
   -- RXA of PBA is the same at the end.
   pub kilobytes : b.receive_kilobytes ≡ a.receive_kilobytes

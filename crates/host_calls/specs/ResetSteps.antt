@@ -1,5 +1,6 @@
 -- The atomic steps of a reset of a host's adapter, in its network (our choice). The accesses among them are exactly those of the driver's
--- reset, in order (driver/specs/Resetting). Three of them divide the steps: RCTL is written with 0, then CTRL with RST, then RCTL again.
+-- reset, in order (driver/specs/Resetting). Three accesses divide the steps: RCTL is written with 0, then CTRL with
+-- RST, then RCTL again.
 use Rattle.std.specs.Prelude.{◌≡◌, ◌++◌, ◌∷◌, [], ℕ, List}
 use Rattle.registers.specs.Places.{alone, ctrl_rst}
 use Rattle.dma_memory.specs.Layout.{Counts}
@@ -8,11 +9,11 @@ use Rattle.bus.specs.declared.event.Access.TheVariants.{Reads, Writes}
 use Rattle.bus.specs.declared.event.Event.TheVariants.{Accesses}
 use Rattle.stations.specs.AtomicRuns.{past_at}
 use Rattle.stations.specs.AtomicSteps.{At, AtomicStep}
-use Rattle.driver_law.specs.DriverState.{DriverSetup}
+use Rattle.bus.specs.DriverState.{DriverSetup}
 use Rattle.bring_up.specs.RingRegisters.{receive_control}
 use Rattle.driver.specs.Resetting.{free_accesses, later_accesses, quiet_writes}
 
--- the atomic step in which host k writes a register
+-- the atomic step in which host k writes the value `value` to the register at `offset`
 abbrev pub writes_at : (k offset value : ℕ) → AtomicStep
 writes_at k offset value = At k (Accesses (Writes offset value))
 
@@ -61,10 +62,10 @@ pub record ResetValues : Type 0 where
   pub groups : List ℕ
   -- the words of VFTA
   pub vlans : List ℕ
-  -- the buffers of the slots offered
+  -- the numbers of the buffers in the slots that are offered
   pub numbers : List ℕ
 
--- The accesses of each part, in order. Together with the three writes they are all accesses of the reset.
+-- The accesses of each part, in order. These accesses and the three writes are all accesses of the reset.
 pub record PartsAccess (k : ℕ) (counts : Counts) (setup : DriverSetup) (values : ResetValues) (parts : ResetParts) : Type 0 where
   -- before RCTL is written with 0, there is no access
   pub early : (past_at k parts.early).accesses ≡ []
@@ -73,5 +74,5 @@ pub record PartsAccess (k : ℕ) (counts : Counts) (setup : DriverSetup) (values
   -- before RCTL is written again, IMC is written, ICR is read, the registers are set up, and receive slots are offered
   pub resting : (past_at k parts.resting).accesses ≡ Writes IMC 0xFFFFFFFF ∷ Reads ICR values.causes
       ∷ quiet_writes setup counts values.groups values.vlans ++ free_accesses counts values.numbers
-  -- after that, the transmit side is set up and IMS is written
+  -- after RCTL is written again, the transmit side is set up and IMS is written
   pub later : (past_at k parts.later).accesses ≡ later_accesses counts

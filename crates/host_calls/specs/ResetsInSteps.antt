@@ -1,6 +1,5 @@
 -- What a reset of a host does, in the atomic steps of its network (our choice). Up to the write of CTRL.RST the driver
--- is ready. After this write, the adapter is at rest until RCTL is written. From the write of RCTL on, frames are
--- received again.
+-- is ready. After this write, the adapter doesn't put, store or miss a frame until RCTL is written the second time.
 use Rattle.std.specs.Prelude.{◌≡◌, ◌++◌, [], ℕ, true, List}
 use Rattle.adapter.specs.HostFrames.{frames_held, frames_to_send}
 use Rattle.adapter.specs.World.{World}
@@ -11,9 +10,9 @@ use Rattle.bring_up.specs.Groups.{HasTable}
 use Rattle.stations.specs.AtomicRuns.{LeadsTo, counted_of, past_at}
 use Rattle.stations.specs.AtomicSteps.{AtomicStep, after}
 use Rattle.stations.specs.Stations.{StationState, world_at}
-use Rattle.driver_law.specs.Calls.{HasNoForgottenWork, IsRefilled, SumsMisses, driver_in, with_missed}
-use Rattle.driver_law.specs.DriverState.{DriverSetup, with_owners}
-use Rattle.driver_law.specs.Resets.{reset_driver, reset_world}
+use Rattle.bus.specs.Calls.{HasNoForgottenWork, IsRefilled, SumsMisses, driver_in, with_missed}
+use Rattle.bus.specs.DriverState.{DriverSetup, with_owners}
+use Rattle.bus.specs.Resets.{reset_driver, reset_world}
 use Rattle.driver.specs.Initialisation.{AreFilterTables}
 use Rattle.packet_socket.specs.HostCalls.{HostGoesTo, HostReady, did_nothing, in_world, waiting_frames}
 use Rattle.packet_socket.specs.HostState.{HostState}
@@ -38,12 +37,12 @@ pub record StopsInSteps (k misses : ℕ) (parts : ResetParts) (old : ConnectedHo
   -- no frame is missed after RCTL is 0
   pub none_missed : (past_at k parts.stopping).missed ≡ 0
 
--- The steps from the write of CTRL.RST to that of RCTL. The write of CTRL.RST resets the adapter, and no frame is put,
--- stored or missed.
+-- The steps from the write of CTRL.RST to the second write of RCTL. The write of CTRL.RST resets the adapter, and no
+-- frame is put, stored or missed.
 pub record RestsInSteps (k : ℕ) (setup : DriverSetup) (parts : ResetParts) (last enabled : List StationState) : Type 0 where
-  -- the steps lead from CTRL.RST to the write of RCTL
+  -- the steps lead from the stations right before the write of CTRL.RST to those right after the second write of RCTL
   pub leads : LeadsTo k (at_rest k setup parts) last enabled
-  -- after CTRL.RST the adapter is reset, and memory is the same
+  -- after the write of CTRL.RST the adapter is reset, and memory is the same
   pub is_reset : world_at (after (reset_of k) last) k ≡ reset_world (world_at last k)
   -- no frame is put, stored or missed
   pub no_frame : NoFrame (past_at k (at_rest k setup parts))
@@ -58,24 +57,24 @@ pub record HostBeginsAgain (misses : ℕ) (numbers : List ℕ) (old new : HostSt
   -- no buffer is free, or all slots except one are outstanding
   pub refilled : IsRefilled new.driver
 
--- The steps after the write of RCTL: the host is ready at their end, and holds exactly the frames stored since this
--- write.
+-- The steps after the second write of RCTL: the host is ready at their end, and holds exactly the frames stored since
+-- this write.
 pub record RestartsInSteps (k : ℕ) (parts : ResetParts) (enabled : List StationState) (new : ConnectedHost) : Type 0 where
-  -- the steps lead from the stations right after the write of RCTL to those after the reset
+  -- the steps lead from the stations right after the second write of RCTL to those after the reset
   pub leads : LeadsTo k parts.later enabled new.stations
   -- the host is ready
   pub ready : HostReady new.host (world_at new.stations k)
   -- no work is forgotten
   pub work : HasNoForgottenWork new.host.driver (world_at new.stations k)
-  -- the frames held are those stored since the write of RCTL
+  -- the frames held are those stored since the second write of RCTL
   pub held : frames_held new.host.driver.oldest_receive (world_at new.stations k) ≡ (past_at k parts.later).stored
   -- no frame is put on the wire
   pub none_put : (past_at k parts.later).put ≡ []
   -- no frame is to be sent
   pub none_to_send : frames_to_send (world_at new.stations k) ≡ []
 
--- What a reset doesn't change: the driver's setup in the adapter, the bits of the group table, the frames in queues,
--- and a link that is up. The reset loses no count of missed frames.
+-- What a reset keeps: the driver's setup in the adapter, the bits of the group table, the frames in queues, and a link
+-- that is up while no MDIC command is pending. The driver's sum of missed frames changes as in other intervals (`SumsMisses`).
 pub record KeepsInReset (k : ℕ) (steps : List AtomicStep) (old new : ConnectedHost) : Type 0 where
   -- the adapter has the driver's setup
   pub set_up : HasSetup old.host.driver.setup (world_at new.stations k).adapter
@@ -84,7 +83,7 @@ pub record KeepsInReset (k : ℕ) (steps : List AtomicStep) (old new : Connected
   -- each socket's queue has the same frames
   pub waiting : (socket : ℕ) → waiting_frames new.host socket (world_at new.stations k)
       ≡ waiting_frames old.host socket (world_at old.stations k)
-  -- no count of missed frames is lost
+  -- how the driver's sum of missed frames and MPC change, by the number of frames missed
   pub sums : SumsMisses (driver_in old.host.driver (world_at old.stations k)) (driver_in new.host.driver (world_at new.stations k))
       (past_at k steps)
   -- If the link is up and no MDIC command is pending, both remain true.
@@ -108,9 +107,9 @@ pub record ResetsInSteps (k : ℕ) (steps : List AtomicStep) (old new : Connecte
   pub enabled : List StationState
   -- the steps up to the write of CTRL.RST
   pub stops : StopsInSteps k values.misses parts old last
-  -- the steps from the write of CTRL.RST to the write of RCTL
+  -- the steps from the write of CTRL.RST to the second write of RCTL
   pub rests : RestsInSteps k old.host.driver.setup parts last enabled
-  -- the steps after the write of RCTL
+  -- the steps after the second write of RCTL
   pub restarts : RestartsInSteps k parts enabled new
   -- the host after the reset
   pub again : HostBeginsAgain values.misses values.numbers old.host new.host
@@ -119,14 +118,14 @@ pub record ResetsInSteps (k : ℕ) (steps : List AtomicStep) (old new : Connecte
 
 -- The frames that are lost in a reset: those to be sent (`sending`) and those held (`holding`) right before CTRL.RST is
 -- written. `sending` are the frames to be sent at the beginning, without those put since. `holding` are the frames held
--- at the beginning, followed by those stored before RCTL was 0.
+-- at the beginning, followed by those stored before the write of 0 to RCTL.
 pub record GivesUp (sending holding : List (List ℕ)) (k oldest : ℕ) (parts : ResetParts) (old last : World) : Type 0 where
   pub sending_then : sending ≡ frames_to_send last
   pub holding_then : holding ≡ frames_held oldest last
   pub sending_since : (past_at k (before_reset k parts)).put ++ sending ≡ frames_to_send old
   pub holding_since : holding ≡ frames_held oldest old ++ (past_at k parts.early).stored
 
--- A reset with its ticks, and its atomic steps.
+-- The host `call.caller` was reset with the ticks of `call`, in the atomic steps `steps`.
 pub record RunsReset (call : PlayedCall) (old new : ConnectedHost) : Type 0 where
   pub steps : List AtomicStep
   pub of_call : StepsOfCall call steps old.stations new.stations

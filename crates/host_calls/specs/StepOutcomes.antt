@@ -1,4 +1,4 @@
--- The outcome of each tick, by the counts of its host (our choice).
+-- The outcome of each tick, by the counts of its host and the frames that wait (our choice).
 use Rattle.std.specs.Prelude.{◌≡◌, ◌==◌, ◌&&◌, ◌||◌, ◌++◌, not, ℕ, Bool, List, [], ◌∷◌, MatchBool, is_some, length, nat_le}
 use Rattle.std.specs.Prelude.{if◌then◌else◌}
 use Rattle.rx_engine.specs.declared.arrival.Fate.{Fate}
@@ -19,7 +19,7 @@ use Rattle.host_calls.specs.WaitingFrames.{WireIsFull, waiting_at}
 abbrev pub transmit_room : ℕ
 transmit_room = 4
 
--- Nothing if there is nothing to do, else this outcome.
+-- Nothing if the part of the adapter is idle, else this outcome.
 abbrev pub nothing_if : Bool → FrameOutcome → FrameOutcome
 nothing_if is_idle outcome = if is_idle then Nothing else outcome
 
@@ -35,7 +35,7 @@ has_nothing_to_take counts = not counts.is_enabled || (counts.buffered == transm
 abbrev pub has_nothing_to_move : ReceiveCounts → Bool
 has_nothing_to_move counts = not counts.is_enabled || (counts.is_working || (length counts.left == 0 || offers_none counts.ring))
 
--- The number of bytes of the oldest frame that are still to be moved.
+-- The number of bytes of the oldest frame that are still to be moved; 0 if there is no frame.
 abbrev pub left_of_oldest : List ℕ → ℕ
 left_of_oldest [] = 0
 left_of_oldest (oldest ∷ later) = oldest
@@ -53,15 +53,16 @@ abbrev pub stations_behind : List AtomicStep → List StationState → List Stat
 stations_behind [] stations = stations
 stations_behind (step ∷ later) stations = stations_behind later (after step stations)
 
--- The outcome of TxPut if there is a frame to put. If another end of the wire is full, the outcome is WireFull, else Put of the oldest
--- frame in the packet buffer.
+-- The outcome of TxPut after the steps `before` if there is a frame to put: WireFull if another end of the wire is
+-- full, else Put of the oldest frame in the transmit packet buffer.
 abbrev pub IsPutOutcome : (start : List StationState) (before : List AtomicStep) (host : ℕ) → FrameOutcome → Type 0
 IsPutOutcome start before host WireFull = WireIsFull start before host
 IsPutOutcome start before host (Put frame) =
     (¬ (WireIsFull start before host)) × IsOldest (world_at (stations_behind before start) host).adapter.transmitter.buffer frame
 IsPutOutcome start before host _ = ⊥
 
--- The outcome of a host's step after the steps `before`, by the counts of the host.
+-- The outcome of a step of this host's adapter after the steps `before`, by the host's counts; for TxPut, see
+-- `IsPutOutcome`.
 abbrev pub IsStepOutcome : (start : List StationState) (before : List AtomicStep) (host : ℕ) → HostCounts → StepKind → FrameOutcome → Type 0
 IsStepOutcome start before host counts TxTake outcome = outcome ≡ nothing_if (has_nothing_to_take counts.transmit) Took
 IsStepOutcome start before host counts TxPut outcome =
@@ -95,12 +96,13 @@ IsTickOf host Go = ⊥
 IsTickOf host (Step other kind) = other ≡ host
 IsTickOf host (Deliver other) = other ≡ host
 
--- The property is true of each tick of a host, with the steps before it.
+-- `fact` is true of the outcome of each tick of this host, with the steps before the tick.
 abbrev pub OfEachTick : (host : ℕ) → List AtomicStep → (List AtomicStep → Tick → FrameOutcome → Type 0) → Type 0
 OfEachTick host steps fact =
     (before later : List AtomicStep) (step : AtomicStep) → steps ≡ before ++ step ∷ later → IsTickOf host (tick_of step)
     → fact before (tick_of step) (step_outcome step)
 
--- Each tick of a host has the outcome that follows from the counts and the waiting frames at the start.
+-- Each tick of a host has the outcome that follows from the counts and the waiting frames at the start, changed by
+-- earlier steps.
 abbrev pub AreAnswered : (host : ℕ) → (start : List StationState) → List AtomicStep → Type 0
 AreAnswered host start steps = OfEachTick host steps (IsTickOutcome start)

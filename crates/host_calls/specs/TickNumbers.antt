@@ -1,4 +1,4 @@
--- The number of accesses that a call had made before each outcome (our choice).
+-- The number of accesses that a call made before each of its ticks (our choice).
 use Rattle.std.specs.Prelude.{◌+◌, ℕ, List, [], ◌∷◌, map, min}
 use Rattle.stations.specs.declared.outcomes.Numbered.{Numbered}
 use Rattle.stations.specs.declared.tick.Tick.{Tick}

@@ -6,18 +6,20 @@ use Rattle.stations.specs.AtomicSteps.{At, AtomicStep, Idles}
 use Rattle.stations.specs.Ends.{end_frames}
 use Rattle.stations.specs.Stations.{StationState, backlog_after, backlog_at, wire_at}
 
--- Whether both hosts exist and are on the same wire.
+-- Whether two hosts, which have these wires, exist and are on the same wire. A host that doesn't exist has no wire
+-- (`None`).
 abbrev pub is_same_wire : Option ℕ → Option ℕ → Bool
 is_same_wire None other = false
 is_same_wire (Some wire) None = false
 is_same_wire (Some wire) (Some other) = wire == other
 
--- The frames that are added at an end of a wire when a host puts these frames.
+-- The frames that are added at another host's end when a host puts these frames: all of them if both hosts are on the
+-- same wire, else none.
 abbrev pub come_to : (is_same : Bool) → List (List ℕ) → List (List ℕ)
 come_to is_same frames = if is_same then frames else []
 
--- The frames that wait at a host's end after a step. A delivery removes the oldest frame, and a frame that another host puts onto the wire
--- is appended.
+-- The frames that wait at a host's end after an atomic step, if `waiting` wait before it. A delivery at this host
+-- removes the oldest frame, and a frame that another host puts onto the same wire is appended.
 abbrev pub waiting_after_step : (start : List StationState) (host : ℕ) → AtomicStep → List (List ℕ) → List (List ℕ)
 waiting_after_step start host (At other event) waiting =
     if host == other then backlog_after event waiting
@@ -29,7 +31,7 @@ abbrev pub waiting_behind : (start : List StationState) (host : ℕ) → List At
 waiting_behind start host [] waiting = waiting
 waiting_behind start host (step ∷ later) waiting = waiting_behind start host later (waiting_after_step start host step waiting)
 
--- The frames that wait at a host's end after these steps, from the start on.
+-- The frames that wait at a host's end after these steps from the stations `start`.
 abbrev pub waiting_at : (start : List StationState) → List AtomicStep → (host : ℕ) → List (List ℕ)
 waiting_at start steps host = waiting_behind start host steps (backlog_at start host)
 

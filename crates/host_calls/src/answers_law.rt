@@ -1,4 +1,4 @@
-//! Laws of the outcomes of ticks, and of the slots that a driver offers.
+//! Laws of the outcomes of ticks, of the counts of a host, and of the slots that a driver offers.
 
 ghost use Rattle.host_calls.specs.AnswersLaws.{AbsentHostsAnswerNothing, CountsGoByOutcomes, FaultNeverComes};
 ghost use Rattle.host_calls.specs.AnswersLaws.{FaultNeverComesAroundReset, GoAnswersNothing, NoSlotIsOffered};
@@ -6,19 +6,19 @@ ghost use Rattle.host_calls.specs.AnswersLaws.{OneIsTaken, ReceiveTailWritesAreC
 ghost use Rattle.host_calls.specs.AnswersLaws.{TailsOfferSlots, TicksAreAnsweredByCounting};
 ghost use Rattle.host_calls.specs.AnswersLaws.{TransmitTailWritesAreCounted, WaitingFramesGoByOutcomes};
 
-/// The outcome of each tick of a host follows from the counts and the waiting frames at the start, even if the host's
-/// driver resets its adapter.
+/// The outcome of each tick of a host follows from the counts and the waiting frames at the start, even if an access
+/// resets the adapter.
 /// - `answers`: the outcome of a tick follows from the counts and the waiting frames at the start, changed by what
-///   happened before the tick. No engine of the host may be stopped at the start, no step may be a fault, and the
-///   host's driver may not write MDIC.
+///   happened before the tick. Only the fate of a delivered frame doesn't follow. No engine of the host may be stopped
+///   at the start, no step may be a fault, and the host's driver may not write MDIC.
 /// - `counts`: the counts of the host at the end are those at the start, changed by all outcomes and accesses. The
 ///   host's driver may not write MDIC.
-/// - `waiting`: the frames that finally wait at a host's end of its wire are those that waited there at first, changed
-///   by all outcomes.
-/// - `faultless`: no engine is stopped at the start and no step is a fault, if no access resets the adapter and no
-///   engine is stopped at the end.
-/// - `around_reset`: the same is true if only one access may reset the adapter, and no engine is stopped right before
-///   this access or at the end.
+/// - `waiting`: the frames that finally wait at a host's end of its wire are those at the start, changed by all
+///   outcomes.
+/// - `faultless`: no engine is stopped at the start and no step is a fault, if two conditions are met. No access may
+///   reset the host's adapter, and no engine may be stopped at the end.
+/// - `around_reset`: `faultless` permits one access that resets the adapter, if no engine is stopped right before this
+///   access.
 pub fn ticks_are_answered_by_counting()
     ensures answers { TicksAreAnsweredByCounting }
     ensures counts { CountsGoByOutcomes }
@@ -40,12 +40,13 @@ pub fn idle_ticks_answer_nothing()
 /// slots.
 /// - `none`: no slot is offered exactly if the head equals the tail.
 /// - `taken`: if a slot is offered and the adapter takes the slot at the head, the number of offered slots decreases
-///   by one.
-/// - `places`: when the tail advances by N places, N more slots are offered, if the ring has more slots than are then
-///   offered.
+///   by one. Head and tail remain indices of slots.
+/// - `places`: if the tail advances by N places, N more slots are offered. The ring must have more slots than the sum
+///   of N and the slots offered before.
 /// - `receive`: a write of a slot's index to RDT moves the tail of the receive ring to this slot.
 /// - `transmit`: a write of a slot's index to TDT moves the tail of the transmit ring to this slot.
-/// - `enabled`: without a write of CTRL, RCTL or TCTL, each side remains enabled or disabled.
+/// - `enabled`: without a write of CTRL, RCTL or TCTL, the receive side remains enabled or disabled, and so does the
+///   transmit side.
 pub fn tails_offer_slots()
     ensures none { NoSlotIsOffered }
     ensures taken { OneIsTaken }

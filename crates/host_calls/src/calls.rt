@@ -1,4 +1,4 @@
-// Calls of the hosts of a network, with the ticks inside them.
+// Calls of the hosts of a network, during which ticks are played.
 
 ghost use Rattle.std.specs.Prelude.{◌≤◌, ◌<◌, length};
 ghost use Rattle.stations.specs.Stations.{world_at};
@@ -17,7 +17,7 @@ use stations::{LentBus, Observer, Tick};
 pub struct Called {
     /// The answer. If a socket returned a frame, the answer contains the frame's size in bytes.
     pub answer: HostAnswer<usize>,
-    /// The number of accesses; it saturates at the greatest `u64`.
+    /// The number of accesses of the call; it saturates at the greatest `u64`.
     pub accesses: u64,
 }
 

@@ -1,4 +1,4 @@
-// Laws of what happens to frames.
+// Laws of what happens to frames, of their fates, and of consecutive happenings.
 
 ghost use Rattle.host_calls.specs.DeliveryLaws.{CallsAreToldBetweenTicks, DeliveriesJoin, FatesAreJudgedByTheBuffer};
 ghost use Rattle.host_calls.specs.DeliveryLaws.{FatesAreOff, FatesAreRight, FilterStays, OutcomesTellByNumber};
@@ -12,10 +12,13 @@ ghost use Rattle.host_calls.specs.Lists.{AcceptedArePadded, GoesBehind, GoesJoin
 use stations::Observer;
 
 /// The outcomes of ticks determine what happened in their atomic steps.
-/// - `call`: this holds for the ticks of a call, in order. Each outcome has the number of accesses before its tick.
-///   This number is the number of `Go`s before the tick, but at most the number of accesses of the complete call.
-/// - `alone`: this also holds for one tick that is played outside a call, even if the tick is Go.
-/// - `leads`: if this tick isn't Go, its atomic step leads from the old state of all stations to the new one.
+/// - `call`: the outcomes of a call's ticks, in order, determine what happened in the steps of the call. Each outcome
+///   has the number of accesses before its tick. This number is the number of `Go`s before the tick, but at most the
+///   number of accesses of the complete call.
+/// - `alone`: the outcome of one tick that is played outside a call determines what happened in its step, even if the
+///   tick is `Go`.
+/// - `leads`: the atomic step of a tick other than `Go`, played outside a call, leads from the old state of all
+///   stations to the new state.
 pub fn outcomes_tell_steps()
     ensures call { OutcomesTellSteps }
     ensures alone { OneOutcomeTellsItsStep }
@@ -23,19 +26,20 @@ pub fn outcomes_tell_steps()
 {}
 
 /// `call` of [`outcomes_tell_steps`] applies to each call over a lent bus after `finish`, if the bus counted no access
-/// before the call. The observer was told the outcome of each tick.
+/// before the call. The observer was told the outcome of each tick except each `Go`.
 pub fn lent_calls_are_told<O: Observer>()
     ensures { LentCallsAreTold O.Observer }
 {}
 
 /// `tick_happenings_around` inserts what a call itself did into the happenings of the call's ticks.
-/// - `between`: the happenings of the ticks are the same, in the same order. What the call did is between two of them,
-///   or before or after all of them.
-/// - `nothing`: if the call did nothing, the happenings are those of its ticks.
-/// - `access`: if the call made one access, what it did is between the happenings before and after this access.
-/// - `none`: if the call made no access, what it did is after the happenings of all its ticks.
-/// - `numbers`: the outcomes whose numbers of accesses meet a condition determine what happened in the steps with
-///   these numbers of accesses before them.
+/// - `between`: the happenings of the ticks are the same, in the same order. What the call did is between two of these
+///   happenings, or before or after all of them.
+/// - `nothing`: if the call itself has no happening, the happenings of the call are those of its ticks.
+/// - `access`: if the call made exactly one access, what the call did is between the happenings before this access and
+///   those after it.
+/// - `none`: if the call made no access, what the call did is after the happenings of all its ticks.
+/// - `numbers`: the outcomes whose numbers of accesses meet a condition determine what happened in the steps with such
+///   a number of earlier accesses.
 pub fn calls_say_at_their_access()
     ensures between { CallsAreToldBetweenTicks }
     ensures nothing { OnlyTicksAreTold }
@@ -45,8 +49,8 @@ pub fn calls_say_at_their_access()
 {}
 
 /// What atomic steps do to the frames of each host. The happenings contain exactly the frames that the host's adapter
-/// put and stored, and the number of frames that it missed. The frames that waited at the host's end of the wire,
-/// followed by those that other hosts put there, have reached the host in this order or still wait. Hosts and wires
+/// put and stored, and the number of frames that the adapter missed. The frames that waited at the host's end, followed
+/// by those put toward the host, have reached the host in this order or still wait. The number of hosts and their wires
 /// don't change, and no frame is accepted or returned.
 pub fn steps_move_frames()
     ensures { StepsMoveFrames }
@@ -58,9 +62,9 @@ pub fn steps_move_frames()
 ///   host's driver may write no registers except RDT, TCTL, IMS and those of the transmit ring. Under these conditions,
 ///   the filter, the joined groups and PBA.RXA don't change.
 /// - `tails`: `fates` permits writes of RDT and TDT.
-/// - `off`: while RCTL.EN is 0 and RCTL isn't written, each frame that reaches a host is dropped. No frame is moved
-///   from the host's receive packet buffer to memory.
-/// - `filter`: while only the registers of `fates` are written, the filter doesn't change.
+/// - `off`: while RCTL.EN is 0 and RCTL isn't written, each frame that reaches a host has the fate `Off`. No frame is
+///   moved from the host's receive packet buffer to memory.
+/// - `filter`: if the host's driver writes only the registers that `fates` permits, the filter doesn't change.
 pub fn fates_are_right()
     ensures fates { FatesAreRight }
     ensures tails { TailWritesLeaveReception }
@@ -70,8 +74,8 @@ pub fn fates_are_right()
 
 /// `ReceivesRightly` holds for a join or a leave: the filter except MTA, and the frames in the packet buffer, don't
 /// change.
-/// - `written`: the driver writes a word of MTA.
-/// - `alone`: the driver makes no access.
+/// - `written`: `ReceivesRightly` holds for a join or a leave with a write of a word of MTA.
+/// - `alone`: `ReceivesRightly` holds for a join or a leave without an access.
 pub fn groups_change()
     ensures written { WritesChangeGroups }
     ensures alone { GroupsChangeAlone }
@@ -81,12 +85,12 @@ pub fn groups_change()
 /// - `lists`: each list of a host is its list for the first happenings, followed by its list for the later ones. The
 ///   numbers of missed frames are added.
 /// - `toward`: the frames that other hosts put on a host's wire depend only on the wires of the hosts.
-/// - `waits`: the frames that reached a host, followed by those that wait at its end, are those that waited at the
-///   start, followed by those that others put on its wire. If this is true of each of two consecutive intervals, and
-///   wires don't change, it is true of both together.
-/// - `fates`: if the fates of both lists are right, and the second list begins with the final reception of the first,
-///   the fates of the joined list are right.
-/// - `receptions`: `ReceivesRightly` of two consecutive intervals holds for both together.
+/// - `waits`: the frames that reached a host, followed by those that wait, are those that waited at the start, followed
+///   by those put toward the host. If this is true of each of two consecutive intervals, and wires don't change, it is
+///   true of both together.
+/// - `fates`: if the fates of two lists of marks are right, those of the joined list are right. The second list must
+///   begin with the final reception of the first.
+/// - `receptions`: if `ReceivesRightly` holds in each of two consecutive intervals, it holds in both together.
 pub fn deliveries_join()
     ensures lists { DeliveriesJoin }
     ensures toward { WiresDecideToward }
@@ -96,9 +100,9 @@ pub fn deliveries_join()
 {}
 
 /// If all fates are right, each single fate is right. The right fate depends on the groups in force, the frames in the
-/// packet buffer, and whether the receive side is enabled when the frame arrives. The groups are those at the start,
+/// packet buffer, and whether the receive side is enabled at the arrival. The groups are those at the start,
 /// changed by each join and leave since. The frames are those at the start, followed by those stored since. Frames
-/// that left or that a reset dropped are not among them.
+/// that were moved to memory, or that a reset dropped, are no longer in the buffer.
 pub fn fates_are_judged_by_the_buffer()
     ensures { FatesAreJudgedByTheBuffer }
 {}
@@ -107,9 +111,9 @@ pub fn fates_are_judged_by_the_buffer()
 /// - `join`: two consecutive changes of a list are together one change.
 /// - `behind`: frames before the list at the beginning are still before the list at the end.
 /// - `one_end`: the beginning and the happenings determine the end.
-/// - `without`: if no frame is removed, the list at the end is the list at the beginning, followed by all frames that
-///   were added.
-/// - `padded`: the frames that are added to the frames due are the accepted frames, padded.
+/// - `without`: if no frame is removed, the list at the end is exactly the list at the beginning, followed by all
+///   frames that were added.
+/// - `padded`: the frames that are added to the frames due on a host's wire are the accepted frames, padded.
 pub fn lists_grow_and_shrink()
     ensures join { GoesJoin }
     ensures behind { GoesBehind }

@@ -33,8 +33,8 @@ fn first_waiting(host: &Host) -> Option<usize>
 
 impl Network {
     /// Drains a host: passes each frame that the host holds for its sockets to `sink`, and returns the number of steps.
-    /// No tick is played in the calls of the host. `sink` must have room for [`MOST_FRAMES`] (614) more frames than the
-    /// host has receive buffers.
+    /// No tick is played in the calls of the host. For a host with N receive buffers, `sink` must have room for at
+    /// least N + [`MOST_FRAMES`] (614) frames.
     ///
     /// Each step is the first of these that applies. If a piece of a frame is in progress, the host's adapter writes
     /// back the descriptor of the piece. If the interrupt line is asserted, the host handles an interrupt. If a frame
@@ -58,8 +58,10 @@ impl Network {
         steps
     }
 
-    /// Takes the next step of a drain. Returns `false` if no step applies: then the host holds no frame. A frame that a
-    /// socket returns is first copied to `bytes`. Only this host and its station change, and no end of a wire changes.
+    /// Takes the next step of a drain. Returns `false` if no step applies: then the host holds no frame for its
+    /// sockets. A frame that a socket returns is first copied to `bytes`, and then passed to `sink`.
+    ///
+    /// Only this host and its station change, and no end of a wire changes.
     fn step<S: FrameSink>(&mut self, number: usize, bytes: &mut [u8; 1518], sink: &mut S) -> bool
         requires there { number < length self.old.hosts }
         requires stands { CanBeDrained (nth_host self.old number) (world_at self.old.stations number) }
@@ -142,8 +144,8 @@ impl Network {
         }
     }
 
-    /// Takes the last kind of step: the adapter moves the next piece of the oldest frame in the packet buffer to
-    /// memory. Returns `false` if the packet buffer is empty.
+    /// Takes the last kind of step: the adapter moves the next piece of the oldest frame in the receive packet buffer
+    /// to memory. Returns `false` if this buffer is empty: then the host holds no frame for its sockets.
     fn move_piece(&mut self, number: usize) -> bool
         requires there { number < length self.old.hosts }
         requires stands { CanBeDrained (nth_host self.old number) (world_at self.old.stations number) }
@@ -156,7 +158,8 @@ impl Network {
         ensures ends { result ≡ false → HoldsNothing (nth_host self.new number) (world_at self.new.stations number) }
         ensures hosts { self.new.hosts ≡ self.old.hosts }
     {
-        // From these calls, the proof knows the layout's sizes. So it knows that at least one slot is offered.
+        // The contracts of these calls state bounds of the layout's sizes. From these bounds, the proof derives that at
+        // least one slot is offered.
         let layout = self.hosts[number].layout();
         let _sizes = (layout.rx(), layout.buffers());
         matches!(

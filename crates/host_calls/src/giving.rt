@@ -1,4 +1,4 @@
-// Notes of the ticks of a reset.
+// Notes of the ticks of a reset, and the observer that takes these notes.
 
 ghost use Rattle.std.specs.Prelude.{◌≡◌, ◌≤◌, ◌∷◌, [], length, vec_capacity};
 ghost use Rattle.adapter.specs.Outcomes.{with_frame};
@@ -16,8 +16,8 @@ use std::marker::Model;
 /// The number of accesses before the write of CTRL.RST. Frames that are put after more accesses aren't counted.
 const BEFORE_RESET: u64 = 2;
 
-/// Notes of a reset: the number of frames that the host put before CTRL.RST was written, and a list of frames. The list
-/// contains the frames held at the beginning, and then those stored before the receiver was disabled.
+/// Notes of a reset: the number of frames that the host put before CTRL.RST was written, and a list of at most `most`
+/// frames. The list contains the frames held at the beginning, and then those stored before the receiver was disabled.
 ///
 /// In contracts, the value is a `Notes` (`specs/Notes.antt`).
 #[derive(Drop)]
@@ -41,7 +41,8 @@ impl Model for Noted {
 }
 
 impl Noted {
-    /// Returns notes of no tick. Later, stored frames are appended to `holding`, up to `most` frames in all.
+    /// Returns the notes before any tick. `holding` contains the frames held at the beginning. Later, stored frames are
+    /// appended to `holding`, up to `most` frames in all.
     pub(crate) fn new(host: usize, most: usize, holding: Vec<Frame>) -> Noted
         requires room { most ≤ vec_capacity holding }
         requires fits { length holding.items ≤ most }
@@ -61,8 +62,8 @@ impl Noted {
         }
     }
 
-    /// Notes a tick. Counts a frame that this host put after at most 2 accesses, and appends a frame that this
-    /// host stored before the first access.
+    /// Notes a tick. Counts a frame that this host put after at most 2 accesses. Appends a frame that this host stored
+    /// before the first access, if the list has fewer than `most` frames.
     fn note(&mut self, tick: Tick, accesses: u64, outcome: Outcome<()>, frame: &[u8])
         requires fits { length frame.now ≤ longest_frame }
         ensures { NotesTicks self.old self.new (tick_told tick accesses (with_frame frame.now outcome) ∷ []) }

@@ -1,5 +1,5 @@
-//! A network of hosts on wires: calls and resets of hosts with ticks inside them, and drains of a host. Laws of what
-//! happens to frames in a network, of the outcomes of ticks, and of what an interrupt handler's answer implies.
+//! A network of hosts on wires: calls, resets and drains of hosts, and ticks during calls and resets. The laws state
+//! what happens to frames in a network, which outcomes ticks have, and what an interrupt handler's answer implies.
 #![tactic(auto)]
 
 mod calls;

@@ -1,4 +1,4 @@
-// Hosts on wires, as one type.
+// Networks: hosts on wires, and ticks that are played outside calls.
 
 ghost use Rattle.std.specs.Prelude.{◌≡◌, ◌≤◌, ◌<◌, ◌↔◌, ◌++◌, ◌∷◌, [], length, vec_capacity};
 ghost use Rattle.std.specs.Prelude.{IfOk, IfSome, IsNone, OnErr};
@@ -15,7 +15,7 @@ use std::alloc::{AllocError, Global};
 use std::marker::Model;
 
 /// Hosts on wires. Each host is a driver with its sockets, and has a station: its machine, and its end of a wire. Hosts
-/// are numbered in the order in which they were connected.
+/// are numbered from 0, in the order in which they were connected.
 ///
 /// In contracts, the value is a `NetworkState` (`specs/Networks.antt`).
 #[derive(Drop)]
@@ -40,7 +40,7 @@ impl Model for Network {
 ///
 /// # Errors
 ///
-/// Returns an error only if an allocation fails. Then nothing has changed.
+/// Returns an error only if an allocation fails. Then no host and no station has been added.
 fn connect_station(
     hosts: &mut Vec<Host>,
     stations: &mut Stations,
@@ -83,11 +83,11 @@ impl Network {
         }
     }
 
-    /// Appends a host with its machine, on this wire. No frame waits at its end of the wire.
+    /// Appends a host with its machine, on this wire. No frame waits at the host's end of the wire.
     ///
     /// # Errors
     ///
-    /// Returns an error only if an allocation fails. Then nothing has changed.
+    /// Returns an error only if an allocation fails. Then the network hasn't changed.
     pub fn connect(
         &mut self,
         alloc: Global,
@@ -132,7 +132,8 @@ impl Network {
         &self.stations
     }
 
-    /// Plays a tick outside a call. The observer is told the tick's outcome, with the number `accesses`.
+    /// Plays a tick outside a call. The observer is told the tick's outcome, with the number `accesses`. No driver or
+    /// socket changes.
     #[inline(always)]
     pub fn play<O: Observer>(&mut self, tick: Tick, accesses: u64, observer: &mut O)
         requires room { 0 < O.room_left observer.old }
@@ -143,8 +144,8 @@ impl Network {
         self.stations.play(tick, accesses, observer);
     }
 
-    /// Plays all ticks except each `Go`, outside a call. The observer is told each outcome, with the number
-    /// `accesses`.
+    /// Plays all ticks except each `Go`, in order, outside a call. The observer is told each outcome, with the number
+    /// `accesses`. No driver or socket changes.
     pub fn play_rest<O: Observer>(&mut self, ticks: &[Tick], accesses: u64, observer: &mut O)
         requires room { length ticks.now ≤ O.room_left observer.old }
         ensures plays { PlaysTicks O.Observer (without_go is_go ticks.now) accesses

@@ -1,4 +1,4 @@
-// Resets of the hosts of a network, with the ticks inside them.
+// Resets of the hosts of a network, during which ticks are played.
 
 ghost use Rattle.std.specs.Prelude.{◌≡◌, ◌≤◌, ◌<◌, ◌+◌, IfOk, drop, length, min};
 ghost use Rattle.adapter.specs.State.{IsAdapter};
@@ -38,7 +38,7 @@ pub struct WasReset {
     pub given_up: GivenUp,
     /// The number of accesses up to and including the write of RCTL that enabled the receiver.
     pub on_after: u64,
-    /// The number of all accesses; it saturates at the greatest `u64`.
+    /// The number of all accesses of the reset; it saturates at the greatest `u64`.
     pub accesses: u64,
 }
 
@@ -51,8 +51,8 @@ fn drop_first(frames: &mut Vec<Frame>, count: u64)
 }
 
 impl Network {
-    /// Returns the frames that would be lost if a reset of host `number` wrote CTRL.RST now. The list of held frames
-    /// has room for those that may be stored before the receiver is disabled. Nothing changes.
+    /// Returns the frames that are lost if a reset of host `number` writes CTRL.RST in this state. The list of held
+    /// frames also has room for the frames that may be stored before the receiver is disabled.
     ///
     /// # Errors
     ///
@@ -78,9 +78,11 @@ impl Network {
         Ok(GivenUp { sending, holding })
     }
 
-    /// Resets the adapter of host `number`, while ticks are played on all stations. `found` is the result of
-    /// [`before_reset`](Network::before_reset). The call allocates no memory. No driver or socket of another host
-    /// changes; ticks may change all stations.
+    /// Resets the adapter of host `number`, while ticks are played on all stations. `found` must be the result of
+    /// [`before_reset`](Network::before_reset) in this state. Returns the frames that were lost, and numbers of
+    /// accesses.
+    ///
+    /// The call allocates no memory. No driver or socket of another host changes; ticks may change all stations.
     pub fn reset<O: Observer>(
         &mut self,
         number: usize,
@@ -117,7 +119,8 @@ impl Network {
         }
     }
 
-    /// Resets the adapter of host `number`, while ticks are played and noted. Returns the number of accesses.
+    /// Resets the adapter of host `number`, while ticks are played. Each tick is told to `observer` and noted in
+    /// `noted`. Returns the number of accesses.
     fn reset_noting<O: Observer>(
         &mut self,
         number: usize,
@@ -137,7 +140,8 @@ impl Network {
         self.reset_over(number, ticks, &mut giving)
     }
 
-    /// Resets the adapter of host `number`, while ticks are played, and returns the number of accesses.
+    /// Resets the adapter of host `number`, while ticks are played. Each tick is told to `giving`. Returns the number
+    /// of accesses.
     fn reset_over<O: Observer>(
         &mut self,
         number: usize,

@@ -33,11 +33,12 @@ event_answer (InterruptedBy result) = Interrupted result
 event_answer (JoinedBy result) = Joined result
 event_answer (LeftBy result) = Left result
 
--- the ticks of an event, including each `Go`
+-- the ticks of an event of this kind, including each `Go`
 abbrev pub ticks_by : EventKind → List Tick
 ticks_by (ByCall call) = call.ticks
 ticks_by (ByReset host ticks) = ticks
 ticks_by (Alone tick) = tick ∷ []
 
+-- the ticks of an event, including each `Go`
 abbrev pub ticks_of : Event → List Tick
 ticks_of event = ticks_by (in_event event)

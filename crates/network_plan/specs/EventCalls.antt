@@ -1,4 +1,4 @@
--- The kinds of events (our choice). An event is a call of a host with its ticks, a reset of a host's adapter with its ticks, or a tick
+-- The kinds of events (our choice): a call of a host with ticks, a reset of a host's adapter with ticks, or a tick
 -- outside a call. So a definition about calls doesn't need a case for each kind of call.
 use Rattle.std.specs.Prelude.{List, ℕ}
 use Rattle.packet_socket.specs.CallEffects.{Interrupting, Joining, Leaving, Receiving, Request, Sending}
@@ -6,16 +6,16 @@ use Rattle.stations.specs.declared.tick.Tick.{Tick}
 use Rattle.network_plan.specs.declared.event.Event.{Event}
 use Rattle.network_plan.specs.declared.event.Event.TheVariants.{Interrupt, Join, Leave, Recv, Reset, Send, Tick as OfTick}
 
--- a call of a host, and the ticks that are played in it
+-- a call of a host, and the ticks that are played during the call
 pub record EventCall : Type 0 where
   -- the number of the host
   pub host : ℕ
   -- the call that the host makes
   pub request : Request
-  -- the ticks that are played in the call
+  -- the ticks that are passed to the call, including each `Go`
   pub ticks : List Tick
 
--- an event, by its kind
+-- an event, by its kind: a call of a host, a reset of a host's adapter, or a tick outside a call
 pub data EventKind : Type 0 where
   ByCall : (call : EventCall) → EventKind
   ByReset : (host : ℕ) (ticks : List Tick) → EventKind

@@ -3,8 +3,8 @@ use Rattle.std.specs.Prelude.{◌≡◌, ◌≢◌, ◌≤◌, ◌-◌, ◌^◌,
 use Rattle.std.specs.Prelude.{length, nat_le}
 use Rattle.std.specs.Prelude.{string_bytes, string_eq}
 use Rattle.std.specs.declared.alloc.Global.{Global}
-use Rattle.eeprom.specs.Image.{address_bytes}
-use Rattle.mdic_phy.specs.declared.phy.Link.TheVariants.{After}
+use Rattle.eeprom_phy.specs.Image.{address_bytes}
+use Rattle.eeprom_phy.specs.declared.phy.Link.TheVariants.{After}
 use Rattle.rx_engine.specs.Addresses.{IsIndividual}
 use Rattle.bring_up.specs.Configuration.{CanBeHad}
 use Rattle.network_plan.specs.declared.plan.HostPlan.{HostPlan}
@@ -82,33 +82,33 @@ pub record HasHosts (hosts : List HostPlan) : Type 0 where
   -- at most 16
   pub most : length hosts ≤ most_hosts
 
--- If two hosts have the same address, they have the same name.
+-- If the two hosts have the same address, they have the same name. With unique names, they are the same host.
 abbrev pub IsSameIfAddressed : (host other : HostPlan) → Type 0
 IsSameIfAddressed host other = address_bytes other.image ≡ address_bytes host.image → string_eq other.name host.name ≡ true
 
--- The host's address is an individual address, and no other host has the same address.
+-- The host's address is an individual address, and no host with another name has the same address.
 pub record HasAddress (hosts : List HostPlan) (host : HostPlan) : Type 0 where
-  -- the host's address isn't a group's
+  -- the host's address isn't a group address
   pub individual : IsIndividual (address_bytes host.image)
-  -- no other host has the same address
+  -- no host with another name has the same address
   pub own : All (IsSameIfAddressed host) hosts
 
--- Each host has an individual address that no other host has.
+-- Each host has an individual address that no host with another name has.
 pub record HasAddresses (hosts : List HostPlan) : Type 0 where
-  -- each host has an individual address that no other host has
+  -- each host has an individual address that no host with another name has
   pub all : All (HasAddress hosts) hosts
 
--- The host's configuration is valid in a memory that is large enough, and its link needs at least one tick, or is never
--- up.
+-- The host's configuration is valid for a memory of 2^64 - 1 bytes, and its link needs at least one PHY tick, or is
+-- never up.
 pub record HasConfig (host : HostPlan) : Type 0 where
-  -- its rings, buffers, packet buffer, groups and VLANs are valid
+  -- the rings, buffers, packet buffer, groups and VLANs of the configuration are valid for this memory
   pub config : CanBeHad host.config (2 ^ 64 - 1)
-  -- its link needs at least one tick, or is never up
+  -- the host's link needs at least one PHY tick, or is never up
   pub link : host.link ≢ After 0
 
 -- `HasConfig` holds for each host.
 pub record HasConfigs (hosts : List HostPlan) : Type 0 where
-  -- each host has a valid configuration, and its link needs at least one tick, or is never up
+  -- each host has a valid configuration, and its link needs at least one PHY tick, or is never up
   pub all : All HasConfig hosts
 
 -- The result of checking a plan: the first reason to reject the plan, or Ok if there is no reason.

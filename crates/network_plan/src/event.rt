@@ -2,15 +2,15 @@
 
 use stations::Tick;
 
-/// An event of a run. Just before each access of a call or of a reset, the event's ticks up to the next
-/// [`Go`](Tick::Go) are played, or all remaining ticks if no `Go` remains. After the last access, the remaining ticks
-/// are played, and each `Go` is skipped. Hosts are numbered from 0 in the order of the plan.
+/// An event of a run. Before each access of a call or reset, the event's ticks up to the next [`Go`](Tick::Go) are
+/// played, or all remaining ticks if no `Go` remains. After the last access, the remaining ticks are played, and each
+/// `Go` is skipped. Hosts are numbered from 0 in the order of the plan.
 #[derive(Debug, Drop)]
 pub enum Event {
     /// A host sends a frame of any length. The answer is E20 if the frame has fewer than 14 bytes, and E21 if the frame
     /// has more than 1,518 bytes.
     Send {
-        /// The host.
+        /// The number of the host.
         host: usize,
         /// The frame's bytes.
         frame: Vec<u8>,
@@ -19,23 +19,23 @@ pub enum Event {
     },
     /// A host asks for the oldest frame of a socket.
     Recv {
-        /// The host.
+        /// The number of the host.
         host: usize,
-        /// The socket, numbered from 0 in the host's table.
+        /// The number of the socket: its index in the host's table of sockets.
         socket: usize,
         /// The ticks that are played inside the call.
         ticks: Vec<Tick>,
     },
     /// A host handles an interrupt.
     Interrupt {
-        /// The host.
+        /// The number of the host.
         host: usize,
         /// The ticks that are played inside the call.
         ticks: Vec<Tick>,
     },
     /// A host joins a multicast group.
     Join {
-        /// The host.
+        /// The number of the host.
         host: usize,
         /// The group's address.
         group: [u8; 6],
@@ -44,16 +44,16 @@ pub enum Event {
     },
     /// A host leaves a multicast group.
     Leave {
-        /// The host.
+        /// The number of the host.
         host: usize,
         /// The group's address.
         group: [u8; 6],
         /// The ticks that are played inside the call.
         ticks: Vec<Tick>,
     },
-    /// A host's driver resets its adapter, and initializes it with the groups that are joined now.
+    /// A host's driver resets the host's adapter, and initializes the adapter with the groups that the host has joined.
     Reset {
-        /// The host.
+        /// The number of the host.
         host: usize,
         /// The ticks that are played inside the reset.
         ticks: Vec<Tick>,

@@ -1,4 +1,4 @@
-// Hosts and their wires.
+// The plan of a network, and the check of a plan.
 
 ghost use Rattle.std.specs.Prelude.{◌≡◌, ◌↔◌, IsTrue};
 ghost use Rattle.network_plan.specs.Plans.{HasAddress, HasAddresses, HasConfigs, HasEnds, HasName, HasNames};
@@ -7,8 +7,7 @@ ghost use Rattle.network_plan.specs.Plans.{HasWire, IsName, IsPlanAnswer, IsSame
 use crate::plan_error::PlanError;
 use arrayvec::ArrayVec;
 use bring_up::Config;
-use eeprom::Image;
-use mdic_phy::Link;
+use eeprom_phy::{Image, Link};
 use packet_socket::SocketKind;
 
 /// The maximum number of bytes of a name (our choice).
@@ -26,15 +25,15 @@ pub const MOST_SOCKETS: usize = 8;
 /// The plan of a host.
 #[derive(Debug, Drop, PartialEq, Eq)]
 pub struct HostPlan {
-    /// The name of the host. In a valid plan it has 1 to 16 bytes of `a-z 0-9 _ -`, and no other host has the same
-    /// name.
+    /// The name of the host. In a valid plan the name has 1 to 16 bytes of `a-z 0-9 _ -`, and no other host has the
+    /// same name.
     pub name: String,
-    /// The name of the host's wire. In a valid plan it has 1 to 16 bytes of `a-z 0-9 _ -`.
+    /// The name of the host's wire. In a valid plan this name has 1 to 16 bytes of `a-z 0-9 _ -`.
     pub wire: String,
     /// The EEPROM of the host's adapter. In a valid plan its address is an individual address, and no other host has
     /// the same address.
     pub image: Image,
-    /// When the link is up: after a number of ticks of the PHY, or never. In a valid plan the number is at least 1.
+    /// When the link is up: after a number of PHY ticks, or never. In a valid plan this number is at least 1.
     pub link: Link,
     /// The configuration with which the host's adapter is initialized.
     pub config: Config,
@@ -42,8 +41,8 @@ pub struct HostPlan {
     pub sockets: ArrayVec<SocketKind, MOST_SOCKETS>,
 }
 
-/// The plan of a network: its hosts, numbered from 0 in this order. Hosts whose wires have the same name are on one
-/// wire.
+/// The plan of a network: its hosts, numbered from 0 in the order of the list. Hosts whose wires have the same name are
+/// on one wire.
 #[derive(Debug, Drop, PartialEq, Eq)]
 pub struct Plan {
     /// The hosts.
@@ -51,13 +50,13 @@ pub struct Plan {
 }
 
 impl Plan {
-    /// Checks whether this plan is valid: whether a network can be made of this plan, if memory isn't refused and each
-    /// host can be initialized.
+    /// Checks whether this plan is valid. A network can be made by a valid plan if memory isn't refused and each host
+    /// can be initialized.
     ///
     /// # Errors
     ///
-    /// The first that applies of [`Name`](PlanError::Name), [`Ends`](PlanError::Ends), [`Hosts`](PlanError::Hosts),
-    /// [`Address`](PlanError::Address) and [`Config`](PlanError::Config).
+    /// Returns the first of [`Name`](PlanError::Name), [`Ends`](PlanError::Ends), [`Hosts`](PlanError::Hosts),
+    /// [`Address`](PlanError::Address) and [`Config`](PlanError::Config) that applies.
     pub fn check(&self) -> Result<(), PlanError>
         ensures { IsPlanAnswer self.now.hosts.items result }
     {
@@ -81,14 +80,14 @@ impl Plan {
     }
 }
 
-/// Returns whether a byte may be in a name.
+/// Returns whether a byte may be in a name: a letter of `a-z`, a digit, `_` or `-`.
 fn is_of_name(byte: u8) -> bool
     ensures { result ≡ Rattle.network_plan.specs.Plans.is_of_name byte }
 {
     matches!(byte, b'a'..=b'z' | b'0'..=b'9' | b'_' | b'-')
 }
 
-/// Returns whether a text is a valid name.
+/// Returns whether a text is a valid name: 1 to 16 bytes that may be in a name.
 fn is_name(text: &str) -> bool
     ensures { IsTrue result ↔ IsName text.now }
 {
@@ -155,21 +154,21 @@ fn is_same_if_addressed(host: &HostPlan, other: &HostPlan) -> bool
     other.image.address() != host.image.address() || other.name == host.name
 }
 
-/// Returns whether a host's address is an individual address, and no other host has the same address.
+/// Returns whether a host's address is an individual address, and no host with another name has the same address.
 fn has_address(hosts: &[HostPlan], host: &HostPlan) -> bool
     ensures { IsTrue result ↔ HasAddress hosts.now host.now }
 {
     host.image.address()[0] % 2 == 0 && hosts.iter().all(|other| is_same_if_addressed(host, other))
 }
 
-/// Returns whether each host's address is an individual address, and no other host has the same address.
+/// Returns whether each host's address is an individual address, and no host with another name has the same address.
 fn have_addresses(hosts: &[HostPlan]) -> bool
     ensures { IsTrue result ↔ HasAddresses hosts.now }
 {
     hosts.iter().all(|host| has_address(hosts, host))
 }
 
-/// Returns whether each host's configuration is valid, and its link needs at least one tick, or is never up.
+/// Returns whether each host's configuration is valid, and its link needs at least one PHY tick, or is never up.
 fn have_configs(hosts: &[HostPlan]) -> bool
     ensures { IsTrue result ↔ HasConfigs hosts.now }
 {

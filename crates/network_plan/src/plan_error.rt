@@ -1,9 +1,9 @@
-//! The reasons why no network was made of a plan.
+//! The reasons why no network was made by a plan.
 
 use bring_up::InitError;
 use thiserror::Error;
 
-/// Why no network was made of a plan. The first of `Name`, `Ends`, `Hosts`, `Address` and `Config` that applies is
+/// Why no network was made by a plan. The first of `Name`, `Ends`, `Hosts`, `Address` and `Config` that applies is
 /// returned. `Memory` and `Init` are returned only for a valid plan.
 #[derive(Clone, Copy, Debug, PartialEq, Eq, Error)]
 pub enum PlanError {
@@ -20,13 +20,13 @@ pub enum PlanError {
     /// The address of a host's image is a group address, or another host has the same address.
     #[error("E43 Address")]
     Address,
-    /// A host's configuration is invalid, or its link would be up after 0 ticks.
+    /// A host's configuration is invalid, or the setting of its link is 0 PHY ticks.
     #[error("E44 Config")]
     Config,
     /// Memory was refused.
     #[error("E45 Memory")]
     Memory,
-    /// This host's adapter could not be initialized.
+    /// The adapter of the host with this number couldn't be initialized, for this reason.
     #[error("E46 Init: {1}")]
     Init(usize, InitError),
 }

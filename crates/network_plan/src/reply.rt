@@ -10,7 +10,7 @@ use thiserror::Error;
 /// The answer to an event.
 ///
 /// `F` is the type of the frame in [`Received`](Answer::Received). A [`Reply`] contains the frame itself, on the heap
-/// (`HeapFrame`). An observer of a run gets an answer without a frame (`()`), and borrows the frame separately.
+/// (`HeapFrame`). An observer of a run is told an answer without a frame (`()`), and borrows the frame separately.
 #[derive(Debug, Drop, PartialEq, Eq)]
 pub enum Answer<F> {
     /// A host accepted or rejected a frame to send.
@@ -23,17 +23,17 @@ pub enum Answer<F> {
     Joined(Result<(), GroupError>),
     /// A host left a group, or the leave was rejected.
     Left(Result<(), GroupError>),
-    /// An adapter was reset by a write of CTRL.RST. The reset gives up the frames that weren't yet on the wire when
-    /// CTRL.RST was written, and the received frames that the host held outside its sockets' queues.
+    /// An adapter was reset by a write of CTRL.RST. The reset dropped the frames that weren't yet on the wire at this
+    /// write, and the received frames that the host held outside its sockets' queues.
     Reset {
-        /// The frames that were to be sent, oldest first.
+        /// The dropped frames that were to be sent, the oldest first.
         sending: Vec<Frame>,
-        /// The frames that were held, oldest first.
+        /// The dropped frames that were held, the oldest first.
         holding: Vec<Frame>,
         /// The number of accesses up to and including the write of RCTL that enabled the receiver again.
         on_after: u64,
     },
-    /// The event was a tick outside a call. The tick was played, unless it was a `Go`.
+    /// The event was a tick outside a call. The tick was played; a `Go` did nothing.
     NoCall,
     /// There is no such host. The ticks of the call or the reset were played.
     NoHost,
@@ -73,7 +73,7 @@ impl<F> Answer<F> {
 }
 
 /// The reply to an event: its answer, its number of accesses, and the outcomes of its ticks. Each outcome has the
-/// number of accesses that the event had made before the tick. A `Go` inside a call or a reset has no outcome.
+/// number of accesses that the event made before the tick. A `Go` inside a call or a reset has no outcome.
 #[derive(Debug, Drop)]
 pub struct Reply {
     /// The answer to the event.
@@ -85,8 +85,8 @@ pub struct Reply {
     pub outcomes: Outcomes,
 }
 
-/// A run ended before an event: the observer refused to make room, or memory for the frames that a reset gives up
-/// couldn't be allocated. The first `done` events were run and reported, and nothing else changed in the network.
+/// A run ended before an event: the observer refused to make room, or memory for the frames that a reset drops couldn't
+/// be allocated. The first `done` events were run and reported, and nothing else changed in the network.
 #[derive(Clone, Copy, Debug, PartialEq, Eq, Error)]
 #[error("E47 Memory")]
 pub struct Stopped {

@@ -1,4 +1,4 @@
--- The counts of one host are the same.
+-- Two results of `Lan::counts` for one host are the same, by the clauses of this call.
 use Rattle.std.proofs.Common.{◌≡◌, ◌≤◌, ◌↔◌, ◌+◌, ℕ, Bool, IfSome, IsNone, IsTrue, None, Option}
 use Rattle.std.proofs.Common.{Some, ap, false, inl, inr, length, refl, sym, true, ◌∙◌, arith}
 use Rattle.std.proofs.lemmas.Option.{slice_get_cases}

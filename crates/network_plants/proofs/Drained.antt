@@ -12,12 +12,12 @@ use Rattle.wire.specs.DrainedNetworks.{NetworkDrains}
 use Rattle.wire.specs.Equations.{missed_count}
 use Rattle.network_plants.specs.Alike.{DrainsAreAlike, FrameSinks}
 
--- the frames that a host holds for a socket, if the host exists
+-- the frames that a host holds for a socket; no frame if the host doesn't exist
 held-in : NetworkState → (host socket : ℕ) → Option HostState → List (List ℕ)
 held-in network host socket None = []
 held-in network host socket (Some h) = held_for_socket h socket (world_at network.stations host)
 
--- The state after a drain, by the state before the drain.
+-- The parts of a drain's outcome that the network before the drain determines.
 record Leaves (old : NetworkState) (host : ℕ) (given : List Given) (new : NetworkState) : Type 0 where
   given_for : (socket : ℕ) → given_for socket given ≡ held-in old host socket (slice_get old.hosts host)
   nothing : (h : HostState) → IsHost new host h → HoldsNothing h (world_at new.stations host)

@@ -3,8 +3,8 @@ use Rattle.std.proofs.Common.{◌≡◌, ◌≢◌, ◌<◌, ℕ, List, Err, Ok,
 use Rattle.std.proofs.Common.{ap, refl, subst, sym, ◌∙◌, arith}
 use Rattle.std.proofs.lemmas.Bool.{cases_order}
 use Rattle.std.proofs.lemmas.Option.{same_Some, slice_get_within}
-use Rattle.eeprom.specs.Image.{HasRightSum}
-use Rattle.mdic_phy.specs.declared.phy.Link.TheVariants.{Never}
+use Rattle.eeprom_phy.specs.Image.{HasRightSum}
+use Rattle.eeprom_phy.specs.declared.phy.Link.TheVariants.{Never}
 use Rattle.bring_up.specs.declared.init_error.InitError.{InitError}
 use Rattle.bring_up.specs.declared.init_error.InitError.TheVariants as fault
 use Rattle.host_calls.specs.Networks.{NetworkState}
@@ -17,7 +17,6 @@ use Rattle.network_plants.specs.Alike.{IsSameFailure, LinksAreClear}
 use Rattle.network_plants.proofs.Made.{there-is}
 
 module _ (plans : List HostPlan) (clear : LinksAreClear plans) where
-  -- A host that can't be initialized has a wrong checksum, or a link that is never up.
   cannot : (k : ℕ) (plan : HostPlan) (error : InitError) → slice_get plans k ≡ Some plan → IsDevices plan error
       → HasRightSum plan.image → plan.link ≢ Never → ⊥
   cannot k plan fault.Checksum there devices sum comes = devices sum
@@ -27,7 +26,6 @@ module _ (plans : List HostPlan) (clear : LinksAreClear plans) where
   cannot k plan fault.PhyTimeout there devices sum comes = devices
   cannot k plan fault.Config there devices sum comes = devices
 
-  -- The initialization of a host fails for one reason.
   one-reason : (plan : HostPlan) (a b : InitError) → IsDevices plan a → IsDevices plan b → a ≡ b
   one-reason plan fault.Checksum fault.Checksum x y = refl
   one-reason plan fault.Checksum fault.NoLink x y = absurd (x y.0)

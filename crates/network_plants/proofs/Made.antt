@@ -42,7 +42,6 @@ there-is [] k below = absurd (omega (arith, below))
 there-is (x ∷ xs) zero below = (x, refl)
 there-is (x ∷ xs) (suc k) below = there-is xs k (omega (arith, below))
 
--- the plan of a host that was made
 plan-of : (plans : List HostPlan) (count : ℕ) (hosts : List HostState) (stations : List StationState) (k : ℕ) (s : StationState)
     → AreUp plans count hosts stations → count ≡ length plans → slice_get stations k ≡ Some s
     → (plan : HostPlan) × (slice_get plans k ≡ Some plan)
@@ -63,7 +62,6 @@ networks-alike plans one other x y = record {
       x.up.wires k plan.0 s plan.1 on ∙ sym (y.up.wires k plan.0 s' plan.1 on');
 }
 
--- A plan that is refused isn't valid.
 not-right : (plans : List HostPlan) (a : PlanError) → IsOfPlan a → IsLanAnswer plans (Err a) → IsRight plans → ⊥
 not-right plans Name of x y = x y.0
 not-right plans Ends of x y = x.1 y.1
@@ -73,7 +71,6 @@ not-right plans Config of x y = x.4 y.4
 not-right plans Memory of x y = of
 not-right plans (Init host error) of x y = of
 
--- A plan is refused for one reason.
 one-reason : (plans : List HostPlan) (a b : PlanError) → IsOfPlan a → IsOfPlan b → IsLanAnswer plans (Err a) → IsLanAnswer plans (Err b)
     → a ≡ b
 one-reason plans Memory b of of' x y = absurd of

@@ -1,4 +1,4 @@
--- A text is read, or refused, in one way.
+-- A text is read with one result, or refused for one line and fault, unless memory is refused.
 use Rattle.std.proofs.Common.{◌≡◌, ◌⊎◌, ℕ, Err, IfErr, IfOk, Ok, Result, inl, inr, refl, subst, sym, ◌∙◌}
 use Rattle.scenario.specs.Answers.{IsRead, IsRefused, IsRefusedAt}
 use Rattle.scenario.specs.Laws.{RefusalsAreOne, TextsAreReadOrRefused}

@@ -2,7 +2,7 @@
 use Rattle.std.specs.Prelude.{⊤, ◌≡◌, ◌≢◌, ◌⊎◌, ◌↔◌, ◌++◌, ℕ, Err, List, Result, Some, length, slice_get}
 use Rattle.adapter.specs.HostFrames.{frames_to_send}
 use Rattle.adapter.specs.World.{World}
-use Rattle.mdic_phy.specs.declared.phy.Link.TheVariants.{Never}
+use Rattle.eeprom_phy.specs.declared.phy.Link.TheVariants.{Never}
 use Rattle.bring_up.specs.Link.{NeedsMoreThan}
 use Rattle.bring_up.specs.declared.init_error.InitError.{InitError}
 use Rattle.host_calls.specs.DrainedHosts.{HoldsNothing}
@@ -18,13 +18,13 @@ use Rattle.stations.specs.Stations.{StationState, backlog_at, world_at}
 use Rattle.wire.specs.Equations.{missed_count}
 use Rattle.wire.specs.HostsUp.{most_link_ticks}
 
--- Networks that were made from one plan.
+-- Networks that were made by one plan
 
 -- the adapter's receive filter passes this frame
 abbrev pub PassesAt : World → List ℕ → Type 0
 PassesAt world frame = Passes (filter_of world.adapter.filter) frame
 
--- Two hosts with their worlds are alike: these parts are equal.
+-- Two hosts, with their adapters and memories, are alike: these parts are equal.
 pub record HostsAreAlike (one : HostState) (a : World) (other : HostState) (b : World) : Type 0 where
   -- the sizes of the rings, and the number of receive buffers
   pub layout : one.driver.layout ≡ other.driver.layout
@@ -38,14 +38,14 @@ pub record HostsAreAlike (one : HostState) (a : World) (other : HostState) (b : 
   pub passes : (frame : List ℕ) → PassesAt a frame ↔ PassesAt b frame
   -- the EEPROM
   pub image : a.adapter.image ≡ b.adapter.image
-  -- after how many ticks the link is up, or that it is never up
+  -- the setting of the link: after how many PHY ticks the link is up, or that it is never up
   pub link : a.adapter.phy.link ≡ b.adapter.phy.link
 
 -- Two networks are alike: these parts are equal.
 pub record NetworksAreAlike (one other : NetworkState) : Type 0 where
   -- the number of hosts
   pub count : length one.hosts ≡ length other.hosts
-  -- the hosts with the same number, which are alike
+  -- hosts with the same number are alike
   pub hosts : (k : ℕ) (h h' : HostState) (s s' : StationState) → IsHost one k h → IsHost other k h' → slice_get one.stations k ≡ Some s
       → slice_get other.stations k ≡ Some s' → HostsAreAlike h s.world h' s'.world
   -- the wire of each host
@@ -57,8 +57,8 @@ IsOfPlan refused.Memory = ⊥
 IsOfPlan (refused.Init host error) = ⊥
 IsOfPlan error = ⊤
 
--- The link of each host is up within 2,000 ticks, or never. The contract of `Lan::new` doesn't state whether initialization succeeds if a
--- link is up later.
+-- The link of each host is up within 2,000 PHY ticks, or never. The contract of `Lan::new` doesn't state whether
+-- initialization succeeds if a link is up later.
 abbrev pub LinksAreClear : List HostPlan → Type 0
 LinksAreClear plans =
     (k : ℕ) (plan : HostPlan) → slice_get plans k ≡ Some plan → NeedsMoreThan most_link_ticks plan.link → plan.link ≡ Never
@@ -67,14 +67,14 @@ LinksAreClear plans =
 abbrev pub IsSameFailure : {T : Type 0} (host : ℕ) → InitError → Result T PlanError → Type 0
 IsSameFailure host error answer = (answer ≡ Err refused.Memory) ⊎ (answer ≡ Err (refused.Init host error))
 
--- Drains of one host from one state.
+-- Drains of one host from one state
 
 -- the frames of a sink before and after a drain
 pub record FrameSinks : Type 0 where
   pub before : List Given
   pub after : List Given
 
--- the frames that a drain returned
+-- a drain appended the frames `frames` to those in the sink
 pub record Gave (frame_sink : FrameSinks) : Type 0 where
   pub frames : List Given
   pub appended : frame_sink.after ≡ frame_sink.before ++ frames
@@ -96,6 +96,6 @@ pub record DrainsAreAlike (host : ℕ) (a b : FrameSinks) (one other : NetworkSt
   -- the other hosts, with their adapters and memories
   pub hosts : (k : ℕ) → k ≢ host → slice_get one.hosts k ≡ slice_get other.hosts k
   pub worlds : (k : ℕ) → k ≢ host → world_at one.stations k ≡ world_at other.stations k
-  -- the count of misses of the host
+  -- the count of missed frames of the host
   pub counts : (h h' : HostState) → IsHost one host h → IsHost other host h'
       → missed_count h (world_at one.stations host) ≡ missed_count h' (world_at other.stations host)

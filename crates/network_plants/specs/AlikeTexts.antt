@@ -10,7 +10,8 @@ use Rattle.scenario.specs.declared.refusal.Refusal.TheVariants.{Line, Memory}
 abbrev pub ReadAlike : (one other : Result Scenario Refusal) → Type 0
 ReadAlike one other = (a b : Scenario) → one ≡ Ok a → other ≡ Ok b → so_far a ≡ so_far b
 
--- If the first read refuses the text for a line, the second read refuses it for this line and fault, or because memory is refused.
+-- If the first read refuses the text for a line, the second read refuses it for the same line and fault, or because
+-- memory is refused.
 abbrev pub RefusedAlike : (one other : Result Scenario Refusal) → Type 0
 RefusedAlike one other =
     (line : ℕ) (fault : Fault) → one ≡ Err (Line line fault) → (other ≡ Err (Line line fault)) ⊎ (other ≡ Err Memory)

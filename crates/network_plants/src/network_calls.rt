@@ -21,8 +21,9 @@ use scenario::{Refusal, Scenario};
 use std::alloc::Global;
 use wire::{Counts, FrameSink, Lan};
 
-/// [`Scenario::read`] twice: both calls read the same hosts, commands and traces, or both refuse the text for the same
-/// line, with the same fault.
+/// [`Scenario::read`] twice: if both calls read the text, the hosts, commands and traces are the same. If the first
+/// call refuses the text for a line, the second call refuses the text for the same line and fault, or because memory is
+/// refused.
 pub fn read_twice(
     alloc: Global,
     text: &[u8],
@@ -34,9 +35,11 @@ pub fn read_twice(
     (Scenario::read(alloc, text), Scenario::read(alloc, text))
 }
 
-/// [`Lan::new`] twice: if the first call refuses the plan, the second call refuses the plan for the same reason. If
-/// both calls make networks, these are alike. If each link is up within 2,000 ticks or never, and the first call fails
-/// to initialize a host, the second call fails at the same host, for the same reason, or because memory is refused.
+/// [`Lan::new`] twice, for one plan.
+/// - `refused`: if the first call returns an error of an invalid plan, the second call returns the same error.
+/// - `made`: if both calls make networks, the networks are alike.
+/// - `failed`: if the first call fails to initialize a host, the second call fails at the same host for the same
+///   reason, or because memory is refused. Each link must be up within 2,000 PHY ticks, or never.
 pub fn new_twice(alloc: Global, plan: &Plan) -> (Result<Lan, PlanError>, Result<Lan, PlanError>)
     ensures refused { (error : PlanError) → result.0 ≡ Err error → IsOfPlan error → result.1 ≡ Err error }
     ensures made { (one other : NetworkState) → result.0 ≡ Ok one → result.1 ≡ Ok other → NetworksAreAlike one other }
@@ -46,7 +49,7 @@ pub fn new_twice(alloc: Global, plan: &Plan) -> (Result<Lan, PlanError>, Result<
     (Lan::new(alloc, plan), Lan::new(alloc, plan))
 }
 
-/// [`Lan::counts`] twice: all counts of a host are the same.
+/// [`Lan::counts`] twice: all counts of a host are the same, or both results are `None`.
 pub fn counts_twice(lan: &Lan, host: usize) -> (Option<Counts>, Option<Counts>)
     ensures { result.0 ≡ result.1 }
 {
@@ -70,8 +73,8 @@ pub fn drain_room_twice(lan: &Lan, host: usize) -> (usize, usize)
     (lan.drain_room(host), lan.drain_room(host))
 }
 
-/// [`Lan::drain`] twice: two drains of one host, from equal networks, return the same frames at each socket, and the
-/// networks after the drains are alike.
+/// [`Lan::drain`] twice: in two drains of one host, from equal networks, each socket returns the same frames. The
+/// networks after the drains are equal in the parts that `DrainsAreAlike` lists.
 pub fn drain_twice<S: FrameSink>(
     one: &mut Lan,
     other: &mut Lan,

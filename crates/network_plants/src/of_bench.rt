@@ -1,4 +1,5 @@
-//! The calls of `scenario_bench`. The twin of `bench` owns its scenario, so that an edit can change it before the call.
+//! Twins of the call `bench` of `scenario_bench`. The twin `bench` owns its scenario, so that an edit can change the
+//! scenario before the call.
 
 ghost use Rattle.std.specs.Prelude.{◌≡◌, ◌<◌, ◌≤◌, All, IfErr, IfOk, length, map};
 ghost use Rattle.scenario.specs.SoFar.{hosts_of};

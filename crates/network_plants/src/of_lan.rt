@@ -1,4 +1,4 @@
-//! The calls of `Lan`.
+//! Twins of calls of `Lan`.
 
 ghost use Rattle.std.specs.Prelude.{◌<◌, ◌≤◌, ◌+◌, IfErr, OnOk, length, slice_get, take};
 ghost use Rattle.host_calls.specs.Networks.{IsHost};

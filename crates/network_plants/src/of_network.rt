@@ -1,4 +1,4 @@
-//! The calls of `Network`.
+//! Twins of calls of `Network`.
 
 ghost use Rattle.std.specs.Prelude.{◌≤◌, ◌<◌, length};
 ghost use Rattle.adapter.specs.State.{IsAdapter};

@@ -1,4 +1,5 @@
--- Entries are dropped from a log in place, and what each end reads in the log after that.
+-- The proof of `close_up`: entries are dropped from a log in place. Also what each end reads in the log after
+-- `close_up`.
 use Rattle.std.proofs.Common.{◌≡◌, ◌≢◌, ◌<◌, ◌≤◌, ◌+◌, ◌-◌, not, Bool, true, false, ℕ, suc, List, [], ◌∷◌, ◌++◌, drop, take, length, map}
 use Rattle.std.proofs.Common.{slice_index_or, slice_set, if◌then◌else◌, inl, inr, refl, sym, ap, ◌∙◌, arith}
 use Rattle.std.proofs.Common.{append_assoc, append-nil, length-append}
@@ -31,7 +32,7 @@ module _ (r : ℕ) (ys : List LogEntry) (i : ℕ) (e : LogEntry) (below : i < le
     | inr differs ↦ absurd (differs.1 own)
   ]
 
--- One more entry
+-- One entry more is examined
 
 before : (r f s : ℕ) (p : List LogEntry) (x : LogEntry) → f ≤ length p → length p < s
     → closed_up r f s (p ++ x ∷ []) ≡ closed_up r f s p ++ filter (is_of_other r) (x ∷ [])
@@ -59,7 +60,8 @@ behind r f s p x order past =
 
 -- In place
 
--- The first k places contain the entries that are kept of the first i entries.
+-- The first k places of `ys` contain those of the first i entries of `xs` that are kept. The places from i on haven't
+-- changed.
 pub record ClosesUp (r f s : ℕ) (xs ys : List LogEntry) (k i : ℕ) : Type 0 where
   pub front : take k ys ≡ closed_up r f s (take i xs)
   pub rest : drop i ys ≡ drop i xs
@@ -87,7 +89,7 @@ module _ (r f s : ℕ) (xs ys : List LogEntry) (k i : ℕ) (h : ClosesUp r f s x
   long-take : length (take i xs) ≡ i
   long-take = length-take-le i xs (omega (arith, h.long, below))
 
-  -- An entry is kept.
+  -- Entry i is kept: it is swapped to place k.
   pub keeps : (zs : List LogEntry) → SwappedAt ys zs k i
       → closed_up r f s (take i xs ++ x ∷ []) ≡ closed_up r f s (take i xs) ++ x ∷ [] → ClosesUp r f s xs zs (k + 1) (i + 1)
   keeps zs swapped longer =
@@ -121,7 +123,7 @@ module _ (r f s : ℕ) (xs ys : List LogEntry) (k i : ℕ) (h : ClosesUp r f s x
   pub keeps-behind : (zs : List LogEntry) → SwappedAt ys zs k i → f ≤ s → s ≤ i → ClosesUp r f s xs zs (k + 1) (i + 1)
   keeps-behind zs swapped order le = keeps zs swapped (behind r f s (take i xs) x order (omega (arith, long-take, le)))
 
-  -- An entry is dropped.
+  -- Entry i is dropped, because it is before place s and `r` sent it.
   pub drops : i < s → is_of_other r x ≡ false → ClosesUp r f s xs ys k (i + 1)
   drops le own = record {
     front = h.front
@@ -135,7 +137,6 @@ module _ (r f s : ℕ) (xs ys : List LogEntry) (k i : ℕ) (h : ClosesUp r f s x
     long = h.long;
   }
 
--- Before the first entry is examined, no entry is kept.
 pub closes-none : (r f s : ℕ) (xs : List LogEntry) → f ≤ s → f ≤ length xs → ClosesUp r f s xs xs 0 f
 closes-none r f s xs order there =
     let long : length (take f xs) ≡ f = length-take-le f xs there in
@@ -151,7 +152,6 @@ closes-none r f s xs order there =
       long = refl;
     }
 
--- After the last entry, all entries have been examined.
 pub closes-all : (r f s : ℕ) (xs ys : List LogEntry) (k i : ℕ) → ClosesUp r f s xs ys k i → length xs ≤ i → take k ys ≡ closed_up r f s xs
 closes-all r f s xs ys k i h all = h.front ∙ ap (closed_up r f s) (take_all i xs all)
 
@@ -163,7 +163,6 @@ frames-append k xs ys =
     ap (map frame) (filter-append (is_of_other k) xs ys)
     ∙ map-append frame (filter (is_of_other k) xs) (filter (is_of_other k) ys)
 
--- The frames of others from a place in the log on, after an entry was appended.
 pub frames-appended : (k cursor : ℕ) (xs : List LogEntry) (x : LogEntry) → cursor ≤ length xs
     → frames_of_others k (drop cursor (xs ++ x ∷ [])) ≡ frames_of_others k (drop cursor xs) ++ frames_of_others k (x ∷ [])
 frames-appended k cursor xs x below =
@@ -179,7 +178,7 @@ filter-twice p (x ∷ xs) = by_case (filter-twice p xs) (p x) refl
         ∙ ap (λ (l : List LogEntry). x ∷ l) later
     by_case later false _ = later
 
--- Of two hosts, at least one reads each entry.
+-- At most one of two hosts sent an entry, so at least one of them reads it.
 pub two-read : (j k : ℕ) → j ≢ k → (xs : List LogEntry)
     → length xs ≤ length (filter (is_of_other j) xs) + length (filter (is_of_other k) xs)
 two-read j k differ [] = omega arith
@@ -222,7 +221,6 @@ module _ (r f s : ℕ) (xs : List LogEntry) (order : f ≤ s) (there : s ≤ len
   pub long : length (closed_up r f s xs) ≡ length kept + (length xs - s)
   long = length-append kept (drop s xs) ∙ ap (λ (n : ℕ). length kept + n) (length-drop s xs)
 
-  -- The slowest end reads from the front on.
   pub slowest-reads : frames_of_others r (drop (f - (length xs - length (closed_up r f s xs))) (closed_up r f s xs))
       ≡ frames_of_others r (drop f xs)
   slowest-reads =
@@ -234,7 +232,6 @@ module _ (r f s : ℕ) (xs : List LogEntry) (order : f ≤ s) (there : s ≤ len
       ∙ sym (frames-append r middle (drop s xs))
       ∙ ap (frames_of_others r) (sym parts)
 
-  -- The entries from the least cursor of the other ends on don't change.
   pub others-read : (cursor : ℕ) → s ≤ cursor
       → drop (cursor - (length xs - length (closed_up r f s xs))) (closed_up r f s xs) ≡ drop cursor xs
   others-read cursor past =
@@ -245,7 +242,7 @@ module _ (r f s : ℕ) (xs : List LogEntry) (order : f ≤ s) (there : s ≤ len
       ∙ drop-drop (cursor - s) s xs
       ∙ ap (λ (n : ℕ). drop n xs) on
 
-  -- Each kept entry waits at one of two ends.
+  -- The number of kept entries: those before place s wait at the end r, and all entries from place s on are kept.
   pub kept-waits : length (closed_up r f s xs) + length (filter (is_of_other r) (drop s xs))
       ≡ length (filter (is_of_other r) (drop f xs)) + length (drop s xs)
   kept-waits =

@@ -1,4 +1,4 @@
--- The world of each host changes by the events at this host.
+-- Each host's adapter and memory change by the events at this host.
 use Rattle.std.proofs.Common.{◌≡◌, ◌==◌, ◌&&◌, ◌++◌, ◌∷◌, [], not, ℕ, Bool, true, false, List, All, Option, Some, None, slice_get}
 use Rattle.std.proofs.Common.{option_map}
 use Rattle.std.proofs.Common.{if◌then◌else◌, inl, inr, refl, sym, ap, subst, ◌∙◌}
@@ -16,7 +16,7 @@ use Rattle.stations.specs.Stations.{StationState, each_after, station_after, sta
 use Rattle.stations.specs.Stations.{world_of}
 use Rattle.stations.specs.AtomicRuns.{IsTick, LeadsTo, events_at}
 
--- There is a host with this number, and it is on this wire.
+-- The host with this number exists and is on this wire.
 record Stands (ss : List StationState) (host wire : ℕ) : Type 0 where
   station : StationState
   is : slice_get ss host ≡ Some station
@@ -71,7 +71,6 @@ world-elsewhere ss host k event other occurs =
     let at = stands ss host occurs.wire occurs.on_wire in
     ap world_of (at-place ss host k event at.station at.is) ∙ elsewhere host k at.station.wire event (slice_get ss k) other
 
--- Each host's world changes by the events at this host.
 pub trail-of : (caller k : ℕ) (steps : List AtomicStep) (a b : List StationState) → LeadsTo caller steps a b
     → Trail (events_at k steps) (world_at a k) (world_at b k)
 trail-of caller k [] a b leads = ap (λ (ss : List StationState). world_at ss k) leads
@@ -91,7 +90,6 @@ trail-of caller k (At host event ∷ later) a b leads =
     ]
 trail-of caller k (Idles tick ∷ later) a b leads = trail-of caller k later a b leads.2
 
--- The event of a tick is a step or an arrival, not an access.
 one-more : (here : Bool) (event : Event) (later : List Event) → IsStep event → All IsStep later
     → All IsStep ((if here then event ∷ [] else []) ++ later)
 one-more true event later is are = All-cons IsStep event later is are

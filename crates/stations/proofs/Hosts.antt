@@ -1,4 +1,4 @@
--- Machines and their ends of wires, side by side.
+-- The stations of a list of machines and a list of ends of wires: items, changes and events.
 use Rattle.std.proofs.Common.{◌≡◌, ◌<◌, zero, suc, ℕ, List, [], ◌∷◌, ◌++◌, Option, Some, None}
 use Rattle.std.proofs.Common.{length, slice_get, slice_set, slice_index_or, refl, sym, ap, ◌∙◌, arith}
 use Rattle.std.proofs.lemmas.Option.{slice_get-get_or}
@@ -7,11 +7,12 @@ use Rattle.bus.specs.Machines.{MachineState, after_event}
 use Rattle.bus.specs.Trails.{past_of_event}
 use Rattle.bus.specs.declared.event.Event.{Event}
 use Rattle.stations.specs.Ends.{EndState}
-use Rattle.stations.specs.StationsView.{station_of, stations_of}
+use Rattle.stations.specs.StationsView.{HasEndsOfWires, station_of, stations_in, stations_of}
+use Rattle.stations.specs.declared.stations.Stations.TheInside.{Inside}
 use Rattle.stations.specs.Stations.{StationState, backlog_after, stations_after, world_at, world_of}
 use Rattle.stations.proofs.Places.{set-after}
 
--- the station of a machine and an end, if both exist
+-- the station of a machine and an end; None if one of them doesn't exist
 abbrev pub both : Option MachineState → Option EndState → Option StationState
 both None end = None
 both (Some machine) None = None
@@ -45,9 +46,12 @@ pub record IsThere (ms : List MachineState) (es : List EndState) (host : ℕ) : 
   pub has_end : slice_get es host ≡ Some end
   pub is : slice_get (stations_of ms es) host ≡ Some (station_of machine end)
 
-pub is-there : (ms : List MachineState) (es : List EndState) (host : ℕ) → length es ≡ length ms → host < length ms → IsThere ms es host
-is-there ms es host same below =
-    let there : host < length es = omega (arith, same, below) in
+pub is-there : {inside : Inside} (host : ℕ) → HasEndsOfWires inside → host < length inside.machines.items
+    → IsThere inside.machines.items inside.wires host
+is-there {inside} host have below =
+    let ms = inside.machines.items in
+    let es = inside.wires in
+    let there : host < length es = omega (arith, have.ends, below) in
     let machine = slice_get-some ms host below in
     let end = slice_get-some es host there in
     record {
@@ -59,7 +63,6 @@ is-there ms es host same below =
           ∙ ap (both (Some machine.0)) end.1);
     }
 
--- A machine and its end of a wire changed.
 pub set-both : (ms : List MachineState) (es : List EndState) (host : ℕ) (m : MachineState) (e : EndState)
     → stations_of (slice_set ms host m) (slice_set es host e) ≡ slice_set (stations_of ms es) host (station_of m e)
 set-both [] es host m e = refl
@@ -68,13 +71,12 @@ set-both (x ∷ ms) [] (suc host) m e = refl
 set-both (x ∷ ms) (y ∷ es) zero m e = refl
 set-both (x ∷ ms) (y ∷ es) (suc host) m e = ap (λ (rest : List StationState). station_of x y ∷ rest) (set-both ms es host m e)
 
--- An end is set to its own value.
 pub set-end_same : (es : List EndState) (host : ℕ) (e : EndState) → slice_get es host ≡ Some e → slice_set es host e ≡ es
 set-end_same [] host e is = refl
 set-end_same (y ∷ es) zero e is = let same : y ≡ e = cc in ap (λ (x : EndState). x ∷ es) (sym same)
 set-end_same (y ∷ es) (suc host) e is = ap (λ (rest : List EndState). y ∷ rest) (set-end_same es host e is)
 
--- An event at one machine, with its end of the wire after the event.
+-- An event at one machine that puts no frame, if the machine and its end are replaced by those after the event.
 pub host-after : (ms : List MachineState) (es : List EndState) (host : ℕ) (event : Event) (new : MachineState) (end : EndState)
     → (there : IsThere ms es host) → host < length (stations_of ms es)
     → new ≡ after_event event there.machine → end ≡ record there.end { line = backlog_after event there.end.line }
@@ -86,28 +88,34 @@ host-after ms es host event new end there inside is line none =
     (ap (λ (machine : MachineState). station_of machine end) is
     ∙ ap (station_of (after_event event there.machine)) line) none
 
--- The host has this machine.
+-- The host exists, and its machine is `m`.
 pub record Shows (ms : List MachineState) (es : List EndState) (ss : List StationState) (host : ℕ) (m : MachineState) : Type 0 where
   pub there : IsThere ms es host
   pub inside : host < length (stations_of ms es)
   pub machine : m ≡ there.machine
   pub world : m.world ≡ world_at ss host
 
-pub below-machines : (ms : List MachineState) (es : List EndState) (ss : List StationState) (host : ℕ) → stations_of ms es ≡ ss
-    → length es ≡ length ms → host < length ss → host < length ms
-below-machines ms es ss host shown same below =
-    omega (arith, below, ap (λ (list : List StationState). length list) shown, length-both ms es same)
+-- A network has as many stations as machines.
+pub as-long : {inside : Inside} {ss : List StationState} → stations_in inside ≡ ss → HasEndsOfWires inside
+    → length ss ≡ length inside.machines.items
+as-long {inside} shown have =
+    sym (ap (λ (list : List StationState). length list) shown) ∙ length-both inside.machines.items inside.wires have.ends
 
-pub shows : (ms : List MachineState) (es : List EndState) (ss : List StationState) (host : ℕ) (m : MachineState) → stations_of ms es ≡ ss
-    → length es ≡ length ms → host < length ss → m ≡ slice_index_or ms host m → Shows ms es ss host m
-shows ms es ss host m shown same below value =
-    let inside = below-machines ms es ss host shown same below in
-    let there = is-there ms es host same inside in
-    let found : Some m ≡ Some there.machine = ap Some value ∙ sym (slice_get-get_or ms host m inside) ∙ there.has_machine in
+pub below-machines : {inside : Inside} {ss : List StationState} {host : ℕ} → stations_in inside ≡ ss → HasEndsOfWires inside
+    → host < length ss → host < length inside.machines.items
+below-machines shown have below = omega (arith, below, as-long shown have)
+
+pub shows : {inside : Inside} {ss : List StationState} {host : ℕ} {m : MachineState} → stations_in inside ≡ ss → HasEndsOfWires inside
+    → host < length ss → m ≡ slice_index_or inside.machines.items host m → Shows inside.machines.items inside.wires ss host m
+shows {inside} {ss} {host} {m} shown have below value =
+    let ms = inside.machines.items in
+    let below-all = below-machines shown have below in
+    let there = is-there host have below-all in
+    let found : Some m ≡ Some there.machine = ap Some value ∙ sym (slice_get-get_or ms host m below-all) ∙ there.has_machine in
     let is : m ≡ there.machine = cc in
     record {
       there = there;
-      inside = omega (arith, inside, length-both ms es same);
+      inside = omega (arith, below-all, length-both ms inside.wires have.ends);
       machine = is;
       world =
           ap (λ (machine : MachineState). machine.world) is
@@ -116,11 +124,11 @@ shows ms es ss host m shown same below value =
     }
 
 -- An event at one machine that changes no end.
-pub machine-after : (ms : List MachineState) (es : List EndState) (ss : List StationState) (host : ℕ) (event : Event)
-    (m new : MachineState) → stations_of ms es ≡ ss → Shows ms es ss host m → new ≡ after_event event m
+pub machine-after : {ms : List MachineState} {es : List EndState} {ss : List StationState} {host : ℕ} {m new : MachineState} (event : Event)
+    → stations_of ms es ≡ ss → Shows ms es ss host m → new ≡ after_event event m
     → ((line : List (List ℕ)) → backlog_after event line ≡ line) → (past_of_event event).put ≡ []
     → stations_of (slice_set ms host new) es ≡ stations_after host event ss
-machine-after ms es ss host event m new shown shows is stays none =
+machine-after {ms} {es} {ss} {host} {m} {new} event shown shows is stays none =
     let there = shows.there in
     ap (stations_of (slice_set ms host new)) (sym (set-end_same es host there.end there.has_end))
     ∙ host-after ms es host event new there.end there shows.inside
@@ -128,7 +136,6 @@ machine-after ms es ss host event m new shown shows is stays none =
     (ap (λ (line : List (List ℕ)). let e : EndState = record there.end { line = line } in e) (sym (stays there.end.line))) none
     ∙ ap (stations_after host event) shown
 
--- One more host.
 pub append-both : (ms : List MachineState) (es : List EndState) (m : MachineState) (e : EndState) → length es ≡ length ms
     → stations_of (ms ++ m ∷ []) (es ++ e ∷ []) ≡ stations_of ms es ++ station_of m e ∷ []
 append-both [] [] m e same = refl

@@ -35,7 +35,6 @@ use Rattle.stations.specs.declared.lent_bus.LentBus.{LentBus}
 past-here : (host : ℕ) (access : Access) → past_at host (At host (Accesses access) ∷ []) ≡ past_of (Accesses access ∷ [])
 past-here host access = ap (λ (b : Bool). past_of ((if b then Accesses access ∷ [] else []) ++ [])) (eq-eqb host host refl)
 
--- An access can happen at a host that exists.
 occurs-access : (ss : List StationState) (host : ℕ) (access : Access) → host < length ss → IsAnswered access (world_at ss host)
     → OccursAt host (Accesses access) ss
 occurs-access ss host access below answered =
@@ -44,14 +43,12 @@ occurs-access ss host access below answered =
       | inr none ↦ absurd (omega (arith, below, none.0))
     ]
 
--- The world of the host after the access.
 pub world-there : (ss new : List StationState) (host : ℕ) (access : Access) → host < length ss → IsAnswered access (world_at ss host)
     → new ≡ stations_after host (Accesses access) ss → world_at new host ≡ world_after_access access (world_at ss host)
 world-there ss new host access below answered leaves =
     ap (λ (list : List StationState). world_at list host) leaves
     ∙ world-here ss host (Accesses access) (eq-eqb host host refl) (occurs-access ss host access below answered)
 
--- A load changes nothing.
 pub load-leaves : (ss new : List StationState) (host address size : ℕ) → host < length ss → new ≡ ss
     → new ≡ stations_after host (Accesses (Loads address size)) ss
 load-leaves ss new host address size below same =
@@ -61,7 +58,7 @@ load-leaves ss new host address size below same =
       | inr none ↦ absurd (omega (arith, below, none.0))
     ]
 
--- What the access doesn't change, apart from the stations.
+-- The access changes neither the ticks, the number of accesses nor the observer of the bus.
 pub record LeavesRest {O : Type 0} {g : OfObserver O} (p b : LentBus O g) : Type 0 where
   pub lent : SameLent p b
   pub ticks : b.ticks.now ≡ p.ticks.now
@@ -71,14 +68,12 @@ pub record LeavesRest {O : Type 0} {g : OfObserver O} (p b : LentBus O g) : Type
 abbrev pub never_lively : {O : Type 0} {g : OfObserver O} → LentBus O g → Type 0
 never_lively bus = ⊥
 
--- The events at the calling host up to the access.
 trail-here : {O : Type 0} {g : OfObserver O} (a p : LentBus O g) (prepared : PreparedLent a p)
     → Trail (events_at a.host prepared.plays.steps) (world_here a) (world_here p)
 trail-here a p prepared =
     subst (λ (h : ℕ). Trail (events_at a.host prepared.plays.steps) (world_here a) (world_at p.stations.now h)) (sym prepared.lent.host)
     (trail-of a.host a.host prepared.plays.steps a.stations.now p.stations.now (prepared.plays.leads a.host))
 
--- The size of the host's memory doesn't change while ticks are played.
 pub size-prepared : {O : Type 0} {g : OfObserver O} (a p : LentBus O g) → PreparedLent a p → bytes_here p ≡ bytes_here a
 size-prepared a p prepared =
     let steps = prepared.plays.steps in
@@ -86,7 +81,6 @@ size-prepared a p prepared =
     (trail-here a p prepared) in
     happens.steady.size
 
--- What the access and the ticks before it don't change of the bus.
 pub access-keeps : {O : Type 0} {g : OfObserver O} (a p b : LentBus O g) → PreparedLent a p → SameLent p b → bytes_here b ≡ bytes_here p
     → StaysWhole bytes_here SameLent (λ (bus : LentBus O g). ⊤) never_lively a b
 access-keeps {O} {g} a p b prepared same size = record {
@@ -96,7 +90,8 @@ access-keeps {O} {g} a p b prepared same size = record {
   lively = λ lively. lively;
 }
 
--- The access, after the ticks before it, obeys the bus law.
+-- An access is an act of the bus (`Acts`): the ticks before the access are played (`PreparedLent`), and then the access
+-- changes the stations.
 pub acted : {O : Type 0} {g : OfObserver O} (a p b : LentBus O g) (access : Access) (effect : World → World → Type 0) → PreparedLent a p
     → LeavesRest p b
     → p.host < length p.stations.now → b.stations.now ≡ stations_after p.host (Accesses access) p.stations.now

@@ -1,4 +1,4 @@
--- A new end of a wire.
+-- `HaveLogs` for more logs, and for a new end of a wire.
 use Rattle.std.proofs.Common.{◌≡◌, ◌+◌, ◌⊎◌, ◌↔◌, zero, suc, ℕ, List, Option, Some, None, [], ◌∷◌, ◌++◌, length, drop}
 use Rattle.std.proofs.Common.{option_map, slice_get, inl, inr, refl, sym, ap, ◌∙◌, subst, arith, length-append}
 use Rattle.std.specs.Prelude.{Err, Ok, OnErr, Result}

@@ -1,4 +1,4 @@
--- Stations by their numbers, and the stations of all hosts after an event at one host.
+-- The list of all stations after an event at one host, by the station at each place.
 use Rattle.std.proofs.Common.{◌≡◌, ◌<◌, ◌+◌, ◌==◌, ◌&&◌, not, zero, suc, ℕ, Bool, true, false, List, [], ◌∷◌, ◌++◌, Option, Some, None}
 use Rattle.std.proofs.Common.{length, slice_get, slice_set, option_map, if◌then◌else◌, inl, inr, refl, sym, ap, ◌∙◌, arith}
 use Rattle.std.proofs.lemmas.Bool.Decides.{eqb_tells}
@@ -8,7 +8,6 @@ use Rattle.bus.specs.Trails.{past_of_event}
 use Rattle.bus.specs.declared.event.Event.{Event}
 use Rattle.stations.specs.Stations.{StationState, all_after, at_each, each_after, station_after, stations_after, with_frames}
 
--- Lists with the same item at each place are equal.
 pub same-places : {X : Type 0} (xs ys : List X) → ((k : ℕ) → slice_get xs k ≡ slice_get ys k) → xs ≡ ys
 same-places [] [] same = refl
 same-places [] (y ∷ ys) same = let first = same 0 in cc
@@ -32,7 +31,6 @@ get-at_each change ss k =
     let same : 0 + k ≡ k = omega arith in
     get-from change 0 ss k ∙ ap (λ (n : ℕ). option_map (change n) (slice_get ss k)) same
 
--- Without frames, a station doesn't change.
 pub no-frames : (sender wire k : ℕ) (s : StationState) → with_frames sender wire [] k s ≡ s
 no-frames sender wire k s = by_case (not (k == sender) && (s.wire == wire))
   where
@@ -64,7 +62,6 @@ at-place host event ss s new k below there is = elim (eqb_tells k host) [
     elsewhere None other = refl
     elsewhere (Some x) other = rw other refl
 
--- One station changed by an event, and then the frames that it put wait at the other ends.
 pub spread-after : (host : ℕ) (event : Event) (ss final : List StationState) (s new : StationState) → host < length ss
     → slice_get ss host ≡ Some s → new ≡ station_after event s
     → ((k : ℕ) → slice_get final k ≡ option_map (with_frames host s.wire (past_of_event event).put k) (slice_get (slice_set ss host new) k))
@@ -74,7 +71,6 @@ spread-after host event ss final s new below there is each =
     (λ k. each k ∙ (at-place host event ss s new k below there is ∙ sym (get-at_each (each_after host s.wire event) ss k)))
     ∙ sym (after-is host event ss s there)
 
--- One station changed by an event that puts no frame.
 pub set-after : (host : ℕ) (event : Event) (ss : List StationState) (s new : StationState) → host < length ss → slice_get ss host ≡ Some s
     → new ≡ station_after event s → (past_of_event event).put ≡ [] → slice_set ss host new ≡ stations_after host event ss
 set-after host event ss s new below there is none =
@@ -82,7 +78,6 @@ set-after host event ss s new below there is none =
     (λ k. sym (ap (λ (put : List (List ℕ)). option_map (with_frames host s.wire put k) (slice_get (slice_set ss host new) k)) none
     ∙ none-anywhere host s.wire k (slice_get (slice_set ss host new) k)))
 
--- A list in which an item is replaced by itself doesn't change.
 pub set-same : (ss : List StationState) (host : ℕ) (s : StationState) → host < length ss → slice_get ss host ≡ Some s → slice_set ss host s
     ≡ ss
 set-same ss host s below there = same-places (slice_set ss host s) ss (λ k. elim (eqb_tells k host) [

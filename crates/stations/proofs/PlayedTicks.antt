@@ -1,11 +1,11 @@
--- A tick is played.
+-- `PlaysTick` for a step or a delivery, by the station of its host before and after the tick.
 use Rattle.std.proofs.Common.{◌≡◌, ◌≢◌, ◌<◌, ◌↔◌, []}
 use Rattle.std.proofs.Common.{IsNone, IsTrue, ℕ, Bool, true, false, List, Option, Some, length, slice_get}
 use Rattle.std.proofs.Common.{slice_set}
 use Rattle.std.proofs.Common.{option_map, refl, sym, ap, subst, ◌∙◌}
 use Rattle.rx_engine.specs.declared.arrival.Fate.{Fate}
-use Rattle.eeprom.specs.Eerd.{is_pending}
-use Rattle.mdic_phy.specs.Mdic.{has_work}
+use Rattle.eeprom_phy.specs.Eerd.{is_pending}
+use Rattle.eeprom_phy.specs.Mdic.{has_work}
 use Rattle.adapter.specs.Outcomes.{FrameOutcome, framed, oldest, put_by, with_frame}
 use Rattle.adapter.specs.State.{AdapterState, IsAdapter}
 use Rattle.adapter.specs.Steps.{Answers, ticked}
@@ -30,7 +30,6 @@ none-ticked : (works : Bool) → put_by (ticked works) ≡ []
 none-ticked true = refl
 none-ticked false = refl
 
--- The frame in a step's outcome is the frame that was put.
 pub put-is : (kind : StepKind) (free : Bool) (memory : List ℕ) (adapter : AdapterState) (answer : FrameOutcome)
     → Answers kind free memory adapter answer → put_by answer ≡ (past_of_event (Steps kind free answer)).put
 put-is TxPut free memory adapter answer answers = refl
@@ -43,7 +42,6 @@ put-is RxDone free memory adapter _ answers = refl
 put-is EepromTick free memory adapter answer answers = ap put_by answers ∙ none-ticked (is_pending adapter.eerd)
 put-is PhyTick free memory adapter answer answers = ap put_by answers ∙ none-ticked (has_work adapter.mdic adapter.phy)
 
--- A step of a kind other than TxPut puts no frame.
 pub put-none : (kind : StepKind) (free : Bool) (memory : List ℕ) (adapter : AdapterState) (answer : FrameOutcome) → kind ≢ TxPut
     → Answers kind free memory adapter answer → put_by answer ≡ []
 put-none TxPut free memory adapter answer other answers = absurd (other refl)
@@ -53,7 +51,6 @@ put-none RxDone free memory adapter answer other answers = put-is RxDone free me
 put-none EepromTick free memory adapter answer other answers = put-is EepromTick free memory adapter answer answers
 put-none PhyTick free memory adapter answer other answers = put-is PhyTick free memory adapter answer answers
 
--- The outcome of a tick of the EEPROM or the PHY has no frame.
 ticked-no_frame : (works : Bool) (outcome : Outcome (Unit {0})) (frame other : List ℕ) → with_frame frame outcome ≡ ticked works
     → with_frame frame outcome ≡ with_frame other outcome
 ticked-no_frame true (stepped.Put u) frame other is = absurd (cc)
@@ -63,7 +60,7 @@ ticked-no_frame false (stepped.Put u) frame other is = absurd (cc)
 ticked-no_frame false (stepped.Delivered u fate) frame other is = absurd (cc)
 ticked-no_frame false _ frame other is = refl
 
--- The outcome of a step of a kind other than TxPut has no frame, so it doesn't depend on the frame.
+-- Only the outcome of TxPut has a frame, so the outcome of another step is the same for any frame.
 pub no-frame : (kind : StepKind) (free : Bool) (memory : List ℕ) (adapter : AdapterState) (outcome : Outcome (Unit {0}))
     (frame other : List ℕ) → kind ≢ TxPut → Answers kind free memory adapter (with_frame frame outcome)
     → with_frame frame outcome ≡ with_frame other outcome
@@ -82,7 +79,6 @@ no-frame EepromTick free memory adapter outcome frame other stays answers =
 no-frame PhyTick free memory adapter outcome frame other stays answers =
     ticked-no_frame (has_work adapter.mdic adapter.phy) outcome frame other answers
 
--- A step TxPut that finds a frame and a free wire puts the oldest frame.
 pub puts-oldest : (adapter : AdapterState) (outcome : Outcome (Unit {0})) → adapter.transmitter.buffer ≢ []
     → PutAnswers true adapter (framed outcome adapter) → framed outcome adapter ≡ stepped.Put (oldest adapter.transmitter.buffer)
 puts-oldest adapter (stepped.Put u) some answers = refl
@@ -90,7 +86,6 @@ puts-oldest adapter stepped.Nothing some answers = absurd (some answers)
 puts-oldest adapter stepped.WireFull some answers = let full = answers.1 in absurd (cc)
 puts-oldest adapter _ some answers = absurd answers
 
--- A value that was found isn't missing.
 pub not-none : {A : Type 0} (found : Option A) (one : A) → found ≡ Some one → IsNone found → ⊥
 not-none found one is none = let no : true ≡ false = subst IsNone is none in cc
 
@@ -121,7 +116,7 @@ plays-delivery ss host s new frame fate below there is = record {
   leaves = set-after host (Arrives frame fate) ss s new below there is.leaves refl;
 }
 
--- A step after which the frame that it put, if any, waits at each other end.
+-- A step of any kind. The frame that it put, if any, waits at each other end.
 pub plays-step : (ss final : List StationState) (host wire : ℕ) (s new : StationState) (kind : StepKind) (free : Bool)
     (answer : FrameOutcome) → host < length ss → slice_get ss host ≡ Some s → wire ≡ s.wire
     → (kind ≡ TxPut → IsTrue free ↔ WireHasRoom ss host wire)
@@ -146,7 +141,6 @@ plays-step ss final host wire s new kind free answer below there on finds adapte
           ∙ ap (λ (frames : List (List ℕ)). option_map (with_frames host s.wire frames k) (slice_get (slice_set ss host new) k)) put));
     }
 
--- A step of a kind other than TxPut.
 pub plays-stays : (ss : List StationState) (host : ℕ) (s new : StationState) (kind : StepKind) (answer : FrameOutcome) → host < length ss
     → slice_get ss host ≡ Some s → kind ≢ TxPut → IsAdapter s.world.adapter → put_by answer ≡ []
     → Answers kind true s.world.memory s.world.adapter answer → new ≡ station_after (Steps kind true answer) s
@@ -157,7 +151,6 @@ plays-stays ss host s new kind answer below there other adapter none answers is 
     (λ k. sym (ap (λ (put : List (List ℕ)). option_map (with_frames host s.wire put k) (slice_get (slice_set ss host new) k)) none
     ∙ none-anywhere host s.wire k (slice_get (slice_set ss host new) k)))
 
--- A step TxPut that puts no frame.
 plays-no_put : (ss : List StationState) (host wire : ℕ) (s : StationState) (free : Bool) (answer : FrameOutcome) → host < length ss
     → slice_get ss host ≡ Some s → wire ≡ s.wire → IsTrue free ↔ WireHasRoom ss host wire → IsAdapter s.world.adapter
     → Answers TxPut free s.world.memory s.world.adapter answer → station_after (Steps TxPut free answer) s ≡ s → put_by answer ≡ []
@@ -169,14 +162,12 @@ plays-no_put ss host wire s free answer below there on finds adapter answers sta
     ∙ ap (λ (put : List (List ℕ)). option_map (with_frames host wire put k) (slice_get ss k)) none
     ∙ none-anywhere host wire k (slice_get ss k)))
 
--- A step TxPut without a frame to put.
 pub plays-no_frame : (ss : List StationState) (host wire : ℕ) (s : StationState) (free : Bool) → host < length ss
     → slice_get ss host ≡ Some s → wire ≡ s.wire → IsTrue free ↔ WireHasRoom ss host wire → IsAdapter s.world.adapter
     → s.world.adapter.transmitter.buffer ≡ [] → PlaysTick ss (Step host TxPut) Nothing ss
 plays-no_frame ss host wire s free below there on finds adapter empty =
     plays-no_put ss host wire s free stepped.Nothing below there on finds adapter empty refl refl
 
--- A step TxPut while another end has no room for the frame.
 pub plays-wire_full : (ss : List StationState) (host wire : ℕ) (s : StationState) (free : Bool) → host < length ss
     → slice_get ss host ≡ Some s → wire ≡ s.wire → IsTrue free ↔ WireHasRoom ss host wire → IsAdapter s.world.adapter
     → s.world.adapter.transmitter.buffer ≢ [] → free ≡ false → PlaysTick ss (Step host TxPut) WireFull ss

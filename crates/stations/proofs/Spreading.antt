@@ -1,4 +1,4 @@
--- A frame is put onto a wire: the machines and the ends after that.
+-- `PlaysTick` for steps and deliveries, by the list of machines and the list of ends of wires.
 use Rattle.std.proofs.Common.{◌≡◌, ◌≢◌, ◌<◌, ◌↔◌, ◌==◌, ◌&&◌, not, suc, ℕ, Bool, true, false, List, [], ◌∷◌, ◌++◌, Option, Some, None}
 use Rattle.std.proofs.Common.{length, option_map, slice_get, slice_set, if◌then◌else◌, refl, sym, ap, subst, ◌∙◌, arith}
 use Rattle.std.proofs.lemmas.Option.{slice_get_within}
@@ -26,7 +26,6 @@ use Rattle.stations.proofs.Hosts.{IsThere, Shows, both, get-both, set-both, set-
 use Rattle.stations.proofs.PlayedTicks.{plays-delivery, plays-no_frame, plays-nothing, plays-stays, plays-step, plays-wire_full}
 use Rattle.stations.proofs.PlayedTicks.{puts-oldest}
 
--- A list whose items are changed one by one keeps its length.
 pub same-length : {X Y : Type 0} (change : ℕ → X → Y) (xs : List X) (ys : List Y)
     → ((k : ℕ) → slice_get ys k ≡ option_map (change k) (slice_get xs k)) → length ys ≡ length xs
 same-length change [] [] same = refl
@@ -60,7 +59,6 @@ room-seen ms es sender wire same = (forth, back)
         (get-both ms es k ∙ (ap (λ (o : Option MachineState). both o (slice_get es k)) machine.1
         ∙ ap (both (Some machine.0)) there)) other on
 
--- One machine changed, and a frame waits at each other end of its wire.
 waits-there : (sender wire k : ℕ) (frames : List (List ℕ)) (m : Option MachineState) (e : Option EndState)
     → both m (option_map (with_line sender wire frames k) e) ≡ option_map (with_frames sender wire frames k) (both m e)
 waits-there sender wire k frames None e = refl
@@ -94,7 +92,6 @@ final-is : (ms : List MachineState) (es : List EndState) (host : ℕ) (new : Mac
 final-is ms es host new there =
     ap (stations_of (slice_set ms host new)) (sym (set-end_same es host there.end there.has_end)) ∙ set-both ms es host new there.end
 
--- A step of a kind other than TxPut.
 pub machine-steps : (ms : List MachineState) (es : List EndState) (ss : List StationState) (host : ℕ) (m new : MachineState)
     (kind : StepKind) (answer : FrameOutcome) → stations_of ms es ≡ ss → Shows ms es ss host m → kind ≢ TxPut
     → IsAdapter m.world.adapter → put_by answer ≡ [] → Answers kind true m.world.memory m.world.adapter answer
@@ -109,7 +106,8 @@ machine-steps ms es ss host m new kind answer shown seen other adapter none answ
     (subst (λ (x : MachineState). Answers kind true x.world.memory x.world.adapter answer) seen.machine answers)
     (ap (λ (x : MachineState). station_of x there.end) (is ∙ ap (after_event (Steps kind true answer)) seen.machine))))
 
--- The host has this machine and this wire, and the wire is free or not.
+-- The host `host` exists, its machine is `m`, its wire has the number `wire`, and `free` states whether the wire is
+-- free.
 pub record FindsWire (ms : List MachineState) (es : List EndState) (ss : List StationState) (host wire : ℕ) (free : Bool) (m : MachineState)
     : Type 0 where
   pub shown : stations_of ms es ≡ ss
@@ -150,7 +148,7 @@ finds-wire_full ms es ss host wire free m found some full =
     found.seen.inside found.seen.there.is found.on found.finds found.adapter
     (λ empty. some (ap (λ (x : MachineState). x.world.adapter.transmitter.buffer) found.seen.machine ∙ empty)) full)
 
--- The oldest frame is put onto the wire.
+-- A step TxPut puts the oldest frame onto a free wire.
 pub puts-frame : (ms : List MachineState) (es es' : List EndState) (ss : List StationState) (host wire : ℕ) (m new : MachineState)
     (frame : List ℕ) (outcome : Outcome (Unit {0})) → (found : FindsWire ms es ss host wire true m)
     → m.world.adapter.transmitter.buffer ≢ [] → frame ≡ oldest m.world.adapter.transmitter.buffer
@@ -198,7 +196,6 @@ delivers-frame ms es es' ss host m new frame fate shown seen oldest occurs is po
       leaves = ap (λ (x : MachineState). station_of x popped) (is ∙ ap (after_event (Arrives frame fate)) seen.machine);
     })))
 
--- No frame waits.
 pub delivers-none : (ms : List MachineState) (es : List EndState) (ss : List StationState) (host : ℕ) → stations_of ms es ≡ ss
     → (there : IsThere ms es host) → there.end.line ≡ [] → PlaysTick ss (Deliver host) Nothing ss
 delivers-none ms es ss host shown there none =

@@ -1,4 +1,4 @@
--- Ticks are played one after the other, in a loop.
+-- The invariants of the loops that play ticks one after the other.
 use Rattle.std.proofs.Common.{◌≡◌, ◌≢◌, ◌≤◌, ◌++◌, ◌∷◌, [], Bool, false, true, ℕ, List, All, length, refl, sym, ap, subst, ◌∙◌}
 use Rattle.std.proofs.Common.{append_assoc}
 use Rattle.std.proofs.Common.{arith, if◌then◌else◌, length-append, not}
@@ -17,7 +17,7 @@ use Rattle.stations.specs.AtomicRunLaws.{leads_join, steps_told_join}
 use Rattle.stations.specs.AtomicRuns.{IsOfCall, IsTick, counted_by, counted_of, is_go, step_told, steps_told}
 use Rattle.stations.specs.PlayedTicks.{PlaysTicks}
 
--- What is known of an atomic step of a tick other than Go.
+-- What is known of an atomic step that is a tick other than Go.
 record AnswersTick (step : AtomicStep) : Type 0 where
   is : IsTick step
   of_call : (caller : ℕ) → IsOfCall caller step
@@ -36,7 +36,6 @@ answers-tick (Idles t) tick same other =
     let is : is_go t ≡ false = ap is_go same ∙ other in
     record { is = is; of_call = λ caller. is; told_as = λ n. refl; counted = λ n. refl }
 
--- Ticks don't change the number of accesses.
 pub counted-ticks : (n : ℕ) (steps : List AtomicStep) → All IsTick steps → counted_of n steps ≡ n
 counted-ticks n [] are = refl
 counted-ticks n (At host (Steps kind wire_free answer) ∷ later) are = counted-ticks n later (all-tail IsTick _ later are)
@@ -84,7 +83,7 @@ plays-more {O} {g} composes old mid new ticks tick n plays other one =
 
 -- Loops: the ticks that were played so far, and the remaining ticks
 
--- The ticks of a group up to a place.
+-- The ticks `front` are the first ticks of the group, and `rest` are the ticks after them.
 pub record InGroup (ticks front rest : List Tick) : Type 0 where
   pub group : group_of is_go ticks ≡ front ++ group_of is_go rest
   pub behind : behind_group is_go ticks ≡ behind_group is_go rest
@@ -102,7 +101,6 @@ group-goes_on ticks front rest tick so_far other = record {
   behind = so_far.behind ∙ ap (λ (go : Bool). if go then rest else behind_group is_go rest) other;
 }
 
--- A Go is skipped.
 pub skips-go : (front rest : List Tick) (tick : Tick) → is_go tick ≡ true → front ++ without_go is_go (tick ∷ rest) ≡ front
     ++ without_go is_go rest
 skips-go front rest tick go = ap (λ (b : Bool). front ++ (if not b then tick ∷ without_go is_go rest else without_go is_go rest)) go
@@ -113,14 +111,14 @@ keeps-tick front rest tick other =
     ap (λ (b : Bool). front ++ (if not b then tick ∷ without_go is_go rest else without_go is_go rest)) other
     ∙ sym (append_assoc front (tick ∷ []) (without_go is_go rest))
 
--- The invariant of the loop over a group: these ticks of the group were played.
+-- The invariant of the loop over a group: the first ticks of the group were played, and `rest` are the remaining ticks.
 pub record GroupPlayed {O : Type 0} (g : OfObserver O) (ticks : List Tick) (n : ℕ) (rest : List Tick) (old mid : Watched O) : Type 0 where
   pub front : List Tick
   pub split : InGroup ticks front rest
   pub plays : PlaysTicks g front n old mid
   pub room : length rest ≤ g.room_left mid.observer
 
--- The invariant of the loop over all ticks.
+-- The invariant of the loop over all ticks: the ticks before `rest`, except each Go, were played.
 pub record AllPlayed {O : Type 0} (g : OfObserver O) (ticks : List Tick) (n : ℕ) (rest : List Tick) (old mid : Watched O) : Type 0 where
   pub front : List Tick
   pub split : without_go is_go ticks ≡ front ++ without_go is_go rest
@@ -171,7 +169,6 @@ all-skip old mid ticks rest n so_far = record {
   room = omega (arith, so_far.room);
 }
 
--- At a Go and at the end of the ticks, the whole group is played.
 pub group-go : {O : Type 0} {g : OfObserver O} (old mid : Watched O) (ticks rest : List Tick) (n : ℕ)
     → GroupPlayed g ticks n (Go ∷ rest) old mid
     → PlaysTicks g (group_of is_go ticks) n old mid × (rest ≡ behind_group is_go ticks)

@@ -16,7 +16,7 @@ use Rattle.stations.specs.declared.wires.End.{End}
 use Rattle.stations.proofs.ClosedLogs.{frames-appended}
 use Rattle.stations.proofs.Hosts.{set-end_same}
 use Rattle.stations.proofs.Places.{same-places}
-use Rattle.stations.proofs.WireEnds.{get-end, has-end, log-set_other, log-set_same, room-shown}
+use Rattle.stations.proofs.WireEnds.{Found, found-at, found-log, get-end, log-set_other, log-set_same, room-shown, shows-end}
 use Rattle.stations.proofs.WireReaders.{is-end_at}
 use Rattle.stations.proofs.Spreading.{same-length}
 
@@ -32,7 +32,7 @@ differ a b other = elim (eqb_tells a b) [ inl same ↦ absurd (other same.1) | i
 
 -- The ends before and after a change
 
--- The end reads in the same log as before, and counts the frames that wait.
+-- The k-th end reads the same log as before the change, has a cursor in this log, and counts the frames that wait.
 pub record Stays (es : List End) (logs' : List (List LogEntry)) (k : ℕ) (end : End) : Type 0 where
   pub old : End
   pub was : slice_get es k ≡ Some old
@@ -141,7 +141,6 @@ module _ (logs : List (List LogEntry)) (es : List End) (have : HaveLogs logs es)
   there : s.log < length logs
   there = have.there sender s has
 
-  -- Another host reads a frame that the sender put; the sender doesn't.
   read-other : (k : ℕ) → k ≢ sender → frames_of_others k ((sender, frame) ∷ []) ≡ frame ∷ []
   read-other k other = ap (λ (b : Bool). map (λ (entry : LogEntry). entry.1) (if not b then (sender, frame) ∷ [] else []))
       (differ sender k (λ same. other (sym same)))
@@ -150,7 +149,8 @@ module _ (logs : List (List LogEntry)) (es : List End) (have : HaveLogs logs es)
   read-own k same = ap (λ (b : Bool). map (λ (entry : LogEntry). entry.1) (if not b then (sender, frame) ∷ [] else []))
       (equal sender k (sym same))
 
-  -- The frames of others from the cursor of an end that reads in the log.
+  -- After the put, the unread frames of an end that reads the log are those before, and then the frame, unless this
+  -- end's host sent it.
   reads-more : (k : ℕ) (end : End) → slice_get es k ≡ Some end → end.log ≡ s.log
       → frames_of_others k (drop (puts.makes.cursors k end) longer) ≡ unread logs k end ++ frames_of_others k ((sender, frame) ∷ [])
   reads-more k end is on =
@@ -160,7 +160,7 @@ module _ (logs : List (List LogEntry)) (es : List End) (have : HaveLogs logs es)
       (puts.makes.same k end is on
       ∙ ap (λ (log : List LogEntry). frames_of_others k (drop end.cursor log)) (was ∙ ap (λ (n : ℕ). slice_index_or logs n []) (sym on)))
 
-  -- What is known of the k-th end after the put.
+  -- After the put, the k-th end reads its log (`ReadsLog`), and shows the state that `with_line` states.
   pub record PutAt (k : ℕ) (end : End) : Type 0 where
     pub wire : (end-put k end).wire ≡ end.wire
     pub log : (end-put k end).log ≡ end.log
@@ -206,7 +206,6 @@ module _ (logs : List (List LogEntry)) (es : List End) (have : HaveLogs logs es)
             ∙ sym shown;
       }
 
-  -- An end that reads in another log.
   put-off : (k : ℕ) (end : End) → slice_get es k ≡ Some end → end.log ≢ s.log → PutAt k end
   put-off k end is off =
       let at : end-put k end ≡ end =
@@ -281,7 +280,6 @@ module _ (logs : List (List LogEntry)) (es : List End) (have : HaveLogs logs es)
       from None at = refl
       from (Some end) at = ap (λ (x : EndState). Some x) (put-at k end at).shows
 
--- Making room in the log doesn't change the room at the ends.
 pub room_made : (log sender : ℕ) (before after : List LogEntry) (old made : List End) → MakesRoom log before after old made
     → ((k : ℕ) (end : End) → slice_get old k ≡ Some end → k ≢ sender → end.log ≡ log → end.waiting < 64)
     → (k : ℕ) (end : End) → slice_get made k ≡ Some end → k ≢ sender → end.log ≡ log → end.waiting < 64
@@ -297,51 +295,73 @@ room_made log sender before after old made makes room k end is other on = from (
         omega (arith, free, count)
 
 -- The preconditions of a put
-module _ (logs : List (List LogEntry)) (es : List End) (ss : List EndState) (shown : ends_from logs 0 es ≡ ss) (have : HaveLogs logs es)
-    (sender : ℕ) (e : End) (below : sender < length ss) (is : e ≡ slice_index_or es sender e) where
-  pub has-sender : slice_get es sender ≡ Some e
-  has-sender = has-end logs es ss shown sender e below is
 
-  pub same-end : (other : End) → other ≡ slice_index_or es sender other → e ≡ other
-  same-end other found = same_Some e other (sym has-sender ∙ has-end logs es ss shown sender other below found)
+pub same-end : {logs : List (List LogEntry)} {es : List End} {ss : List EndState} {k : ℕ} {e other : End} → Found logs es ss k e
+    → Found logs es ss k other → e ≡ other
+same-end {e = e} {other = other} found again = same_Some e other (sym found.has ∙ again.has)
 
-  pub puts-there : IsReader e.log es sender
-  puts-there = record {
-    there = slice_get_within es sender e has-sender;
-    reads = ap (λ (x : End). x.log) (is-end_at es sender e has-sender);
-  }
+pub puts-there : {logs : List (List LogEntry)} {es : List End} {ss : List EndState} {k : ℕ} {e : End} → Found logs es ss k e
+    → IsReader e.log es k
+puts-there {es = es} {k = k} {e = e} found = record {
+  there = slice_get_within es k e found.has;
+  reads = ap (λ (x : End). x.log) (is-end_at es k e found.has);
+}
 
-  -- The log that was found.
-  pub found-log : (log : List LogEntry) → log ≡ slice_index_or logs e.log log → log ≡ log_of logs e
-  found-log log found = found ∙ get_or_default logs e.log log [] (have.there sender e has-sender)
+pub puts-reads : {logs : List (List LogEntry)} {es : List End} {ss : List EndState} {sender : ℕ} {e : End} {log : List LogEntry}
+    → Found logs es ss sender e → log ≡ slice_index_or logs e.log log → (k : ℕ) (end : End) → slice_get es k ≡ Some end
+    → end.log ≡ e.log → ReadsLog log k end
+puts-reads {logs} found is k end at on =
+    subst (λ (l : List LogEntry). ReadsLog l k end)
+    (ap (λ (n : ℕ). slice_index_or logs n []) on ∙ sym (found-log found is)) (found.have.reads k end at)
 
-  pub puts-reads : (log : List LogEntry) → log ≡ slice_index_or logs e.log log → (k : ℕ) (end : End) → slice_get es k ≡ Some end
-      → end.log ≡ e.log → ReadsLog log k end
-  puts-reads log found k end at on =
-      subst (λ (l : List LogEntry). ReadsLog l k end)
-      (ap (λ (n : ℕ). slice_index_or logs n []) on ∙ sym (found-log log found)) (have.reads k end at)
+-- The wire of a sender is that of its end, and the other ends of this wire have room.
+pub record MayPut (ss : List EndState) (sender wire : ℕ) : Type 0 where
+  pub on : (end : EndState) → slice_get ss sender ≡ Some end → wire ≡ end.wire
+  pub room : HaveRoom ss sender wire
 
-  pub its-wire : (wire : ℕ) → ((end : EndState) → slice_get ss sender ≡ Some end → wire ≡ end.wire) → wire ≡ e.wire
-  its-wire wire on = on (end_of logs sender e)
-      (ap (λ (l : List EndState). slice_get l sender) (sym shown) ∙ get-end logs es sender
-      ∙ ap (option_map (end_of logs sender)) has-sender)
+its-wire : {logs : List (List LogEntry)} {es : List End} {ss : List EndState} {sender wire : ℕ} {e : End} → Found logs es ss sender e
+    → MayPut ss sender wire → wire ≡ e.wire
+its-wire {logs} {es} {sender = sender} {e = e} found may = may.on (end_of logs sender e)
+    (ap (λ (l : List EndState). slice_get l sender) (sym found.shown) ∙ get-end logs es sender
+    ∙ ap (option_map (end_of logs sender)) found.has)
 
-  pub puts-room : (wire : ℕ) → ((end : EndState) → slice_get ss sender ≡ Some end → wire ≡ end.wire) → HaveRoom ss sender wire
-      → (k : ℕ) (end : End) → slice_get es k ≡ Some end → k ≢ sender → end.wire ≡ e.wire → end.waiting < 64
-  puts-room wire on room k end at other same =
-      let one = is-end_at es k end at in
-      subst (λ (x : End). x.waiting < 64) one
-      ((room-shown logs es ss shown sender wire have.reads).1 room k (slice_get_within es k end at) other
-      (ap (λ (x : End). x.wire) one ∙ same ∙ sym (its-wire wire on)))
+pub puts-room : {logs : List (List LogEntry)} {es : List End} {ss : List EndState} {sender wire : ℕ} {e : End} → Found logs es ss sender e
+    → MayPut ss sender wire → (k : ℕ) (end : End) → slice_get es k ≡ Some end → k ≢ sender → end.wire ≡ e.wire → end.waiting < 64
+puts-room {logs} {es} {ss} {sender} {wire} found may k end at other same =
+    let one = is-end_at es k end at in
+    subst (λ (x : End). x.waiting < 64) one
+    ((room-shown logs es ss found.shown sender wire found.have.reads).1 may.room k (slice_get_within es k end at) other
+    (ap (λ (x : End). x.wire) one ∙ same ∙ sym (its-wire found may)))
 
--- The whole list of ends is replaced.
+-- The ends and the logs after a put.
+pub record HavePut (logs : List (List LogEntry)) (es : List End) (ss : List EndState) (sender wire : ℕ) (frame : List ℕ) (new : List End)
+    : Type 0 where
+  pub count : length new ≡ length es
+  pub have : HaveLogs logs new
+  pub shown : (k : ℕ) → slice_get (ends_from logs 0 new) k ≡ option_map (with_line sender wire (frame ∷ []) k) (slice_get ss k)
+
+pub have-put : {logs : List (List LogEntry)} {es : List End} {ss : List EndState} {sender wire : ℕ} {e : End} {frame : List ℕ}
+    {before longer : List LogEntry} {new : List End} → Found logs es ss sender e → MayPut ss sender wire
+    → before ≡ slice_index_or logs e.log before → PutsFrame e.log sender frame before longer es new
+    → HavePut (slice_set logs e.log longer) es ss sender wire frame new
+have-put {logs} {es} {ss} {sender} {wire} {e} {frame} {before} {longer} {new} found may is puts =
+    let room = puts-room found may in
+    let was = found-log found is in
+    record {
+      count = length-put logs es found.have sender e found.has room frame before longer new puts was;
+      have = put-logs logs es found.have sender e found.has room frame before longer new puts was;
+      shown = λ k. put-shown logs es found.have sender e found.has room frame before longer new puts was k
+          ∙ ap (λ (l : List EndState). option_map (with_line sender e.wire (frame ∷ []) k) (slice_get l k)) found.shown
+          ∙ ap (λ (on : ℕ). option_map (with_line sender on (frame ∷ []) k) (slice_get ss k)) (sym (its-wire found may));
+    }
+
 pub written-back : (new es : List End) (n : ℕ) → length new ≡ length es → n ≡ length es → take n (new ++ drop (length new) es) ≡ new
 written-back new es n same count =
     ap (λ (l : List End). take n (new ++ l)) (drop_of_length-le es (omega (arith, same)))
     ∙ ap (take n) (append-nil new)
     ∙ take_all n new (omega (arith, same, count))
 
--- The frame at the place of the next waiting frame was read
+-- The end after the frame at the next waiting place was delivered
 module _ (log : List LogEntry) (host : ℕ) (e : End) (place : ℕ) (below : place < length log)
     (first : frames_of_others host (drop e.cursor log) ≡ entry_frame place log ∷ frames_of_others host (drop (place + 1) log)) where
   abbrev pub read-on : End
@@ -361,6 +381,42 @@ module _ (log : List LogEntry) (host : ℕ) (e : End) (place : ℕ) (below : pla
 
   pub line-on : frames_of_others host (drop (place + 1) log) ≡ drop 1 (frames_of_others host (drop e.cursor log))
   line-on = sym (ap (drop 1) first)
+
+-- The ends and the logs after a host has read a frame.
+pub record HasRead (logs : List (List LogEntry)) (es : List End) (ss : List EndState) (host : ℕ) (e new : End) : Type 0 where
+  pub waits : 1 ≤ e.waiting
+  pub have : HaveLogs logs (slice_set es host new)
+  pub shown : (end : EndState) → slice_get ss host ≡ Some end
+      → ends_from logs 0 (slice_set es host new) ≡ slice_set ss host (record end { line = drop 1 end.line })
+
+pub has-read : {logs : List (List LogEntry)} {es : List End} {ss : List EndState} {host place : ℕ} {first e : End} {log : List LogEntry}
+    → Found logs es ss host first → Found logs es ss host e → log ≡ slice_index_or logs first.log log → place < length log
+    → frames_of_others host (drop first.cursor log) ≡ entry_frame place log ∷ frames_of_others host (drop (place + 1) log)
+    → HasRead logs es ss host e (record e { cursor = place + 1; waiting = e.waiting - 1 })
+has-read {logs} {es} {ss} {host} {place} {first} {e} {log} was found is below oldest =
+    let same = same-end was found in
+    let at = found-log was is ∙ ap (log_of logs) same in
+    let next = subst (λ (x : End). frames_of_others host (drop x.cursor log)
+    ≡ entry_frame place log ∷ frames_of_others host (drop (place + 1) log)) same oldest in
+    let new = read-on log host e place below next in
+    let reads = subst (λ (l : List LogEntry). ReadsLog l host e) (sym at) (found.have.reads host e found.has) in
+    record {
+      waits = had-one log host e place below next reads;
+      have = set-logs logs es host e found.has new refl refl found.have
+          (subst (λ (l : List LogEntry). ReadsLog l host new) at (reads-on log host e place below next reads));
+      shown = λ end is.
+          let old = shows-end found is in
+          let line : frames_of_others host (drop (place + 1) (log_of logs new)) ≡ drop 1 end.line =
+          ap (λ (l : List LogEntry). frames_of_others host (drop (place + 1) l)) (sym at)
+          ∙ line-on log host e place below next
+          ∙ ap (λ (l : List LogEntry). drop 1 (frames_of_others host (drop e.cursor l))) at
+          ∙ ap (λ (s : EndState). drop 1 s.line) old in
+          set-shown logs es host e found.has new refl refl
+          ∙ ap (λ (l : List EndState). slice_set l host
+          (line_at e.wire (frames_of_others host (drop (place + 1) (log_of logs new))))) found.shown
+          ∙ ap (λ (frames : List (List ℕ)). slice_set ss host (line_at e.wire frames)) line
+          ∙ ap (λ (wire : ℕ). slice_set ss host (line_at wire (drop 1 end.line))) (ap (λ (s : EndState). s.wire) old);
+    }
 
 -- If no frame waits, the end doesn't change.
 pub stays-empty : (ss : List EndState) (host : ℕ) (end : EndState) → slice_get ss host ≡ Some end → end.line ≡ []

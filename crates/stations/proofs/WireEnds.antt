@@ -1,4 +1,4 @@
--- The ends of wires as plain data, by their places in the logs.
+-- The states of the ends of wires, by the logs and by the ends' cursors.
 use Rattle.std.proofs.Common.{◌≡◌, ◌≢◌, ◌<◌, ◌+◌, ◌-◌, ◌↔◌, zero, suc, ℕ, List, Some, [], ◌∷◌, ◌++◌, length, length-append, drop, take}
 use Rattle.std.proofs.Common.{option_map, slice_get, slice_set, slice_index_or, refl, sym, ap, ◌∙◌, arith}
 use Rattle.std.proofs.lemmas.List.{get_or-set_other, get_or-set_same, get_or_append_left, get_or_default, take-append-drop}
@@ -30,32 +30,54 @@ length-from : (logs : List (List LogEntry)) (n : ℕ) (es : List End) → length
 length-from logs n [] = refl
 length-from logs n (e ∷ es) = ap suc (length-from logs (suc n) es)
 
+length-ends : (logs : List (List LogEntry)) (es : List End) (ss : List EndState) → ends_from logs 0 es ≡ ss → length ss ≡ length es
+length-ends logs es ss shown = ap (λ (l : List EndState). length l) (sym shown) ∙ length-from logs 0 es
+
+pub below-ends : {logs : List (List LogEntry)} {es : List End} {ss : List EndState} {k : ℕ} → ends_from logs 0 es ≡ ss → HaveLogs logs es
+    → k < length ss → k < length es
+below-ends {logs} {es} {ss} shown have below = omega (arith, below, length-ends logs es ss shown)
+
+-- The k-th end in the code is `e`.
+pub record Found (logs : List (List LogEntry)) (es : List End) (ss : List EndState) (k : ℕ) (e : End) : Type 0 where
+  pub shown : ends_from logs 0 es ≡ ss
+  pub have : HaveLogs logs es
+  pub has : slice_get es k ≡ Some e
+
+pub found-at : {logs : List (List LogEntry)} {es : List End} {ss : List EndState} {k : ℕ} {e : End} → ends_from logs 0 es ≡ ss
+    → HaveLogs logs es → k < length ss → e ≡ slice_index_or es k e → Found logs es ss k e
+found-at {es = es} {k = k} {e = e} shown have below is = record {
+  shown = shown;
+  have = have;
+  has = slice_get-get_or es k e (below-ends shown have below) ∙ ap (λ (x : End). Some x) (sym is);
+}
+
+shown-end : (logs : List (List LogEntry)) (es : List End) (ss : List EndState) (k : ℕ) (e : End) (end : EndState)
+    → ends_from logs 0 es ≡ ss → slice_get es k ≡ Some e → slice_get ss k ≡ Some end → end_of logs k e ≡ end
+shown-end logs es ss k e end shown has is =
+    same_Some (end_of logs k e) end
+    (ap (option_map (end_of logs k)) (sym has) ∙ sym (get-end logs es k) ∙ ap (λ (l : List EndState). slice_get l k) shown ∙ is)
+
+pub shows-end : {logs : List (List LogEntry)} {es : List End} {ss : List EndState} {k : ℕ} {e : End} {end : EndState}
+    → Found logs es ss k e → slice_get ss k ≡ Some end → end_of logs k e ≡ end
+shows-end {logs} {es} {ss} {k} {e} {end} found is = shown-end logs es ss k e end found.shown found.has is
+
+pub log-below : {logs : List (List LogEntry)} {es : List End} {ss : List EndState} {k : ℕ} {e : End} → Found logs es ss k e
+    → e.log < length logs
+log-below {k = k} {e = e} found = found.have.there k e found.has
+
+pub found-log : {logs : List (List LogEntry)} {es : List End} {ss : List EndState} {k : ℕ} {e : End} {log : List LogEntry}
+    → Found logs es ss k e → log ≡ slice_index_or logs e.log log → log ≡ log_of logs e
+found-log {logs} {e = e} {log = log} found is = is ∙ get_or_default logs e.log log [] (log-below found)
+
+-- The frames that wait at the end are read from its log.
+pub line-read : {logs : List (List LogEntry)} {es : List End} {ss : List EndState} {k : ℕ} {e : End} {log : List LogEntry} {end : EndState}
+    → Found logs es ss k e → log ≡ slice_index_or logs e.log log → slice_get ss k ≡ Some end
+    → frames_of_others k (drop e.cursor log) ≡ end.line
+line-read {k = k} {e = e} found is shown-end =
+    ap (λ (l : List LogEntry). frames_of_others k (drop e.cursor l)) (found-log found is)
+    ∙ ap (λ (s : EndState). s.line) (shows-end found shown-end)
+
 module _ (logs : List (List LogEntry)) (es : List End) (ss : List EndState) (shown : ends_from logs 0 es ≡ ss) where
-  pub length_ends : length ss ≡ length es
-  length_ends = ap (λ (l : List EndState). length l) (sym shown) ∙ length-from logs 0 es
-
-  pub has-end : (host : ℕ) (e : End) → host < length ss → e ≡ slice_index_or es host e → slice_get es host ≡ Some e
-  has-end host e below is = slice_get-get_or es host e (omega (arith, length_ends, below)) ∙ ap (λ (x : End). Some x) (sym is)
-
-  pub shows-end : (host : ℕ) (e : End) (end : EndState) → slice_get es host ≡ Some e → slice_get ss host ≡ Some end
-      → end_of logs host e ≡ end
-  shows-end host e end has is =
-      same_Some (end_of logs host e) end
-      (ap (option_map (end_of logs host)) (sym has) ∙ sym (get-end logs es host)
-      ∙ ap (λ (l : List EndState). slice_get l host) shown ∙ is)
-
-  -- The frames that wait at a host's end, read from the log that was found.
-  pub line-read : HaveLogs logs es → (host : ℕ) (e : End) (log : List LogEntry) → host < length ss → e ≡ slice_index_or es host e
-      → log ≡ slice_index_or logs e.log log → (end : EndState) → slice_get ss host ≡ Some end
-      → frames_of_others host (drop e.cursor log) ≡ end.line
-  line-read have host e log below is found end shown-end =
-      let has = has-end host e below is in
-      ap (λ (l : List LogEntry). frames_of_others host (drop e.cursor l)) (found ∙ get_or_default logs e.log log [] (have.there host e has))
-      ∙ ap (λ (s : EndState). s.line) (shows-end host e end has shown-end)
-
-  pub has-log : HaveLogs logs es → (host : ℕ) (e : End) → host < length ss → e ≡ slice_index_or es host e → e.log < length logs
-  has-log have host e below is = have.there host e (has-end host e below is)
-
   -- The ends as counted by the code have room exactly if the ends in contracts have room.
   pub room-shown : (sender wire : ℕ) → ((k : ℕ) (e : End) → slice_get es k ≡ Some e → ReadsLog (log_of logs e) k e)
       → OthersHaveRoom (length es) sender wire es ↔ HaveRoom ss sender wire
@@ -63,10 +85,10 @@ module _ (logs : List (List LogEntry)) (es : List End) (ss : List EndState) (sho
     where
       forth : OthersHaveRoom (length es) sender wire es → HaveRoom ss sender wire
       forth room k end is other on =
-          let below : k < length es = omega (arith, length_ends, slice_get_within ss k end is) in
+          let below : k < length es = omega (arith, length-ends logs es ss shown, slice_get_within ss k end is) in
           let e = end_at es k in
           let has = has-end_at es k below in
-          let same = shows-end k e end has is in
+          let same = shown-end logs es ss k e end shown has is in
           let counts = (reads k e has).counts in
           let lines = ap (λ (s : EndState). length s.line) same in
           let free = room k below other (ap (λ (s : EndState). s.wire) same ∙ on) in
@@ -82,7 +104,6 @@ module _ (logs : List (List LogEntry)) (es : List End) (ss : List EndState) (sho
           let free = room k (end_of logs k e) is other on in
           omega (arith, free, counts)
 
--- The frames that wait are the last frames of other senders in the log.
 pub waits-last : (log : List LogEntry) (k cursor : ℕ) → last_of_others k (length (frames_of_others k (drop cursor log))) log
     ≡ frames_of_others k (drop cursor log)
 waits-last log k cursor =
@@ -97,6 +118,7 @@ waits-last log k cursor =
     ∙ drop-append-add earlier waiting 0
 
 -- A log is replaced or appended
+
 pub log-set_other : (logs : List (List LogEntry)) (log : ℕ) (l : List LogEntry) (e : End) → e.log ≢ log
     → log_of (slice_set logs log l) e ≡ log_of logs e
 log-set_other logs log l e other = get_or-set_other logs log e.log l [] other

@@ -1,4 +1,4 @@
--- Room in a log: the entries that are kept, and the new cursors.
+-- `MakesRoom` for a log that had room, and for a full log after `close_up`.
 use Rattle.std.proofs.Common.{◌≡◌, ◌≢◌, ◌<◌, ◌≤◌, ◌-◌, ◌==◌, Bool, true, false, ℕ, List, Option, Some, None, [], length, drop}
 use Rattle.std.proofs.Common.{if◌then◌else◌, option_map, slice_get, inl, inr, refl, sym, ap, ◌∙◌, subst, arith}
 use Rattle.std.specs.Prelude.{filter}
@@ -18,7 +18,6 @@ is-end_at ends k end is =
 pub has-end_at : (ends : List End) (k : ℕ) → k < length ends → slice_get ends k ≡ Some (end_at ends k)
 has-end_at ends k below = slice_get-get_or ends k (end_at [] k) below
 
--- The log had room.
 pub had_room : (log : ℕ) (before : List LogEntry) (ends : List End)
     → ((k : ℕ) (end : End) → slice_get ends k ≡ Some end → end.log ≡ log → ReadsLog before k end) → length before < log_entries
     → MakesRoom log before before ends ends
@@ -53,11 +52,9 @@ module _ (log : ℕ) (before : List LogEntry) (ends : List End) (reader second :
   abbrev pub after : List LogEntry
   after = closed_up reader first second before
 
-  -- The number of frames is the number of their entries.
   counted : (k : ℕ) (entries : List LogEntry) → length (frames_of_others k entries) ≡ length (filter (is_of_other k) entries)
   counted k entries = length-map (filter (is_of_other k) entries) (λ (entry : LogEntry). entry.1)
 
-  -- At most `end_frames` frames wait at an end.
   waits-at : (k : ℕ) → IsReader log ends k → length (filter (is_of_other k) (drop (end_at ends k).cursor before)) ≤ 64
   waits-at k is =
       let one = reads-at k is in

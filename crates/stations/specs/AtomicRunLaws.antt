@@ -1,4 +1,4 @@
--- Laws for two lists of atomic steps, one after the other.
+-- Laws of two consecutive lists of atomic steps, and of what is noted of atomic steps.
 use Rattle.std.proofs.Common.{◌≡◌, ℕ, List, [], ◌∷◌, ◌++◌, map, refl, sym, ap, subst, ◌∙◌, append_assoc}
 use Rattle.std.proofs.lemmas.Grind.{flat_map-append}
 use Rattle.bus.specs.Pasts.{joined}
@@ -44,7 +44,7 @@ steps_told_join n (step ∷ first) later =
     ap (λ (list : List TickTold). step_told n step ++ list) (steps_told_join (counted_by n step) first later)
     ∙ sym (append_assoc (step_told n step) (steps_told (counted_by n step) first) (steps_told (counted_of (counted_by n step) first) later))
 
--- The outcomes to note for atomic steps are the outcomes that an observer is told, without their ticks.
+-- The outcomes noted of atomic steps (`noted_of`) are those that an observer is told, without their ticks.
 pub steps_told_noted : (n : ℕ) (steps : List AtomicStep) → map note_of (steps_told n steps) ≡ noted_of n steps
 steps_told_noted n [] = refl
 steps_told_noted n (At host (Steps kind wire_free answer) ∷ later) =

@@ -17,7 +17,7 @@ use Rattle.stations.specs.declared.tick.Tick.TheVariants.{Deliver, Go, Step}
 
 -- An atomic step: one event at one host, or an idle tick.
 pub data AtomicStep : Type 0 where
-  -- An event at a host.
+  -- An event at a host: an access, a step of its adapter, or a delivery to its adapter.
   At : (host : ℕ) (event : Event) → AtomicStep
   -- An idle tick: Go, a tick of a host that doesn't exist, or a delivery at an end where no frame waits.
   Idles : (tick : Tick) → AtomicStep
@@ -44,8 +44,8 @@ abbrev pub step_outcome : AtomicStep → FrameOutcome
 step_outcome (At host event) = outcome_of_event event
 step_outcome (Idles tick) = Nothing
 
--- An event agrees with the wire. For TxPut, the wire is free exactly if each other end has room. A delivery is of the oldest frame that
--- waits.
+-- An event at a host agrees with the host's wire. For TxPut, the wire is free exactly if each other end has room for
+-- one more frame. A delivery is of the oldest frame that waits at the host's end.
 abbrev pub SuitsWire : (host wire : ℕ) → Event → List StationState → Type 0
 SuitsWire host wire (Steps kind wire_free answer) stations = kind ≡ TxPut → IsTrue wire_free ↔ WireHasRoom stations host wire
 SuitsWire host wire (Arrives frame fate) stations = slice_get (backlog_at stations host) 0 ≡ Some frame
@@ -62,15 +62,15 @@ pub record OccursAt (host : ℕ) (event : Event) (stations : List StationState) 
   -- The event agrees with the wire.
   pub suits_wire : SuitsWire host wire event stations
 
--- The frame is the oldest one that waits at a station's end, and its delivery, with this fate, changes the station to
--- the new one.
+-- The frame is the oldest that waits at the end of the station `old`. The frame's delivery has this fate, and changes
+-- the station `old` to `new`.
 pub record IsDelivered (old : StationState) (frame : List ℕ) (fate : Fate) (new : StationState) : Type 0 where
   pub oldest : slice_get old.backlog 0 ≡ Some frame
   pub adapter : IsAdapter old.world.adapter
   pub fated : IsFate old.world.adapter frame fate
   pub leaves : new ≡ station_after (Arrives frame fate) old
 
--- The tick is idle: it is Go, its host doesn't exist, or it is a delivery and no frame waits.
+-- The tick is idle: the tick is Go, its host doesn't exist, or it is a delivery and no frame waits at the host's end.
 abbrev pub FindsNothing : Tick → List StationState → Type 0
 FindsNothing Go stations = ⊤
 FindsNothing (Step host kind) stations = slice_get stations host ≡ None
@@ -93,7 +93,8 @@ abbrev pub after : AtomicStep → List StationState → List StationState
 after (At host event) stations = stations_after host event stations
 after (Idles tick) stations = stations
 
--- The tick `tick` is played with the outcome `outcome`: one atomic step happens that isn't an access.
+-- The tick `tick` is played with the outcome `outcome`: one atomic step, which isn't an access, leads from the stations
+-- `old` to `new`.
 pub record PlaysTick (old : List StationState) (tick : Tick) (outcome : FrameOutcome) (new : List StationState) : Type 0 where
   pub step : AtomicStep
   pub tick_is : tick_of step ≡ tick
@@ -107,6 +108,7 @@ pub record Watched (O : Type 0) : Type 0 where
   pub stations : List StationState
   pub observer : O
 
+-- These stations with this observer.
 abbrev pub watched : {O : Type 0} → List StationState → O → Watched O
 watched stations observer = record { stations = stations; observer = observer }
 

@@ -1,4 +1,4 @@
--- The ends of wires as plain data: one for each host of a network.
+-- The states of the ends of wires: one end for each host of a network.
 use Rattle.std.specs.Prelude.{◌≡◌, ◌≢◌, ◌<◌, ◌==◌, ◌&&◌, not, ℕ, Some, List, ◌++◌, length, slice_get, if◌then◌else◌}
 
 pub record EndState : Type 0 where
@@ -11,11 +11,11 @@ pub record EndState : Type 0 where
 abbrev pub end_frames : ℕ
 end_frames = 64
 
--- If this end is an end of the wire and isn't the sender's, it has room for one more frame.
+-- If this k-th end is an end of the wire and isn't the sender's, the end has room for one more frame.
 abbrev pub EndHasRoomFor : (sender wire k : ℕ) → EndState → Type 0
 EndHasRoomFor sender wire k end = k ≢ sender → end.wire ≡ wire → length end.line < end_frames
 
--- Each other end of the wire has room for one more frame.
+-- Each end of the wire, except the sender's, has room for one more frame.
 abbrev pub HaveRoom : List EndState → (sender wire : ℕ) → Type 0
 HaveRoom ends sender wire = (k : ℕ) (end : EndState) → slice_get ends k ≡ Some end → EndHasRoomFor sender wire k end
 

@@ -1,4 +1,4 @@
--- Lemmas: what a lent bus states for each of two consecutive intervals, it states for both together.
+-- Lemmas: if `SameLent` or `HappenedLent` holds in each of two consecutive intervals, it holds in both together.
 use Rattle.std.proofs.Common.{◌≡◌, ◌+◌, ◌++◌, ℕ, List, [], length, map, min, refl, sym, ap, subst, ◌∙◌, arith, length-append}
 use Rattle.std.proofs.lemmas.List.{map-append}
 use Rattle.bus.specs.Pasts.{Past, joined, nothing}

@@ -1,4 +1,4 @@
--- The states of a lent bus, and what happened between two of them.
+-- The state of a lent bus, and what happened between two of its states (our choice).
 use Rattle.std.specs.Prelude.{◌≡◌, ◌+◌, ℕ, List, [], length, map, min}
 use Rattle.adapter.specs.World.{World}
 use Rattle.bus.specs.Pasts.{Past}
@@ -12,10 +12,11 @@ use Rattle.stations.specs.AtomicRuns.{LeadsTo, counted_of, is_go, past_at, steps
 use Rattle.stations.specs.PlayedTicks.{PlaysTicks}
 use Rattle.stations.specs.declared.lent_bus.LentBus.{LentBus}
 
--- The world of the host that makes the call.
+-- The adapter and the memory of the host that makes the call.
 abbrev pub world_here : {O : Type 0} {g : OfObserver O} → LentBus O g → World
 world_here bus = world_at bus.stations.now bus.host
 
+-- The number of bytes of the memory of the host that makes the call.
 abbrev pub bytes_here : {O : Type 0} {g : OfObserver O} → LentBus O g → ℕ
 bytes_here bus = length (world_here bus).memory
 
@@ -29,11 +30,11 @@ pub record SameLent {O : Type 0} {g : OfObserver O} (a b : LentBus O g) : Type 0
   pub observer : b.observer.ghost_name ≡ a.observer.ghost_name
   pub host : b.host ≡ a.host
 
--- How the bus counts the accesses of the call.
+-- How the bus counts the accesses of the call between two states: by the atomic steps, and by the accesses in `past`.
 pub record CountsAccesses {O : Type 0} {g : OfObserver O} (a b : LentBus O g) (steps : List AtomicStep) (past : Past) : Type 0 where
-  -- Each access among the steps is counted, up to the greatest u64.
+  -- Each access among the steps adds one to the count, which saturates at the greatest u64.
   pub number : b.accesses ≡ counted_of a.accesses steps
-  -- The count grows by the number of accesses, up to the greatest count.
+  -- The count increases by the number of accesses in `past`, up to the greatest count.
   pub count : min b.accesses most_accesses ≡ min (a.accesses + length past.accesses) most_accesses
 
 -- What happened between two states of a lent bus: the atomic steps `steps`. `past` contains the events of the calling
@@ -50,7 +51,7 @@ pub record HappenedLent {O : Type 0} {g : OfObserver O} (a b : LentBus O g) (pas
   pub heard : g.heard a.observer.now b.observer.now (steps_told a.accesses steps)
   pub accesses : CountsAccesses a b steps past
 
--- The bus before an access: the ticks up to the next Go, or all if no Go remains, are played, and the access is
+-- The bus was prepared for an access: the ticks up to the next Go, or all if no Go remains, were played. The access was
 -- counted.
 pub record PreparedLent {O : Type 0} {g : OfObserver O} (a b : LentBus O g) : Type 0 where
   pub lent : SameLent a b
@@ -58,7 +59,7 @@ pub record PreparedLent {O : Type 0} {g : OfObserver O} (a b : LentBus O g) : Ty
   pub waiting : b.ticks.now ≡ behind_group is_go a.ticks.now
   pub count : b.accesses ≡ min (a.accesses + 1) most_accesses
 
--- The bus after the last access: all remaining ticks are played, except each Go.
+-- The bus was finished after the last access of the call: all remaining ticks except each Go were played.
 pub record Finished {O : Type 0} {g : OfObserver O} (a b : LentBus O g) : Type 0 where
   pub lent : SameLent a b
   pub plays : PlaysTicks g (without_go is_go a.ticks.now) a.accesses (watched_by a) (watched_by b)

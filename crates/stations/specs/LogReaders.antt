@@ -7,6 +7,7 @@ use Rattle.stations.specs.WireLogs.{LogEntry, frames_of_others, log_entries}
 use Rattle.stations.specs.WiresView.{ReadsLog}
 use Rattle.stations.specs.declared.wires.End.{End}
 
+-- The k-th end; an end of wire 0 without waiting frames if there is no k-th end.
 abbrev pub end_at : List End → (k : ℕ) → End
 end_at ends k = slice_index_or ends k (record { wire = 0; log = 0; cursor = 0; waiting = 0 })
 
@@ -31,7 +32,7 @@ pub record IsLogFor (wire : ℕ) (ends : List End) (logs : List (List LogEntry))
   pub there : log < length logs
   pub one : (k : ℕ) → k < length ends → (end_at ends k).wire ≡ wire ↔ ((end_at ends k).log ≡ log)
 
--- Each log is unchanged, and further logs may follow.
+-- Each log of the list `old` is unchanged, and further logs may follow.
 pub record KeepsLogs (old new : List (List LogEntry)) : Type 0 where
   pub more : List (List LogEntry)
   pub is : new ≡ old ++ more
@@ -41,14 +42,15 @@ pub record IsSlowest (number log : ℕ) (ends : List End) (reader : ℕ) : Type 
   pub is : IsReader log ends reader
   pub least : (k : ℕ) → k < number → (end_at ends k).log ≡ log → (end_at ends reader).cursor ≤ (end_at ends k).cursor
 
--- An end other than `but` reads the log, with the cursor `cursor`.
+-- An end other than the end `but` reads the log, and has the cursor `cursor`.
 pub record HasCursor (log but cursor : ℕ) (ends : List End) : Type 0 where
   pub k : ℕ
   pub is : IsReader log ends k
   pub other : k ≢ but
   pub at : (end_at ends k).cursor ≡ cursor
 
--- The least of `limit` and the cursors in the log of the first `number` ends, without the end `but`.
+-- `cursor` is the least of `limit` and the cursors of those of the first `number` ends that read the log, except the
+-- end `but`.
 pub record IsLeastCursor (number log but limit : ℕ) (ends : List End) (cursor : ℕ) : Type 0 where
   pub most : cursor ≤ limit
   pub least : (k : ℕ) → k < number → k ≢ but → (end_at ends k).log ≡ log → cursor ≤ (end_at ends k).cursor
@@ -59,16 +61,19 @@ pub record IsLeastCursor (number log but limit : ℕ) (ends : List End) (cursor 
 abbrev pub moved_cursor : (log dropped : ℕ) → End → End
 moved_cursor log dropped end = if end.log == log then record end { cursor = end.cursor - dropped } else end
 
+-- The k-th end after the sender's frame was appended to the log. An end that reads this log, except the sender's,
+-- counts one more waiting frame.
 abbrev pub with_waiting : (log sender k : ℕ) → End → End
 with_waiting log sender k end =
     if not (k == sender) && (end.log == log) then record end { waiting = end.waiting + 1 } else end
 
--- Each end that reads the log has a cursor in this log, and counts the frames that wait.
+-- Each end that reads the log has a cursor in this log, and counts the frames that wait, at most `end_frames`
+-- (`ReadsLog`).
 abbrev pub ReadIn : (log : ℕ) → List LogEntry → List End → Type 0
 ReadIn log entries ends = (k : ℕ) (end : End) → slice_get ends k ≡ Some end → end.log ≡ log → ReadsLog entries k end
 
--- The log now has room for one more entry. The same frames wait at each end that reads the log, and only the cursors of these ends
--- change.
+-- The log `after` has room for one more entry. At each end that reads the log, the same frames wait as for the log
+-- `before`. Of the ends, only the cursors of those that read the log change.
 pub record MakesRoom (log : ℕ) (before after : List LogEntry) (old new : List End) : Type 0 where
   pub room : length after < log_entries
   pub cursors : (k : ℕ) → End → ℕ
@@ -78,8 +83,8 @@ pub record MakesRoom (log : ℕ) (before after : List LogEntry) (old new : List 
   pub same : (k : ℕ) (end : End) → slice_get old k ≡ Some end → end.log ≡ log
       → frames_of_others k (drop (cursors k end) after) ≡ frames_of_others k (drop end.cursor before)
 
--- A frame is put into a log: room is made, and the frame is appended. Each end that reads the log, except the sender's, counts one more
--- waiting frame.
+-- A sender's frame is put into a log: room is made, and the frame is appended. Each end that reads the log, except the
+-- sender's, counts one more waiting frame.
 pub record PutsFrame (log sender : ℕ) (frame : List ℕ) (before longer : List LogEntry) (old new : List End) : Type 0 where
   pub after : List LogEntry
   pub made : List End

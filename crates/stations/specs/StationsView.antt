@@ -17,6 +17,6 @@ stations_of (machine ∷ machines) (end ∷ ends) = station_of machine end ∷ s
 abbrev pub stations_in : Inside → List StationState
 stations_in inside = stations_of inside.machines.items inside.wires
 
--- Each host has an end of a wire.
+-- The number of ends of wires is the number of machines.
 pub record HasEndsOfWires (inside : Inside) : Type 0 where
   pub ends : length inside.wires ≡ length inside.machines.items

@@ -5,22 +5,23 @@ use Rattle.stations.specs.WireLogs.{LogEntry, frames_of_others, log_entries}
 use Rattle.stations.specs.declared.wire_log.WireLog.TheInside.{Inside as InsideLog}
 use Rattle.stations.specs.declared.wires.End.{End}
 
--- The log has at most the greatest number of entries, and its memory has room for that number.
+-- The log has at most 1,024 entries (`log_entries`), and its memory has room for 1,024 entries.
 pub record HasLogRoom (inside : InsideLog) : Type 0 where
   pub fits : length inside.entries.items ≤ log_entries
   pub room : log_entries ≤ vec_capacity inside.entries
 
+-- The log that an end reads; an empty log if there is no such log.
 abbrev pub log_of : List (List LogEntry) → End → List LogEntry
 log_of logs end = slice_index_or logs end.log []
 
--- The frames that wait at the k-th end: the frames of other senders from its cursor on.
+-- The frames that wait at the k-th end: the frames of other senders in the end's log, from its cursor on.
 abbrev pub unread : List (List LogEntry) → (k : ℕ) → End → List (List ℕ)
 unread logs k end = frames_of_others k (drop end.cursor (log_of logs end))
 
 abbrev pub end_of : List (List LogEntry) → (k : ℕ) → End → EndState
 end_of logs k end = record { wire = end.wire; line = unread logs k end }
 
--- These ends as plain data, if the first of them has number k.
+-- The states of these ends, if the first of them has number k.
 abbrev pub ends_from : List (List LogEntry) → (k : ℕ) → List End → List EndState
 ends_from logs k [] = []
 ends_from logs k (end ∷ ends) = end_of logs k end ∷ ends_from logs (suc k) ends

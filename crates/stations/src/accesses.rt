@@ -1,4 +1,4 @@
-// The lent bus obeys the law.
+// The lent bus as a bus: its accesses, and the bus law, which it obeys.
 
 ghost use Rattle.std.specs.Prelude.{◌≡◌, length, min};
 

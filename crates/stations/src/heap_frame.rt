@@ -8,8 +8,8 @@ use descriptors::LONGEST_LEGAL;
 use std::alloc::{AllocError, Global};
 use std::marker::Model;
 
-/// An Ethernet frame of at most 1,518 bytes, without its frame check sequence. Its bytes are on the heap, so a type
-/// that contains a frame is small.
+/// An Ethernet frame of at most 1,518 bytes, without its frame check sequence. The bytes of the frame are on the heap,
+/// so a type that contains such a frame is small.
 ///
 /// [`with_room`](HeapFrame::with_room) allocates the memory of a frame, so that [`fill`](HeapFrame::fill) allocates no
 /// memory. In contracts, a frame is the list of its bytes.
@@ -46,7 +46,7 @@ impl HeapFrame {
         })
     }
 
-    /// Replaces the bytes of the frame with these bytes, at most 1,518.
+    /// Replaces the bytes of the frame with these bytes, at most 1,518. The call allocates no memory.
     pub fn fill(&mut self, bytes: &[u8])
         requires fits { length bytes.now ≤ LONGEST_LEGAL }
         ensures { self.new ≡ bytes.now }

@@ -6,8 +6,8 @@ use crate::observer::Observer;
 use crate::stations::Stations;
 use crate::tick::Tick;
 
-/// The bus of one host's call. The bus contains the stations of the network, which are lent to the call. It also
-/// contains the ticks to play before each access and after the last access ([`finish`](LentBus::finish)).
+/// The bus of one host's call. The bus borrows the stations of the network during the call. The bus also contains the
+/// ticks to play before each access and after the last access ([`finish`](LentBus::finish)).
 ///
 /// Before each access, the bus plays the ticks up to the next `Go`, or all remaining ticks if there is no further
 /// `Go`.
@@ -19,7 +19,7 @@ pub struct LentBus<'a, 't, O: Observer> {
     pub ticks: &'t [Tick],
     /// The number of the host that makes the call.
     pub host: usize,
-    /// The number of accesses that the call has made; it saturates at the greatest `u64`.
+    /// The number of accesses of the call so far; it saturates at the greatest `u64`.
     pub accesses: u64,
     /// The observer. The observer is told the outcome of each tick, with the number of accesses that the call made
     /// before the tick.
@@ -31,7 +31,7 @@ pub struct LentBus<'a, 't, O: Observer> {
 impl<'a, 't, O: Observer> LentBus<'a, 't, O> {
     ghost use Rattle.stations.specs.LentBuses.{Finished, PreparedLent};
 
-    /// Plays the ticks up to the next `Go`, and counts the access that follows them.
+    /// Plays the ticks up to the next `Go`, or all ticks if no `Go` remains, and counts the access that follows them.
     #[inline(always)]
     pub(crate) fn prepare(&mut self)
         ensures { PreparedLent self.old self.new }
@@ -43,8 +43,8 @@ impl<'a, 't, O: Observer> LentBus<'a, 't, O> {
         self.prepare_group();
     }
 
-    /// Plays the ticks up to the next `Go`, and counts the access. [`prepare`](LentBus::prepare) calls this function
-    /// only if ticks remain.
+    /// Plays the ticks up to the next `Go`, or all ticks if no `Go` remains, and counts the access that follows them.
+    /// [`prepare`](LentBus::prepare) calls this function only if ticks remain.
     #[inline(never)]
     fn prepare_group(&mut self)
         ensures { PreparedLent self.old self.new }
@@ -67,7 +67,8 @@ impl<'a, 't, O: Observer> LentBus<'a, 't, O> {
         self.finish_ticks();
     }
 
-    /// Plays the remaining ticks. [`finish`](LentBus::finish) calls this function only if ticks remain.
+    /// Plays the remaining ticks, and skips each `Go`. [`finish`](LentBus::finish) calls this function only if ticks
+    /// remain.
     #[inline(never)]
     fn finish_ticks(&mut self)
         ensures { Finished self.old self.new }

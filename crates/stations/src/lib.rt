@@ -4,8 +4,8 @@
 //! access of a call is made. A bus lends the stations to a call of one host.
 //!
 //! A wire never delivers by itself: a frame that a host puts onto a wire waits at each other end until a tick delivers
-//! it there. Before each access of a call, the ticks that the caller chose are played on all hosts. An observer is told
-//! the outcome of each tick, except a `Go` inside a call.
+//! the frame there. Before each access of a call, the ticks that the caller chose are played on all hosts. An observer
+//! is told the outcome of each tick, except a `Go` inside a call.
 #![tactic(auto)]
 
 mod accesses;

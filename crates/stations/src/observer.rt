@@ -11,7 +11,7 @@ use adapter::Outcome;
 /// An observer is told the outcome of each tick, in order, except a `Go` inside a call. The frame of an outcome is only
 /// borrowed, so an observer must copy a frame that it needs later.
 pub trait Observer {
-    /// Between these two states of the observer, it was told exactly this list, in order.
+    /// Between these two states, the observer was told exactly this list, in order.
     ghost heard: { Self → Self → List TickTold → Type 0 };
 
     /// The number of further outcomes for which the observer has room.
@@ -26,8 +26,8 @@ pub trait Observer {
         ensures heard { heard self.old self.new (tick_told tick accesses (with_frame frame.now outcome) ∷ []) }
         ensures room { room_left self.old ≤ room_left self.new + 1 };
 
-    /// From a state to itself, the observer was told nothing. Over two consecutive intervals together, it was told both
-    /// lists, joined in order.
+    /// From a state to itself, the observer was told nothing. Over two consecutive intervals together, the observer was
+    /// told the lists of both, joined in order.
     ghost composes: { ComposesTold heard };
 }
 

@@ -1,4 +1,4 @@
-// The outcomes of a call's ticks, in order.
+// An observer that collects the outcomes of ticks, in order.
 
 use crate::heap_frame::HeapFrame;
 use crate::observer::Observer;
@@ -7,10 +7,10 @@ use adapter::Outcome;
 use std::alloc::{AllocError, Global};
 use std::marker::Model;
 
-/// An outcome of a tick, with the number of accesses that the call had made before the tick.
+/// An outcome of a tick, with the number of accesses that the call made before the tick.
 #[derive(Debug, Drop, PartialEq, Eq)]
 pub struct Numbered {
-    /// The number of accesses that the call had made.
+    /// The number of accesses that the call made before the tick.
     pub accesses: u64,
     /// The outcome of the tick.
     pub outcome: Outcome<HeapFrame>,
@@ -19,7 +19,7 @@ pub struct Numbered {
 /// An observer that collects the outcomes of ticks, in order. Room for an outcome includes room for its frame.
 ///
 /// In contracts, the value is an `OutcomeList`: the list of these outcomes, and the number of further outcomes for
-/// which it has room.
+/// which there is room.
 #[derive(Debug, Drop)]
 pub struct Outcomes {
     list: Vec<Numbered>,

@@ -57,8 +57,8 @@ impl Stations {
         }
     }
 
-    /// Plays the step TxPut of a host's adapter. The wire is free exactly if each other end has room. A frame that the
-    /// step puts waits at each other end.
+    /// Plays the step TxPut of a host's adapter. If there is a frame to put, and another end of the wire has no room,
+    /// the outcome is `WireFull`. A frame that the step puts waits at each other end.
     #[inline(never)]
     fn put<O: Observer>(&mut self, host: usize, accesses: u64, observer: &mut O)
         requires there { host < length self.old }
@@ -105,7 +105,7 @@ impl Stations {
     }
 
     /// Plays the ticks up to the next `Go`, and returns the ticks after this `Go`. If there is no `Go`, plays all
-    /// ticks, and returns no tick.
+    /// ticks, and returns no tick. The observer is told each outcome, with the number `accesses`.
     #[inline(never)]
     pub(crate) fn play_group<'t, O: Observer>(
         &mut self,
@@ -130,7 +130,7 @@ impl Stations {
         rest
     }
 
-    /// Plays all ticks except each `Go`. The observer is told each outcome, with the number `accesses`.
+    /// Plays all ticks except each `Go`, in order. The observer is told each outcome, with the number `accesses`.
     #[inline(never)]
     pub fn play_rest<O: Observer>(&mut self, ticks: &[Tick], accesses: u64, observer: &mut O)
         requires room { length ticks.now ≤ O.room_left observer.old }

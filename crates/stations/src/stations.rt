@@ -11,7 +11,7 @@ use std::alloc::{AllocError, Global};
 use std::marker::Model;
 
 /// The stations of a network. Each host has a station: its adapter with the host's memory, and its end of a wire.
-/// Stations are numbered in the order in which they were connected.
+/// Stations are numbered from 0, in the order in which they were connected.
 ///
 /// In contracts, the value is a list of `StationState` (`specs/Stations.antt`).
 #[derive(Drop)]
@@ -37,7 +37,7 @@ impl Model for Stations {
 ///
 /// # Errors
 ///
-/// Returns an error only if an allocation fails. Then nothing has changed.
+/// Returns an error only if an allocation fails. Then no machine and no end has been added.
 fn make_place(
     machines: &mut Vec<Machine>,
     wires: &mut Wires,
@@ -78,7 +78,7 @@ impl Stations {
     ghost use Rattle.stations.specs.Stations.{backlog_at, stations_after, world_at};
     ghost use Rattle.stations.specs.WireLogs.{last_of_others};
 
-    /// Returns a network without stations.
+    /// Returns the stations of a network without hosts.
     pub fn new(alloc: Global) -> Stations
         ensures { result ≡ [] }
     {
@@ -88,11 +88,11 @@ impl Stations {
         }
     }
 
-    /// Appends a station with this machine on this wire. No frame waits at its end of the wire.
+    /// Appends a station with this machine on this wire. No frame waits at the station's end of the wire.
     ///
     /// # Errors
     ///
-    /// Returns an error only if an allocation fails. Then nothing has changed.
+    /// Returns an error only if an allocation fails. Then the stations haven't changed.
     pub fn connect(
         &mut self,
         alloc: Global,
@@ -138,8 +138,9 @@ impl Stations {
         self.machine(host).counts()
     }
 
-    /// Appends the frames that a host's adapter has still to send to `sending`, and the received frames that it holds
-    /// to `holding`. See [`Adapter::pending`](adapter::Adapter::pending).
+    /// Appends to `sending` the frames that a host has still to send. Appends to `holding` the received frames in the
+    /// host's receive ring and receive packet buffer. `oldest` is the oldest receive slot. See
+    /// [`Adapter::pending`](adapter::Adapter::pending).
     pub fn pending(
         &self,
         host: usize,
@@ -194,7 +195,7 @@ impl Stations {
         self.machine(host).line()
     }
 
-    /// Reads a register of a host. No other station and no wire changes.
+    /// Reads a register of a host's adapter. No other station and no wire changes.
     pub(crate) fn read(&mut self, host: usize, offset: u32) -> u32
         requires there { host < length self.old }
         ensures answer { result ≡ answer_at offset (world_at self.old host).adapter }
@@ -204,7 +205,7 @@ impl Stations {
         self.machines[host].read(offset)
     }
 
-    /// Writes a register of a host. No other station and no wire changes.
+    /// Writes a register of a host's adapter. No other station and no wire changes.
     pub(crate) fn write(&mut self, host: usize, offset: u32, value: u32)
         requires there { host < length self.old }
         ensures state { self.new ≡ stations_after host (Accesses (Writes offset value)) self.old }
@@ -213,7 +214,7 @@ impl Stations {
         self.machines[host].write(offset, value);
     }
 
-    /// Loads bytes of a host's memory.
+    /// Fills `into` with the bytes at an address of a host's memory.
     pub(crate) fn load(&self, host: usize, address: u64, into: &mut [u8])
         requires there { host < length self.now }
         requires lies { LiesIn (world_at self.now host).memory address (length into.old) }
@@ -223,7 +224,7 @@ impl Stations {
         self.machine(host).load(address, into);
     }
 
-    /// Stores bytes in a host's memory. No other station and no wire changes.
+    /// Stores bytes at an address of a host's memory. No other station and no wire changes.
     pub(crate) fn store(&mut self, host: usize, address: u64, bytes: &[u8])
         requires there { host < length self.old }
         requires lies { LiesIn (world_at self.old host).memory address (length bytes.now) }

@@ -2,13 +2,13 @@
 
 use adapter::StepKind;
 
-/// A tick: what a caller plays on the stations of a network, one item of a schedule.
+/// A tick: one item of a schedule, which is played on the stations of a network.
 #[derive(Clone, Copy, Debug, PartialEq, Eq)]
 pub enum Tick {
     /// The next access of the call, if there is one, is made at this point. Outside a call, `Go` does nothing.
     Go,
     /// The adapter of this host takes a step.
     Step(usize, StepKind),
-    /// The oldest frame that waits at this host's end of its wire, if there is one, is delivered to its adapter.
+    /// The oldest frame that waits at this host's end of its wire, if there is one, is delivered to the host's adapter.
     Deliver(usize),
 }

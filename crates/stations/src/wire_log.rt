@@ -14,7 +14,7 @@ pub const LOG_ENTRIES: usize = 1024;
 
 /// The log of a wire: frames that hosts put on the wire, in order, each with the number of its sender.
 ///
-/// [`new`](WireLog::new) allocates its memory. In contracts, the value is a list of `LogEntry`.
+/// Only [`new`](WireLog::new) allocates memory, for all entries. In contracts, the value is a list of `LogEntry`.
 #[derive(Drop)]
 pub(crate) struct WireLog {
     entries: Vec<(usize, Frame)>,
@@ -110,9 +110,9 @@ impl WireLog {
         Some(self.frame(place))
     }
 
-    /// Drops all entries before `first`, and the entries before `second` that `reader` sent. If `first` is the least
-    /// cursor, `reader` the end with this cursor, and `second` the least cursor of the other ends, each end has read
-    /// the dropped entries of other senders.
+    /// Drops all entries before `first`, and the entries before `second` that `reader` sent. Let `first` be the least
+    /// cursor, at the end `reader`, and `second` the least cursor of the other ends. Then each end has read the dropped
+    /// entries of other senders.
     pub(crate) fn close_up(&mut self, reader: usize, first: usize, second: usize)
         requires order { first ≤ second }
         requires there { second ≤ length self.old }

@@ -19,17 +19,17 @@ use std::marker::Model;
 /// The greatest number of frames that may wait at an end of a wire (our choice).
 pub const END_FRAMES: u8 = 64;
 
-/// An end of a wire, with the place in the wire's log up to which its host has read.
+/// An end of a wire, with the place in the wire's log up to which the end's host has read.
 #[derive(Drop)]
 pub(crate) struct End {
     /// The number of the end's wire.
     wire: usize,
-    /// The place of the wire's log in the list of logs.
+    /// The index of the wire's log in the list of logs.
     log: usize,
     /// The place of the first entry of the log that the host may not have read. The frames of other senders from this
     /// place on wait.
     cursor: usize,
-    /// The number of frames that wait.
+    /// The number of frames that wait at this end.
     waiting: u8,
 }
 
@@ -55,7 +55,7 @@ impl Model for Wires {
     ghost invariant = { λ inside. HaveLogs inside.logs.items inside.ends.items };
 }
 
-/// Returns the place of the log that the ends of a wire read, or `None` if the wire has no ends.
+/// Returns the index of the log that the ends of a wire read, or `None` if the wire has no ends.
 fn log_of(ends: &[End], wire: usize) -> Option<usize>
     ensures none { IsNone result → (k : ℕ) → k < length ends.now → (end_at ends.now k).wire ≢ wire }
     ensures some { IfSome result (λ log. IsReaderOn wire log ends.now) }
@@ -68,11 +68,12 @@ fn log_of(ends: &[End], wire: usize) -> Option<usize>
     None
 }
 
-/// Returns the log for the next end of a wire: the log of its other ends, or a new log.
+/// Returns the index of the log for the next end of a wire: the log of the wire's ends, or a new log if the wire has no
+/// ends.
 ///
 /// # Errors
 ///
-/// Returns an error only if an allocation fails. Then nothing has changed.
+/// Returns an error only if an allocation fails. Then no log has been added.
 fn log_for(
     logs: &mut Vec<WireLog>,
     ends: &[End],
@@ -93,7 +94,7 @@ fn log_for(
     Ok(log)
 }
 
-/// Returns whether each other end of a wire has room for one more frame.
+/// Returns whether each end of a wire, except the sender's, has room for one more frame.
 fn others_have_room(ends: &[End], sender: usize, wire: usize) -> bool
     ensures { IsTrue result ↔ OthersHaveRoom (length ends.now) sender wire ends.now }
 {
@@ -105,7 +106,8 @@ fn others_have_room(ends: &[End], sender: usize, wire: usize) -> bool
     true
 }
 
-/// Returns the end with the least cursor among the ends that read a log. The sender's end must read this log.
+/// Returns the number of an end with the least cursor among the ends that read a log. The sender's end must read this
+/// log.
 fn slowest(ends: &[End], log: usize, sender: usize) -> usize
     requires there { IsReader log ends.now sender }
     ensures { IsSlowest (length ends.now) log ends.now result }
@@ -119,7 +121,7 @@ fn slowest(ends: &[End], log: usize, sender: usize) -> usize
     reader
 }
 
-/// Returns the least cursor in a log, of all ends except the end `but`, or `most` if no such cursor is less.
+/// Returns the least of `most` and the cursors of all ends that read a log, except the end `but`.
 fn least_cursor(ends: &[End], log: usize, but: usize, most: usize) -> usize
     ensures { IsLeastCursor (length ends.now) log but most ends.now result }
 {
@@ -132,7 +134,7 @@ fn least_cursor(ends: &[End], log: usize, but: usize, most: usize) -> usize
     least
 }
 
-/// Subtracts the number of dropped entries from each cursor in a log; a smaller cursor becomes 0.
+/// Subtracts the number of dropped entries from the cursor of each end that reads a log; a smaller cursor becomes 0.
 fn move_cursors(ends: &mut [End], log: usize, dropped: usize)
     ensures { (k : ℕ) → slice_get ends.new k ≡ option_map (moved_cursor log dropped) (slice_get ends.old k) }
 {
@@ -143,8 +145,8 @@ fn move_cursors(ends: &mut [End], log: usize, dropped: usize)
     }
 }
 
-/// Makes room for an entry in a log. If the log is full, entries are dropped that each end except their sender's has
-/// read.
+/// Makes room for an entry in a log. If the log is full, drops each entry that all ends have read, except perhaps the
+/// end that sent the entry.
 fn make_room(ends: &mut [End], wire_log: &mut WireLog, log: usize, sender: usize)
     requires there { IsReader log ends.old sender }
     requires reads { ReadIn log wire_log.old ends.old }
@@ -160,7 +162,7 @@ fn make_room(ends: &mut [End], wire_log: &mut WireLog, log: usize, sender: usize
     move_cursors(ends, log, entries - wire_log.len());
 }
 
-/// Counts one more waiting frame at each end of a log except the sender's.
+/// Counts one more waiting frame at each end that reads a log, except the sender's.
 fn count_waiting(ends: &mut [End], log: usize, sender: usize)
     requires room { (k : ℕ) (end : End) → slice_get ends.old k ≡ Some end → k ≢ sender → end.log ≡ log
         → end.waiting < END_FRAMES }
@@ -188,7 +190,7 @@ fn put_frame(ends: &mut [End], wire_log: &mut WireLog, log: usize, sender: usize
 }
 
 impl Wires {
-    /// Returns a network without wires.
+    /// Returns the wires of a network without hosts.
     pub(crate) fn new(alloc: Global) -> Wires
         ensures { result ≡ [] }
     {
@@ -198,11 +200,11 @@ impl Wires {
         }
     }
 
-    /// Appends an end of this wire, for the next host.
+    /// Appends an end of this wire, for the next host. No frame waits at this end.
     ///
     /// # Errors
     ///
-    /// Returns an error only if an allocation fails. Then nothing has changed.
+    /// Returns an error only if an allocation fails. Then no end has been added.
     pub(crate) fn connect(&mut self, alloc: Global, wire: usize) -> Result<(), AllocError>
         ensures connected { IfOk result (λ done. self.new ≡ self.old ++ record { wire = wire; line = [] } ∷ []) }
         ensures err { OnErr result (self.new ≡ self.old) }
@@ -219,7 +221,7 @@ impl Wires {
         Ok(())
     }
 
-    /// Returns the wire of a host.
+    /// Returns the number of a host's wire.
     pub(crate) fn wire(&self, host: usize) -> usize
         requires there { host < length self.now }
         ensures { (end : EndState) → slice_get self.now host ≡ Some end → result ≡ end.wire }
@@ -254,7 +256,7 @@ impl Wires {
         );
     }
 
-    /// Returns the oldest frame that waits at a host's end, if there is one.
+    /// Returns the oldest frame that waits at a host's end, or `None` if no frame waits there.
     pub(crate) fn front(&self, host: usize) -> Option<&[u8]>
         requires there { host < length self.now }
         ensures none { (end : EndState) → slice_get self.now host ≡ Some end → IsNone result ↔ (end.line ≡ []) }
@@ -281,8 +283,8 @@ impl Wires {
         end.waiting -= 1;
     }
 
-    /// Returns the log of a host's wire. The frames that wait at the host's end are the last ones in the log from
-    /// other senders.
+    /// Returns the log of a host's wire. The frames that wait at the host's end are the last frames of other senders in
+    /// the log.
     pub(crate) fn log(&self, host: usize) -> &[(usize, Frame)]
         requires there { host < length self.now }
         ensures waits { (end : EndState) → slice_get self.now host ≡ Some end

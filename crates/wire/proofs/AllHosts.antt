@@ -1,4 +1,5 @@
--- All hosts are initialized, in order.
+-- The hosts of a plan are initialized in order: their wires, the error of one host, and the first hosts that are
+-- initialized.
 use Rattle.std.proofs.Common.{◌≡◌, ◌≢◌, ◌≤◌, ◌<◌, ◌+◌, ◌++◌, ◌∷◌, [], zero, suc, Bool, true, false, ℕ, List, Some, None, String, length}
 use Rattle.std.proofs.Common.{slice_get, string_eq, cond, nat_lt, not, position, unwrap_or, inl, inr, ◌⊎◌, refl, sym, ap, subst, ◌∙◌}
 use Rattle.std.proofs.Common.{arith, length-append}
@@ -26,7 +27,6 @@ number-same (plan ∷ later) a b same =
     ap (λ (is : Bool). cond (not is) (1 + wire_number later a) 0) (same-name a b plan.wire same)
     ∙ ap (λ (n : ℕ). cond (not (string_eq plan.wire b)) (1 + n) 0) (number-same later a b same)
 
--- two wire names with the same number are equal
 first-tells : (here there : Bool) (n m : ℕ) → here ≡ true → cond (not here) (1 + n) 0 ≡ cond (not there) (1 + m) 0 → there ≡ true
 first-tells here true n m is same = refl
 first-tells true false n m is same = absurd (omega (arith, same))
@@ -62,7 +62,7 @@ number-tells (first ∷ later) (suc k) plan b there same = elim (either-way (str
       same)
 ]
 
--- the place of the first host that names the wire, or the number of hosts
+-- the place of the first host that names the wire is at most the number of hosts
 case-short : (b : Bool) (n m : ℕ) → n ≤ m → cond b (1 + n) 0 ≤ suc m
 case-short true n m short = omega (arith, short)
 case-short false n m short = omega arith
@@ -85,7 +85,6 @@ or-all place count short = elim (cases_lt place count) [
 pub first-or-all : {X : Type 0} (p : X → Bool) (xs : List X) → unwrap_or (position p xs) (length xs) ≡ position_or_len p xs
 first-or-all p xs = or-all (position_or_len p xs) (length xs) (place-short p xs)
 
--- An error of one host is the error of the plan.
 pub refusal-is : (plans : List HostPlan) (number : ℕ) (plan : HostPlan) (error : InitError) (refusal : PlanError)
     → slice_get plans number ≡ Some plan → CanComeUp plans number → IsReason plan error
     → (error ≡ errors.Memory → refusal ≡ refused.Memory)
@@ -110,7 +109,6 @@ share-wires plans count hosts stations up j k one other a b one_there other_ther
 
 -- Hosts
 
--- the items of a list with one more item
 pushed : {X : Type 0} (xs : List X) (x y : X) (k : ℕ) → slice_get (xs ++ x ∷ []) k ≡ Some y
     → ((k < length xs) × (slice_get xs k ≡ Some y)) ⊎ ((k ≡ length xs) × (y ≡ x))
 pushed [] x y zero there = inr (refl, (cc))
@@ -134,7 +132,6 @@ there-is [] k below = absurd (omega (arith, below))
 there-is (x ∷ xs) zero below = (x, refl)
 there-is (x ∷ xs) (suc k) below = there-is xs k (omega (arith, below))
 
--- Hosts that are initialized can be initialized.
 pub up-can : (plans : List HostPlan) (count : ℕ) (hosts : List HostState) (stations : List StationState)
     → AreUp plans count hosts stations → CanComeUp plans count
 up-can plans count hosts stations up k plan below there =

@@ -1,6 +1,6 @@
--- Over a lively bus no frame arrives, and the adapter changes only by accesses and its own ticks.
+-- Over a lively bus no frame arrives, and the adapter changes only by accesses and by ticks of its EEPROM and PHY.
 use Rattle.std.proofs.Common.{◌++◌, ◌∷◌, [], All, ℕ, List, refl, sym, ap, subst, ◌∙◌, arith}
-use Rattle.mdic_phy.specs.declared.phy.Link.{Link}
+use Rattle.eeprom_phy.specs.declared.phy.Link.{Link}
 use Rattle.adapter.specs.Outcomes.{FrameOutcome}
 use Rattle.adapter.specs.World.{World}
 use Rattle.adapter.specs.declared.step.StepKind.{StepKind}
@@ -54,7 +54,7 @@ events-leave link (event ∷ later) a b quiet trail is =
     events-leave link later (world_after event a) b (all-tail IsQuietEvent event later quiet) trail.1
     (event-leaves link event a (all-head IsQuietEvent event later quiet) is)
 
--- What happens over a lively bus.
+-- In an interval of a lively bus, no frame is stored or missed, and `IsAdapterOf` remains true.
 pub record IsAlone (a b : LivelyBus) (past : Past) : Type 0 where
   pub none : NoArrival past
   pub leaves : (link : Link) → IsAdapterOf link (machine_world a).adapter → IsAdapterOf link (machine_world b).adapter

@@ -1,4 +1,4 @@
--- The happenings of a call, for each host.
+-- The happenings of a call, and the fates in it, for each host.
 use Rattle.std.proofs.Common.{◌≡◌, ◌≢◌, ◌++◌, ℕ, [], Bool, List, Option, if◌then◌else◌, inl, inr, map, refl, sym, ap, subst, ◌∙◌}
 use Rattle.std.specs.List.{All}
 use Rattle.std.specs.Prelude.{Err, Ok}
@@ -37,7 +37,6 @@ use Rattle.wire.proofs.GroupsInForce.{Right, joined-right, left-right, stay-righ
 use Rattle.wire.proofs.Tellings.{around-list, joined-adds_none, left-adds_none, marks-recv, marks-send}
 use Rattle.wire.proofs.Tellings.{tells-call, tells-group, tells-recv, tells-send}
 
--- The happenings of a call of a host that doesn't exist are those of its ticks.
 pub none-said : (host : ℕ) (request : Request) (ticks : List Tick) (outcomes : List Numbered)
     → happenings_in_call host request NoHost ticks outcomes ≡ tick_happenings ticks outcomes
 none-said host (Sending frame) ticks outcomes = refl
@@ -53,7 +52,8 @@ answer-some (Interrupted result) = λ none. absurd (cc)
 answer-some (Joined result) = λ none. absurd (cc)
 answer-some (Left result) = λ none. absurd (cc)
 
--- The happenings of a call, by its answer. An answer of another kind of call has no effect, so this case is impossible.
+-- The happenings of a call of this host, by its answer, for host k (`Tells`). An answer of another kind of call has no
+-- effect, so this case is impossible.
 tells-request : (k host : ℕ) (request : Request) (result : HostAnswer (List ℕ)) (ticks : List Tick) (outcomes : List Numbered)
     (steps : List AtomicStep) (wires : ℕ → Option ℕ) (h h' : HostState) (Runs : HostAct → Type 0) (world : World)
     → EffectOf request result h h' Runs world → tick_happenings ticks outcomes ≡ happened_in steps
@@ -107,7 +107,6 @@ left-elsewhere : (k host : ℕ) (group : List ℕ) (answer : FrameAnswer) → k 
 left-elsewhere k host group (replied.Left (Ok u)) other = append-nil _ ∙ of-others k host _ other
 left-elsewhere k host group _ other = refl
 
--- The call itself has no happenings at another host.
 others-request : (k host : ℕ) (request : Request) (result : HostAnswer (List ℕ)) (ticks : List Tick) (outcomes : List Numbered)
     (steps : List AtomicStep) (h h' : HostState) (Runs : HostAct → Type 0) (world : World)
     → EffectOf request result h h' Runs world → tick_happenings ticks outcomes ≡ happened_in steps → k ≢ host

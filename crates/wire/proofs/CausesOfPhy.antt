@@ -1,9 +1,10 @@
--- Over a lively bus, while its driver writes neither ICR nor ICS, only causes of the PHY's ticks are recorded.
+-- Over a lively bus, while the driver writes neither ICR nor ICS, only causes that PHY ticks record (LSC and MDAC) are
+-- recorded.
 use Rattle.std.specs.Prelude.{bit_and, nat_lt}
 use Rattle.std.proofs.Common.{◌≡◌, ◌||◌, ◌∷◌, [], ◌∙◌, Bool, true, false, ℕ, List, Option, Some, None, if◌then◌else◌, ap, refl, sym, subst}
 use Rattle.std.specs.List.{All}
-use Rattle.mdic_phy.specs.declared.mdic.Ticked.{Ticked}
-use Rattle.mdic_phy.specs.Mdic.{told}
+use Rattle.eeprom_phy.specs.declared.mdic.Ticked.{Ticked}
+use Rattle.eeprom_phy.specs.Mdic.{told}
 use Rattle.registers.specs.Bits.{union}
 use Rattle.adapter.specs.Registers.{after_reset, by_row, by_rule, is_reset, left_by_read, left_by_write, with_register}
 use Rattle.adapter.specs.State.{AdapterState}
@@ -32,7 +33,6 @@ use Rattle.wire.specs.HostsUp.{AreOfPhy, HasNoInterrupt}
 pub none-told : AreOfPhy 0
 none-told = (record { link_changed = false; access_complete = false }, refl)
 
--- two ticks record causes that one tick could record
 union-told : (a b c d : Bool)
     → union (causes_told (record { link_changed = a; access_complete = b }))
     (causes_told (record { link_changed = c; access_complete = d }))

@@ -23,7 +23,7 @@ use Rattle.bus.specs.declared.event.Event.{Event}
 use Rattle.stations.specs.AtomicRuns.{LeadsTo, past_at}
 use Rattle.stations.specs.AtomicSteps.{AtomicStep}
 use Rattle.stations.specs.Stations.{StationState, world_at}
-use Rattle.driver_law.proofs.Places.{place-below}
+use Rattle.bus.proofs.Places.{place-below}
 use Rattle.packet_socket.specs.HostActs.{IsGroupWrite, IsOfDriver, IsOfHost, IsTailWrite}
 use Rattle.packet_socket.specs.HostCalls.{HostReady}
 use Rattle.packet_socket.specs.HostState.{HostState}
@@ -92,7 +92,7 @@ transmit-valid h world ready =
     let tail = place-below d.layout.tx d.oldest_transmit d.sending up.oldest_slot in
     record { head = omega (arith, up.knows.head_slot, up.knows.slots); tail = omega (arith, tail, up.knows.last, up.knows.slots) }
 
--- If both sides are enabled before a call, they are enabled after the call.
+-- Both sides remain enabled in a call
 
 bit-set : (value place : ℕ) → HasBit value place → is_set value place ≡ true
 bit-set value place = eq-eqb _ _
@@ -115,7 +115,7 @@ can-behind events a b counts h can trail own ready =
       transmit = transmit-valid h b ready;
     }
 
--- The outcome of each tick follows from counts, because both engines run at the end.
+-- No step is a fault, because no access of a call is a reset, and both engines run at the end.
 
 pub host-ticks : (caller k : ℕ) (steps : List AtomicStep) (a b : List StationState) (h : HostState) (counts : Counts)
     → LeadsTo caller steps a b → All (IsOfHost counts) (past_at k steps).accesses → HostReady h (world_at b k) → AreAnswered k a steps

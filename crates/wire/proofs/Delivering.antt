@@ -1,4 +1,4 @@
--- The equations of one host, for one event and for several.
+-- The equations of one host for one event, for no event, and for two consecutive intervals.
 use Rattle.std.proofs.Common.{◌≡◌, ◌≤◌, ◌<◌, ◌+◌, ◌^◌, ◌++◌, [], ℕ, IsTrue, List, Option, cond}
 use Rattle.std.proofs.Common.{map, refl, sym, ap, subst, ◌∙◌}
 use Rattle.std.specs.List.{flat_map}
@@ -30,7 +30,7 @@ use Rattle.wire.specs.Equations.{CountsMisses, MeetsEquations, KeepsCome, SendsD
 use Rattle.host_calls.specs.ConnectedHosts.{connected}
 use Rattle.wire.proofs.GroupsInForce.{Right}
 
--- Counts of missed frames.
+-- `CountsMisses`, by the driver's sum and MPC instead of the count of missed frames.
 pub misses-of : (h : HostState) (a : World) (h' : HostState) (b : World) (misses : ℕ)
     → sum_of h' b ≤ sum_of h a + misses
     → (IsTrue h'.driver.exact → b.adapter.missed_packets < Rattle.registers.specs.Counting.greatest_count
@@ -81,7 +81,6 @@ frames-append : (kinds : List SocketKind) (socket : ℕ) (xs ys : List (List ℕ
     → socket_frames kinds socket (xs ++ ys) ≡ socket_frames kinds socket xs ++ socket_frames kinds socket ys
 frames-append kinds socket xs ys = filter-append (λ (frame : List ℕ). goes_to kinds socket (ether_type frame)) xs ys
 
--- If p ++ m = o ++ g, and q ++ n = m ++ h, then (p ++ q) ++ n = o ++ (g ++ h).
 pub in-turn : (p q m n o g h : List (List ℕ)) → p ++ m ≡ o ++ g → q ++ n ≡ m ++ h → (p ++ q) ++ n ≡ o ++ (g ++ h)
 in-turn p q m n o g h one two =
     append_assoc p q n
@@ -107,7 +106,6 @@ sends-join k first later a b c one two = record {
 
 -- Frames that have come
 
--- A socket's frames, by the frames that left the ring.
 given-taken : (k : ℕ) (happened : List Happening) (h : HostState) (a : World) (h' : HostState) (b : World) → h'.kinds ≡ h.kinds
     → (keeps : KeepsCome k happened h a h' b) → (socket : ℕ)
     → given k socket happened ++ waiting_frames h' socket b ≡ waiting_frames h socket a ++ socket_frames h.kinds socket keeps.taken
@@ -162,7 +160,6 @@ come-join k first later h1 h2 h3 a b c kinds one two =
       };
     }
 
--- Two consecutive intervals.
 pub delivers-join : (k : ℕ) (first later : List Happening) (a b c : List StationState) (h1 h2 h3 : HostState)
     → ((host : ℕ) → wire_at b host ≡ wire_at a host)
     → MeetsEquations k first a b h1 h2 → MeetsEquations k later b c h2 h3 → MeetsEquations k (first ++ later) a c h1 h3
@@ -194,7 +191,8 @@ delivers-join k first later a b c h1 h2 h3 wires one two =
           (missed-append k first later) one.misses_are_counted two.misses_are_counted;
     }
 
--- The happenings at a host that returned and accepted these frames in these atomic steps.
+-- The lists of host k in `happened` agree with the atomic steps, and with the frames that the host returned and
+-- accepted.
 pub record Tells (k : ℕ) (happened : List Happening) (steps : List AtomicStep) (wires : ℕ → Option ℕ) (given_are : List Given)
     (accepted_are : List (List ℕ)) : Type 0 where
   pub put : put k happened ≡ put k (happened_in steps)
@@ -208,7 +206,7 @@ pub record Tells (k : ℕ) (happened : List Happening) (steps : List AtomicStep)
   pub accepted : map padded (accepted k happened) ≡ accepted_are
   pub given : (socket : ℕ) → given k socket happened ≡ given_for socket given_are
 
--- One event.
+-- `MeetsEquations` for one event, by what the host did in its steps.
 pub delivers-runs : (caller k : ℕ) (steps : List AtomicStep) (happened : List Happening) (a b : List StationState) (h h' : HostState)
     (taken : List (List ℕ)) (given_are : List Given) (accepted_are : List (List ℕ))
     → LeadsTo caller steps a b → Right k happened a b h h'
@@ -278,7 +276,6 @@ delivers-runs caller k steps happened a b h h' taken given_are accepted_are lead
           (stays, omega (arith, sum, missed_are)));
     }
 
--- No event.
 pub delivers-none : (k : ℕ) (a : List StationState) (h : HostState) → MeetsEquations k [] a a h h
 delivers-none k a h = record {
   plan_is_kept = record { wire = refl; kinds = refl; layout = refl; filter = refl; kilobytes = refl };

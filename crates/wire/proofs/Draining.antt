@@ -1,4 +1,4 @@
--- A drain of one host, for all hosts.
+-- The contract of a drain of one host, for all hosts of the network.
 use Rattle.std.proofs.Common.{◌≡◌, ◌≤◌, ◌<◌, ◌^◌, ◌++◌, [], ℕ, List, Option, Some, None, ⊎_elim}
 use Rattle.std.proofs.Common.{length, replicate, slice_set, refl, sym, ap, subst, ◌∙◌, arith}
 use Rattle.std.proofs.lemmas.Bool.{cases_lt}
@@ -25,7 +25,6 @@ use Rattle.wire.proofs.GroupsInForce.{stay-right}
 use Rattle.wire.proofs.Standing.{caller-behind, each-right, each-runs, hosts-go}
 use Rattle.wire.proofs.Tellings.{gives, marks-given, tells-given}
 
--- A host for which `HostStands` holds can be drained.
 pub can-drain : (host : HostState) (world : World) → HostStands host world → CanBeDrained host world
 can-drain host world stands = record {
   ready = stands.ready;
@@ -35,7 +34,6 @@ can-drain host world stands = record {
   enabled = stands.can.receives;
 }
 
--- The happenings of a drain, for each host.
 tells-drain : (k host moves : ℕ) (list : List Given) (steps : List AtomicStep) (wires : ℕ → Option ℕ)
     → happened_in steps ≡ replicate moves (Moved host)
     → Tells k (said_of_drain host moves list) steps wires (of_host k host list) (of_host k host [])
@@ -122,7 +120,6 @@ host-drained old new host steps before behind stands below only into =
     (set-drained old new.stations host steps (nth_host old host) (nth_host new host) before behind stands (host-there old host below) below
     into)
 
--- A host that doesn't exist.
 pub absent-drained : (old : NetworkState) (host : ℕ) (before : List Given) → NetworkStands old → length old.hosts ≤ host
     → NetworkDrains old host 0 before before old
 absent-drained old host before stands past =

@@ -20,7 +20,7 @@ use Rattle.bus.specs.declared.event.Access.{Access}
 use Rattle.bus.specs.declared.event.Access.TheVariants.{Loads, Reads, Stores, Writes}
 use Rattle.bus.specs.declared.event.Event.TheVariants.{Accesses, Arrives, Steps}
 use Rattle.bring_up.specs.ConfiguredAdapters.{AreWords, FilterHasSetup, HasSetup}
-use Rattle.driver_law.specs.DriverState.{DriverSetup}
+use Rattle.bus.specs.DriverState.{DriverSetup}
 use Rattle.dma_memory.specs.Layout.{Counts}
 use Rattle.bring_up.specs.Groups.{HasTable, SetsTable, WritesWord, word_of}
 use Rattle.stations.proofs.HostTrails.{world-here}
@@ -47,14 +47,13 @@ use Rattle.host_calls.specs.CallsOfHosts.{EndsWithAccess, GroupsStay}
 use Rattle.host_calls.specs.ConnectedHosts.{connected}
 use Rattle.wire.specs.Equations.{HostStands}
 
--- Between two states of host k, the fates of frames are right, and the adapter has the driver's setup and the groups'
--- bits at the end.
+-- From the stations `a` to `b`, the fates of host k's frames are right. At the end, the adapter has the driver's setup,
+-- and MTA has exactly the bits of the joined groups.
 pub record Right (k : ℕ) (happened : List Happening) (a b : List StationState) (h h' : HostState) : Type 0 where
   pub right : ReceivesRightly h.driver.groups (world_at a k).adapter (marks k happened) h'.driver.groups (world_at b k).adapter
   pub set_up : HasSetup h'.driver.setup (world_at b k).adapter
   pub table : HasTable h'.driver.groups (world_at b k)
 
--- Adapters whose filters are the same except MTA, and whose PBA.RXA is the same, have the same setup.
 pub same-setup : (setup other : DriverSetup) (a b : AdapterState) → SameButGroups a.filter b.filter
     → b.receive_kilobytes ≡ a.receive_kilobytes → other ≡ setup → HasSetup setup a → HasSetup other b
 same-setup setup other a b filter kilobytes same has =
@@ -70,7 +69,6 @@ same-setup setup other a b filter kilobytes same has =
       allocation = kilobytes ∙ has.allocation;
     })
 
--- A write of RDT or TDT doesn't change how a host receives.
 tail-leaves : (counts : Counts) (offset value : ℕ) → IsTailWrite counts offset value → LeavesReception (Writes offset value)
 tail-leaves counts offset value is = tails-leave_reception offset value
     (⊎_elim (λ (receive : (offset ≡ Rattle.adapter.specs.declared.offsets.TheConstants.RDT) × (value < counts.rx)). inl receive.0)
@@ -85,7 +83,6 @@ leaves counts (Stores address bytes) is = tt
 all-leave : (counts : Counts) (accesses : List Access) → All (IsOfDriver counts) accesses → All LeavesReception accesses
 all-leave counts accesses are = all-weaker (IsOfDriver counts) LeavesReception accesses (leaves counts) are
 
--- Such accesses don't change the group table.
 same-table : (groups : List (List ℕ)) (caller k : ℕ) (steps : List AtomicStep) (a b : List StationState) → LeadsTo caller steps a b
     → All LeavesReception (past_at k steps).accesses → HasTable groups (world_at a k) → HasTable groups (world_at b k)
 same-table groups caller k steps a b leads leave has =
@@ -96,7 +93,6 @@ same-table groups caller k steps a b leads leave has =
       words = subst AreWords (sym same) has.words;
     }
 
--- An interval without a join or a leave.
 pub stay-right : (caller k : ℕ) (steps : List AtomicStep) (happened : List Happening) (a b : List StationState) (h h' : HostState)
     → LeadsTo caller steps a b → HostStands h (world_at a k) → GroupsStay k steps (connected h a) (connected h' b)
     → marks k happened ≡ marks k (happened_in steps) → Right k happened a b h h'
@@ -119,13 +115,11 @@ stay-right caller k steps happened a b h h' leads stands stay same =
 
 -- Steps of a call with at most one access
 
--- the later steps begin where the first steps end
 leads-behind : (caller : ℕ) (first later : List AtomicStep) (a m b : List StationState) → LeadsTo caller (first ++ later) a b
     → LeadsTo caller first a m → LeadsTo caller later m b
 leads-behind caller [] later a m b all one = subst (λ (s : List StationState). LeadsTo caller later s b) (sym one) all
 leads-behind caller (step ∷ first) later a m b all one = leads-behind caller first later (after step a) m b all.2 one.2
 
--- steps of a call without an access are ticks
 only-ticks : (caller : ℕ) (steps : List AtomicStep) (a b : List StationState) → LeadsTo caller steps a b
     → (past_at caller steps).accesses ≡ [] → All IsTick steps
 only-ticks caller [] a b leads none = all-none IsTick
@@ -143,7 +137,6 @@ only-ticks caller (At host (Accesses access) ∷ later) a b leads none =
     subst (λ (c : Bool). (past_of ((if c then Accesses access ∷ [] else []) ++ events_at caller later)).accesses ≡ []) here none in
     absurd (cc some)
 
--- if steps end with an access, no tick follows it
 none-behind : (early later : List AtomicStep) (step : AtomicStep) → EndsWithAccess (early ++ step ∷ later) → All IsTick later → later ≡ []
 none-behind [] [] step ends are = refl
 none-behind [] (next ∷ later) step ends are = absurd (never next later ends are)
@@ -160,7 +153,7 @@ none-behind [] (next ∷ later) step ends are = absurd (never next later ends ar
 none-behind (first ∷ []) later step ends are = none-behind [] later step ends are
 none-behind (first ∷ next ∷ early) later step ends are = none-behind (next ∷ early) later step ends are
 
--- This is the only access among these steps, and the last step.
+-- The steps are ticks, and then this access.
 record OnlyAccess (caller : ℕ) (steps : List AtomicStep) (a b : List StationState) (access : Access) : Type 0 where
   early : List AtomicStep
   middle : List StationState
@@ -210,7 +203,7 @@ around-marks k mark first middle last is =
     ∙ ap (λ (list : List Mark). marks k first ++ list) (marks-append k middle last)
     ∙ ap (λ (list : List Mark). marks k first ++ (list ++ marks k last)) is
 
--- With a write: the ticks before the write, the write, and the ticks after it.
+-- The join or leave writes a word of MTA. Its mark comes after the happenings of the ticks before the write.
 written-right : (caller : ℕ) (mark : Mark) (middle : List Happening) (ticks : List Tick) (steps first rest : List AtomicStep)
     (a m b : List StationState) (h h' : HostState) (group : List ℕ) (made : List Access)
     → HostStands h (world_at a caller) → h'.driver.setup ≡ h.driver.setup → ChangesGroups mark h.driver.groups h'.driver.groups
@@ -265,7 +258,7 @@ written-right caller mark middle ticks steps first rest a m b h h' group made st
       table = same-table g' caller caller rest m b later leave has;
     }
 
--- Without an access: all ticks, and then the join or the leave.
+-- The join or leave makes no access, so its mark comes after the happenings of all ticks.
 shared-right : (caller : ℕ) (mark : Mark) (middle : List Happening) (ticks : List Tick) (steps first rest : List AtomicStep)
     (a m b : List StationState) (h h' : HostState)
     → HostStands h (world_at a caller) → h'.driver.setup ≡ h.driver.setup → ChangesGroups mark h.driver.groups h'.driver.groups

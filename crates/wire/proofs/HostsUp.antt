@@ -1,4 +1,4 @@
--- A host is initialized over its own lively bus.
+-- `ComesUp` holds for a host that was initialized over its own lively bus.
 use Rattle.std.proofs.Common.{◌≡◌, ◌≢◌, ◌<◌, ◌+◌, ◌-◌, [], ◌∙◌}
 use Rattle.std.proofs.Common.{true, false, ℕ, List, length, replicate, refl, sym, ap, subst, arith}
 use Rattle.std.proofs.Common.{length-append}
@@ -9,10 +9,10 @@ use Rattle.descriptors.specs.Ring.{HasValidIndices, count_of}
 use Rattle.descriptors.specs.declared.ring.Ring.{Ring}
 use Rattle.registers.specs.Bits.{HasBit}
 use Rattle.registers.specs.Places.{tctl_en}
-use Rattle.eeprom.specs.Image.{HasRightSum, address_bytes}
-use Rattle.mdic_phy.specs.declared.phy.Link.{Link}
-use Rattle.mdic_phy.specs.declared.phy.Link.TheVariants.{Never}
-use Rattle.mdic_phy.specs.Phy.{PhyState, is_complete, link_is_up}
+use Rattle.eeprom_phy.specs.Image.{HasRightSum, address_bytes}
+use Rattle.eeprom_phy.specs.declared.phy.Link.{Link}
+use Rattle.eeprom_phy.specs.declared.phy.Link.TheVariants.{Never}
+use Rattle.eeprom_phy.specs.Phy.{PhyState, is_complete, link_is_up}
 use Rattle.rx_engine.specs.Addresses.{IsAddress}
 use Rattle.adapter.specs.Registers.{new_adapter}
 use Rattle.adapter.specs.State.{AdapterState, IsAdapter}
@@ -28,10 +28,10 @@ use Rattle.bring_up.specs.ConfiguredAdapters.{IsConfigured, names_vlans}
 use Rattle.bring_up.specs.DriverSteps.{accesses_of}
 use Rattle.bring_up.specs.SettingSteps.{RecordsNone}
 use Rattle.bring_up.specs.WrittenRegisters.{mask_writes}
-use Rattle.driver_law.specs.Beginnings.{new_driver}
-use Rattle.driver_law.specs.DriverState.{DriverState, with_owners}
-use Rattle.driver_law.specs.ReadyDrivers.{Ready}
-use Rattle.driver_law.specs.Calls.{IsRefilled}
+use Rattle.bus.specs.Beginnings.{new_driver}
+use Rattle.bus.specs.DriverState.{DriverState, with_owners}
+use Rattle.bus.specs.ReadyDrivers.{Ready}
+use Rattle.bus.specs.Calls.{IsRefilled}
 use Rattle.driver.specs.Initialisation.{Initialises, transmit_accesses}
 use Rattle.bring_up.specs.Groups.{AreNamedOnce}
 use Rattle.packet_socket.specs.HostCalls.{HostReady}
@@ -67,7 +67,6 @@ station_on wire world = record { world = world; wire = wire; backlog = [] }
 valid : (ring : Ring) (count tail : ℕ) → count_of ring ≡ count → ring.head < count → ring.tail ≡ tail → tail < count → HasValidIndices ring
 valid ring count tail slots head is below = record { head = omega (arith, slots, head); tail = omega (arith, slots, is, below) }
 
--- Both sides are enabled, and heads and tails are indices of slots.
 can-answer : (plan : HostPlan) (size : ℕ) (d : DriverState) (world : World) → CanBeHad plan.config size
     → d.layout ≡ configured_counts plan.config
     → Ready d world → IsConfigured plan.config (address_bytes plan.image) (settings_of world.adapter) → CanAnswer world.adapter
@@ -104,13 +103,11 @@ pub record IsBroughtUp (plan : HostPlan) (old new : LivelyBus) (host : HostState
   pub initialises : Initialises lively plan.config old new host.driver
   pub ready : HostReady host (machine_world new)
 
--- a link that is up isn't set to be never up
 link-comes : (link : Link) (phy : PhyState) → IsPhyOf link phy → link_is_up phy ≡ true → link ≢ Never
 link-comes link phy is up = λ never.
     let down : link_is_up phy ≡ false = ap is_complete (is.never never) in
     cc
 
--- What initialization doesn't change of the adapter.
 left-alone : (plan : HostPlan) (old new : LivelyBus) (host : HostState) → IsBroughtUp plan old new host
     → IsAdapterOf plan.link (machine_world new).adapter
 left-alone plan old new host is =
@@ -124,7 +121,6 @@ left-alone plan old new host is =
       record { no_descriptor = refl; none_received = refl; none_transmitted = refl },
     )))
 
--- Neither a tick of the PHY nor an access records a cause that a driver handles.
 causes-left : (plan : HostPlan) (old new : LivelyBus) (host : HostState) → IsBroughtUp plan old new host
     → AreOfPhy (machine_world new).adapter.causes.recorded
 causes-left plan old new host is =
@@ -162,7 +158,7 @@ no-frames plan old new host wire is =
       };
     }
 
--- After the write of RCTL an access was made, and before this access the EEPROM took a step, so `IsAdapter` holds.
+-- The EEPROM took a step before an access of the initialization, so `IsAdapter` holds.
 still-adapter : (plan : HostPlan) (old new : LivelyBus) (host : HostState) → IsBroughtUp plan old new host
     → IsAdapter (machine_world new).adapter
 still-adapter plan old new host is =

@@ -1,4 +1,4 @@
--- In a network whose frames are legal, each frame that reaches a host is legal.
+-- In a network whose frames to be sent and waiting frames are legal, each frame that reaches a host is legal.
 use Rattle.std.proofs.Common.{◌≡◌, ◌≢◌, ◌<◌, ◌≤◌, ◌++◌, ◌∷◌, [], ◌==◌, ◌&&◌, not, ℕ, Bool, true, false, List, Option, Some, None}
 use Rattle.std.proofs.Common.{inl, inr, if◌then◌else◌, length, map, refl, sym, ap, subst, ◌∙◌, arith}
 use Rattle.std.specs.Prelude.{⊤, All, Ok, Err, slice_get}
@@ -148,7 +148,7 @@ of-left : (host : ℕ) (group : List ℕ) (answer : FrameAnswer) → All SentRig
 of-left host group (answers.Left (Ok u)) = All-cons SentRight (HasLeft host group) [] tt none
 of-left host group _ = none
 
--- a frame is sendable if the answer is that of a send that returned Ok
+-- if the answer is that of a send that returned Ok, the frame is sendable
 abbrev SendsRight : List ℕ → FrameAnswer → Type 0
 SendsRight frame (answers.Sent (Ok u)) = IsSendable frame
 SendsRight frame other = ⊤
@@ -191,7 +191,6 @@ alone : (tick : Tick) (outcomes : List Numbered) → All SentRight (lone_tick_ha
 alone tick [] = none
 alone tick (one ∷ outcomes) = by-outcome _ one.outcome
 
--- The frame of a send that returned Ok is sendable, by the effect of the send.
 by-effect : (frame : List ℕ) (answer : FrameAnswer) (result : HostAnswer (List ℕ)) → answer ≡ event_answer result
     → (h h' : HostState) (Runs : HostAct → Type 0) (world : World) → EffectOf (Sending frame) result h h' Runs world
     → SendsRight frame answer
@@ -323,7 +322,7 @@ not-illegal filter room true buffered frame Filtered right legal is = absurd (cc
 not-illegal filter room true buffered frame Missed right legal is = absurd (cc)
 not-illegal filter room true buffered frame Stored right legal is = absurd (cc)
 
--- fates are right from some state on
+-- the fates are right for some reception before the marks
 abbrev RightFrom : FilterRegisters → (room : ℕ) → List Mark → (final : Reception) → Type 0
 RightFrom registers room all final = (now : Reception) × AreRightFates registers room now all final
 
@@ -449,7 +448,6 @@ pub runs-legal : (old new : NetworkState) (events : List Event) (before behind :
     → HasLegalFrames old → StaysLegal old new (happenings events runs.replies)
 runs-legal old new events before behind runs legal = states-legal old events runs.replies new runs.states legal
 
--- A network that was made by a plan has no frames.
 pub made-legal : (plans : List HostPlan) (network : NetworkState) → IsMadeByPlan plans network → HasLegalFrames network
 made-legal plans network made = record {
   to_send = λ k below. subst (All IsLegal) (sym (up k below).0) (all-none IsLegal);

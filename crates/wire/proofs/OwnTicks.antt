@@ -2,16 +2,16 @@
 -- GPTC.
 use Rattle.std.specs.Prelude.{bit_and}
 use Rattle.std.proofs.Common.{◌≡◌, ◌==◌, ◌&&◌, Bool, true, false, ℕ, Option, Some, None, if◌then◌else◌, ap, refl, ◌∙◌}
-use Rattle.mdic_phy.specs.declared.mdic.Operation.{Operation}
-use Rattle.mdic_phy.specs.declared.mdic.Operation.TheVariants.{Read, Write}
-use Rattle.mdic_phy.specs.declared.mdic.Ticked.{Ticked}
-use Rattle.mdic_phy.specs.declared.phy.Link.{Link}
-use Rattle.mdic_phy.specs.declared.phy.Link.TheVariants.{Never}
-use Rattle.mdic_phy.specs.declared.phy.Negotiation.{Negotiation}
-use Rattle.mdic_phy.specs.declared.phy.Negotiation.TheVariants.{NotStarted}
-use Rattle.mdic_phy.specs.Mdic.{data_of, phy_ended, reaches_phy, regadd, told}
-use Rattle.mdic_phy.specs.Phy.{PhyState, after_control, after_read, after_tick, after_write, counted, negotiation_of, new_phy, restarted}
-use Rattle.mdic_phy.specs.Places.{control_enable, control_reset, control_restart}
+use Rattle.eeprom_phy.specs.declared.mdic.Operation.{Operation}
+use Rattle.eeprom_phy.specs.declared.mdic.Operation.TheVariants.{Read, Write}
+use Rattle.eeprom_phy.specs.declared.mdic.Ticked.{Ticked}
+use Rattle.eeprom_phy.specs.declared.phy.Link.{Link}
+use Rattle.eeprom_phy.specs.declared.phy.Link.TheVariants.{Never}
+use Rattle.eeprom_phy.specs.declared.phy.Negotiation.{Negotiation}
+use Rattle.eeprom_phy.specs.declared.phy.Negotiation.TheVariants.{NotStarted}
+use Rattle.eeprom_phy.specs.Mdic.{data_of, phy_ended, reaches_phy, regadd, told}
+use Rattle.eeprom_phy.specs.Phy.{PhyState, after_control, after_read, after_tick, after_write, counted, negotiation_of, new_phy, restarted}
+use Rattle.eeprom_phy.specs.Places.{control_enable, control_reset, control_restart}
 use Rattle.registers.specs.Bits.{is_set}
 use Rattle.adapter.specs.Registers.{after_reset, by_row, by_rule, is_reset, left_by_read, left_by_write, with_register}
 use Rattle.adapter.specs.State.{AdapterState}
@@ -24,7 +24,7 @@ use Rattle.bus.specs.Trails.{world_after_access}
 use Rattle.bus.specs.declared.event.Access.{Access}
 use Rattle.bus.specs.declared.event.Access.TheVariants.{Loads, Reads, Stores, Writes}
 
--- The link has the wanted setting, and negotiation of a link that is never up isn't complete.
+-- The link has the wanted setting. If this setting is Never, no negotiation has started.
 pub record ComesAs (wanted link : Link) (negotiation : Negotiation) : Type 0 where
   pub link_is : link ≡ wanted
   pub never : wanted ≡ Never → negotiation ≡ NotStarted

@@ -1,7 +1,7 @@
--- The registers after initialization are those of the plan's filter.
+-- The filter of the registers after initialization has the sets and modes of the plan's filter.
 use Rattle.std.proofs.Common.{◌≡◌, ◌+◌, ◌↔◌, ◌∷◌, Bool, true, false, ℕ, List, replicate, refl, sym, subst, inl, inr, arith}
 use Rattle.std.proofs.lemmas.List.{length-replicate}
-use Rattle.eeprom.specs.Image.{address_bytes}
+use Rattle.eeprom_phy.specs.Image.{address_bytes}
 use Rattle.registers.specs.Bits.{HasBit, field}
 use Rattle.registers.specs.Places.{alone, rah_av, rctl_bam, rctl_en, rctl_mo, rctl_mpe, rctl_upe, rctl_vfe}
 use Rattle.registers.specs.ReceiveControl.{group_offset_of, shift_of}
@@ -14,7 +14,7 @@ use Rattle.bus.specs.Settings.{Settings}
 use Rattle.network_plan.specs.declared.plan.HostPlan.{HostPlan}
 use Rattle.wire.specs.Filters.{plans_filter}
 
--- The bits of RCTL for the filter, with EN.
+-- RCTL.EN is set, and the bits of RCTL for the filter are those of a plan with these settings.
 pub record Controls (promiscuous by_vlan : Bool) (rctl : ℕ) : Type 0 where
   pub receives : HasBit rctl rctl_en
   pub shift : shift_of (group_offset_of (field rctl rctl_mo 2)) ≡ 4
@@ -57,7 +57,7 @@ controls false false = record {
   broadcasts = refl;
 }
 
--- one receive address
+-- the registers of receive addresses contain exactly this address
 abbrev IsOnlyEntry : (ral rah address : List ℕ) → Type 0
 IsOnlyEntry ral rah address = (other : List ℕ) → HasEntry ral rah other ↔ (other ≡ address)
 

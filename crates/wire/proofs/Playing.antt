@@ -1,4 +1,4 @@
--- Calls of hosts that exist, and of hosts that don't.
+-- One event that is a call: `CallPlayed` for hosts that exist and that don't exist.
 use Rattle.std.proofs.Common.{◌≡◌, ◌≢◌, ◌≤◌, ◌<◌, ◌∷◌, [], ℕ, List, Some, None, length, map, slice_get, slice_set}
 use Rattle.std.proofs.Common.{refl, sym, ap, subst, ◌∙◌, arith}
 use Rattle.std.specs.List.{All}
@@ -49,7 +49,7 @@ use Rattle.wire.proofs.GroupsInForce.{Right, stay-right}
 use Rattle.wire.proofs.Standing.{caller-behind, each-right, each-runs, hosts-go}
 use Rattle.wire.proofs.Tellings.{tells-steps}
 
--- The call of a host that exists, for all hosts.
+-- `HostsGo` for a call of a host that exists.
 pub call-goes : (caller : ℕ) (ticks : List Tick) (old : NetworkState) (stations : List StationState) (heard : List TickTold → Type 0)
     (accesses : ℕ) (h h' : HostState) (given : List Given) (accepted : List (List ℕ)) (happened : List Happening)
     → NetworkStands old → IsHost old caller h
@@ -70,7 +70,6 @@ call-goes caller ticks old stations heard accesses h h' given accepted happened 
     (stands.each k was then))
     tells
 
--- The observer of a call is told the ticks that are played, in order.
 pub told-ticks : (caller n : ℕ) (steps : List AtomicStep) (a b : List StationState) → LeadsTo caller steps a b
     → map tick_in (steps_told n steps) ≡ without_go is_go (map tick_of steps)
 told-ticks caller n [] a b leads = refl
@@ -102,12 +101,12 @@ pub told-of_call : {given : List Given} {accepted : List (List ℕ)} (event : Ev
 told-of_call event call old new ticks runs =
     told-ticks call.caller 0 runs.steps old.stations new.stations runs.of_call.leads ∙ runs.of_call.played ∙ ticks
 
--- the outcomes of a reply
 pub outcomes-are : (accesses : ℕ) (answer : FrameAnswer) (steps : List AtomicStep) (reply : Reply)
     → StatesEnding (ending accesses answer (steps_told 0 steps)) reply → reply.outcomes.list ≡ noted_of 0 steps
 outcomes-are accesses answer steps reply replies = replies.outcomes ∙ steps_told_noted 0 steps
 
--- The happenings of a call follow from its answer and its outcomes.
+-- The reply contains the answer and the outcomes. So what holds of their happenings holds of the happenings by the
+-- reply.
 said-as : (Holds : List Happening → Type 0) (call : EventCall) (accesses : ℕ) (answer : FrameAnswer) (steps : List AtomicStep)
     (reply : Reply)
     → StatesEnding (ending accesses answer (steps_told 0 steps)) reply
@@ -117,14 +116,13 @@ said-as Holds call accesses answer steps reply replies holds =
     subst (λ (a : FrameAnswer). Holds (happened a reply.outcomes.list)) (sym replies.answer)
     (subst (λ (list : List Numbered). Holds (happened answer list)) (sym (outcomes-are accesses answer steps reply replies)) holds)
 
--- A network with these hosts.
 pub hosts-as : (Holds : NetworkState → Type 0) (n : NetworkState) (hosts : List HostState) → n.hosts ≡ hosts
     → (let network : NetworkState = record { hosts = hosts; stations = n.stations } in Holds network) → Holds n
 hosts-as Holds n hosts is holds =
     subst (λ (list : List HostState). let network : NetworkState = record { hosts = list; stations = n.stations } in Holds network)
     (sym is) holds
 
--- A call that was played, with its answer and its outcomes, if the list of hosts has the calling host's new state.
+-- `CallPlayed` for a call of a host that exists, if in the list of hosts only the calling host is replaced.
 set-played : (call : EventCall) (old : NetworkState) (stations : List StationState) (heard : List TickTold → Type 0)
     (accesses : ℕ) (result : HostAnswer (List ℕ)) (h h' : HostState) (reply : Reply)
     → NetworkStands old → IsHost old call.host h → call.host < length old.hosts
@@ -175,7 +173,7 @@ set-played call old stations heard accesses result h h' reply stands there below
           }));
     }
 
--- A call that was played, for the state of a network.
+-- `CallPlayed` for a call of a host that exists, by the states of the network.
 pub call-played : (call : EventCall) (old new : NetworkState) (heard : List TickTold → Type 0) (accesses : ℕ)
     (result : HostAnswer (List ℕ)) (reply : Reply)
     → NetworkStands old → call.host < length old.hosts → OnlyHostChanges call.host old new
@@ -216,7 +214,7 @@ ticks-go caller happened steps old stations stands are leads said =
     (λ k. subst (λ (list : List Happening). Tells k list steps (wire_at old.stations) [] []) (sym said)
     (tells-steps k steps (wire_at old.stations)))
 
--- A call of a host that doesn't exist plays its ticks.
+-- `CallPlayed` for a call of a host that doesn't exist, of which only the ticks are played.
 absent-ticked : {O : Type 0} {g : OfObserver O} {ran : O → O → List Event → List Reply → Type 0} (call : EventCall) (event : Event)
     (old : NetworkState) (stations : List StationState) (from to : O)
     → NetworkStands old → length old.hosts ≤ call.host
@@ -266,7 +264,7 @@ absent-played {ran = ran} call event old new from to stands past hosts absent =
     hosts-as (λ (n : NetworkState). EventTold ran event from to (λ reply. CallPlayed call reply old n)) new old.hosts hosts
     (absent-ticked call event old new.stations from to stands past absent)
 
--- A call with any effect, and its answer.
+-- The observer was told the contents of a reply for which `CallPlayed` holds.
 pub call-told : {O : Type 0} {ran : O → O → List Event → List Reply → Type 0} (heard : List TickTold → Type 0) (event : Event)
     (call : EventCall) (old new : NetworkState) (accesses : ℕ) (result : HostAnswer (List ℕ)) (from to : O)
     → NetworkStands old → call.host < length old.hosts → OnlyHostChanges call.host old new

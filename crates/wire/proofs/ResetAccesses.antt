@@ -17,12 +17,12 @@ use Rattle.bring_up.specs.DriverSteps.{accesses_of}
 use Rattle.bring_up.specs.FilterTables.{address_writes, empty_entries, entry_writes, table_writes}
 use Rattle.bring_up.specs.RingRegisters.{ring_setup_writes, transmit_control, transmit_writes}
 use Rattle.bring_up.specs.WrittenRegisters.{allocation_writes, link_control, enable_link_writes, register_limit, write_at}
-use Rattle.driver_law.specs.Calls.{stores_from}
-use Rattle.driver_law.specs.ReadyDrivers.{empty_descriptor}
-use Rattle.driver_law.specs.DriverState.{DriverSetup, buffer_at, receive_slot}
+use Rattle.bus.specs.Calls.{stores_from}
+use Rattle.bus.specs.ReadyDrivers.{empty_descriptor}
+use Rattle.bus.specs.DriverState.{DriverSetup, buffer_at, receive_slot}
 use Rattle.driver.specs.Resetting.{free_accesses, quiet_writes}
 
--- a read, a load, a store, or a write of an offset beyond RCTL
+-- the access is a read, a load, a store, or a write of an offset beyond RCTL
 abbrev pub IsBeyond : Access → Type 0
 IsBeyond (Reads offset value) = ⊤
 IsBeyond (Writes offset value) = RCTL < offset

@@ -39,7 +39,7 @@ use Rattle.bring_up.specs.ClearedDescriptors.{clears, clears_from}
 use Rattle.bring_up.specs.DriverSteps.{accesses_of}
 use Rattle.bring_up.specs.RingRegisters.{receive_control, ring_setup_writes, transmit_control, transmit_writes}
 use Rattle.bring_up.specs.WrittenRegisters.{handled_causes, link_control, mask_writes, register_limit}
-use Rattle.driver_law.specs.DriverState.{DriverSetup, DriverState}
+use Rattle.bus.specs.DriverState.{DriverSetup, DriverState}
 use Rattle.driver.specs.Resetting.{free_accesses, later_accesses, quiet_writes}
 use Rattle.bring_up.proofs.Words.{tables-agree}
 use Rattle.packet_socket.specs.HostState.{HostState}
@@ -59,17 +59,14 @@ use Rattle.wire.specs.Runs.{ResetAnswer}
 abbrev written : (k offset value : ℕ) → AtomicStep
 written k offset value = At k (Accesses (Writes offset value))
 
--- the world of the host after the write
 world-written : (k offset value : ℕ) (later : List AtomicStep) (a b : List StationState) → LeadsTo k (written k offset value ∷ later) a b
     → world_at (after (written k offset value) a) k ≡ world_after_access (Writes offset value) (world_at a k)
 world-written k offset value later a b leads = world-here a k (Accesses (Writes offset value)) (eq-eqb k k refl) leads.0
 
--- RCTL is written with 0.
 disabled : (world : World) → IsOff (world_after_access (Writes RCTL 0) world)
 unfolding register_at
 disabled world = λ on. absurd (omega (arith, on))
 
--- CTRL is written with RST.
 emptied : (world : World) → (world_after_access (Writes CTRL (alone ctrl_rst)) world).adapter.receiver.buffer ≡ []
 unfolding register_at
 emptied world = refl
@@ -78,13 +75,11 @@ reset-off : (world : World) → IsOff (world_after_access (Writes CTRL (alone ct
 unfolding register_at
 reset-off world = λ on. absurd (omega (arith, on))
 
--- RCTL is written again.
 buffer-stays : (value : ℕ) (world : World)
     → (world_after_access (Writes RCTL value) world).adapter.receiver.buffer ≡ world.adapter.receiver.buffer
 unfolding register_at
 buffer-stays value world = refl
 
--- Steps, and then further steps.
 leads-first : (caller : ℕ) (first later : List AtomicStep) (a b : List StationState) → LeadsTo caller (first ++ later) a b
     → LeadsTo caller first a (stations_behind first a) × LeadsTo caller later (stations_behind first a) b
 leads-first caller [] later a b leads = (refl, leads)
@@ -96,8 +91,8 @@ leads-first caller (step ∷ first) later a b leads =
 abbrev reset_marks : (early stopping resting later : List Mark) → List Mark
 reset_marks early stopping resting later = early ++ SwitchedOff ∷ (stopping ++ Emptied ∷ (resting ++ SwitchedOn ∷ later))
 
--- The marks of a reset have right fates if those of each part have; while the receive side is disabled, for any frames
--- in the packet buffer.
+-- The fates of a reset are right if those of each part are. While the receive side is disabled, they must be right for
+-- any frames in the packet buffer.
 marks-right : (filter : FilterRegisters) (bytes : ℕ) (groups from cut to : List (List ℕ)) (early stopping resting later : List Mark)
     → AreRightFates filter bytes (reception groups from) early (reception groups cut)
     → ((buffered : List (List ℕ)) → (let off : Reception = record { groups = groups; buffered = buffered; enabled = false } in
@@ -115,7 +110,8 @@ marks-right filter bytes groups from cut to early stopping resting later first s
     (fates-append filter bytes off off end stopping (Emptied ∷ (resting ++ SwitchedOn ∷ later)) (stops cut)
     (fates-append filter bytes empty empty end resting (SwitchedOn ∷ later) (rests []) last))
 
--- What is known of a reset's parts: their accesses, and that the filter and the room are the same at the end.
+-- What is known of the parts of a reset: their accesses, RCTL.EN and MTA at the start, and that the filter and the room
+-- are the same at the end.
 pub record CanBeJudged (k control : ℕ) (groups : List (List ℕ)) (early stopping resting later : List AtomicStep)
     (a last enabled b : List StationState) : Type 0 where
   pub stops : LeadsTo k (early ++ written k RCTL 0 ∷ stopping) a last
@@ -180,7 +176,6 @@ judged k control groups early stopping resting later a last enabled b can =
 
 -- The accesses of a reset
 
--- the access isn't a write of RCTL
 abbrev LeavesControl : Access → Type 0
 LeavesControl (Reads offset value) = ⊤
 LeavesControl (Writes offset value) = IsNotReceiveControl (register_at offset)
@@ -284,7 +279,6 @@ said-marks k answer parts =
     (marked (happened_in parts.stopping) (GivenUp k answer.sending answer.holding) Emptied rest _ (own-mark k (Emptied ∷ []))
     (marked (happened_in parts.resting) (Enabled k) SwitchedOn (happened_in parts.later) _ (own-mark k (SwitchedOn ∷ [])) refl))
 
--- The filter is the same at the end.
 whole-filter : (a b : FilterRegisters) → b ≡ record a { mta = b.mta } → b.mta ≡ a.mta → b ≡ a
 whole-filter a b same table = same ∙ ap (λ (list : List ℕ). let f : FilterRegisters = record a { mta = list } in f) table
 

@@ -1,4 +1,4 @@
--- A reset of one host, for all hosts.
+-- `HostsGo` for a reset of one host.
 use Rattle.std.proofs.Common.{◌≡◌, ◌≢◌, [], ℕ, List, Some, inl, inr, length, refl, slice_get, slice_set, sym, ap, subst, ◌∙◌, arith}
 use Rattle.std.proofs.lemmas.Bool.Decides.{eqb_tells}
 use Rattle.std.proofs.lemmas.List.{length-set}
@@ -10,7 +10,7 @@ use Rattle.stations.proofs.HostTrails.{trail-of}
 use Rattle.stations.proofs.Lengths.{length-stays}
 use Rattle.stations.specs.AtomicRuns.{LeadsTo, events_at, past_at}
 use Rattle.bring_up.specs.ConfiguredAdapters.{HasSetup}
-use Rattle.driver_law.specs.DriverState.{DriverSetup, DriverState}
+use Rattle.bus.specs.DriverState.{DriverSetup, DriverState}
 use Rattle.bring_up.specs.Groups.{HasTable}
 use Rattle.packet_socket.specs.HostCalls.{host_did}
 use Rattle.packet_socket.specs.HostState.{HostState}
@@ -37,7 +37,7 @@ use Rattle.wire.proofs.ResetTicks.{reset-can, reset-counts, reset-ticks}
 use Rattle.wire.proofs.ResetTold.{reset_said}
 use Rattle.wire.proofs.Standing.{caller-behind, other-behind, stands-behind, stands-with}
 
--- What is known of a reset of host k.
+-- What is known of a reset of host k: its steps, the frames that were lost, and that the fates are right.
 pub record ResetKnown (k : ℕ) (answer : ResetAnswer) (steps : List AtomicStep) (h h' : HostState) (a b : List StationState) : Type 0 where
   pub leads : LeadsTo k steps a b
   pub resets : ResetsInSteps k steps (connected h a) (connected h' b)
@@ -45,7 +45,7 @@ pub record ResetKnown (k : ℕ) (answer : ResetAnswer) (steps : List AtomicStep)
   pub right : ReceivesRightly h.driver.groups (world_at a k).adapter (marks k (reset_said k answer resets.parts)) h'.driver.groups
       (world_at b k).adapter
 
--- What is known of another host.
+-- What is known of another host n: it makes no access, its fates are right, and its lists agree with the steps.
 record Elsewhere (n : ℕ) (happened : List Happening) (steps : List AtomicStep) (was : HostState) (a b : List StationState) : Type 0 where
   runs : HostRuns n steps (host_did [] [] []) (connected was a) (connected was b)
   right : Right n happened a b was was
@@ -69,7 +69,6 @@ elsewhere k n answer steps h h' was a b other known stands =
           (reset-tells n k answer setup parts (wire_at a) (of-others n k answer.sending other) (of-others n k answer.holding other));
     }
 
--- `HostStands` holds for the host after its reset.
 reset-stands : (k : ℕ) (answer : ResetAnswer) (steps : List AtomicStep) (h h' : HostState) (a b : List StationState)
     → ResetKnown k answer steps h h' a b → HostStands h (world_at a k) → HostStands h' (world_at b k)
 reset-stands k answer steps h h' a b known stands =
@@ -83,7 +82,6 @@ reset-stands k answer steps h h' a b known stands =
     (subst (λ (list : List (List ℕ)). HasTable list (world_at b k)) (sym groups) resets.keeps.groups)
     (reset-can k steps (connected h a) (connected h' b) resets) (resets.keeps.sums.small stands.exact.reads)
 
--- What a reset of host k does to each host.
 pub reset-goes : (k : ℕ) (answer : ResetAnswer) (steps : List AtomicStep) (h h' : HostState) (old : NetworkState)
     (stations : List StationState) → NetworkStands old → IsHost old k h
     → (known : ResetKnown k answer steps h h' old.stations stations)

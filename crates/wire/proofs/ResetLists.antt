@@ -9,7 +9,7 @@ use Rattle.std.proofs.lemmas.List.Sums.{sum_by-append, sum_by-cons}
 use Rattle.descriptors.specs.Frames.{padded}
 use Rattle.adapter.specs.HostFrames.{frames_held, frames_to_send}
 use Rattle.bus.specs.Pasts.{Past}
-use Rattle.driver_law.specs.DriverState.{DriverSetup, DriverState}
+use Rattle.bus.specs.DriverState.{DriverSetup, DriverState}
 use Rattle.stations.specs.AtomicRunLaws.{past_join}
 use Rattle.stations.specs.AtomicRuns.{LeadsTo, past_at}
 use Rattle.stations.specs.AtomicSteps.{AtomicStep, after}
@@ -48,7 +48,6 @@ use Rattle.wire.proofs.ResetTold.{reset_said}
 
 -- What a reset adds to each list of frames
 
--- The happenings of all steps are those of the parts, in order.
 pub parts-happened : (k : ℕ) (setup : DriverSetup) (parts : ResetParts) → happened_in (whole_reset k setup parts)
     ≡ happened_in parts.early ++ (happened_in parts.stopping ++ (happened_in parts.resting ++ happened_in parts.later))
 parts-happened k setup parts =
@@ -66,7 +65,6 @@ rest-happened : (k : ℕ) (setup : DriverSetup) (parts : ResetParts) → happene
 rest-happened k setup parts =
     flat_map-append happened_by parts.resting (enable_of k setup ∷ []) ∙ append-nil (happened_in parts.resting)
 
--- A list to which the reset itself adds nothing.
 pub reset-list : {X : Type 0} (f : Happening → List X) (k : ℕ) (answer : ResetAnswer) (setup : DriverSetup) (parts : ResetParts)
     → f (Disabled k) ≡ [] → f (GivenUp k answer.sending answer.holding) ≡ [] → f (Enabled k) ≡ []
     → flat_map f (reset_said k answer parts) ≡ flat_map f (happened_in (whole_reset k setup parts))
@@ -114,7 +112,7 @@ reset-missed n k answer setup parts =
 itself : {T : Type 0} (k : ℕ) (list : List T) → of_host k k list ≡ list
 itself k list = ap (λ (here : Bool). if here then list else []) (eq-eqb k k refl)
 
--- At another host, the happenings of a reset are those of its steps.
+-- If no frame was lost at host n, as at each host that isn't reset, `Tells` holds for the happenings of a reset.
 pub reset-tells : (n k : ℕ) (answer : ResetAnswer) (setup : DriverSetup) (parts : ResetParts) (wires : ℕ → Option ℕ)
     → of_host n k answer.sending ≡ [] → of_host n k answer.holding ≡ []
     → Tells n (reset_said k answer parts) (whole_reset k setup parts) wires [] []
@@ -141,7 +139,6 @@ leads-split caller (step ∷ first) later a b leads =
     let rest = leads-split caller first later (after step a) b leads.2 in
     (rest.0, (leads.0, leads.1, rest.1), rest.2)
 
--- nothing is accepted or given up in atomic steps
 due-stays : (k : ℕ) (list : List (List ℕ)) (steps : List AtomicStep) → AreDue k list (happened_in steps) list
 due-stays k list steps =
     (goes-without_drops (padded_in_one k) (sending_in_one k) list list (happened_in steps) (sending-none k steps)).1
@@ -149,14 +146,14 @@ due-stays k list steps =
     ∙ ap (λ (more : List (List ℕ)). list ++ more)
     (sym (accepted-padded k (happened_in steps) ∙ ap (map padded) (accepted-none k steps))))
 
--- frames are stored
 come-grows : (k : ℕ) (list more : List (List ℕ)) (steps : List AtomicStep) → stored k (happened_in steps) ≡ more
     → HaveCome k list (happened_in steps) (list ++ more)
 come-grows k list more steps is =
     (goes-without_drops (stored_by k) (holding_in_one k) list (list ++ more) (happened_in steps) (holding-none k steps)).1
     (ap (λ (frames : List (List ℕ)). list ++ frames) (sym is))
 
--- the reset removes the frames that it gives up from the end of a list
+-- GivenUp removes the frames `gone` from the end of the list; the steps of each part change the list as `ListGoes`
+-- states
 reset-goes_down : (adds drops : Happening → List (List ℕ)) (k : ℕ) (answer : ResetAnswer) (parts : ResetParts)
     (begin first before left middle end gone : List (List ℕ))
     → ListGoes adds drops begin (happened_in parts.early) first → adds (Disabled k) ≡ [] → drops (Disabled k) ≡ []
@@ -182,7 +179,6 @@ reset-goes_down adds drops k answer parts begin first before left middle end gon
       goes-join adds drops first before end (happened_in parts.stopping) _ stopping behind,
     )
 
--- The frames that are due.
 reset-sends : (k : ℕ) (answer : ResetAnswer) (steps : List AtomicStep) (h h' : HostState) (a b : List StationState)
     (resets : ResetsInSteps k steps (connected h a) (connected h' b)) → LeadsTo k steps a b
     → GivesUp answer.sending answer.holding k h.driver.oldest_receive resets.parts (world_at a k) (world_at resets.last k)
@@ -213,7 +209,6 @@ reset-sends k answer steps h h' a b resets leads gives =
           ∙ ap (λ (list : List (List ℕ)). before ++ list) restarts.none_to_send ∙ append-nil before;
     }
 
--- The frames that have come.
 reset-keeps : (k : ℕ) (answer : ResetAnswer) (steps : List AtomicStep) (h h' : HostState) (a b : List StationState)
     (resets : ResetsInSteps k steps (connected h a) (connected h' b))
     → GivesUp answer.sending answer.holding k h.driver.oldest_receive resets.parts (world_at a k) (world_at resets.last k)
@@ -261,7 +256,6 @@ reset-keeps k answer steps h h' a b resets gives =
       };
     }
 
--- The missed frames of the host that is reset are counted.
 reset-misses : (k : ℕ) (answer : ResetAnswer) (steps : List AtomicStep) (h h' : HostState) (a b : List StationState)
     (resets : ResetsInSteps k steps (connected h a) (connected h' b)) → LeadsTo k steps a b
     → CountsMisses h (world_at a k) (missed k (reset_said k answer resets.parts)) h' (world_at b k)
@@ -284,7 +278,6 @@ reset-misses k answer steps h h' a b resets leads =
     let sum = sums.counted (omega (arith, small, missed_are)) (omega (arith, fits, missed_are)) in
     (stays, omega (arith, sum, missed_are)))
 
--- All equations of the host that is reset.
 pub reset-delivers : (k : ℕ) (answer : ResetAnswer) (steps : List AtomicStep) (h h' : HostState) (a b : List StationState)
     (resets : ResetsInSteps k steps (connected h a) (connected h' b)) → LeadsTo k steps a b
     → GivesUp answer.sending answer.holding k h.driver.oldest_receive resets.parts (world_at a k) (world_at resets.last k)

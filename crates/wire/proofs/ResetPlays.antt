@@ -1,4 +1,4 @@
--- A reset that was made, and its reply.
+-- One event that is a reset: `ResetPlayed` for hosts that exist and that don't exist.
 use Rattle.std.proofs.Common.{◌≡◌, ◌≢◌, ◌≤◌, ◌<◌, ◌+◌, ◌^◌, ◌++◌, ◌∷◌, ◌==◌, [], ℕ, true, false, List, None, Option, Some, length, map, min}
 use Rattle.std.proofs.Common.{slice_set, suc, sym, ap, subst, ◌∙◌, arith}
 use Rattle.std.specs.Prelude.{nat_lt}
@@ -13,7 +13,7 @@ use Rattle.adapter.specs.HostFrames.{frames_held}
 use Rattle.bus.specs.LivelyBuses.{most_accesses}
 use Rattle.bus.specs.TickGroups.{without_go}
 use Rattle.bus.specs.declared.event.Access.{Access}
-use Rattle.driver_law.specs.DriverState.{DriverSetup}
+use Rattle.bus.specs.DriverState.{DriverSetup}
 use Rattle.stations.specs.AtomicRunLaws.{counted_join}
 use Rattle.stations.specs.AtomicRuns.{LeadsTo, counted_of, is_go, noted_of, steps_told}
 use Rattle.stations.specs.AtomicSteps.{AtomicStep, after, tick_of, watched}
@@ -49,7 +49,6 @@ use Rattle.wire.proofs.ResetLists.{leads-split}
 use Rattle.wire.proofs.ResetTold.{PartsCounted, count-accesses, parts-chosen, reset-says, reset_said, told-early}
 use Rattle.wire.proofs.Standing.{caller-behind}
 
--- The accesses before each part are counted.
 pub parts-counted : (k : ℕ) (steps : List AtomicStep) (h h' : HostState) (a b : List StationState) (on_after : ℕ)
     (resets : ResetsInSteps k steps (connected h a) (connected h' b))
     → on_after ≡ counted_of 0 (before_reset k resets.parts ++ at_rest k h.driver.setup resets.parts) → on_after < most_accesses
@@ -74,7 +73,7 @@ parts-counted k steps h h' a b on_after resets is within =
     ∙ counted_join 3 parts.resting (enable ∷ []) in
     record { early = none; stopping = two; resting = omega (arith, all, within); within = omega (arith, within) }
 
--- The number of the second write of RCTL is below the count at which accesses saturate.
+-- The number of accesses before a reset's later part is below the count at which accesses saturate.
 pub few-slots : (counts : Counts) → size_of counts < 2 ^ 64 → 302 + counts.rx < most_accesses
 few-slots counts size = let rings = (begins counts).behind_rings in omega (arith, size, rings)
 
@@ -86,7 +85,6 @@ below-three number below = lt-ltb number 3 below
 not-below_three : (number : ℕ) → 3 ≤ number → nat_lt number 3 ≡ false
 not-below_three number above = lt-leb (suc number) 3 (omega (arith, above))
 
--- The outcomes with at most 2 accesses before them determine what happened before the write of CTRL.RST.
 told-before : (k : ℕ) (ticks : List Tick) (setup : DriverSetup) (parts : ResetParts) (a b : List StationState) (on_after : ℕ)
     → PartsCounted parts on_after → LeadsTo k (whole_reset k setup parts) a b
     → without_go is_go (map tick_of (whole_reset k setup parts)) ≡ without_go is_go ticks
@@ -138,7 +136,7 @@ reset-answers k ticks full answer steps h h' a b known is counted played on_afte
       holding_then = known.gives.holding_then;
     }
 
--- A reset that was played, with its answer and its outcomes, if the list of hosts has the host's new state.
+-- `ResetPlayed` for a reset of a host that exists, if in the list of hosts only this host is replaced.
 set-reset : (host : ℕ) (ticks : List Tick) (old : NetworkState) (stations : List StationState) (heard : List TickTold → Type 0)
     (accesses : ℕ) (full : FrameAnswer) (answer : ResetAnswer) (h h' : HostState) (reply : Reply)
     → NetworkStands old → IsHost old host h → host < length old.hosts → reset_answer full ≡ Some answer → full ≢ NoHost
@@ -197,7 +195,7 @@ set-reset host ticks old stations heard accesses full answer h h' reply stands t
           (reset-answers host ticks reply.answer answer steps h h' a stations known answered counted runs.of_call.played on_after));
     }
 
--- A reset that was played, for the state of a network, and what the observer was told.
+-- The observer was told the contents of a reply for which `ResetPlayed` holds, for a host that exists.
 pub reset-told : {O : Type 0} {ran : O → O → List Event → List Reply → Type 0} (heard : List TickTold → Type 0) (event : Event)
     (host : ℕ) (ticks : List Tick) (old new : NetworkState) (accesses : ℕ) (full : FrameAnswer) (answer : ResetAnswer) (from to : O)
     → NetworkStands old → host < length old.hosts → OnlyHostChanges host old new → reset_answer full ≡ Some answer → full ≢ NoHost
@@ -214,7 +212,7 @@ reset-told heard event host ticks old new accesses full answer from to stands be
       (host-there old host below) below is some makes on_after tells.replies);
 }
 
--- A reset of a host that doesn't exist only plays its ticks.
+-- The observer was told the contents of a reply for which `ResetPlayed` holds, for a host that doesn't exist.
 pub absent-reset : {O : Type 0} {g : OfObserver O} {ran : O → O → List Event → List Reply → Type 0} (host : ℕ) (ticks : List Tick)
     (event : Event) (old new : NetworkState) (from to : O)
     → NetworkStands old → length old.hosts ≤ host → new.hosts ≡ old.hosts
@@ -240,7 +238,6 @@ absent-reset {g = g} {ran = ran} host ticks event old new from to stands past ho
       };
     }
 
--- An observer of a reset is told of the ticks that are played, in order.
 pub told-of_reset : (event : Event) (caller : ℕ) (ticks : List Tick) (steps : List AtomicStep) (a b : List StationState)
     → LeadsTo caller steps a b → without_go is_go (map tick_of steps) ≡ without_go is_go ticks → without_go is_go ticks ≡ played_ticks event
     → AreOfTicks event (steps_told 0 steps)

@@ -37,7 +37,7 @@ use Rattle.bring_up.specs.ClearedDescriptors.{clears, clears_from}
 use Rattle.bring_up.specs.DriverSteps.{accesses_of}
 use Rattle.bring_up.specs.RingRegisters.{receive_control, ring_setup_writes, transmit_writes}
 use Rattle.bring_up.specs.WrittenRegisters.{handled_causes, link_control, mask_writes}
-use Rattle.driver_law.specs.DriverState.{DriverSetup}
+use Rattle.bus.specs.DriverState.{DriverSetup}
 use Rattle.driver.specs.Resetting.{free_accesses, later_accesses, quiet_writes}
 use Rattle.packet_socket.specs.HostCalls.{HostReady}
 use Rattle.packet_socket.specs.HostState.{HostState}
@@ -96,7 +96,6 @@ link-leaves : Leaves (Writes CTRL link_control)
 unfolding register_at
 link-leaves = record { counted = tt; no_reset = refl }
 
--- a write of CTRL with RST can be counted
 reset-counted : IsCounted (Writes CTRL (alone ctrl_rst))
 unfolding register_at
 reset-counted = tt
@@ -107,7 +106,6 @@ one access leaves = All-cons Leaves access [] leaves (all-none Leaves)
 both : (xs ys : List Access) → All Leaves xs → All Leaves ys → All Leaves (xs ++ ys)
 both xs ys first later = All-append Leaves xs ys first later
 
--- The transmit side is set up, and the mask is written.
 later-leave : (counts : Counts) → All Leaves (later_accesses counts)
 later-leave counts =
     let base = 16 * counts.rx in
@@ -137,7 +135,6 @@ own-leaves k access later leaves rest =
     past-leaves k (At k (Accesses access) ∷ []) later
     (subst (All Leaves) (sym (access-past k access)) (All-cons Leaves access [] leaves (all-none Leaves))) rest
 
--- before CTRL.RST is written
 first-leaves : (k : ℕ) (counts : Counts) (setup : DriverSetup) (values : ResetValues) (parts : ResetParts)
     → PartsAccess k counts setup values parts → All Leaves (past_at k (before_reset k parts)).accesses
 first-leaves k counts setup values parts are =
@@ -145,7 +142,7 @@ first-leaves k counts setup values parts are =
     (own-leaves k (Writes RCTL 0) parts.stopping (control-leaves 0)
     (subst (All Leaves) (sym are.stopping) (one (Reads MPC values.misses) (beyond-leaves (Reads MPC values.misses) tt))))
 
--- after CTRL.RST is written
+-- the steps after the write of CTRL.RST
 abbrev after_steps : (k : ℕ) → DriverSetup → ResetParts → List AtomicStep
 after_steps k setup parts = (parts.resting ++ enable_of k setup ∷ []) ++ parts.later
 
@@ -197,7 +194,8 @@ accesses-counted k steps old new resets =
 engines : (h : HostState) (world : World) → HostReady h world → EnginesRun world.adapter
 engines h world ready = record { receiver = ready.ready.law.runs.receiver_runs; transmitter = ready.ready.law.runs.transmitter_runs }
 
--- No step is a fault, because both engines run right before CTRL.RST is written and at the end.
+-- No step is a fault, because both engines run right before CTRL.RST is written and at the end. Only the write of
+-- CTRL.RST is a reset.
 no-fault : (k : ℕ) (counts : Counts) (setup : DriverSetup) (values : ResetValues) (parts : ResetParts)
     (a last enabled b : List StationState)
     → PartsAccess k counts setup values parts → LeadsTo k (before_reset k parts) a last → LeadsTo k (at_rest k setup parts) last enabled
@@ -211,7 +209,6 @@ no-fault k counts setup values parts a last enabled b are first rest behind run_
     (leads_join k (parts.resting ++ enable_of k setup ∷ []) parts.later (after (reset_of k) last) enabled b rest.2 behind)
     (none-resets (past_at k later_steps).accesses (later-leaves k counts setup values parts are)) run
 
--- The outcome of each tick of the host follows from counts.
 pub reset-ticks : (k : ℕ) (steps : List AtomicStep) (old new : ConnectedHost) → LeadsTo k steps old.stations new.stations
     → ResetsInSteps k steps old new → AreAnswered k old.stations steps
 reset-ticks k steps old new leads resets =
@@ -225,7 +222,6 @@ reset-ticks k steps old new leads resets =
     ticks-answered k k steps old.stations new.stations leads (accesses-counted k steps old new resets)
     (subst (λ (list : List AtomicStep). MeetsNoFault k list old.stations) (sym resets.split) faultless)
 
--- The counts of the host at the end follow from the counts at the start.
 pub reset-counts : (k : ℕ) (steps : List AtomicStep) (old new : ConnectedHost) → LeadsTo k steps old.stations new.stations
     → ResetsInSteps k steps old new → counts_of (world_at new.stations k).adapter ≡ counts_at old.stations steps k
 reset-counts k steps old new leads resets =
@@ -313,7 +309,6 @@ later-transmits counts enabled =
     ∙ ap (accessed (ring ++ accesses_of mask_writes)) (accessed-clears base counts.tx enabled)
     ∙ accessed-last base (16 * counts.tx) enabled
 
--- Both sides are enabled at the end, and heads and tails are indices of slots.
 pub reset-can : (k : ℕ) (steps : List AtomicStep) (old new : ConnectedHost) → ResetsInSteps k steps old new
     → CanAnswer (world_at new.stations k).adapter
 reset-can k steps old new resets =

@@ -10,7 +10,7 @@ use Rattle.bus.specs.TickGroups.{without_go}
 use Rattle.bus.specs.Trails.{past_of}
 use Rattle.bus.specs.declared.event.Access.{Access}
 use Rattle.bus.specs.declared.event.Event.TheVariants.{Accesses, Arrives, Steps}
-use Rattle.driver_law.specs.DriverState.{DriverSetup}
+use Rattle.bus.specs.DriverState.{DriverSetup}
 use Rattle.stations.specs.AtomicRuns.{LeadsTo, counted_of, events_at, is_go, noted_of, past_at}
 use Rattle.stations.specs.AtomicSteps.{At, AtomicStep, Idles, tick_of}
 use Rattle.stations.specs.Stations.{StationState}
@@ -23,7 +23,6 @@ use Rattle.host_calls.proofs.FirstAccess.{tick-accesses}
 use Rattle.host_calls.specs.ResetSteps.{ResetParts, at_rest, disable_of, enable_of, whole_reset}
 use Rattle.wire.specs.Runs.{ResetAnswer, said_in_reset}
 
--- The number of accesses of some steps.
 pub count-accesses : (caller n : ℕ) (steps : List AtomicStep) (a b : List StationState) → LeadsTo caller steps a b → n ≤ most_accesses
     → counted_of n steps ≡ min (n + length (past_at caller steps).accesses) most_accesses
 count-accesses caller n [] a b leads within = omega (arith, within)
@@ -45,14 +44,15 @@ count-accesses caller n (Idles tick ∷ later) a b leads within =
     count-accesses caller n later _ b leads.2 within
     ∙ ap (λ (list : List Access). min (n + length list) most_accesses) (sym (tick-accesses caller (Idles tick) later leads.1))
 
--- The numbers of accesses before the parts.
+-- The number of accesses in each part of a reset: 0 in the first part, 1 to 2 in the second, and 3 to `on_after` - 1 in
+-- the third. `on_after` is at most the count at which accesses saturate.
 pub record PartsCounted (parts : ResetParts) (on_after : ℕ) : Type 0 where
   pub early : counted_of 0 parts.early ≡ 0
   pub stopping : counted_of 1 parts.stopping ≡ 2
   pub resting : counted_of 3 parts.resting + 1 ≡ on_after
   pub within : on_after ≤ most_accesses
 
--- The happenings in the parts whose numbers of accesses pass a test.
+-- The happenings whose numbers of earlier accesses pass a test, part by part.
 parts-where : (is_such : ℕ → Bool) (k : ℕ) (setup : DriverSetup) (parts : ResetParts) (on_after : ℕ) → PartsCounted parts on_after
     → happened_where is_such 0 (whole_reset k setup parts)
     ≡ happened_where is_such 0 parts.early
@@ -116,14 +116,14 @@ four w x y z w' x' y' z' one two three last =
     ∙ ap (λ (list : List Happening). w' ++ (x' ++ (list ++ z))) three
     ∙ ap (λ (list : List Happening). w' ++ (x' ++ (y' ++ list))) last
 
--- Whether the numbers in each part pass the test.
+-- For each part of a reset, either all numbers of accesses in it pass the test, or none does.
 pub record Chosen (is_such : ℕ → Bool) (on_after : ℕ) (first second third last : Bool) : Type 0 where
   pub at_zero : (m : ℕ) → m ≤ 0 → is_such m ≡ first
   pub to_reset : (m : ℕ) → 1 ≤ m → m < 3 → is_such m ≡ second
   pub to_enabled : (m : ℕ) → 3 ≤ m → m < on_after → is_such m ≡ third
   pub behind : (m : ℕ) → on_after ≤ m → is_such m ≡ last
 
--- the happenings of a part, if its numbers pass the test
+-- the happenings of a part if its numbers pass the test, else no happening
 abbrev pub chosen : Bool → List AtomicStep → List Happening
 chosen is steps = if is then happened_in steps else []
 

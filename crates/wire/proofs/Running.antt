@@ -1,4 +1,4 @@
--- Events with their replies, and runs of them.
+-- `EventRuns` for each kind of event, and runs of several events.
 use Rattle.std.proofs.Common.{◌≡◌, ◌++◌, ◌∷◌, [], ℕ, List, Some, refl, sym, ap}
 use Rattle.std.proofs.Common.{subst, ◌∙◌, append_assoc, arith}
 use Rattle.std.proofs.lemmas.List.{append-nil}
@@ -23,7 +23,7 @@ use Rattle.wire.specs.RunObservers.{ComposesRuns, EventTold}
 use Rattle.wire.proofs.Delivering.{delivers-join, delivers-none}
 use Rattle.wire.proofs.Playing.{ticks-go}
 
--- Events: the happenings of each are those of its call or its tick
+-- Events
 
 pub call-event : (old new : NetworkState) (event : Event) (call : EventCall) (reply : Reply) → in_event event ≡ ByCall call
     → CallPlayed call reply old new → NetworkStands old → EventRuns old event reply new
@@ -88,7 +88,6 @@ happenings-more old (first ∷ events) (one ∷ replies) middle event reply stat
     ap (λ (list : List Happening). said first one ++ list) (happenings-more states.0 events replies middle event reply states.2)
     ∙ sym (append_assoc (said first one) (happenings events replies) (said event reply))
 
--- the wires of all stations don't change
 wires-of : (old : NetworkState) (events : List Event) (replies : List Reply) (new : NetworkState) → StatesRun old events replies new
     → (host : ℕ) → wire_at new.stations host ≡ wire_at old.stations host
 wires-of old [] [] new states host = ap (λ (network : NetworkState). wire_at network.stations host) states
@@ -138,7 +137,6 @@ pub told-none : {O : Type 0} {heard : O → O → List TickTold → Type 0} {ran
     → RunTold ran [] old old from from
 told-none runs ticks old from = record { replies = []; told = runs.quiet from from (ticks.stays from); runs = runs-none old [] }
 
--- After these events the observer was asked to make room, and was told nothing.
 pub told-asked : {O : Type 0} {heard : O → O → List TickTold → Type 0} {ran : O → O → List Event → List Reply → Type 0}
     {ready : O → Event → Type 0} → ComposesRuns heard ran ready → (events : List Event) (old new : NetworkState) (from to asked : O)
     → RunTold ran events old new from to → heard to asked [] → RunTold ran events old new from asked

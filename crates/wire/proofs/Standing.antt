@@ -12,8 +12,8 @@ use Rattle.stations.specs.AtomicSteps.{AtomicStep}
 use Rattle.stations.specs.Stations.{StationState, wire_at, world_at}
 use Rattle.stations.proofs.HostTrails.{trail-of}
 use Rattle.stations.specs.AtomicRuns.{LeadsTo, events_at, past_at}
-use Rattle.driver_law.proofs.FramesCounted.{slots_have_frames}
-use Rattle.driver_law.specs.Calls.{HasNoForgottenWork, IsRefilled}
+use Rattle.bus.proofs.FramesCounted.{slots_have_frames}
+use Rattle.bus.specs.Calls.{HasNoForgottenWork, IsRefilled}
 use Rattle.packet_socket.specs.HostCalls.{Given, HostReady, host_did, driver_of}
 use Rattle.packet_socket.specs.HostState.{HostState}
 use Rattle.stations.proofs.Lengths.{length-stays}
@@ -36,7 +36,6 @@ use Rattle.wire.proofs.CountedCalls.{can-behind, host-counts, host-ticks}
 use Rattle.wire.proofs.Delivering.{Tells, delivers-runs}
 use Rattle.wire.proofs.GroupsInForce.{Right, stay-right}
 
--- `HostStands` holds for a host that is ready, with no work forgotten, its ring refilled, and both sides enabled.
 pub stands-with : (h : HostState) (world : World) → HostReady h world → HasNoForgottenWork h.driver world → IsRefilled h.driver
     → h.driver.staged ≡ [] → HasSetup h.driver.setup world.adapter → HasTable h.driver.groups world → CanAnswer world.adapter
     → (h.driver.missed < greatest_count → IsTrue h.driver.exact) → HostStands h world
@@ -60,7 +59,8 @@ stands-with h world ready work refilled offered set_up groups can exactly = reco
   };
 }
 
--- `HostStands` holds after an event if it held before.
+-- `HostStands` holds for a host after atomic steps, by what the host did in them. The setup and the group table are
+-- preconditions.
 pub stands-behind : (caller k : ℕ) (steps : List AtomicStep) (a b : List StationState) (h h' : HostState) (taken : List (List ℕ))
     (given : List Given) (accepted : List (List ℕ))
     → LeadsTo caller steps a b → HostStands h (world_at a k) → HostRuns k steps (host_did taken given accepted) (connected h a)
@@ -93,7 +93,7 @@ other-behind hosts caller k h h' h'' other is new =
 
 -- A call of one host, for all hosts
 
--- what each host does
+-- what host k does: the calling host does what the call states, and any other host makes no access
 pub each-runs : (caller k : ℕ) (steps : List AtomicStep) (a b : List StationState) (hosts : List HostState) (h h' was is : HostState)
     (taken : List (List ℕ)) (given : List Given) (accepted : List (List ℕ))
     → LeadsTo caller steps a b → slice_get hosts caller ≡ Some h
@@ -123,7 +123,7 @@ each-runs caller k steps a b hosts h h' was is taken given accepted leads there 
           (others-run caller k steps a b was differ.1 leads ready))
     ]
 
--- what each host receives
+-- `Right` holds for host k: for the calling host as stated, and for any other host because it makes no access
 pub each-right : (caller k : ℕ) (steps : List AtomicStep) (happened : List Happening) (a b : List StationState) (hosts : List HostState)
     (h h' was is : HostState)
     → LeadsTo caller steps a b → slice_get hosts caller ≡ Some h → Right caller happened a b h h'
@@ -145,7 +145,7 @@ each-right caller k steps happened a b hosts h h' was is leads there right other
           (stay-alone k steps (connected was a) (connected is b) stays (none-elsewhere caller k steps a b differ.1 leads)) (others differ.1)
     ]
 
--- All hosts satisfy the equations and `HostStands`.
+-- `HostsGo`, by what each host does, by `Right` and by `Tells`.
 pub hosts-go : (caller : ℕ) (happened : List Happening) (steps : List AtomicStep) (old new : NetworkState)
     (taken : ℕ → List (List ℕ)) (given : ℕ → List Given) (accepted : ℕ → List (List ℕ))
     → NetworkStands old → LeadsTo caller steps old.stations new.stations → length new.hosts ≡ length old.hosts

@@ -1,4 +1,4 @@
--- Events, by the calls and ticks that were played.
+-- `EventRuns` of an event, by the call, the reset or the tick that was played.
 use Rattle.std.proofs.Common.{◌≡◌, ℕ, List, refl, subst}
 use Rattle.std.specs.Prelude.{Err, IfErr, Ok, OnOk, Result, false, true}
 use Rattle.std.specs.Result.{is_err}
@@ -35,7 +35,6 @@ pub tick-stands : (old new : NetworkState) (tick : Tick) (reply : Reply) → new
 tick-stands old new tick reply hosts stands played =
     hosts-as NetworkStands new old.hosts hosts (tick-event old new.stations (OfTick tick) tick reply refl stands played).go.stands
 
--- A weaker statement holds if the result is Ok.
 pub on-ok : {T E : Type 0} (result : Result T E) (P Q : Type 0) → (P → Q) → OnOk result P → OnOk result Q
 on-ok (Ok value) P Q then_holds holds = then_holds holds
 on-ok (Err error) P Q then_holds holds = holds

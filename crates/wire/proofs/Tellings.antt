@@ -1,4 +1,4 @@
--- The happenings of each kind of event, for each host.
+-- `Tells` for the happenings of each kind of event.
 use Rattle.std.proofs.Common.{◌≡◌, ◌==◌, ◌&&◌, ◌++◌, ◌∷◌, [], ℕ, Bool, true, false, List, Option, if◌then◌else◌, map}
 use Rattle.std.proofs.Common.{refl, sym, ap, ◌∙◌, arith}
 use Rattle.std.specs.Prelude.{Err, Ok, Result}
@@ -38,7 +38,6 @@ use Rattle.packet_socket.specs.HostEffects.{given_by}
 use Rattle.wire.specs.Runs.{accepted_by_answer, given_by_answer, joined_of, left_by_answer}
 use Rattle.wire.proofs.Delivering.{Tells}
 
--- Only ticks.
 pub tells-steps : (k : ℕ) (steps : List AtomicStep) (wires : ℕ → Option ℕ) → Tells k (happened_in steps) steps wires [] []
 tells-steps k steps wires = record {
   put = refl;
@@ -143,7 +142,7 @@ same-socket : (s socket : ℕ) → (s == socket) ≡ (socket == s)
 same-socket s socket =
     same_from_decides (s == socket) (socket == s) (Decides-eqb s socket) (Decides-like (socket == s) sym sym (Decides-eqb socket s))
 
--- the list of a socket, if the frames are this host's
+-- the frames that socket s returned, if `here` is true, else no frame
 listed : (here : Bool) (s : ℕ) (list : List Given) → List (List ℕ)
 listed here s [] = []
 listed here s (one ∷ list) = (if here && (s == one.socket) then one.frame ∷ [] else []) ++ listed here s list
@@ -249,7 +248,7 @@ around-missed k middle ticks outcomes none =
     let alone = sum_by-append (missed_of k) between.before between.behind in
     ap (missed k) between.all ∙ omega (arith, whole, behind, alone, none) ∙ sym (ap (missed k) between.ticks)
 
--- This happening adds to no list of frames.
+-- These happenings add nothing to any list of frames.
 pub record IsOfGroups (k : ℕ) (wires : ℕ → Option ℕ) (middle : List Happening) : Type 0 where
   pub put : put k middle ≡ []
   pub reached : reached k middle ≡ []

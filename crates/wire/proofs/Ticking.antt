@@ -1,4 +1,4 @@
--- Ticks outside calls.
+-- `TickPlayed` for a tick outside a call.
 use Rattle.std.proofs.Common.{◌≡◌, ◌≢◌, ◌∷◌, [], false, List, refl, sym, ap, subst, ◌∙◌}
 use Rattle.std.proofs.lemmas.List.Elements.{All-cons}
 use Rattle.bus.proofs.Lists.{all-none}
@@ -67,7 +67,7 @@ tick-played tick old new outcome reply not plays replies =
       };
     }
 
--- Go does nothing.
+-- For Go there is no atomic step.
 go-alone : (old : List StationState) (reply : Reply) → StatesEnding (ending 0 NoCall (tick_told Go 0 Nothing ∷ [])) reply
     → TickPlayed Go reply old old
 go-alone old reply replies =

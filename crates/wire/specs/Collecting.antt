@@ -9,7 +9,7 @@ use Rattle.network_plan.specs.declared.reply.Reply.{Reply}
 use Rattle.wire.specs.RunObservers.{ComposesRuns}
 use Rattle.wire.specs.declared.collector.Collector.{Collector}
 
--- The collector has room for one more reply and for its frame.
+-- The collector has room for one more reply, and memory for the frame that this reply may contain.
 pub record HasPlaceForReply (now : Collector) : Type 0 where
   pub place : length now.replies.items < vec_capacity now.replies
   pub frame : is_some now.frame ≡ true
@@ -26,10 +26,12 @@ pub record AppendsReplies (replies : List Reply) (old new : Collector) : Type 0 
   pub appended : new.replies.items ≡ old.replies.items ++ replies
   pub none_left : new.outcomes.list ≡ []
 
--- If no outcome was left at the beginning, these replies were appended, and no outcome is left.
+-- If no outcome was left at the beginning, these replies were appended, and no outcome is left, whatever the events
+-- were.
 abbrev pub CollectsReplies : Collector → Collector → List Event → List Reply → Type 0
 CollectsReplies old new events replies = old.outcomes.list ≡ [] → AppendsReplies replies old new
 
+-- The number of further outcomes for which the collector has room.
 abbrev pub room_in : Collector → ℕ
 room_in now = room_of now.outcomes
 

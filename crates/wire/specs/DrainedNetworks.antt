@@ -10,12 +10,13 @@ use Rattle.host_calls.specs.DrainedHosts.{Drains}
 use Rattle.wire.specs.Equations.{MeetsEquations, IsExact, NetworkStands, missed_count}
 use Rattle.host_calls.specs.Networks.{IsHost, NetworkState}
 
--- The happenings of a drain of host `host`: `moves` frames left its receive packet buffer, and its sockets returned
--- the frames `given`. In this list, all moves come before all returned frames, whatever their order in the drain was.
+-- The happenings of a drain of host `host`: `moves` frames were moved from its receive packet buffer to memory, and its
+-- sockets returned the frames `given`. In this list, all moves come before all returned frames, whatever their order in
+-- the drain was.
 abbrev pub said_of_drain : (host moves : ℕ) → List GivenFrame → List Happening
 said_of_drain host moves given = replicate moves (Moved host) ++ map (λ (one : GivenFrame). Given host one.socket one.frame) given
 
--- The count of missed frames doesn't change, nor whether it is exact.
+-- The count of missed frames doesn't change, nor whether this count is exact.
 pub record KeepsCount (h : HostState) (a : World) (h' : HostState) (b : World) : Type 0 where
   -- the count is the same
   pub counted : missed_count h' b ≡ missed_count h a
@@ -37,10 +38,10 @@ pub record NetworkDrains (old : NetworkState) (host steps : ℕ) (before after :
   pub given : List GivenFrame
   -- these frames were appended to the frames in the sink
   pub appended : after ≡ before ++ given
-  -- the drain of the host, if it exists
+  -- if the host exists, its drain
   pub drains : (h h' : HostState) → IsHost old host h → IsHost new host h'
       → Drains steps host given (connected h old.stations) (connected h' new.stations)
-  -- the host's count of missed frames doesn't change, nor whether it is exact
+  -- if the host exists, its count of missed frames doesn't change, nor whether this count is exact
   pub counts : (h h' : HostState) → IsHost old host h → IsHost new host h'
       → KeepsCount h (world_at old.stations host) h' (world_at new.stations host)
   -- if there is no such host, the drain has no steps, no frame is returned, and the network is the same

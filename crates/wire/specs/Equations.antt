@@ -2,7 +2,7 @@
 -- and 4, which use the names that parts 1 and 2 define. A name from another crate is explained at the field that uses
 -- it. docs/CONTRACTS, "To review `Lan::run`", names the files that define these names.
 -- 1. The count of misses, and when it is exact: `IsExact`.
--- 2. The equations that have several fields: `CountsMisses`, `SendsDue`, `KeepsCome`, `KeepsPlan`.
+-- 2. The equations that have several fields: `CountsMisses`, `SendsDue`, `CountsUnclaimed`, `KeepsCome`, `KeepsPlan`.
 -- 3. The equations of one host between two states of a network, one in each field: `MeetsEquations`.
 -- 4. What holds of each host before and after each event: `HostStands`, `NetworkStands`. h and h' are a host in the
 --    first and in the second state, a and b its worlds. A world is an adapter with its host's memory. A station is a
@@ -15,8 +15,8 @@ use Rattle.adapter.specs.HostFrames.{frames_held, frames_to_send}
 use Rattle.adapter.specs.State.{IsAdapter}
 use Rattle.adapter.specs.World.{World}
 use Rattle.bring_up.specs.ConfiguredAdapters.{HasSetup}
-use Rattle.driver_law.specs.DriverState.{owners}
-use Rattle.driver_law.specs.Calls.{HasNoForgottenWork, IsRefilled}
+use Rattle.bus.specs.DriverState.{owners}
+use Rattle.bus.specs.Calls.{HasNoForgottenWork, IsRefilled}
 use Rattle.bring_up.specs.Groups.{HasTable}
 use Rattle.stations.specs.Stations.{StationState, backlog_at, wire_at, world_at}
 use Rattle.packet_socket.specs.HostCalls.{HostReady, driver_of, held_for_socket, socket_frames, unclaimed_in, waiting_frames}
@@ -35,7 +35,7 @@ use Rattle.host_calls.specs.Networks.{IsHost, NetworkState}
 abbrev pub most_counted : ℕ
 most_counted = 2 ^ 64 - 1
 
--- the sum of the values that the driver read from MPC, plus MPC
+-- the driver's sum of missed frames, plus MPC
 abbrev pub sum_of : HostState → World → ℕ
 sum_of host world = host.driver.missed + world.adapter.missed_packets
 
@@ -62,16 +62,16 @@ pub record CountsMisses (h : HostState) (a : World) (misses : ℕ) (h' : HostSta
   pub at_most : missed_count h' b ≤ missed_count h a + misses
   -- if the count is exact at the end, it was exact at the beginning, and grew by exactly the number of missed frames
   pub exactly : IsExact h' b → IsExact h a × (missed_count h' b ≡ missed_count h a + misses)
-  -- An exact count remains exact if MPC would remain below its greatest value without a read of MPC, and the sum
-  -- wouldn't saturate. An interrupt that is handled reads MPC, so for several events, this field of each event states
+  -- An exact count remains exact if MPC plus the number of missed frames is below MPC's greatest value, and the sum
+  -- plus this number is at most the greatest u64. A handled interrupt clears MPC, so this field of each event states
   -- more than this field of all events together.
   pub stays : IsExact h a → a.adapter.missed_packets + misses < greatest_count → sum_of h a + misses ≤ most_counted → IsExact h' b
   -- The driver's sum doesn't decrease.
   pub grows : h.driver.missed ≤ h'.driver.missed
 
 -- The frames put on the wire, and then those still to be sent, are the frames that are due. `frames_to_send`: the
--- frames in the transmit packet buffer, and then those of the descriptors from TDH up to, but not including, TDT,
--- padded with zeros to 60 bytes.
+-- frames in the transmit packet buffer, and then those of the descriptors from TDH up to, but not including, TDT. These
+-- frames are padded with zeros to 60 bytes.
 pub record SendsDue (k : ℕ) (happened : List Happening) (a b : World) : Type 0 where
   -- all frames that are due
   pub due : List (List ℕ)
@@ -104,9 +104,9 @@ pub record KeepsCome (k : ℕ) (happened : List Happening) (h : HostState) (a : 
   -- the frames that were held at the beginning, and then those stored, without those that a reset dropped from the end
   -- of this list
   pub have_come : HaveCome k (frames_held h.driver.oldest_receive a) happened came
-  -- the frames that have left the ring
+  -- the frames that the driver took off the receive ring
   pub taken : List (List ℕ)
-  -- the frames that have come are those that left the ring, and then those still held
+  -- the frames that have come are those taken off the ring, and then those still held
   pub took : came ≡ taken ++ frames_held h'.driver.oldest_receive b
   -- The frames that a socket returned, and then those still held for it, are those that were in its queue, and then
   -- those of `came` that go to it. `held_for_socket`: the frames in the socket's queue, and then those held that go to
@@ -139,8 +139,8 @@ pub record MeetsEquations (k : ℕ) (happened : List Happening) (old new : List 
   -- Each frame to be sent at the beginning was put on the wire, is still to be sent, or was dropped by a reset. The
   -- same is true of each accepted frame, padded.
   pub sent_is_accepted : SendsDue k happened (world_at old k) (world_at new k)
-  -- The frames that reached the host, and then those that still wait at its end of the wire (`backlog_at`), are those
-  -- that waited, and then those that other hosts put on the wire (`toward`).
+  -- The frames that reached the host, and then those that still wait at its end (`backlog_at`), are those that waited,
+  -- and then those put toward the host by others (`toward`).
   pub reached_is_put : reached k happened ++ backlog_at new k ≡ backlog_at old k ++ toward (wire_at old) k happened
   -- Each frame held at the beginning was returned by its socket, was counted, is still held, or was dropped by a
   -- reset. The same is true of each stored frame.
@@ -149,10 +149,10 @@ pub record MeetsEquations (k : ℕ) (happened : List Happening) (old new : List 
   -- Illegal (fewer than 60 or more than 1,518 bytes), Filtered, Missed (the receive packet buffer had no room for the
   -- frame), Stored. There is room for a frame if the frames in the buffer and this frame occupy at most the buffer's
   -- size (`HasRoomFor`). The buffer contains the frames of the beginning, and then those stored since, without those
-  -- that left or that a reset dropped (`ReceivesRightly`). The filter is the one in force when the frame arrives: its
-  -- groups are those joined at the beginning, changed by each join and leave since (`in_force`). `marks`: in order,
-  -- each frame that reached the host with its fate, each time that the oldest frame left the buffer, each group that
-  -- was joined or left, and what resets did. Without a join or a leave, MTA doesn't change.
+  -- moved to memory or dropped by a reset (`ReceivesRightly`). The filter is the one in force when the frame arrives:
+  -- its groups are those joined at the beginning, changed by each join and leave since (`in_force`). `marks`: in order,
+  -- each frame that reached the host with its fate, each move of the oldest frame to memory, each group that was joined
+  -- or left, and what resets did. Without a join or a leave, MTA doesn't change.
   pub fates_are_right : ReceivesRightly h.driver.groups (world_at old k).adapter (marks k happened) h'.driver.groups
       (world_at new k).adapter
   -- missed frames are counted, unless a counter saturates
@@ -160,8 +160,8 @@ pub record MeetsEquations (k : ℕ) (happened : List Happening) (old new : List 
 
 -- 4. What holds of a network before and after each event
 
--- The driver's sum of missed frames is exact if it is below 0xFFFFFFFF, and the count of missed frames is exact if it
--- is below 0xFFFFFFFF.
+-- If the driver's sum of missed frames is below 0xFFFFFFFF, this sum is exact. If the count of missed frames is below
+-- 0xFFFFFFFF, this count is exact.
 pub record CountsExactly (host : HostState) (world : World) : Type 0 where
   -- a driver's sum below 0xFFFFFFFF is exact
   pub reads : host.driver.missed < greatest_count → IsTrue host.driver.exact
@@ -193,9 +193,10 @@ pub record HostStands (host : HostState) (world : World) : Type 0 where
   -- a count of missed frames below 0xFFFFFFFF is exact
   pub exact : CountsExactly host world
 
--- `HostStands` holds for each host of the network. `IsHost network k host`: the k-th host, from 0, is `host`.
+-- `HostStands` and `IsAdapter` hold for each host of the network. `IsHost network k host`: the k-th host, from 0, is
+-- `host`.
 pub record NetworkStands (network : NetworkState) : Type 0 where
-  -- there is a station for each host
+  -- the number of stations is the number of hosts
   pub same : length network.stations ≡ length network.hosts
   -- `HostStands` holds for each host
   pub each : (k : ℕ) (host : HostState) → IsHost network k host → HostStands host (world_at network.stations k)

@@ -1,7 +1,7 @@
 -- The receive filter of a plan (3.2.1 "Packet Address Filtering" and chapter 9, "802.1q VLAN Support").
 use Rattle.std.specs.Prelude.{⊤, ◌≡◌, false, true}
 use Rattle.std.specs.List.{Contains}
-use Rattle.eeprom.specs.Image.{address_bytes}
+use Rattle.eeprom_phy.specs.Image.{address_bytes}
 use Rattle.registers.specs.ReceiveControl.{shift_of}
 use Rattle.registers.specs.declared.receive_control.GroupOffset.TheVariants.{Bits47To36}
 use Rattle.rx_engine.specs.FilterLaws.{SameSets}
@@ -13,10 +13,10 @@ use Rattle.bring_up.specs.Configuration.{vlans_of}
 use Rattle.bring_up.specs.ConfiguredAdapters.{names_vlans}
 use Rattle.network_plan.specs.declared.plan.HostPlan.{HostPlan}
 
--- The receive filter of a plan passes frames to the address in the EEPROM, and broadcast frames. It also passes frames
--- to each group address that has the group number of a configured group (RCTL.MO 00). If the host is promiscuous, the
--- filter passes frames to any address. If the configuration has a list of VLANs, a tagged frame passes only if its
--- VLAN is in this list.
+-- The receive filter of a plan passes frames to the address in the EEPROM, and broadcast frames. The filter also passes
+-- frames to each group address that has the group number of a configured group (RCTL.MO 00). If the host is
+-- promiscuous, the filter passes frames to any address. If the configuration has a list of VLANs, a tagged frame passes
+-- only if the frame's VLAN is in this list.
 abbrev pub plans_filter : HostPlan → ReceiveFilter
 plans_filter plan = record {
   addresses = λ address. address ≡ address_bytes plan.image;

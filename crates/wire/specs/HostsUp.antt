@@ -3,9 +3,9 @@ use Rattle.std.specs.Prelude.{⊤, ◌≡◌, ◌≢◌, ◌<◌, ◌*◌, ◌�
 use Rattle.std.specs.Prelude.{string_eq}
 use Rattle.std.specs.List.{position_or_len}
 use Rattle.std.specs.declared.alloc.Global.{Global}
-use Rattle.eeprom.specs.Image.{HasRightSum}
-use Rattle.mdic_phy.specs.declared.mdic.Ticked.{Ticked}
-use Rattle.mdic_phy.specs.declared.phy.Link.TheVariants.{Never}
+use Rattle.eeprom_phy.specs.Image.{HasRightSum}
+use Rattle.eeprom_phy.specs.declared.mdic.Ticked.{Ticked}
+use Rattle.eeprom_phy.specs.declared.phy.Link.TheVariants.{Never}
 use Rattle.dma_memory.specs.Layout.{size_of}
 use Rattle.adapter.specs.HostFrames.{frames_held, frames_to_send}
 use Rattle.adapter.specs.State.{IsAdapter}
@@ -18,7 +18,7 @@ use Rattle.bring_up.specs.EepromReading.{most_reads}
 use Rattle.bring_up.specs.Link.{NeedsMoreThan}
 use Rattle.bring_up.specs.declared.init_error.InitError.{InitError}
 use Rattle.bring_up.specs.declared.init_error.InitError.TheVariants.{Checksum, Memory, NoLink}
-use Rattle.driver_law.specs.Calls.{HasNoForgottenWork, IsRefilled}
+use Rattle.bus.specs.Calls.{HasNoForgottenWork, IsRefilled}
 use Rattle.bring_up.specs.ConfiguredAdapters.{HasSetup}
 use Rattle.bring_up.specs.Groups.{AreNamedOnce, HasTable}
 use Rattle.packet_socket.specs.HostCalls.{HostReady}
@@ -134,13 +134,13 @@ pub record ComesUp (plan : HostPlan) (host : HostState) (station : StationState)
   -- the adapter meets its invariant
   pub adapter : IsAdapter station.world.adapter
 
--- A link that needs at most this number of ticks is found. The PHY's status is read up to `most_reads` (1,000) times,
--- each time by two accesses. A tick of the PHY comes before each access.
+-- A link that needs at most this number of PHY ticks is found up. The PHY's status is read up to `most_reads` (1,000)
+-- times, each time by two accesses. A tick of the PHY comes before each access.
 abbrev pub most_link_ticks : ℕ
 most_link_ticks = 2 * most_reads
 
 -- The error is right for this plan. Checksum: the EEPROM's checksum is wrong. NoLink: the checksum is right, and the
--- link needs more than 2,000 ticks or is never up. No other error is right.
+-- link needs more than 2,000 PHY ticks or is never up. No other error is right.
 abbrev pub IsDevices : HostPlan → InitError → Type 0
 IsDevices plan Checksum = ¬ (HasRightSum plan.image)
 IsDevices plan NoLink = HasRightSum plan.image × NeedsMoreThan most_link_ticks plan.link
@@ -180,13 +180,13 @@ ShareWires plans stations =
     → slice_get stations j ≡ Some a → slice_get stations k ≡ Some b
     → (a.wire ≡ b.wire) ↔ IsTrue (string_eq one.wire other.wire)
 
--- Each of the first `count` hosts has a right checksum, and a link that isn't set to be never up.
+-- Each of the first `count` hosts has an EEPROM with a right checksum, and a link whose setting isn't Never.
 abbrev pub CanComeUp : List HostPlan → ℕ → Type 0
 CanComeUp plans count =
     (k : ℕ) (plan : HostPlan) → k < count → slice_get plans k ≡ Some plan → HasRightSum plan.image × (plan.link ≢ Never)
 
--- There is a host `number` in the plan, the error is right for it (`IsDevices`), and `CanComeUp` holds for the hosts
--- before it.
+-- The plan has a host `number`, the error is right for this host (`IsDevices`), and `CanComeUp` holds for the hosts
+-- before this host.
 abbrev pub IsNotUp : List HostPlan → ℕ → InitError → Type 0
 IsNotUp plans number error =
     (plan : HostPlan) × (slice_get plans number ≡ Some plan) × IsDevices plan error × CanComeUp plans number

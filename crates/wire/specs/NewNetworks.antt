@@ -14,7 +14,7 @@ pub record IsMadeByPlan (plans : List HostPlan) (network : NetworkState) : Type 
   -- two hosts are on one wire exactly if their plans name the same wire
   pub wires : ShareWires plans network.stations
 
--- The plan is valid.
+-- The plan is valid: a check of the plan (`IsPlanAnswer`) returns no error.
 abbrev pub IsRight : List HostPlan → Type 0
 IsRight plans = IsPlanAnswer plans (Ok tt)
 

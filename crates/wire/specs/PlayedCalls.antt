@@ -1,6 +1,6 @@
 -- The contracts of the private functions that play one event: a call or a reset with its ticks, or a tick outside a
--- call (our choice). The contract of `Lan::run` doesn't use these definitions; its `EventRuns` (specs/Runs) follows
--- from them.
+-- call (our choice). The contract of `Lan::run` doesn't use these definitions. It uses `EventRuns` (specs/Runs), which
+-- follows from them.
 use Rattle.std.specs.Prelude.{◌≡◌, ℕ, All, List}
 use Rattle.bus.specs.TickGroups.{without_go}
 use Rattle.packet_socket.specs.CallEffects.{call_request}
@@ -24,16 +24,17 @@ use Rattle.wire.specs.declared.events.Call.{Call}
 use Rattle.wire.specs.declared.events.Part.{Part}
 use Rattle.wire.specs.declared.events.Part.TheVariants as parts
 
--- the values of a `Call` and of a `Part` in contracts
+-- the value of a `Call` in contracts
 abbrev pub call_in : Call → EventCall
 call_in call = record { host = call.host; request = call_request call.call; ticks = call.ticks.now }
 
+-- the value of a `Part` in contracts
 abbrev pub part_in : Part → EventKind
 part_in (parts.Call call) = ByCall (call_in call)
 part_in (parts.Reset reset) = ByReset reset.host reset.ticks.now
 part_in (parts.Tick tick) = Alone tick
 
--- A call was made, with the reply `reply`.
+-- The call `call` was made, with the reply `reply`. If its host doesn't exist, only the ticks of the call were played.
 pub record CallPlayed (call : EventCall) (reply : Reply) (old new : NetworkState) : Type 0 where
   pub steps : List AtomicStep
   pub go : HostsGo call.host (call_happenings call reply) steps old new
@@ -41,7 +42,7 @@ pub record CallPlayed (call : EventCall) (reply : Reply) (old new : NetworkState
   pub answer : (h h' : HostState) → IsHost old call.host h → IsHost new call.host h'
       → AnswersCall call reply.answer steps (connected h old.stations) (connected h' new.stations)
 
--- A reset was made, with the reply `reply`.
+-- Host `host` was reset, with the reply `reply`. If the host doesn't exist, only the ticks of the reset were played.
 pub record ResetPlayed (host : ℕ) (ticks : List Tick) (reply : Reply) (old new : NetworkState) : Type 0 where
   pub steps : List AtomicStep
   pub go : HostsGo host (said_in_reset host (reset_answer reply.answer) ticks reply.outcomes.list) steps old new
@@ -49,7 +50,7 @@ pub record ResetPlayed (host : ℕ) (ticks : List Tick) (reply : Reply) (old new
   pub answer : (h h' : HostState) → IsHost old host h → IsHost new host h'
       → AnswersReset host ticks reply.answer steps (connected h old.stations) (connected h' new.stations)
 
--- The ticks of a call or a reset for a host that doesn't exist were played, and the observer was told the answer
+-- For a host that doesn't exist, only the ticks of the call or the reset were played. The observer was told the answer
 -- NoHost with 0 accesses.
 pub record AbsentTold {O : Type 0} (observers : OfObserver O) (ran : O → O → List Event → List Reply → Type 0) (event : Event)
     (ticks : List Tick) (old new : Watched O) : Type 0 where
@@ -63,6 +64,6 @@ pub record TickPlayed (tick : Tick) (reply : Reply) (old new : List StationState
   pub are : All IsTick steps
   pub leads : (caller : ℕ) → LeadsTo caller steps old new
   pub said : lone_tick_happenings tick reply.outcomes.list ≡ happened_in steps
-  -- this holds for any list of hosts, which is the same before and after the tick
+  -- `IsTickReply` holds for any list of hosts, which is the same before and after the tick
   pub replied : (hosts : List HostState)
       → IsTickReply tick reply steps (record { hosts = hosts; stations = old }) (record { hosts = hosts; stations = new })

@@ -16,7 +16,8 @@ first a b list others same = cc
 rest : (a b : Tick) (list others : List Tick) → b ∷ others ≡ a ∷ list → others ≡ list
 rest a b list others same = cc
 
--- The happenings of ticks, if the observer was told one outcome for each tick that isn't Go, in order.
+-- If the observer was told one outcome for each tick that isn't Go, in order, the happenings of the ticks are those of
+-- these outcomes.
 pub told_happened : (ticks : List Tick) (ones : List TickTold) → map tick_in ones ≡ without_go is_go ticks
     → tick_happenings ticks (map note_of ones) ≡ flat_map happened_of ones
 told_happened [] [] same = refl

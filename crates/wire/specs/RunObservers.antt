@@ -31,12 +31,12 @@ played_ticks event = ticks_played (in_event event)
 abbrev pub tick_in : TickTold → Tick
 tick_in told = told.tick
 
--- the happening of a tick whose outcome was told, if any
+-- the happening of a tick whose outcome was told, if any, as a list
 abbrev pub happened_of : TickTold → List Happening
 happened_of told = outcome_happenings (tick_host told.tick) told.outcome
 
--- The observer was told one outcome for each of the ticks `played_ticks` of this event, in order. Which outcomes these
--- are isn't stated.
+-- The observer was told one outcome for each of the ticks `played_ticks` of this event, in order. The definition
+-- doesn't state the outcomes themselves.
 abbrev pub AreOfTicks : Event → List TickTold → Type 0
 AreOfTicks event ticks = map tick_in ticks ≡ played_ticks event
 
@@ -49,20 +49,20 @@ pub record EventEnding : Type 0 where
 abbrev pub ending : (accesses : ℕ) → FrameAnswer → List TickTold → EventEnding
 ending accesses answer ticks = record { accesses = accesses; answer = answer; ticks = ticks }
 
--- The reply contains the number of accesses, the answer and the outcomes of an event that ended in this way.
+-- The reply contains the number of accesses and the answer of `ending`, and the outcomes of its ticks.
 pub record StatesEnding (ending : EventEnding) (reply : Reply) : Type 0 where
   pub answer : reply.answer ≡ ending.answer
   pub accesses : reply.accesses ≡ ending.accesses
   pub outcomes : reply.outcomes.list ≡ map note_of ending.ticks
 
--- The observer was told the contents of a reply to an event that ended in this way.
+-- The observer was told the contents of a reply to the event `event`, which ended as `ending` states.
 pub record TellsReply {O : Type 0} (ran : O → O → List Event → List Reply → Type 0) (event : Event) (ending : EventEnding) (old new : O)
     : Type 0 where
   pub reply : Reply
   pub replies : StatesEnding ending reply
   pub told : ran old new (event ∷ []) (reply ∷ [])
 
--- The observer was told the contents of a reply to this event, and `Holds` holds of the reply.
+-- The observer was told the contents of a reply to this event, and `Holds` is true of the reply.
 pub record EventTold {O : Type 0} (ran : O → O → List Event → List Reply → Type 0) (event : Event) (old new : O) (Holds : Reply → Type 0)
     : Type 0 where
   pub reply : Reply

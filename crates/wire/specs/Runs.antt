@@ -8,10 +8,11 @@
 --    outside a call.
 -- 3. The answer of a host that exists: `AnswersCall`, `AnswersReset`.
 -- 2. What the atomic steps of an event do to each host: `HostsGo`, `TicksAnswered`.
--- 1. What happened in an event, by its reply: `said`, `happenings`. An event is a call or a reset with its
--- ticks, or a tick outside a call (`in_event`, network_plan/specs/EventCalls). An atomic step is one access of a driver, or one tick other
--- than Go, with its outcome. Such a tick is a step of an adapter or a delivery. The outcome of a tick is Nothing if there was nothing to
--- do. A station is an adapter with its host's memory (`world_at stations k`) and its end of its wire.
+-- 1. What happened in an event, by its reply: `said`, `happenings`.
+-- An event is a call or a reset with its ticks, or a tick outside a call (`in_event`, network_plan/specs/EventCalls).
+-- An atomic step is one access of a driver, or one tick other than Go, with its outcome. Such a tick is a step of an
+-- adapter or a delivery. The outcome of a tick is Nothing if the tick did nothing. A station is a host's adapter and
+-- memory (`world_at stations k`) with the host's end of a wire.
 use Rattle.std.specs.Prelude.{◌≡◌, ◌≢◌, ◌≤◌, ◌<◌, ◌+◌, ◌↔◌, ◌⊎◌, ◌==◌, ◌&&◌, ◌++◌, ◌∷◌, [], ℕ, All, List, None, Ok, Option, Some}
 use Rattle.std.specs.Prelude.{length, map, nat_le, nat_lt, slice_get}
 use Rattle.adapter.specs.HostFrames.{frames_held, frames_to_send}
@@ -56,20 +57,22 @@ abbrev pub given_by_answer : (host socket : ℕ) → FrameAnswer → List Happen
 given_by_answer host socket (Received (Ok frame)) = Given host socket frame ∷ []
 given_by_answer host socket _ = []
 
--- HasJoined with this group if the answer is that the host joined it, else no happening
+-- HasJoined with this group if the answer is that the host joined the group, else no happening
 abbrev pub joined_of : (host : ℕ) (group : List ℕ) → FrameAnswer → List Happening
 joined_of host group (Joined (Ok u)) = HasJoined host group ∷ []
 joined_of host group _ = []
 
--- HasLeft with this group if the answer is that the host left it, else no happening
+-- HasLeft with this group if the answer is that the host left the group, else no happening
 abbrev pub left_by_answer : (host : ℕ) (group : List ℕ) → FrameAnswer → List Happening
 left_by_answer host group (Left (Ok u)) = HasLeft host group ∷ []
 left_by_answer host group _ = []
 
--- The happenings of a call: the frame that was accepted, the happenings of its ticks, and the frame that was returned. `tick_happenings`:
--- for each outcome Put, Delivered or Moved of a tick, a frame that was put on the wire, that reached a host with its fate, or that left
--- the receive packet buffer for memory. A join or a leave comes after the happenings of the ticks before the call's only access, and
--- before the others (`tick_happenings_around`). If the call makes no access, the join or leave comes after all these happenings.
+-- The happenings of a call: the frame that was accepted, the happenings of its ticks, and the frame that was returned.
+-- - `tick_happenings`: for each outcome Put, Delivered or Moved of a tick, a frame that was put on the wire, that
+--   reached a host with its fate, or that was moved from the receive packet buffer to memory.
+-- - `tick_happenings_around`: a join or a leave comes after the happenings of the ticks before the call's only access,
+--   and before those of later ticks. If the call makes no access, the join or leave comes after the happenings of all
+--   ticks.
 abbrev pub happenings_in_call : (host : ℕ) → Request → FrameAnswer → (ticks : List Tick) → (outcomes : List Numbered) → List Happening
 happenings_in_call host (Sending frame) answer ticks outcomes = accepted_by_answer host frame answer ++ tick_happenings ticks outcomes
 happenings_in_call host (Receiving socket) answer ticks outcomes = tick_happenings ticks outcomes ++ given_by_answer host socket answer
@@ -77,7 +80,7 @@ happenings_in_call host Interrupting answer ticks outcomes = tick_happenings tic
 happenings_in_call host (Joining group) answer ticks outcomes = tick_happenings_around (joined_of host group answer) ticks outcomes
 happenings_in_call host (Leaving group) answer ticks outcomes = tick_happenings_around (left_by_answer host group answer) ticks outcomes
 
--- the happenings of a call, by its reply
+-- the happenings of the call of an event, by the event's reply
 abbrev pub call_happenings : EventCall → Reply → List Happening
 call_happenings call reply = happenings_in_call call.host call.request reply.answer call.ticks reply.outcomes.list
 
@@ -126,16 +129,18 @@ happenings (event ∷ events) (reply ∷ replies) = said event reply ++ happenin
 
 -- 2. The atomic steps of an event, for each host.
 
--- The outcome of each tick follows from counts. The counts contain the number of frames in the transmit packet buffer. For each frame in
--- the receive packet buffer, they contain the number of bytes still to be moved. They contain the size of a receive buffer, and each
--- ring's number of slots, head and tail. They also contain whether a piece is in progress, whether each side is enabled, and what is
--- pending at the EEPROM and the PHY. Outcomes also follow from the frames that wait at the ends of the wires. The frame of Put is the
--- oldest in the transmit packet buffer (`sent_is_accepted` of specs/Equations). The frame of Delivered is the oldest that waits
--- (`reached_is_put`), and its fate is right (`fates_are_right`). `counts_of` are the counts of an adapter. `counts_at start steps k` are
--- those of the k-th host after the steps, computed from the counts at the start, each outcome and each register write.
+-- The outcome of each tick follows from the counts of its host, and from the frames that wait at the ends of the wires.
+-- - `counts_of`: the counts of an adapter. For each ring, these are the number of slots, the head and the tail. For
+--   each frame in the receive packet buffer, there is a count of the bytes still to be moved. Other counts are the
+--   number of frames in the transmit packet buffer, and the size of a receive buffer. The counts also state whether a
+--   piece is in progress, whether each side is enabled, and what is pending at the EEPROM and the PHY.
+-- - `counts_at start steps k`: the counts of the k-th host after the steps, by the counts at the start, each outcome
+--   and each register write.
+-- - The frame of Put is the oldest in the transmit packet buffer (`sent_is_accepted` of specs/Equations). The frame of
+--   Delivered is the oldest that waits (`reached_is_put`), and its fate is right (`fates_are_right`).
 pub record TicksAnswered (steps : List AtomicStep) (old new : NetworkState) : Type 0 where
-  -- The outcome of each tick of a host follows from the counts at the start, changed by the outcomes and register
-  -- writes before the tick (`AreAnswered`). The table of `AreAnswered` is in docs/DELIVERY, "Answers".
+  -- The outcome of each tick of a host follows from the counts at the start, changed by earlier outcomes and register
+  -- writes (`AreAnswered`). The table of `AreAnswered` is in docs/DELIVERY, "Answers".
   pub there : (k : ℕ) (h : HostState) → IsHost old k h → AreAnswered k old.stations steps
   -- the outcome of each tick of a host that doesn't exist is Nothing (`OfEachTick`: for each step and delivery of the
   -- k-th host)
@@ -144,12 +149,11 @@ pub record TicksAnswered (steps : List AtomicStep) (old new : NetworkState) : Ty
   pub counts : (k : ℕ) (h : HostState) → IsHost old k h
       → counts_of (world_at new.stations k).adapter ≡ counts_at old.stations steps k
 
--- These atomic steps lead from one state to the other, and `happened` happened in between. Each host satisfies the
--- equations of delivery, and `HostStands` at the end.
+-- These atomic steps lead from the network `old` to the network `new`, and `happened` is what happened in these steps.
+-- Each host satisfies the equations of delivery. At the end, `HostStands` holds for each host.
 pub record HostsGo (caller : ℕ) (happened : List Happening) (steps : List AtomicStep) (old new : NetworkState) : Type 0 where
   -- Each atomic step can happen in the state before it, and changes the stations exactly as its access, adapter step
-  -- or delivery does (`LeadsTo`). Each access is made by host `caller`. No idle tick among
-  -- the steps is Go.
+  -- or delivery does (`LeadsTo`). Each access is made by host `caller`. No idle tick among the steps is Go.
   pub leads : LeadsTo caller steps old.stations new.stations
   -- the number of hosts is the same
   pub hosts : length new.hosts ≡ length old.hosts
@@ -185,8 +189,8 @@ pub record AnswersCall (call : EventCall) (answer : FrameAnswer) (steps : List A
   -- a socket returned, if any.
   pub does : EffectOf call.request result old.host new.host (InSteps call.host (given_in call.request result) steps old new)
       (world_at old.stations call.host)
-  -- Each access of a send, a recv or an interrupt is a load, a store, a read of ICR or MPC, or a write of TDT or RDT
-  -- (`IsOfDriver`). Each access of a join or a leave is a write of a word of MTA (`IsGroupWrite`).
+  -- Each access of a send, a recv or an interrupt is one of a driver (`IsOfDriver`): a load, a store, a read of ICR or
+  -- MPC, or a write of TDT or RDT. Each access of a join or a leave is a write of a word of MTA (`IsGroupWrite`).
   pub accesses : All (IsAccessOf (kind_of call.request) old.host.driver.layout) (past_at call.host steps).accesses
   -- only the last access may write a register
   pub last_writes : OnlyLastWrites (past_at call.host steps).accesses
@@ -206,7 +210,7 @@ pub record AnswersReset (host : ℕ) (ticks : List Tick) (answer : FrameAnswer) 
     -- access
     pub holding : given_up.holding ≡ frames_held old.host.driver.oldest_receive (world_at old.stations host)
         ++ stored host (tick_happenings_where (λ number. number == 0) ticks (noted_of 0 steps))
-    -- the second write of RCTL is the access with this number, counted from 1
+    -- the second write of RCTL is the access with the number `on_after`, counted from 1
     pub on_after : given_up.on_after ≡ 302 + old.host.driver.layout.rx
     -- The accesses of the host's driver are exactly those of a reset, in order (host_calls/specs/ResetsInSteps). The
     -- record also states what holds at the write of CTRL.RST, at the second write of RCTL, and at the end.
@@ -220,7 +224,7 @@ pub record AnswersReset (host : ℕ) (ticks : List Tick) (answer : FrameAnswer) 
 
 -- What the reply of any call or reset states about the atomic steps.
 pub record IsCallReply (host : ℕ) (ticks : List Tick) (reply : Reply) (steps : List AtomicStep) (old new : NetworkState) : Type 0 where
-  -- Without accesses and Gos, the steps are the ticks of the call, in order. (`tick_of` of an access is Go.)
+  -- The steps that aren't accesses are the ticks of the call except each Go, in order. (`tick_of` of an access is Go.)
   pub played : without_go is_go (map tick_of steps) ≡ without_go is_go ticks
   -- a call of a host that doesn't exist makes no access
   pub unmade : length old.hosts ≤ host → (past_at host steps).accesses ≡ []
@@ -235,8 +239,8 @@ pub record IsCallReply (host : ℕ) (ticks : List Tick) (reply : Reply) (steps :
   -- (`numbers`). `noted_numbers` are these numbers in the reply. So ticks after i Gos are played right before access i
   -- + 1, or after the last access if the call makes at most i accesses.
   pub numbered : noted_numbers reply.outcomes.list ≡ numbers ticks 0 reply.accesses
-  -- Every other host has the same `HostState`: driver, sockets, queues and count of frames without a socket. `leads`
-  -- of `HostsGo` states how ticks change this host's station.
+  -- Every other host has the same `HostState`: driver, sockets, queues and count of frames without a socket. `leads` of
+  -- `HostsGo` states how ticks change the stations of these hosts.
   pub others : (k : ℕ) → k ≢ host → slice_get new.hosts k ≡ slice_get old.hosts k
 
 -- The outcome of a tick outside a call is that of its atomic step. Go has no atomic step, and its outcome is Nothing.
@@ -275,7 +279,7 @@ caller_in (Alone tick) = 0
 abbrev pub caller_of : Event → ℕ
 caller_of event = caller_in (in_event event)
 
--- what a reply states about the atomic steps
+-- what the reply to an event states about the atomic steps
 abbrev pub IsReply : EventKind → Reply → List AtomicStep → (old new : NetworkState) → Type 0
 IsReply (ByCall call) = IsCallReply call.host call.ticks
 IsReply (ByReset host ticks) = IsCallReply host ticks
@@ -288,7 +292,7 @@ IsEventAnswer (ByCall call) = AnswersCall call
 IsEventAnswer (ByReset host ticks) = AnswersReset host ticks
 IsEventAnswer (Alone tick) = λ answer steps old new. answer ≡ NoCall
 
--- An event and its reply lead from one state of a network to the next.
+-- An event and its reply lead from the network `old` to the network `new`.
 pub record EventRuns (old : NetworkState) (event : Event) (reply : Reply) (new : NetworkState) : Type 0 where
   -- before the event `HostStands` holds for each host: one owner for each buffer, no forgotten work, and more
   -- (specs/Equations)
@@ -306,8 +310,8 @@ pub record EventRuns (old : NetworkState) (event : Event) (reply : Reply) (new :
 
 -- 6. A run
 
--- There is a state of the network before the first event, between any two events, and after the last one. `EventRuns`
--- relates the states before and after each event. There is one reply for each event.
+-- There is a state of the network before the first event, between any two consecutive events, and after the last one.
+-- `EventRuns` relates the states before and after each event. There is one reply for each event.
 abbrev pub StatesRun : NetworkState → List Event → List Reply → NetworkState → Type 0
 StatesRun old [] [] new = new ≡ old
 StatesRun old [] (reply ∷ replies) new = ⊥
@@ -344,9 +348,9 @@ abbrev pub IsResetOf : (hosts : ℕ) → EventKind → Type 0
 IsResetOf hosts (ByReset host ticks) = host < hosts
 IsResetOf hosts kind = ⊥
 
--- A run stopped before the event `event`. In its state `asked`, after the earlier events, the observer may refuse to make room for the
--- event (`refuses`). Or the event is a reset of a host that exists, and memory for the dropped frames may not be available. No clause
--- states which of these was the reason.
+-- A run stopped before the event `event`. In the state `asked` after the earlier events, the observer may refuse to
+-- make room for this event (`refuses`). Or the event is a reset of a host that exists, and memory for the dropped
+-- frames may not be available. No clause states which of the two was the reason.
 pub record StopsAt {O : Type 0} (refuses : O → Event → Type 0) (hosts : ℕ) (next : Option Event) (Told : O → Type 0) : Type 0 where
   pub event : Event
   pub is : next ≡ Some event

@@ -15,7 +15,7 @@ pub(crate) struct Collector {
     pub(crate) replies: Vec<Reply>,
     /// The outcomes of the ticks of the current event.
     pub(crate) outcomes: Outcomes,
-    /// A place for a frame that a socket returns; `None` until `reserve` makes one.
+    /// Memory for a frame that a socket may return; `None` until `reserve` allocates this memory, and after an answer.
     pub(crate) frame: Option<HeapFrame>,
 }
 
@@ -36,7 +36,7 @@ impl Collector {
         }
     }
 
-    /// Makes room for the reply to an event with `ticks` ticks.
+    /// Makes room for the reply to an event with `ticks` ticks, and for the frame that the reply may contain.
     ///
     /// # Errors
     ///

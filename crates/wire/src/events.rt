@@ -1,4 +1,4 @@
-// One event of a network.
+// Plays one event of a network: a call, a reset, or a tick outside a call.
 
 ghost use Rattle.std.specs.Prelude.{◌≡◌, ◌≤◌, ◌<◌, ℕ, IfErr, List, OnOk, length, take};
 ghost use Rattle.bus.specs.TickGroups.{without_go};
@@ -19,7 +19,7 @@ use packet_socket::{HostAnswer, HostCall};
 use stations::Tick;
 use std::alloc::{AllocError, Global};
 
-/// A call of a host, with the ticks that are played in it, on all stations.
+/// A call of a host, and the ticks that are played during the call, on all stations.
 #[derive(Clone, Copy, Drop)]
 pub(crate) struct Call<'a> {
     pub(crate) host: usize,
@@ -27,7 +27,7 @@ pub(crate) struct Call<'a> {
     pub(crate) ticks: &'a [Tick],
 }
 
-/// A reset of a host's adapter, with the ticks that are played in it, on all stations.
+/// A reset of a host's adapter, and the ticks that are played during the reset, on all stations.
 #[derive(Clone, Copy, Drop)]
 pub(crate) struct Reset<'a> {
     pub(crate) host: usize,
@@ -147,13 +147,13 @@ pub(crate) fn make_call<O: RunObserver>(
     observer.answer(event, called.accesses, answer, &given[..size]);
 }
 
-/// Resets the adapter of the host of an event, while its ticks are played. If there is no such host, only the ticks
-/// are played. The observer gets the answer, with the frames that the reset drops.
+/// Resets the adapter of an event's host, while the event's ticks are played. If there is no such host, only the ticks
+/// are played. The observer is told the answer, which contains the frames that the reset dropped.
 ///
 /// # Errors
 ///
 /// Returns an error only if the host exists and memory for the dropped frames can't be allocated. After this error,
-/// nothing has changed.
+/// the network and the observer haven't changed.
 #[inline(never)]
 pub(crate) fn make_reset<O: RunObserver>(
     network: &mut Network,
@@ -186,10 +186,10 @@ pub(crate) fn make_reset<O: RunObserver>(
     Ok(())
 }
 
-/// Plays a tick outside a call. `Go` changes nothing, and its outcome is `Nothing`.
+/// Plays a tick outside a call, and reports the answer `NoCall`. `Go` changes no station, and its outcome is `Nothing`.
 ///
-/// `Network::play` would play `Go` with the same outcome, but as an atomic step of its own. In the steps of an event,
-/// `Go` is no atomic step.
+/// `Go` isn't passed to `Network::play`, which plays `Go` as an atomic step. In the steps of an event, `Go` is no
+/// atomic step.
 #[inline(always)]
 pub(crate) fn tick<O: RunObserver>(
     network: &mut Network,

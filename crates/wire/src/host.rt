@@ -2,7 +2,7 @@
 
 ghost use Rattle.std.specs.Prelude.{◌≡◌, ◌≤◌, [], ℕ, IfErr, IfOk, length};
 ghost use Rattle.adapter.specs.Registers.{new_adapter};
-ghost use Rattle.eeprom.specs.Image.{address_bytes};
+ghost use Rattle.eeprom_phy.specs.Image.{address_bytes};
 ghost use Rattle.rx_engine.specs.Addresses.{IsAddress};
 ghost use Rattle.bring_up.specs.Configuration.{configured_counts};
 ghost use Rattle.dma_memory.specs.Layout.{size_of};
@@ -14,7 +14,7 @@ use arrayvec::ArrayVec;
 use bring_up::InitError;
 use bus::{LivelyBus, Machine};
 use dma_memory::HostMemory;
-use eeprom::Image;
+use eeprom_phy::Image;
 use network_plan::{HostPlan, MOST_SOCKETS};
 use packet_socket::{Host, SocketKind};
 use std::alloc::Global;
@@ -25,8 +25,10 @@ use std::alloc::Global;
 ///
 /// # Errors
 ///
-/// [`Memory`](InitError::Memory); [`Checksum`](InitError::Checksum) if the EEPROM's checksum is wrong;
-/// [`NoLink`](InitError::NoLink) if the link needs more than 2,000 ticks or is never up.
+/// - [`Memory`](InitError::Memory) if memory can't be allocated.
+/// - [`Checksum`](InitError::Checksum) if the EEPROM's checksum is wrong.
+/// - [`NoLink`](InitError::NoLink) if the checksum is right, and the link needs more than 2,000 PHY ticks or is never
+///   up.
 pub fn bring_up_host(alloc: Global, plan: &HostPlan) -> Result<(Host, Machine), InitError>
     requires { HasConfig plan.now }
     ensures comes_up { IfOk result (λ made. (wire : ℕ)
@@ -38,8 +40,8 @@ pub fn bring_up_host(alloc: Global, plan: &HostPlan) -> Result<(Host, Machine), 
     Ok((host, machine))
 }
 
-/// Initializes the adapter of a new machine. Before each access of the initialization, the EEPROM and the PHY take a
-/// step, and no frame arrives. After an error, the machine may be in any state.
+/// Initializes the adapter of a new machine by a plan, and returns the host. Before each access of the initialization,
+/// the EEPROM and the PHY take a step, and no frame arrives. After an error, the machine may be in any state.
 ///
 /// # Errors
 ///
@@ -52,7 +54,7 @@ fn host_over(alloc: Global, plan: &HostPlan, machine: &mut Machine) -> Result<Ho
         → ComesUp plan.now host (record { world = machine.new.world; wire = wire; backlog = [] })) }
     ensures why { IfErr result (IsReason plan.now) }
 {
-    // With this call, the proof knows that the address has six bytes. The clause `comes_up` needs this.
+    // By the contract of this call, the address has six bytes. The proof of the clause `comes_up` needs this.
     let _address = address_of(&plan.image);
     let table = table_of(plan.sockets.as_slice());
     let mut bus = LivelyBus {
@@ -76,8 +78,8 @@ fn machine_of(alloc: Global, plan: &HostPlan) -> Result<Machine, InitError>
     ensures error { IfErr result (λ error. error ≡ InitError.Memory) }
 {
     let layout = plan.config.layout(u64::MAX)?;
-    let adapter = Adapter::new(alloc, &plan.image, plan.link)?;
     let memory = HostMemory::new(alloc, layout.size())?;
+    let adapter = Adapter::new(alloc, &plan.image, plan.link)?;
     Ok(Machine::new(adapter, memory))
 }
 
@@ -89,7 +91,7 @@ fn address_of(image: &Image) -> [u8; 6]
     image.address()
 }
 
-/// Returns the table of these sockets.
+/// Returns the table of these sockets, in the same order.
 fn table_of(kinds: &[SocketKind]) -> ArrayVec<SocketKind, MOST_SOCKETS>
     requires { length kinds.now ≤ MOST_SOCKETS }
     ensures { result.items ≡ kinds.now }

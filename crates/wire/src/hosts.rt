@@ -23,7 +23,8 @@ use std::alloc::Global;
 /// # Errors
 ///
 /// [`Memory`](PlanError::Memory) if memory can't be allocated. [`Init`](PlanError::Init) with the number of the first
-/// host whose EEPROM's checksum is wrong, or whose link needs more than 2,000 ticks or is never up.
+/// host that can't be initialized: its EEPROM's checksum is wrong, or its link needs more than 2,000 PHY ticks or is
+/// never up.
 pub fn bring_up(alloc: Global, plan: &Plan) -> Result<Network, PlanError>
     requires { HasConfigs plan.now.hosts.items }
     ensures up { IfOk result (λ network. AreUp plan.now.hosts.items (length plan.now.hosts.items) network.hosts
@@ -43,8 +44,8 @@ pub fn bring_up(alloc: Global, plan: &Plan) -> Result<Network, PlanError>
     Ok(network)
 }
 
-/// Initializes one host of a plan, after the hosts before it. The host isn't connected to a wire yet. An error contains
-/// the host's number.
+/// Initializes host `number` of a plan, and returns the host with its machine. The host isn't connected to a wire yet.
+/// An error other than [`Memory`](PlanError::Memory) contains the host's number.
 fn bring_up_one(
     alloc: Global,
     plans: &[HostPlan],

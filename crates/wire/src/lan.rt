@@ -1,4 +1,4 @@
-// Hosts on wires.
+// Networks of hosts on wires, and runs of events.
 
 use crate::collector::Collector;
 use crate::events::{self, Part};
@@ -8,7 +8,7 @@ use network_plan::{Event, Reply, Stopped};
 use std::alloc::{AllocError, Global};
 use std::marker::Model;
 
-/// Hosts on wires.
+/// A network of hosts on wires, in which `HostStands` holds for each host.
 ///
 /// In contracts, the value is a `NetworkState` (`specs/Networks.antt` of `host_calls`).
 #[derive(Drop)]
@@ -43,7 +43,7 @@ impl Lan {
     /// # Errors
     ///
     /// Returns an error only if the event is a reset of a host that exists, and memory for the dropped frames can't be
-    /// allocated. After this error, nothing has changed.
+    /// allocated. After this error, the network and the observer haven't changed.
     #[inline(always)]
     fn event<O: RunObserver>(&mut self, event: &Event, observer: &mut O) -> Result<(), AllocError>
         requires room { HasRoomForEvent O.ready O.room_left event.now observer.old }
@@ -67,7 +67,7 @@ impl Lan {
         }
     }
 
-    /// Runs events in order. Before each event, the observer is asked to make room for it. During the event, the
+    /// Runs events in order. Before each event, the observer is asked to make room for the event. During the event, the
     /// observer is told the outcome of each tick except each `Go` inside a call or a reset. At the event's end, the
     /// observer is told the answer.
     ///
@@ -100,15 +100,18 @@ impl Lan {
         Ok(())
     }
 
-    /// Runs events in order, and appends a reply for each. Whatever the events are, each socket returns its frames in
-    /// order, each once, except frames that the host still holds or that a reset dropped. `delivers` of `RunsTo`
-    /// states this for the whole run, and [`runs_join`](crate::runs_join) for several runs. Before and after each
-    /// event, each buffer has one owner. A frame is lost only if its size is illegal (fewer than 60 or more than 1,518
-    /// bytes), the filter rejects it, the receive packet buffer has no room for it, or no socket takes it. A frame is
-    /// also lost if a reset drops it, or disables the receiver before it arrives. In runs that follow each other, the
-    /// first from a network that [`new`](Lan::new) made, no frame is illegal
-    /// ([`frames_are_legal`](crate::frames_are_legal)). Missed frames and frames without a socket are counted, until a
-    /// count saturates; replies report the other losses.
+    /// Runs events in order, and appends a reply for each, unless memory runs out. Whatever the events are, each socket
+    /// returns the frames that its host's adapter stored for the socket, in order, each once, except frames that the
+    /// host still holds or that a reset dropped. `delivers` of `RunsTo` states this for the whole run, and
+    /// [`runs_join`](crate::runs_join) for several runs. Before and after each event, each buffer has one owner.
+    ///
+    /// A frame is lost only for one of these reasons:
+    /// - The frame has fewer than 60 or more than 1,518 bytes. In runs that follow each other, the first from a network
+    ///   that [`new`](Lan::new) made, there is no such frame ([`frames_are_legal`](crate::frames_are_legal)).
+    /// - The filter rejects the frame, the receive packet buffer has no room for it, or no socket takes it.
+    /// - A reset drops the frame, or had disabled the receiver when the frame arrived.
+    ///
+    /// Missed frames and frames without a socket are counted, until a count saturates; replies report the other losses.
     ///
     /// # Errors
     ///

@@ -1,5 +1,6 @@
 //! Networks of hosts on wires, initialized by a plan, and runs of events: calls, resets, adapter steps and deliveries.
-//! Steps and deliveries may also come before, between and after the accesses of a call or a reset.
+//! Steps and deliveries may also come before, between and after the accesses of a call or a reset. Other calls drain a
+//! host, or return its counts or the log of its wire.
 #![tactic(auto)]
 
 mod collector;

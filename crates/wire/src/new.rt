@@ -17,7 +17,7 @@ impl Lan {
     ///
     /// Those of [`Plan::check`], before any memory is allocated. Otherwise [`Memory`](PlanError::Memory), or
     /// [`Init`](PlanError::Init) with the number of the first host that can't be initialized: its EEPROM's checksum is
-    /// wrong, or its link needs more than 2,000 ticks or is never up.
+    /// wrong, or its link needs more than 2,000 PHY ticks or is never up.
     pub fn new(alloc: Global, plan: &Plan) -> Result<Lan, PlanError>
         ensures { IsLanAnswer plan.now.hosts.items result }
     {

@@ -12,15 +12,15 @@ ghost use Rattle.wire.specs.RunObservers.{AreOfTicks, ComposesRuns, HasRoomForEv
 use network_plan::{Answer, Event};
 use stations::Observer;
 
-/// An observer of a run. The observer is told the outcome of each tick, as any [`Observer`], and the answer of each
+/// An observer of a run. The observer is told the outcome of each tick, as any [`Observer`] is, and the answer of each
 /// event.
 ///
 /// The contract of a run states `ran` of its observer. A run ends early only before an event for which the observer may
 /// refuse room (`refuses`), or before a reset. Before a reset, the run ends if memory for the frames that the reset
 /// drops can't be allocated.
 pub trait RunObserver: Observer {
-    /// Between these two states of the observer, it was told the contents of these replies, one for each of these
-    /// events, in order.
+    /// Between these two states, the observer was told the contents of these replies, one for each of these events, in
+    /// order.
     ghost ran: { Self → Self → List Event → List Reply → Type 0 };
 
     /// The observer, in this state, has room for the answer of this event.
@@ -38,9 +38,9 @@ pub trait RunObserver: Observer {
         ensures room { OnTrue result (HasRoomForEvent ready Self.room_left event.now self.new) }
         ensures refused { OnFalse result (refuses self.old event.now) };
 
-    /// Reports to the observer the answer of an event, and the number of accesses of the event's call or reset (0 for a
-    /// tick outside a call). `frame` is the frame that a socket returned, of at most 1,518 bytes. For other answers,
-    /// `frame` has no meaning.
+    /// Reports to the observer the answer of an event, and the number of accesses of the event's call or reset. A tick
+    /// outside a call has 0 accesses. `frame` is the frame that a socket returned, of at most 1,518 bytes. For other
+    /// answers, `frame` has no meaning.
     fn answer(&mut self, event: &Event, accesses: u64, answer: Answer<()>, frame: &[u8])
         requires room { ready self.old event.now }
         requires fits { length frame.now ≤ longest_frame }

@@ -8,48 +8,49 @@ use std::alloc::Global;
 use std::process::Abort;
 use wire::Lan;
 
-/// Two hosts on one wire.
+/// The lines of two hosts on one wire.
 const HOSTS: &str = "host a 02:00:00:00:00:01 w\nhost b 02:00:00:00:00:02 w\n";
 
-/// A socket of host `b` for all frames.
+/// The line of a socket of host `b` for all frames.
 const ALL: &str = "socket b all\n";
 
-/// A socket of host `b` for frames of ARP, and a socket for all other frames.
+/// The lines of two sockets of host `b`: one for ARP frames, and one for all other frames.
 const TWO: &str = "socket b 0806\nsocket b all\n";
 
-/// A frame of host `a` reaches the packet buffer of host `b`.
+/// Lines by which a frame of host `a` reaches the receive packet buffer of host `b`.
 const BROUGHT: &str =
     "send a 02000000000202000000000188b5\ntick txtake:a\ntick txput:a\ntick deliver:b\n";
 
-/// A frame of ARP from host `a` reaches the packet buffer of host `b`.
+/// Lines by which an ARP frame of host `a` reaches the receive packet buffer of host `b`.
 const ASKED: &str =
     "send a 0200000000020200000000010806\ntick txtake:a\ntick txput:a\ntick deliver:b\n";
 
-/// The adapter of host `b` moves its oldest frame to memory, and finishes the frame.
+/// Lines by which the adapter of host `b` moves the next piece of its oldest frame to memory, and writes back the
+/// piece's descriptor.
 const FINISHED: &str = "tick rxdata:b\ntick rxdone:b\n";
 
-/// Host `b` sends a frame.
+/// Lines by which host `b` sends a frame, and its adapter puts the frame on the wire.
 const SENT: &str = "send b ffffffffffff02000000000288b5\ntick txtake:b\ntick txput:b\n";
 
 /// The beginning of a line by which host `a` sends a frame.
 const SEND: &str = "send a ";
 
-/// 60 bytes of 0xFF.
+/// 60 bytes of 0xFF, as hexadecimal digits.
 const FF: &str = "ffffffffffffffffffffffffffffffffffffffffffffffffffffffffffff\
 ffffffffffffffffffffffffffffffffffffffffffffffffffffffffffff";
 
-/// The end of a line by which host `a` sends a frame, and the ticks that move this frame to the packet buffer of host
-/// `b`.
+/// The end of a line by which host `a` sends a frame, and the ticks by which this frame reaches the receive packet
+/// buffer of host `b`.
 const COMES: &str = "\ntick txtake:a\ntick txput:a\ntick deliver:b\n";
 
-/// The lines that are played, and the number of steps of the drain of host `b` after them.
+/// The lines that are played after those of the hosts, and the number of steps of a drain of host `b` after all lines.
 const ROWS: [(&[&str], u64); 6] = [
     (&[ALL, BROUGHT, BROUGHT, BROUGHT], 12),
-    // One of these steps is an interrupt for TXDW, which the frame of host `b` recorded.
+    // One of these steps is an interrupt for TXDW, which the put of the frame of host `b` recorded.
     (&[ALL, BROUGHT, BROUGHT, BROUGHT, SENT], 13),
     (&[BROUGHT], 3),
     (&[TWO, BROUGHT, "tick rxdata:b\n", BROUGHT, ASKED], 11),
-    // A frame is in each queue, one frame is in progress, and one frame is in the packet buffer.
+    // A frame is in each queue, the piece of one frame is in progress, and one frame is in the packet buffer.
     (
         &[
             TWO,
@@ -74,12 +75,29 @@ const ROWS: [(&[&str], u64); 6] = [
     ),
 ];
 
-/// Returns the network after these lines, or `None` if an allocation fails.
-fn played(rt: &impl Abort, alloc: Global, lines: &[&str]) -> Option<Lan> {
+/// Returns the lines after those of the hosts, or `None` if an allocation fails.
+fn joined(alloc: Global, lines: &[&str]) -> Option<String> {
     let mut text = String::from_str(alloc, HOSTS).ok()?;
     for line in lines {
         text.push_str(line).ok()?;
     }
+    Some(text)
+}
+
+/// Drains a host, and checks the number of steps. Returns `None` if the room for the frames can't be allocated.
+fn drained(rt: &impl Abort, alloc: Global, lan: &mut Lan, host: usize, steps: u64) -> Option<()> {
+    let mut taken = Taken::with_room(alloc, lan.drain_room(host)).ok()?;
+    assert!(rt;
+        lan.drain(host, &mut taken) == steps,
+        "{steps} steps of host {host}"
+    );
+    assert!(rt; lan.counts(host).is_none() == (lan.log(host).is_empty() && host == 9));
+    Some(())
+}
+
+/// Returns the network after these lines, or `None` if an allocation fails.
+fn played(rt: &impl Abort, alloc: Global, lines: &[&str]) -> Option<Lan> {
+    let text = joined(alloc, lines)?;
     let (plan, events) = prepared(rt, alloc, text.as_str())?;
     let made = Lan::new(alloc, &plan);
     assert!(rt; matches!(made, Ok(_) | Err(PlanError::Memory)));
@@ -99,14 +117,9 @@ fn drains_take_these_steps_and_no_memory(rt: HostRuntime) {
             return;
         };
         for (host, steps) in [(1, steps), (1, 0), (9, 0)] {
-            let Ok(mut taken) = Taken::with_room(alloc, lan.drain_room(host)) else {
+            if drained(&rt, alloc, &mut lan, host, steps).is_none() {
                 return;
-            };
-            assert_eq!(rt; lan.drain(host, &mut taken), steps, "{lines:?}");
-            assert_eq!(rt;
-                lan.counts(host).is_none(),
-                lan.log(host).is_empty() && host == 9
-            );
+            }
         }
     }
 }

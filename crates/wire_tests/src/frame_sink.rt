@@ -14,7 +14,7 @@ pub(crate) struct TakenFrame {
     pub(crate) frame: Frame,
 }
 
-/// Stores the frames of a drain.
+/// The frames that a drain returned, in order.
 #[derive(Drop)]
 pub(crate) struct Taken {
     pub(crate) list: Vec<TakenFrame>,

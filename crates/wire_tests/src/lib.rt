@@ -1,4 +1,4 @@
-//! Tests of hosts on wires, through the public calls of `wire` and of the crates that it uses.
+//! Tests of hosts on wires, through public calls of `wire` and of the crates that `wire` uses.
 #![tactic(auto)]
 
 #[cfg(test)]

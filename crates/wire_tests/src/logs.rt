@@ -1,6 +1,8 @@
-//! Tests of the log of a wire: the number of its entries, and which frames wait.
+//! Tests of the log of a wire: the number of the log's entries, and the senders of the frames in it.
 
 use crate::texts::prepared;
+use network_plan::Event;
+use std::alloc::Global;
 use std::process::Abort;
 use std::test::Fail;
 use wire::Lan;
@@ -25,6 +27,28 @@ tick txput:a
 tick deliver:b
 ";
 
+/// Plays all events once, and then those of host `a` until it has put `FRAMES` frames. Returns `None` if an allocation
+/// fails.
+fn puts(alloc: Global, lan: &mut Lan, waits: &[Event], put: &[Event]) -> Option<()> {
+    let mut replies = Vec::new(alloc);
+    lan.run(alloc, waits, &mut replies).ok()?;
+    for _ in 0..FRAMES {
+        replies.clear();
+        lan.run(alloc, put, &mut replies).ok()?;
+    }
+    Some(())
+}
+
+/// Checks that the log of the host's wire has 978 entries, and that only the first is of host `b`.
+fn is_kept(rt: &impl Abort, lan: &Lan, host: usize) {
+    let log = lan.log(host);
+    let is_sorted = log
+        .iter()
+        .enumerate()
+        .all(|(place, (sender, _))| (*sender == 1) == (place == 0));
+    assert!(rt; log.len() == 978 && is_sorted);
+}
+
 /// While a frame of host `b` waits at host `a`, host `a` puts 2,000 frames. When the log has 1,024 entries, the next
 /// put drops all entries except the frame that waits. So the log has 978 entries at the end.
 #[test]
@@ -32,27 +56,12 @@ fn a_full_log_keeps_what_waits(rt: HostRuntime) -> Result<(), Fail> {
     let alloc = rt.alloc();
     let (plan, events) = prepared(&rt, alloc, TEXT).expect(&rt, "memory isn't refused");
     let mut lan = Lan::new(alloc, &plan)?;
-    assert_eq!(rt; lan.log(0).len(), 0);
-    assert!(rt; events.len() >= PUT);
+    assert!(rt; lan.log(0).is_empty() && events.len() >= PUT);
     let (waits, put) = events.split_at(PUT);
-    let mut replies = Vec::new(alloc);
-    lan.run(alloc, waits, &mut replies)?;
-    for _ in 0..FRAMES {
-        replies.clear();
-        lan.run(alloc, put, &mut replies)?;
-    }
-    assert_eq!(rt;
-        lan.counts(0).map(|counts| counts.transmitted),
-        Some(FRAMES)
-    );
-    for host in [0, 1] {
-        let log = lan.log(host);
-        assert_eq!(rt; log.len(), 978);
-        assert!(rt;
-            log.iter()
-                .enumerate()
-                .all(|(place, (sender, _))| (*sender == 1) == (place == 0))
-        );
-    }
+    let is_played = puts(alloc, &mut lan, waits, put).is_some();
+    let sent = lan.counts(0).map(|counts| counts.transmitted);
+    assert!(rt; is_played && sent == Some(FRAMES));
+    is_kept(&rt, &lan, 0);
+    is_kept(&rt, &lan, 1);
     Ok(())
 }

@@ -1,13 +1,14 @@
-//! A test that a network is made, and that a run continues, after a failed allocation.
+//! A test that a network can be made, and that a run can be continued, after a failed allocation.
 
 use crate::texts::prepared;
-use network_plan::PlanError;
+use network_plan::{Event, Plan, PlanError, Reply};
+use std::alloc::Global;
 use std::process::Abort;
 use wire::Lan;
 
-/// Two frames go from host `a` to host `b`. A socket of `b` returns the first frame; the second waits in the ring of
-/// `b`. A reset of `a` drops a third frame. Ticks are played inside sends, an interrupt, calls of a socket, and the
-/// reset.
+/// Host `b` receives two frames of host `a`. A socket of `b` returns the first frame; the second remains in the receive
+/// ring of `b`. A reset of `a` drops a third frame. Ticks are played inside sends, an interrupt, calls of a socket, and
+/// the reset.
 const TEXT: &str = "host a 02:00:00:00:00:01 w
 host b 02:00:00:00:00:02 w
 socket b all
@@ -38,6 +39,28 @@ const COUNTS: [(u64, usize); 10] = [
     (325, 1),
 ];
 
+/// Makes a network. After a failed allocation, a second call makes it.
+fn made(rt: &impl Abort, alloc: Global, plan: &Plan) -> Lan {
+    match Lan::new(alloc, plan) {
+        Ok(lan) => lan,
+        Err(error) => {
+            assert!(rt; error == PlanError::Memory);
+            Lan::new(alloc, plan).expect(rt, "a network is made")
+        }
+    }
+}
+
+/// Runs the events. After a failed allocation, a second run plays the events that weren't done.
+fn run(rt: &impl Abort, alloc: Global, lan: &mut Lan, events: &[Event]) -> Vec<Reply> {
+    let mut replies = Vec::new(alloc);
+    if let Err(stopped) = lan.run(alloc, events, &mut replies) {
+        assert!(rt; replies.len() == stopped.done && stopped.done < events.len());
+        let rest = lan.run(alloc, &events[stopped.done..], &mut replies);
+        assert!(rt; rest.is_ok());
+    }
+    replies
+}
+
 /// The test passes whichever allocation fails. After the failure, a network can be made, or the events that weren't
 /// done can be run. The contract of `run` states the network after the run, even if the run stops early.
 #[test]
@@ -46,25 +69,14 @@ fn a_refused_allocation_is_memory(rt: HostRuntime) {
     let Some((plan, events)) = prepared(&rt, alloc, TEXT) else {
         return;
     };
-    let mut lan = match Lan::new(alloc, &plan) {
-        Ok(lan) => lan,
-        Err(error) => {
-            assert!(rt; error == PlanError::Memory);
-            Lan::new(alloc, &plan).expect(&rt, "a network is made")
-        }
-    };
-    let mut replies = Vec::new(alloc);
-    if let Err(stopped) = lan.run(alloc, &events, &mut replies) {
-        assert_eq!(rt; replies.len(), stopped.done);
-        assert!(rt; stopped.done < events.len());
-        let rest = lan.run(alloc, &events[stopped.done..], &mut replies);
-        assert!(rt; rest.is_ok());
+    let mut lan = made(&rt, alloc, &plan);
+    let replies = run(&rt, alloc, &mut lan, &events);
+    assert!(rt; replies.len() == COUNTS.len());
+    for (reply, (accesses, outcomes)) in replies.iter().zip(COUNTS) {
+        assert!(rt; reply.accesses == accesses && reply.outcomes.as_slice().len() == outcomes);
     }
-    assert_eq!(rt; replies.len(), COUNTS.len());
-    for (reply, counts) in replies.iter().zip(&COUNTS) {
-        assert_eq!(rt; (reply.accesses, reply.outcomes.as_slice().len()), *counts);
-    }
-    // GPTC of host `a`, which its reset cleared, and GPRC of host `b`
-    assert_eq!(rt; lan.counts(0).map(|counts| counts.transmitted), Some(0));
-    assert_eq!(rt; lan.counts(1).map(|counts| counts.received), Some(2));
+    // GPTC of host `a`, which the reset of `a` cleared, and GPRC of host `b`
+    let sent = lan.counts(0).map(|counts| counts.transmitted);
+    let received = lan.counts(1).map(|counts| counts.received);
+    assert!(rt; sent == Some(0) && received == Some(2));
 }

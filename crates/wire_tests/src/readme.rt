@@ -8,8 +8,7 @@ use bring_up::Config;
 use bus::{Bus, Machine};
 use dma_memory::HostMemory;
 use driver::Handled;
-use eeprom::Image;
-use mdic_phy::Link;
+use eeprom_phy::{Image, Link};
 use network_plan::{HostPlan, Plan, PlanError};
 use scenario::Scenario;
 use stations::{LentBus, Outcomes, Stations, Tick};
@@ -18,29 +17,28 @@ use wire::{Answer, Event, Lan};
 
 #[test]
 fn the_code_of_the_readme_of_wire(rt: HostRuntime) -> Result<(), Fail> {
-    // Hosts 0 and 1 on one wire. Host 1 has a socket for all frames.
-    let text = b"host a 02:00:00:00:00:01 w\nhost b 02:00:00:00:00:02 w\nsocket b all\n";
-    let plan = Scenario::read(rt.alloc(), text)?.plan;
-    let mut lan = Lan::new(rt.alloc(), &plan)?;
-    // A frame of host 0 is delivered to host 1, whose adapter finishes the frame just before the handler reads ICR.
+    let frame = [0xFF; 60].to_vec(rt.alloc())?;
     let late = [
         Tick::Step(1, StepKind::RxData),
         Tick::Step(1, StepKind::RxDone),
         Tick::Go,
     ];
+    let ticks = late.to_vec(rt.alloc())?;
+    // Hosts 0 and 1 on one wire. Host 1 has a socket for all frames.
+    let text = b"host a 02:00:00:00:00:01 w\nhost b 02:00:00:00:00:02 w\nsocket b all\n";
+    let plan = Scenario::read(rt.alloc(), text)?.plan;
+    let mut lan = Lan::new(rt.alloc(), &plan)?;
+    // A frame of host 0 is delivered to host 1, whose adapter finishes the frame just before the handler reads ICR.
     let events = [
         Event::Send {
             host: 0,
-            frame: [0xFF; 60].to_vec(rt.alloc())?,
+            frame,
             ticks: Vec::new(rt.alloc()),
         },
         Event::Tick(Tick::Step(0, StepKind::TxTake)),
         Event::Tick(Tick::Step(0, StepKind::TxPut)),
         Event::Tick(Tick::Deliver(1)),
-        Event::Interrupt {
-            host: 1,
-            ticks: late.to_vec(rt.alloc())?,
-        },
+        Event::Interrupt { host: 1, ticks },
     ];
     let mut replies = Vec::new(rt.alloc());
     lan.run(rt.alloc(), &events, &mut replies)?;
@@ -48,8 +46,7 @@ fn the_code_of_the_readme_of_wire(rt: HostRuntime) -> Result<(), Fail> {
     assert!(rt; replies.last().is_some_and(|reply| reply.answer == handled));
     // A drain of host 1 returns the frame, in one step.
     let mut taken = Taken::with_room(rt.alloc(), lan.drain_room(1))?;
-    assert_eq!(rt; lan.drain(1, &mut taken), 1);
-    assert_eq!(rt; taken.list.len(), 1);
+    assert!(rt; lan.drain(1, &mut taken) == 1 && taken.list.len() == 1);
     Ok(())
 }
 
@@ -58,7 +55,7 @@ fn the_code_of_the_readme_of_network_plan(rt: HostRuntime) -> Result<(), Fail> {
     let mut plan = Plan {
         hosts: Vec::new(rt.alloc()),
     };
-    assert_eq!(rt; plan.check(), Err(PlanError::Hosts)); // fewer than two hosts
+    assert!(rt; plan.check() == Err(PlanError::Hosts)); // no host
     for (name, last) in [("a", 1), ("b", 2)] {
         let host = HostPlan {
             name: name.to_string(rt.alloc())?,
@@ -78,35 +75,35 @@ fn the_code_of_the_readme_of_network_plan(rt: HostRuntime) -> Result<(), Fail> {
         };
         plan.hosts.push(host)?;
     }
-    assert_eq!(rt; plan.check(), Ok(()));
+    assert!(rt; plan.check().is_ok());
     plan.hosts.pop();
-    assert_eq!(rt; plan.check(), Err(PlanError::Ends)); // a wire with one end
+    assert!(rt; plan.check() == Err(PlanError::Ends)); // a wire with one end
     Ok(())
 }
 
 #[test]
 fn the_code_of_the_readme_of_stations(rt: HostRuntime) -> Result<(), Fail> {
+    let mut outcomes = Outcomes::with_room(rt.alloc(), 1)?;
+    let memory = HostMemory::new(rt.alloc(), 4096)?;
     let image = Image::with_address([0x02, 0, 0, 0, 0, 0x01]);
     let adapter = Adapter::new(rt.alloc(), &image, Link::Never)?;
-    let machine = Machine::new(adapter, HostMemory::new(rt.alloc(), 4096)?);
     let mut stations = Stations::new(rt.alloc());
-    stations.connect(rt.alloc(), machine, 0)?; // host 0 is the only host on wire 0
-    let mut outcomes = Outcomes::with_room(rt.alloc(), 1)?;
+    stations.connect(rt.alloc(), Machine::new(adapter, memory), 0)?; // the only host on wire 0
     stations.play(Tick::Deliver(0), 0, &mut outcomes); // after no access
     for one in outcomes.as_slice() {
-        assert_eq!(rt; one.outcome, Outcome::Nothing); // no frame waits at its end
+        assert!(rt; one.outcome == Outcome::Nothing); // no frame waits at its end
     }
     Ok(())
 }
 
 #[test]
 fn the_code_of_the_readme_of_stations_where_a_bus_is_lent(rt: HostRuntime) -> Result<(), Fail> {
+    let mut outcomes = Outcomes::with_room(rt.alloc(), 4)?;
+    let memory = HostMemory::new(rt.alloc(), 4096)?;
     let image = Image::with_address([0x02, 0, 0, 0, 0, 0x01]);
     let adapter = Adapter::new(rt.alloc(), &image, Link::Never)?;
-    let machine = Machine::new(adapter, HostMemory::new(rt.alloc(), 4096)?);
     let mut stations = Stations::new(rt.alloc());
-    stations.connect(rt.alloc(), machine, 0)?;
-    let mut outcomes = Outcomes::with_room(rt.alloc(), 4)?;
+    stations.connect(rt.alloc(), Machine::new(adapter, memory), 0)?;
     let ticks = [
         Tick::Go, // none before the first access,
         Tick::Step(0, StepKind::EepromTick), // one before the second,
@@ -121,10 +118,10 @@ fn the_code_of_the_readme_of_stations_where_a_bus_is_lent(rt: HostRuntime) -> Re
         observer: &mut outcomes,
     };
     bus.write(EERD, 1); // begins a read of word 0
-    assert_eq!(rt; bus.read(EERD), 0x0002_0010); // the word, and DONE
+    let word = bus.read(EERD); // the word, and DONE
     bus.finish();
-    assert_eq!(rt; bus.accesses, 2);
-    assert_eq!(rt; outcomes.as_slice().len(), 2);
+    assert!(rt; word == 0x0002_0010 && bus.accesses == 2);
+    assert!(rt; outcomes.as_slice().len() == 2);
     for one in outcomes.as_slice() {
         let ticked = one.accesses == 1 && one.outcome == Outcome::Ticked;
         let late = one.accesses == 2 && one.outcome == Outcome::Nothing; // nothing waits there

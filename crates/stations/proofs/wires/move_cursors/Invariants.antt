@@ -2,7 +2,7 @@ use Rattle.std.proofs.Common.{◌≡◌, ℕ, slice_get, nat_lt, option_map, if�
 use Rattle.stations.specs.LogReaders.{moved_cursor}
 use Rattle.stations.proofs.wires.move_cursors.Given as goal
 
--- the cursors of the ends before this place are set
+-- the cursors of the ends before this place are moved
 abbrev pub invariant-loop-number : goal.invariant-loop-number
 invariant-loop-number l =
     (k : ℕ)

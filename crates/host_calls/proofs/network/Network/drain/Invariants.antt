@@ -5,7 +5,8 @@ use Rattle.host_calls.specs.DrainSteps.{StepsInto, count_steps, frame_sink}
 use Rattle.host_calls.specs.Networks.{OnlyHostChanges, connected_at, nth_host}
 use Rattle.host_calls.proofs.network.Network.drain.Given as goal
 
--- In the steps so far, only this host has changed, and the host can still be drained. If `IsAdapter` holds now, it held at the beginning.
+-- The steps so far are steps into the sink (`StepsInto`), only this host has changed, and the host can still be
+-- drained. If `IsAdapter` holds now, it held at the beginning.
 abbrev pub invariant-loop-bytes : goal.invariant-loop-bytes
 invariant-loop-bytes g l = record {
   into : StepsInto l.steps l.number (frame_sink (g.S.FrameSink.frames l.fn.sink) (g.S.FrameSink.room_left l.fn.sink))

@@ -1,7 +1,7 @@
 use Rattle.std.proofs.Common.{◌≡◌, ◌-◌, ◌+◌, ◌≤◌, length, vec_capacity}
 use Rattle.stations.proofs.outcomes.Outcomes.reserve.Given as goal
 
--- each iteration adds one spare frame; the list has a place for each spare frame, and doesn't change
+-- the list doesn't change, and has a place for each spare frame and for the further frames that are wanted
 abbrev pub invariant-loop-alloc : goal.invariant-loop-alloc
 invariant-loop-alloc l =
     (l.self-inside.list.items ≡ l.fn.self.list)

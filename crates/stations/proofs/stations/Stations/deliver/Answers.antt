@@ -5,22 +5,16 @@ use Rattle.std.proofs.lemmas.Option.{slice_get_past}
 use Rattle.stations.specs.Ends.{EndState}
 use Rattle.stations.specs.Stations.{StationState, backlog_of}
 use Rattle.stations.specs.declared.tick.Tick.TheVariants.{Deliver}
-use Rattle.stations.proofs.Hosts.{is-there, length-both, shows}
+use Rattle.stations.proofs.Hosts.{as-long, is-there, shows}
 use Rattle.stations.proofs.PlayedTicks.{plays-nothing}
 use Rattle.stations.proofs.Spreading.{delivers-frame, delivers-none}
 use Rattle.stations.proofs.stations.Stations.deliver.Goals as goal
 
 pub returns-then-host-len : goal.returns-then-host-len
 returns-then-host-len g c =
-    let ms = c.self.inside.machines.items in
-    let es = c.self.inside.wires in
     let ss = c.args.self.now in
     let host = c.args.host in
-    let past : length ss ≤ host = omega (
-      arith,
-      ap (λ (list : List StationState). length list) c.self.view_is,
-      length-both ms es c.self.invariant.ends,
-    ) in
+    let past : length ss ≤ host = omega (arith, as-long c.self.view_is c.self.invariant) in
     record {
       outcome = Nothing;
       plays = plays-nothing ss (Deliver host) (ap backlog_of (slice_get_past ss host past));
@@ -34,7 +28,7 @@ returns-in_default g c =
     let es = c.self.inside.wires in
     let ss = c.args.self.now in
     let host = c.args.host in
-    let there = is-there ms es host c.self.invariant.ends (omega arith) in
+    let there = is-there host c.self.invariant (omega arith) in
     record {
       outcome = Nothing;
       plays =
@@ -49,7 +43,7 @@ invariant_of-self g c =
     let ms = c.self.inside.machines.items in
     let es = c.self.inside.wires in
     let host = c.args.host in
-    let there = is-there ms es host c.self.invariant.ends (omega arith) in
+    let there = is-there host c.self.invariant (omega arith) in
     record {
       ends =
           ap (λ (list : List EndState). length list) (c.pop.ensures there.end there.has_end)
@@ -65,12 +59,8 @@ returns g c =
     let ss = c.args.self.now in
     let host = c.args.host in
     let m = c.index_mut.result.now in
-    let seen = shows ms es ss host m c.self.view_is c.self.invariant.ends
-    (omega (
-      arith,
-      ap (λ (list : List StationState). length list) c.self.view_is,
-      length-both ms es c.self.invariant.ends,
-    )) c.index_mut.ensures.value in
+    let seen = shows c.self.view_is c.self.invariant (omega (arith, as-long c.self.view_is c.self.invariant))
+    c.index_mut.ensures.value in
     record {
       outcome = Delivered c.in-Some.frame.now c.arrive-fate.result;
       plays =

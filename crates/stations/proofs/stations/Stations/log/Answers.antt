@@ -6,19 +6,14 @@ use Rattle.stations.proofs.stations.Stations.log.Goals as goal
 
 pub log-requires : goal.log-requires
 log-requires c =
-    let ms = c.self.inside.machines.items in
-    let es = c.self.inside.wires in
-    let below = below-machines ms es c.args.self.now c.args.host c.self.view_is c.self.invariant.ends c.requires.there in
-    omega (arith, c.self.invariant.ends, below)
+    omega (arith, c.self.invariant.ends, below-machines c.self.view_is c.self.invariant c.requires.there)
 
 pub returns-clause-waits : goal.returns-clause-waits
 returns-clause-waits c =
-    let ms = c.self.inside.machines.items in
-    let es = c.self.inside.wires in
     let ss = c.args.self.now in
     let host = c.args.host in
-    let there = is-there ms es host c.self.invariant.ends
-    (below-machines ms es ss host c.self.view_is c.self.invariant.ends c.requires.there) in
+    let there = is-there host c.self.invariant
+    (below-machines c.self.view_is c.self.invariant c.requires.there) in
     let line : there.end.line ≡ backlog_at ss host =
     sym (ap (λ (l : List StationState). backlog_of (slice_get l host)) (sym c.self.view_is) ∙ ap backlog_of there.is) in
     subst (λ (frames : List (List ℕ)). frames ≡ last_of_others host (length frames) c.log.result.now) line

@@ -5,22 +5,16 @@ use Rattle.adapter.specs.declared.outcome.Outcome.TheVariants.{Nothing}
 use Rattle.stations.specs.ToldTicks.{tick_told}
 use Rattle.stations.specs.Stations.{StationState}
 use Rattle.stations.specs.declared.tick.Tick.TheVariants.{Step}
-use Rattle.stations.proofs.Hosts.{length-both, shows}
+use Rattle.stations.proofs.Hosts.{as-long, shows}
 use Rattle.stations.proofs.PlayedTicks.{no-frame, plays-nothing, put-none}
 use Rattle.stations.proofs.Spreading.{machine-steps}
 use Rattle.stations.proofs.stations.Stations.play_step.Goals as goal
 
 pub returns-then-host-len : goal.returns-then-host-len
 returns-then-host-len g c =
-    let ms = c.self.inside.machines.items in
-    let es = c.self.inside.wires in
     let ss = c.args.self.now in
     let host = c.args.host in
-    let past : length ss ≤ host = omega (
-      arith,
-      ap (λ (list : List StationState). length list) c.self.view_is,
-      length-both ms es c.self.invariant.ends,
-    ) in
+    let past : length ss ≤ host = omega (arith, as-long c.self.view_is c.self.invariant) in
     record {
       outcome = Nothing;
       plays = plays-nothing ss (Step host c.args.kind) (slice_get_past ss host past);
@@ -29,14 +23,7 @@ returns-then-host-len g c =
     }
 
 pub put-requires-clause-there : goal.put-requires-clause-there
-put-requires-clause-there g c =
-    let ms = c.self.inside.machines.items in
-    let es = c.self.inside.wires in
-    omega (
-      arith,
-      ap (λ (list : List StationState). length list) c.self.view_is,
-      length-both ms es c.self.invariant.ends,
-    )
+put-requires-clause-there g c = omega (arith, as-long c.self.view_is c.self.invariant)
 
 pub returns-in_default : goal.returns-in_default
 returns-in_default g c =
@@ -47,12 +34,8 @@ returns-in_default g c =
     let m = c.index_mut.result.now in
     let outcome = c.step-outcome.result in
     let answer = framed outcome m.world.adapter in
-    let seen = shows ms es ss host m c.self.view_is
-    c.self.invariant.ends (omega (
-      arith,
-      ap (λ (list : List StationState). length list) c.self.view_is,
-      length-both ms es c.self.invariant.ends,
-    )) c.index_mut.ensures.value in
+    let seen = shows c.self.view_is c.self.invariant (omega (arith, as-long c.self.view_is c.self.invariant))
+    c.index_mut.ensures.value in
     let occurs = c.step-outcome.ensures.occurs in
     let none = put-none c.args.kind true m.world.memory m.world.adapter answer c.in_default.not-TxPut occurs.1 in
     record {

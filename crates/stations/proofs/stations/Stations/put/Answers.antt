@@ -13,37 +13,21 @@ use Rattle.stations.proofs.stations.Stations.put.Goals as goal
 
 pub wire-wire-requires : goal.wire-wire-requires
 wire-wire-requires g c =
-    let ms = c.self.inside.machines.items in
-    let es = c.self.inside.wires in
-    let ss = c.args.self.now in
-    let host = c.args.host in
     record {
-      there = omega (arith, c.self.invariant.ends, below-machines ms es ss host c.self.view_is c.self.invariant.ends c.requires.there);
+      there = omega (arith, c.self.invariant.ends, below-machines c.self.view_is c.self.invariant c.requires.there);
     }
 
 pub index-requires : goal.index-requires
 index-requires g c =
-    let ms = c.self.inside.machines.items in
-    let es = c.self.inside.wires in
-    let ss = c.args.self.now in
-    let host = c.args.host in
-    omega (arith, below-machines ms es ss host c.self.view_is c.self.invariant.ends c.requires.there)
+    omega (arith, below-machines c.self.view_is c.self.invariant c.requires.there)
 
 pub index_mut-requires : goal.index_mut-requires
 index_mut-requires g c =
-    let ms = c.self.inside.machines.items in
-    let es = c.self.inside.wires in
-    let ss = c.args.self.now in
-    let host = c.args.host in
-    omega (arith, below-machines ms es ss host c.self.view_is c.self.invariant.ends c.requires.there)
+    omega (arith, below-machines c.self.view_is c.self.invariant c.requires.there)
 
 pub put-requires-clause-there : goal.put-requires-clause-there
 put-requires-clause-there g c =
-    let ms = c.self.inside.machines.items in
-    let es = c.self.inside.wires in
-    let ss = c.args.self.now in
-    let host = c.args.host in
-    omega (arith, c.self.invariant.ends, below-machines ms es ss host c.self.view_is c.self.invariant.ends c.requires.there)
+    omega (arith, c.self.invariant.ends, below-machines c.self.view_is c.self.invariant c.requires.there)
 
 pub returns-in_default : goal.returns-in_default
 returns-in_default g c =
@@ -52,7 +36,7 @@ returns-in_default g c =
     let ss = c.args.self.now in
     let host = c.args.host in
     let m = c.index.result.now in
-    let seen = shows ms es ss host m c.self.view_is c.self.invariant.ends c.requires.there c.index.ensures in
+    let seen = shows c.self.view_is c.self.invariant c.requires.there c.index.ensures in
     let found = finds-wire ms es ss host c.wire-wire.result c.have_room-wire_free.result m c.self.view_is c.self.invariant.ends seen
     c.wire-wire.ensures c.have_room-wire_free.ensures c.to_put.ensures.adapter in
     record {
@@ -71,7 +55,7 @@ returns-then-not-wire_free g c =
     let ss = c.args.self.now in
     let host = c.args.host in
     let m = c.index.result.now in
-    let seen = shows ms es ss host m c.self.view_is c.self.invariant.ends c.requires.there c.index.ensures in
+    let seen = shows c.self.view_is c.self.invariant c.requires.there c.index.ensures in
     let found = finds-wire ms es ss host c.wire-wire.result c.have_room-wire_free.result m c.self.view_is c.self.invariant.ends seen
     c.wire-wire.ensures c.have_room-wire_free.ensures c.to_put.ensures.adapter in
     record {
@@ -101,10 +85,10 @@ returns g c =
     let ss = c.args.self.now in
     let host = c.args.host in
     let m = c.index_mut.result.now in
-    let inside = below-machines ms es ss host c.self.view_is c.self.invariant.ends c.requires.there in
+    let inside = below-machines c.self.view_is c.self.invariant c.requires.there in
     let same : c.index.result.now ≡ m =
     c.index.ensures ∙ get_or_default ms host c.index.result.now m inside ∙ sym c.index_mut.ensures.value in
-    let seen = shows ms es ss host m c.self.view_is c.self.invariant.ends c.requires.there c.index_mut.ensures.value in
+    let seen = shows c.self.view_is c.self.invariant c.requires.there c.index_mut.ensures.value in
     let free : c.have_room-wire_free.result ≡ true = cc c.if-not-wire_free.false in
     let found = finds-wire ms es ss host c.wire-wire.result c.have_room-wire_free.result m c.self.view_is c.self.invariant.ends seen
     c.wire-wire.ensures c.have_room-wire_free.ensures

@@ -11,41 +11,21 @@ use Rattle.stations.proofs.Hosts.{below-machines, machine-after, shows}
 use Rattle.stations.proofs.stations.Stations.step.Goals as goal
 
 pub index_mut-requires : goal.index_mut-requires
-index_mut-requires c =
-    let ms = c.self.inside.machines.items in
-    let es = c.self.inside.wires in
-    let ss = c.args.self.now in
-    let host = c.args.host in
-    omega (
-      arith,
-      below-machines ms es ss host c.self.view_is
-          c.self.invariant.ends c.requires.there,
-    )
+index_mut-requires c = omega (arith, below-machines c.self.view_is c.self.invariant c.requires.there)
 
 pub returns-clause-occurs : goal.returns-clause-occurs
 returns-clause-occurs c =
-    let ms = c.self.inside.machines.items in
-    let es = c.self.inside.wires in
-    let ss = c.args.self.now in
-    let host = c.args.host in
-    let shown = shows ms es ss host c.index_mut.result.now c.self.view_is
-    c.self.invariant.ends c.requires.there c.index_mut.ensures.value in
+    let shown = shows c.self.view_is c.self.invariant c.requires.there c.index_mut.ensures.value in
     subst (λ (w : World). Occurs (Steps c.args.kind true (framed c.step.result w.adapter)) w) shown.world c.step.ensures.occurs
 
 pub returns-clause-state : goal.returns-clause-state
 returns-clause-state c =
-    let ms = c.self.inside.machines.items in
-    let es = c.self.inside.wires in
-    let ss = c.args.self.now in
-    let host = c.args.host in
-    let shown = shows ms es ss host c.index_mut.result.now c.self.view_is
-    c.self.invariant.ends c.requires.there c.index_mut.ensures.value in
+    let shown = shows c.self.view_is c.self.invariant c.requires.there c.index_mut.ensures.value in
     let world = c.index_mut.result.now.world in
     let answer = framed c.step.result world.adapter in
     let answers = c.step.ensures.occurs.1 in
     let none = put-none c.args.kind true world.memory world.adapter answer c.requires.stays answers in
-    subst (λ (w : World). stations_of (slice_set ms host c.step.new.self) es
-    ≡ stations_after host (Steps c.args.kind true (framed c.step.result w.adapter)) ss) shown.world
-    (machine-after ms es ss host
-    (Steps c.args.kind true answer) c.index_mut.result.now c.step.new.self c.self.view_is shown c.step.ensures.state
+    subst (λ (w : World). stations_of (slice_set c.self.inside.machines.items c.args.host c.step.new.self) c.self.inside.wires
+    ≡ stations_after c.args.host (Steps c.args.kind true (framed c.step.result w.adapter)) c.args.self.now) shown.world
+    (machine-after (Steps c.args.kind true answer) c.self.view_is shown c.step.ensures.state
     (λ line. refl) (sym (put-is c.args.kind true world.memory world.adapter answer answers) ∙ none))

@@ -7,35 +7,14 @@ use Rattle.stations.proofs.Hosts.{below-machines, machine-after, shows}
 use Rattle.stations.proofs.stations.Stations.write.Goals as goal
 
 pub index_mut-requires : goal.index_mut-requires
-index_mut-requires c =
-    let ms = c.self.inside.machines.items in
-    let es = c.self.inside.wires in
-    let ss = c.args.self.now in
-    let host = c.args.host in
-    omega (
-      arith,
-      below-machines ms es ss host c.self.view_is
-          c.self.invariant.ends c.requires.there,
-    )
+index_mut-requires c = omega (arith, below-machines c.self.view_is c.self.invariant c.requires.there)
 
 pub returns-clause-state : goal.returns-clause-state
 returns-clause-state c =
-    let ms = c.self.inside.machines.items in
-    let es = c.self.inside.wires in
-    let ss = c.args.self.now in
-    let host = c.args.host in
-    let shown = shows ms es ss host c.index_mut.result.now c.self.view_is
-    c.self.invariant.ends c.requires.there c.index_mut.ensures.value in
-    machine-after ms es ss host
-    (Accesses (Writes c.args.offset c.args.value)) c.index_mut.result.now c.write.new.self c.self.view_is shown c.write.ensures.state
-    (λ line. refl) refl
+    let shown = shows c.self.view_is c.self.invariant c.requires.there c.index_mut.ensures.value in
+    machine-after (Accesses (Writes c.args.offset c.args.value)) c.self.view_is shown c.write.ensures.state (λ line. refl) refl
 
 pub returns-clause-adapter : goal.returns-clause-adapter
 returns-clause-adapter c =
-    let ms = c.self.inside.machines.items in
-    let es = c.self.inside.wires in
-    let ss = c.args.self.now in
-    let host = c.args.host in
-    let shown = shows ms es ss host c.index_mut.result.now c.self.view_is
-    c.self.invariant.ends c.requires.there c.index_mut.ensures.value in
+    let shown = shows c.self.view_is c.self.invariant c.requires.there c.index_mut.ensures.value in
     subst (λ (w : World). IsAdapter w.adapter) shown.world c.write.ensures.adapter
