@@ -29,7 +29,6 @@ all_are : (number : ℕ) → onto 64 number [] ≡ digits 16 false number
 unfolding digits
 all_are number = refl
 
--- All digits are in front of a text.
 pub all_digits : (number : ℕ) (after : List ℕ) → onto 64 number after ≡ digits 16 false number ++ after
 all_digits number after = added 64 number after ∙ ap (λ (l : List ℕ). l ++ after) (all_are number)
 
@@ -47,7 +46,6 @@ if_true : (is : Bool) (one other : List ℕ) → is ≡ true → (if is then one
 if_true true one other same = refl
 if_true false one other same = absurd (cc)
 
--- One more digit is in front.
 pub one_more : (count number : ℕ) (after : List ℕ) → 0 < count → 16 ≤ number
     → onto (count - 1) (number / 16) (last_digit number ∷ after) ≡ onto count number after
 one_more zero number after some big = absurd (omega arith)
@@ -61,7 +59,6 @@ same_both : (is : Bool) (text : List ℕ) → text ≡ (if is then text else tex
 same_both true text = refl
 same_both false text = refl
 
--- The first digit is in front: no digit is left, or none may be added.
 pub first_digit : (count number : ℕ) (after : List ℕ) → 0 < count → (1 < count → number < 16)
     → last_digit number ∷ after ≡ onto count number after
 first_digit zero number after some few = absurd (omega arith)

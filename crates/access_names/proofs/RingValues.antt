@@ -13,7 +13,6 @@ use Rattle.access_names.specs.Rings.{register_of, registers_of}
 use Rattle.access_names.specs.declared.engine_fault.Engine.{Engine}
 use Rattle.access_names.specs.declared.engine_fault.Engine.TheVariants.{Transmit, Receive}
 
--- the answer to a read of a register, by its offset in the table
 answer-there : (register : Register) (adapter : AdapterState) → IsInTable register
     → answer_at (row_of register).offset adapter ≡ answer register adapter
 answer-there register adapter within =

@@ -34,8 +34,8 @@ reason_of_take memory ring =
     else if not (is_inside memory (address_of ring ring.head) 16) then Descriptor
     else reason_of_descriptor (descriptor_at memory (address_of ring ring.head))
 
--- why no piece can be moved to the buffer of the descriptor at the head of this receive ring, with this value of RCTL; if no other reason
--- applies, the place of the piece isn't inside memory
+-- Why no piece can be moved to the buffer of the descriptor at the head of this receive ring, with this value of RCTL. If no other reason
+-- applies, the place of the piece isn't inside memory.
 abbrev pub reason_of_data : ℕ → List ℕ → DescriptorRing → Reason
 reason_of_data control memory ring =
     if not (has_valid_indices ring) then Ring

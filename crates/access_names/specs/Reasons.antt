@@ -1,4 +1,4 @@
--- The meaning of each reason.
+-- The meaning of each reason, and laws of the reasons that `fault_if_any` returns.
 use Rattle.std.specs.Prelude.{◌≡◌, ◌<◌, ◌⊎◌, ℕ, Bool, List, IsSomeAnd}
 use Rattle.adapter.specs.Receiving.{piece_size}
 use Rattle.adapter.specs.Steps.{Answers}
@@ -23,7 +23,7 @@ use Rattle.access_names.specs.declared.engine_fault.Reason.{Reason}
 use Rattle.access_names.specs.declared.engine_fault.Reason.TheVariants.{Ring, Descriptor, Dext, Eop, Length, Buffer}
 use Rattle.access_names.specs.declared.engine_fault.Reason.TheVariants.{Bsex}
 
--- what a reason means for a transmit ring and the descriptor at its head, which is at this address
+-- what a reason means for a transmit ring whose descriptor at the head is `desc`, at this address; `Bsex` never applies
 abbrev pub HoldsOfTransmit : Reason → List ℕ → DescriptorRing → (address : ℕ) → TxDesc → Type 0
 HoldsOfTransmit Ring memory ring address desc = ¬ (HasValidIndices ring)
 HoldsOfTransmit Descriptor memory ring address desc = ¬ (LiesIn memory address 16)
@@ -33,7 +33,8 @@ HoldsOfTransmit Length memory ring address desc = (desc.length ≡ 0) ⊎ (longe
 HoldsOfTransmit Buffer memory ring address desc = ¬ (LiesIn memory desc.address desc.length)
 HoldsOfTransmit Bsex memory ring address desc = ⊥
 
--- what a reason means for a receive ring, the descriptor at its head, which is at this address, and a piece of `size` bytes
+-- What a reason means for a value of RCTL, a receive ring whose descriptor at the head is at this address, and a piece of `size` bytes. The
+-- reasons `Dext`, `Eop` and `Length` never apply.
 abbrev pub HoldsOfReceive : Reason → (control : ℕ) → List ℕ → DescriptorRing → (address size : ℕ) → Type 0
 HoldsOfReceive Ring control memory ring address size = ¬ (HasValidIndices ring)
 HoldsOfReceive Bsex control memory ring address size = HasBit control rctl_bsex
@@ -54,14 +55,15 @@ HoldsOf Receive reason world =
     let ring = receive_ring world in
     HoldsOfReceive reason world.adapter.filter.rctl world.memory ring (head_address ring) (piece_size world.adapter)
 
--- If the outcome of a step is a fault, there is a reason, and this reason holds before the step.
+-- If the outcome of a step is a fault, `fault_if_any` returns a fault for the world before the step. The reason of this fault applies
+-- there.
 abbrev pub ReasonsHold : Type 0
 ReasonsHold =
     (kind : StepKind) (wire_free : Bool) (world : World)
     → Answers kind wire_free world.memory world.adapter Fault
     → IsSomeAnd (fault_if_any kind world) (λ fault. HoldsOf fault.engine fault.reason world)
 
--- A step that is a fault doesn't change the fault that `fault_if_any` returns.
+-- A step with the outcome Fault doesn't change the fault, or `None`, that `fault_if_any` returns.
 abbrev pub ReasonsStay : Type 0
 ReasonsStay =
     (kind : StepKind) (world : World)

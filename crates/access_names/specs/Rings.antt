@@ -1,4 +1,4 @@
--- The rings of both engines.
+-- The rings of both engines, their registers, and tests whether a ring has valid indices and whether memory contains bytes.
 use Rattle.std.specs.Prelude.{◌&&◌, ◌-◌, ℕ, Bool, List, length, nat_le, nat_lt}
 use Rattle.adapter.specs.World.{World, receive_ring, transmit_ring}
 use Rattle.adapter.specs.declared.register.Register.{Register}
@@ -21,11 +21,12 @@ abbrev pub registers_of : Engine → World → RingRegisters
 registers_of Transmit world = world.adapter.transmit_ring
 registers_of Receive world = world.adapter.receive_ring
 
+-- this register of this engine's ring
 abbrev pub register_of : Engine → RingRegister → Register
 register_of Transmit register = registers.Transmit register
 register_of Receive register = registers.Receive register
 
--- the ring with these registers
+-- the ring whose registers have these values
 abbrev pub ring_from : RingWords → Ring
 ring_from words = record { base = words.base; bytes = words.bytes; head = words.head; tail = words.tail }
 

@@ -20,7 +20,7 @@ pub enum Reason {
     Dext,
     /// EOP is clear in a transmit descriptor: the packet continues in the next descriptor.
     Eop,
-    /// The length in a transmit descriptor is 0 or above 1,518.
+    /// The length in a transmit descriptor is 0 or above 1,518 bytes.
     Length,
     /// The frame to send, or the place of the received piece, isn't inside memory.
     Buffer,

@@ -33,7 +33,7 @@ pub fn fault_of(machine: &Machine, kind: StepKind) -> Option<EngineFault>
     }
 }
 
-/// Returns why a step that takes a frame from the transmit ring is a fault, if it is a fault.
+/// Returns why a step that takes a frame from the transmit ring is a fault, if the step is a fault.
 fn fault_of_take(machine: &Machine) -> EngineFault
     ensures fault { result ≡ fault_of_take machine.now.world }
 {
@@ -45,7 +45,7 @@ fn fault_of_take(machine: &Machine) -> EngineFault
     }
 }
 
-/// Returns why a step that moves a piece of a received frame to memory is a fault, if it is a fault.
+/// Returns why a step that moves a piece of a received frame to memory is a fault, if the step is a fault.
 fn fault_of_data(machine: &Machine) -> EngineFault
     ensures fault { result ≡ fault_of_data machine.now.world }
 {
@@ -110,7 +110,7 @@ fn reason_of_data(machine: &Machine, words: RingWords, control: Rctl) -> Reason
     }
 }
 
-/// Returns the bytes of the descriptor at the head of a ring, or `None` if and only if some are outside memory.
+/// Returns the bytes of the descriptor at the head of a ring, or `None` if and only if some of them are outside memory.
 fn descriptor_at_head(machine: &Machine, ring: Ring) -> Option<[u8; TX_DESC_BYTES]>
     ensures { result ≡ (if is_inside machine.now.world.memory (address_of ring ring.head) 16
         then Some (bytes_at machine.now.world.memory (address_of ring ring.head) 16) else None) }

@@ -1,7 +1,8 @@
 ghost use Rattle.access_names.specs.Reasons.{ReasonsHold, ReasonsStay};
 
-/// If a step is a fault, [`fault_of`](crate::fault_of) returns a reason before the step, which applies then. After the
-/// step, `fault_of` returns the same.
+/// If the outcome of a step is a fault, [`fault_of`](crate::fault_of) returns a fault before the step, and the reason
+/// of this fault applies then. After a step with the outcome `Fault`, `fault_of` returns the same result as before the
+/// step.
 ///
 /// This function does nothing: its contract is the law.
 pub fn reasons_of_faults_hold()

@@ -16,12 +16,12 @@ use itoa::write_digits;
 /// The size of the buffer for a name, in bytes.
 const ROOM: usize = 128;
 
-/// A bound for the loop over digits. A `u64` needs at most 16 hexadecimal digits.
+/// The bound of the loop over digits, as in the definition of `digits`. A `u64` has at most 16 hexadecimal digits.
 const MOST_DIGITS: u8 = 64;
 
 const HEXADECIMAL: u64 = 16;
 
-/// The name of a target, in a buffer of its own.
+/// The name of a target. The name contains its bytes, so no memory is allocated.
 #[derive(Clone, Copy)]
 pub struct TargetName {
     bytes: [u8; ROOM],
@@ -138,7 +138,7 @@ fn descriptor_name(ring: Engine, index: u64, byte: u64) -> TargetName
     name
 }
 
-/// Returns the name of an offset without a register.
+/// Returns the name of an offset that no register has, such as `register[0x10]`.
 fn offset_name(offset: u32) -> TargetName
     ensures { name_bytes result ≡ register_text None offset }
 {
@@ -149,7 +149,7 @@ fn offset_name(offset: u32) -> TargetName
     name
 }
 
-/// Returns the name of the register at this offset, or of the offset if no register has it.
+/// Returns the name of the register at this offset, or the name of the offset if no register has this offset.
 fn register_name(offset: u32) -> TargetName
     ensures { name_bytes result ≡ register_text (register_at offset) offset }
 {

@@ -5,7 +5,7 @@ use Rattle.adapter.specs.Steps.{TellsWork}
 use Rattle.adapter.specs.declared.step.StepKind.{StepKind}
 use Rattle.adapter.specs.declared.step.StepKind.TheVariants.{EepromTick, PhyTick, RxData, RxDone, TxPut, TxTake}
 
--- the value for each kind
+-- the argument for this kind of steps
 abbrev pub for_kind : (take put moves done eeprom phy : Bool) → StepKind → Bool
 for_kind take put moves done eeprom phy TxTake = take
 for_kind take put moves done eeprom phy TxPut = put

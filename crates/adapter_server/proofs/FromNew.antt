@@ -8,20 +8,17 @@ use Rattle.adapter_server.specs.declared.serve_error.ServeError.{ServeError}
 use Rattle.adapter_server.specs.declared.serve_error.ServeError.TheVariants as errors
 use Rattle.adapter_server.specs.declared.snapshot.Server.{Server}
 
--- A fact about a new server with its address holds for some address.
 pub from_new : (options : ServeOptions) (player : Option Player) (server : Server) (bytes : Option (List ℕ))
     (Holds : List ℕ → Server → Type 0) → server ≡ new_server options player server.session.device.address
     → IfSome bytes (λ all. Holds all server) → IfSome bytes (λ all. FromNew options player (Holds all))
 from_new options player server None Holds new holds = tt
 from_new options player server (Some all) Holds new holds = (server.session.device.address, subst (Holds all) new holds)
 
--- A fact about a new server whose memory has no address holds for some address.
 pub from_any : (options : ServeOptions) (player : Option Player) (bytes : Option (List ℕ)) (Holds : List ℕ → Server → Type 0)
     → IfSome bytes (λ all. Holds all (new_server options player None)) → IfSome bytes (λ all. FromNew options player (Holds all))
 from_any options player None Holds holds = tt
 from_any options player (Some all) Holds holds = (None, holds)
 
--- A fact that holds if an error is `Read` holds if the result is the error `Read`.
 pub read_from : {T : Type 0} (result : Result T ServeError) (error : ServeError) (P : Type 0) → IsErrAnd result (λ e. e ≡ error)
     → (error ≡ errors.Read → P) → IfErr result (λ e. e ≡ errors.Read → P)
 read_from (Ok value) error P same holds = absurd same

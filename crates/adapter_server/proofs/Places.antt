@@ -1,7 +1,7 @@
--- Which bytes are in memory.
+-- The bytes of an access fit the place of the access.
 use Rattle.std.proofs.Common.{◌≡◌, ◌-◌, ℕ, Bool, List, Option, Some, None, Ok, Err, true, false, arith, if◌then◌else◌, length, refl}
 use Rattle.std.proofs.lemmas.Bool.Decides.{nat_tests}
-use Rattle.pci_function.specs.ConfigSpace.{registers_of}
+use Rattle.registers.specs.ConfigSpace.{registers_of}
 use Rattle.played_adapter.specs.Playing.{has_bytes}
 use Rattle.server_requests.specs.declared.refusal.Refusal.TheVariants as refusals
 use Rattle.adapter_server.specs.Sessions.{Takes, is_register, meets_registers, place_in, place_with}
@@ -41,16 +41,13 @@ four_bytes (Some registers) memory address count offset place =
 four_bytes None true address count offset place = absurd (cc)
 four_bytes None false address count offset place = absurd (cc)
 
--- An access with the place `Memory` accesses only bytes in memory.
 pub memory_place : (a : Session) (address count : ℕ) → place_in a address count ≡ Ok Memory → has_bytes a.device address count ≡ true
 memory_place a address count place = in_memory (registers_of a.function) (has_bytes a.device address count) address count place
 
--- An access with the place of a register has four bytes.
 pub register_place : (a : Session) (address count offset : ℕ) → place_in a address count ≡ Ok (Register offset) → count ≡ 4
 register_place a address count offset place =
     four_bytes (registers_of a.function) (has_bytes a.device address count) address count offset place
 
--- Bytes can be written at the place that was found for them.
 pub place_takes : (place : Place) (a : Session) (address : ℕ) (bytes : List ℕ) → place_in a address (length bytes) ≡ Ok place
     → Takes place address bytes a.device
 place_takes (Register offset) a address bytes at = register_place a address (length bytes) offset at

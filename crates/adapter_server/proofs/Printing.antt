@@ -16,13 +16,11 @@ use Rattle.adapter_server.specs.Answers.{Changes, OnSession, Played, Reaches, Re
 use Rattle.adapter_server.specs.declared.session.Session.{Session}
 use Rattle.adapter_server.specs.declared.snapshot.Server.{Server}
 
--- If a call failed in its answer, its caller fails with the same part of the answer.
 pub answer_again : {T E S : Type 0} (result : Result T E) (Answers : S → Text → Type 0) (b : S) (before after : Option (List ℕ))
     → IsErr result → TellsPart before after (Reaches Answers) → TellsAnswer result before after Answers b
 answer_again (Ok value) Answers b before after is part = absurd (cc)
 answer_again (Err error) Answers b before after is part = part
 
--- Nothing was written.
 pub nothing_written : {S : Type 0} (Answers : S → Text → Type 0) (before : Option (List ℕ)) → TellsPart before before (Reaches Answers)
 nothing_written Answers before = record {
   text = [];
@@ -30,7 +28,6 @@ nothing_written Answers before = record {
   written = appends_none before;
 }
 
--- A call failed before anything was written.
 pub answer_none : {T E S : Type 0} (result : Result T E) (Answers : S → Text → Type 0) (b : S) (before : Option (List ℕ)) → IsErr result
     → TellsAnswer result before before Answers b
 answer_none result Answers b before is =
@@ -45,14 +42,12 @@ pub part_reached : {S U : Type 0} (P : S → Text → Type 0) (Q : U → Text �
     → ((b : S) (text : Text) → P b text → Q (f b) text) → TellsPart before after (Reaches P) → TellsPart before after (Reaches Q)
 part_reached P Q f before after so part = part_so (Reaches P) (Reaches Q) before after (reaches_so P Q f so) part
 
--- An answer with one property is an answer with another property that follows.
 pub answer_so : {T E S U : Type 0} (result : Result T E) (P : S → Text → Type 0) (Q : U → Text → Type 0) (f : S → U) (b : S)
     (before after : Option (List ℕ)) → ((b : S) (text : Text) → P b text → Q (f b) text) → TellsAnswer result before after P b
     → TellsAnswer result before after Q (f b)
 answer_so (Ok value) P Q f b before after so tells = tells_so (P b) (Q (f b)) before after (so b) tells
 answer_so (Err error) P Q f b before after so part = part_reached P Q f before after so part
 
--- An answer that is only a line.
 pub replied : {T E S : Type 0} (answer : Result T E) (line : Text) (b : S) (before after : Option (List ℕ)) → Says answer before after line
     → TellsAnswer answer before after (Replies line b) b
 replied (Ok value) line b before after said = record {
@@ -64,14 +59,12 @@ replied (Err error) line b before after said =
     part_so (λ (text : Text). text ≡ line) (Reaches (Replies line b)) before after
     (λ text same. inr (b, record { after = refl; text_is = same })) said
 
--- The state changed, and only the line `OK` was written.
 pub changed : {T E : Type 0} (answer : Result T E) (change : Session → Session) (a b : Session) (before after : Option (List ℕ))
     → b ≡ change a → Says answer before after ok_line → TellsAnswer answer before after (Changes change a) b
 changed answer change a b before after same said =
     subst (λ (s : Session). TellsAnswer answer before after (Changes change a) s) (sym same)
     (replied answer ok_line (change a) before after said)
 
--- The items that the server kept were the answer. If the answer was written, the server keeps no item.
 pub fetched : {X T E : Type 0} (answer : Result T E) (with : List X → Session) (left : List X) (line : Text)
     (before after : Option (List ℕ)) → OnOk answer (left ≡ []) → Says answer before after line
     → TellsAnswer answer before after (Replies line (with [])) (with left)
@@ -82,7 +75,6 @@ fetched (Ok value) with left line before after none said = record {
 }
 fetched {X} (Err error) with left line before after none said = replied {T = X} (Err error) line (with []) before after said
 
--- The answer of a session is the answer of its server.
 pub lifted : {T E : Type 0} (answer : Result T E) (Answers : Session → Session → Text → Type 0) (a : Server) (b : Session)
     (before after : Option (List ℕ)) → TellsAnswer answer before after (Answers a.session) b
     → TellsAnswer answer before after (OnSession Answers a) (record a { session = b })
@@ -90,7 +82,7 @@ lifted answer Answers a b before after tells =
     answer_so answer (Answers a.session) (OnSession Answers a) (λ (s : Session). record a { session = s }) b before after
     (λ s text answers. record { answers = answers; after = refl }) tells
 
--- Something was played and told, and then the line of the answer is written.
+-- Something was played and told. A complete answer is the text of what was told, and then the line of the answer.
 module _ (Happens : PlayedAdapter → PlayedAdapter → List Told → Type 0) (said : Text) (a : Session) (device : PlayedAdapter)
     (told : List Told)
     (happens : Happens a.device device told) (line : Text) (Answers : Session → Text → Type 0) (f : Session → Session)
@@ -122,7 +114,6 @@ module _ (Happens : PlayedAdapter → PlayedAdapter → List Told → Type 0) (s
       part_so (λ (t : Text). t ≡ written_text ++ line) (Reaches Answers) before after
       (λ text same. inr (f last, subst (λ (t : Text). Answers (f last) t) (sym same) whole)) ended.0
 
-  -- What was told is written, and then the line. At an error, a beginning is written.
   pub answered : {T : Type 0} (result : Result T AnswerError) (said' : Text) (kept : Kept) (stop : Option AnswerError)
       (before now after : Option (List ℕ)) → Heard said said' a.kept kept None stop before now told → Ends stop result now after line
       → TellsAnswer result before after Answers (f (record a { device = device; kept = kept }))
@@ -130,7 +121,6 @@ module _ (Happens : PlayedAdapter → PlayedAdapter → List Told → Type 0) (s
       tells_answer result kept before after
       (ended result said said' a.kept kept stop before now after told line heard ends)
 
-  -- What was told is written, or a beginning, but not the line.
   pub unsaid : {T : Type 0} (result : Result T AnswerError) (said' : Text) (kept : Kept) (stop : Option AnswerError) (b : Session)
       (before now after : Option (List ℕ)) → Heard said said' a.kept kept None stop before now told → IsErr result × Keeps now after
       → TellsAnswer result before after Answers b

@@ -1,4 +1,4 @@
--- A line that was read, and its answer.
+-- If reading a line returned its request or its refusal, what follows from it answers the line.
 use Rattle.std.proofs.Common.{◌≡◌, Ok, Err, Result, subst, sym}
 use Rattle.adapter_server.specs.Answers.{AnswersLine, AnswersTo, Does, Refuses}
 use Rattle.server_requests.specs.Reading.{IsRead}

@@ -7,7 +7,6 @@ use Rattle.server_requests.specs.declared.request.Request.TheVariants as request
 use Rattle.adapter_server.specs.declared.snapshot.Server.{Server}
 use Rattle.adapter_server.specs.declared.session.Session.{Session}
 
--- The server answers a request other than `save` and `restore` as its session does.
 pub does_on : (request : Request) (said : Text) (a : Server) → request ≢ requests.Save → request ≢ requests.Restore
     → (b : Server) (text : Text) → OnSession (SessionDoes request (request_said request said a.session)) a b text
     → Does request said a b text
@@ -26,7 +25,6 @@ does_on (requests.Choose limit) said a not_save not_restore b text does = does
 does_on requests.Save said a not_save not_restore b text does = absurd (not_save refl)
 does_on requests.Restore said a not_save not_restore b text does = absurd (not_restore refl)
 
--- At `save` and `restore`, a session does nothing.
 pub does_nothing : (request : Request) (said : Text) (a : Session) → (request ≡ requests.Save) ⊎ (request ≡ requests.Restore)
     → SessionDoes request (request_said request said a) a a []
 does_nothing request said a (inl same) = subst (λ (r : Request). SessionDoes r (request_said r said a) a a []) (sym same) (refl, refl)

@@ -23,7 +23,7 @@ use Rattle.server_requests.proofs.ReadingLines.{known_same, known_then, lines_so
 use Rattle.server_output.proofs.Writing.{appends_kept, appends_none, appends_then, tells_so}
 use Rattle.played_adapter.proofs.Telling.{in_order_more}
 
--- This text consists of the answers to the lines read so far.
+-- Lines were read and answered: `old` has these lines and then the lines of `new`, and the text consists of the answers.
 pub record Served (begin now : Server) (text : Text) (old new : List ℕ) : Type 0 where
   pub front : List Text
   pub lines : lines_of old ≡ front ++ lines_of new
@@ -41,7 +41,6 @@ serves_none bytes begin before = record {
   goes = known_same bytes (Served begin begin []) (λ some. record { front = []; lines = refl; serves = (refl, refl) });
 }
 
--- One more line is answered.
 more_served : (begin now next : Server) (text first : Text) (old new later : List ℕ) → Served begin now text old new → new ≢ []
     → later ≡ behind_line new → Turns (first_line new) now next first → Served begin next (text ++ first) old later
 more_served begin now next text first old new later on some later_is turn = record {
@@ -97,7 +96,6 @@ serves_long old new later begin now next before middle after on long told = reco
       on.goes long;
 }
 
--- The end of the input isn't a line.
 serves_end : (old new later : Option (List ℕ)) (begin now next : Server) (before middle after : Option (List ℕ))
     → ServesOn old new begin now before middle → BothKnown new later AtEnd
     → Tells middle after (λ text. (next ≡ now) × (text ≡ [])) → ServesOn old later begin next before after
@@ -140,7 +138,6 @@ serves_lines (Some old) (Some new) (Some later) begin now before after on ends =
       written = on.written;
     }
 
--- All lines are answered, so the player at the end is the player of the last server.
 pub serves_to : (bytes : Option (List ℕ)) (begin last : Server) (before after : Option (List ℕ))
     → IfSome bytes (λ all. Tells before after (ServesWhole all begin last))
     → IfSome bytes (λ all. Tells before after (ServesTo all begin (player_of last.session.agenda last.session.kept.recorder)))
@@ -165,7 +162,6 @@ serves_front (Some old) (Some new) begin now before after on = record {
   written = on.written;
 }
 
--- If nothing was written after a text, the text is all that was written.
 pub tells_sent : (before after sent : Option (List ℕ)) (Holds : Text → Type 0) → Tells before after Holds → Keeps after sent
     → Tells before sent Holds
 tells_sent before after sent Holds told kept = record {
@@ -174,12 +170,10 @@ tells_sent before after sent Holds told kept = record {
   written = appends_kept before after sent told.text told.written kept;
 }
 
--- An error of an answer is never the error `Read`.
 pub never_read : (cause : AnswerError) → ended_by cause ≡ errors.Read → ⊥
 never_read causes.Memory same = cc
 never_read causes.Write same = cc
 
--- A fact also holds if there is an error.
 pub whatever_error : {T E : Type 0} (result : Result T E) (Q : E → Type 0) (P : Type 0) → P → IfErr result (λ error. Q error → P)
 whatever_error (Ok value) Q P holds = tt
 whatever_error (Err error) Q P holds = λ q. holds

@@ -32,7 +32,6 @@ begins_nothing (line ∷ later) a = record {
   text_is = refl;
 }
 
--- The server stopped before it wrote anything of the next answer.
 pub serves_stopped : (old new : Option (List ℕ)) (begin now : Server) (before after : Option (List ℕ))
     → ServesOn old new begin now before after → IfSome old (λ bytes. Tells before after (ServesBegun bytes begin))
 serves_stopped None new begin now before after on = tt
@@ -85,7 +84,6 @@ module _ (Is : List ℕ → List ℕ → Type 0) (now : Server) (Answers : Serve
         written = appends_then before middle after on.text all.text on.written all.written;
       }
 
--- The server stopped after it wrote a beginning of the answer to the next line.
 pub serves_part : (what : NextLine) (old new later : Option (List ℕ)) (begin now : Server) (line : Text)
     (before middle after : Option (List ℕ)) → ServesOn old new begin now before middle → IsNextLine what line new later → what ≢ End
     → TellsPart middle after (Reaches (AnswersNext what line now))
@@ -101,13 +99,11 @@ serves_part Long old new later begin now line before middle after on read more p
     (λ left later is b text refuses. long_turn (first_line left) now b text is.long refuses) old new later begin before middle after on
     read part
 
--- If answering a line failed, the server ends with an error other than `Read`.
 pub answering_stopped : {T : Type 0} (result : Result T ServeError) (cause : AnswerError) (Done Front : Type 0)
     → IsErrAnd result (λ error. error ≡ ended_by cause) → OnOk result Done × IfErr result (λ error. error ≡ errors.Read → Front)
 answering_stopped (Ok value) cause Done Front stopped = absurd stopped
 answering_stopped (Err error) cause Done Front stopped = (tt, λ read. absurd (never_read cause (sym stopped ∙ read)))
 
--- The answer is written, whether flushing it fails or not.
 pub answer_sent : {T E S : Type 0} (result : Result T E) (Answers : S → Text → Type 0) (b : S)
     (before after sent : Option (List ℕ)) → Tells before after (Answers b) → Keeps after sent → TellsAnswer result before sent Answers b
 answer_sent (Ok value) Answers b before after sent told kept = tells_sent before after sent (Answers b) told kept

@@ -24,7 +24,6 @@ use Rattle.adapter_server.specs.declared.session.Session.{Session}
 use Rattle.adapter_server.specs.declared.task.Task.{Task}
 use Rattle.adapter_server.specs.declared.task.Task.TheVariants as tasks
 
--- If H was played, and K holds for what was played, then K was played. The line of the answer may be replaced by an equal line.
 again : (H K : PlayedAdapter → PlayedAdapter → List Told → Type 0) (said : Text) (a b : Session) (line known text : Text)
     (answered : Answered (λ t. Played H said a b t) line text) → line ≡ known → K a.device b.device answered.happens.told
     → Answered (λ t. Played K said a b t) known text
@@ -39,7 +38,6 @@ again H K said a b line known text answered same happens = record {
   text_is = answered.text_is ∙ ap (λ (l : Text). answered.told ++ l) same;
 }
 
--- If something happens after moves, and K holds for what happens after them, K happens after the moves.
 after_so : {Later : PlayedAdapter → List Told → Type 0} (K : PlayedAdapter → PlayedAdapter → List Told → Type 0) (moves : List Move)
     (a b : PlayedAdapter) (told : List Told) (after : Joins (InOrder Makes moves a) Later told) → K after.middle b after.rest
     → AfterMoves moves K a b told
@@ -52,14 +50,12 @@ after_so K moves a b told after happens = record {
   told_is = after.told_is;
 }
 
--- What happens after no moves happens.
 no_moves : (H : PlayedAdapter → PlayedAdapter → List Told → Type 0) (a b : PlayedAdapter) (told : List Told)
     → AfterMoves [] H a b told → H a b told
 no_moves H a b told after =
     subst (λ (t : List Told). H a b t) (sym (after.told_is ∙ ap (λ (t : List Told). t ++ after.rest) after.happens.1))
     (subst (λ (s : PlayedAdapter). H s b after.rest) after.happens.0 after.goes_on)
 
--- If a read is performed at a place, its request is answered.
 pub reads : (place : Place) (address : ℕ) (wanted : Wanted) (said : Text) (a b : Session) (text : Text)
     → Performs (tasks.Read place address wanted) said a b text → ReadsAt (Ok place) wanted address said a b text
 reads (Register offset) address wanted said a b text does =
@@ -121,13 +117,11 @@ settles time said a b text does =
       text_is = answered.text_is ∙ ap (λ (l : Text). answered.told ++ l) plays.1;
     }
 
--- A task that fits before the recorder begins it fits afterwards, too.
 pub begun_fits : (task : Task) (into : List ℕ) (a begun : Session) → begun ≡ task_begun task a → Fits task into a.device
     → Fits task into begun.device
 begun_fits task into a begun same fits =
     subst (λ (device : PlayedAdapter). Fits task into device) (sym (ap (λ (s : Session). s.device) same)) fits
 
--- A task that fits before moves fits afterwards, too.
 pub moved_fits : (task : Task) (into : List ℕ) (moves : List Move) (a b : PlayedAdapter) (told : List Told) → InOrder Makes moves a b told
     → Fits task into a → Fits task into b
 moved_fits (tasks.Read (Register offset) address wanted) into moves a b told made fits = fits
@@ -147,13 +141,12 @@ moved_fits (tasks.SetClock time) into moves a b told made fits = tt
 abbrev pub met_by : Task → Session → Session
 met_by task session = record session { agenda = task_agenda task session.device.machine.world.adapter session.agenda }
 
--- what answers a task after its recorder began it
+-- What answers a task after the recorder began the task's event.
 abbrev pub AnswersBegun : Task → (said : Text) → Session → Session → Text → Type 0
 AnswersBegun task said a b text =
     AnswersAfter (task_moves task a.device a.agenda) (task_wanted task a.device.machine.world.adapter a.agenda) task said (met_by task a) b
     text
 
--- If a task is answered after its recorder began it, the task is performed.
 pub performs : {T E : Type 0} (result : Result T E) (task : Task) (said : Text) (a begun b : Session)
     (before after : Option (List ℕ)) → begun ≡ task_begun task a → TellsAnswer result before after (AnswersBegun task said begun) b
     → TellsAnswer result before after (Performs task said a) b

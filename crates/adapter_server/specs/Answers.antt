@@ -16,8 +16,8 @@ use Rattle.bus.specs.declared.event.Access.TheVariants.{Loads, Reads}
 use Rattle.access_names.specs.Rings.{ring_from, ring_of_engine}
 use Rattle.access_names.specs.declared.engine_fault.Engine.TheVariants.{Receive, Transmit}
 use Rattle.access_names.specs.declared.ring_words.RingWords.{RingWords}
-use Rattle.pci_function.specs.Ports.{after_write, answer_at}
-use Rattle.pci_function.specs.declared.port_width.PortWidth.{PortWidth}
+use Rattle.registers.specs.Ports.{after_write, answer_at}
+use Rattle.registers.specs.declared.port_width.PortWidth.{PortWidth}
 use Rattle.played_adapter.specs.Moves.{AfterMoves}
 use Rattle.played_adapter.specs.Playing.{Steps}
 use Rattle.played_adapter.specs.Requests.{ServesAccess, ServesArrival, ServesChoice, ServesLoad, ServesSettle}
@@ -83,7 +83,7 @@ pub record Answered (Happens : Text → Type 0) (line : Text) (text : Text) : Ty
 
 -- The answer is only this line, and the state afterwards is `b'`.
 pub record Replies {S : Type 0} (line : Text) (b' b : S) (text : Text) : Type 0 where
-  -- the state afterwards
+  -- the state afterwards is `b'`
   pub after : b ≡ b'
   -- only the line was written
   pub text_is : text ≡ line
@@ -96,26 +96,26 @@ Refuses refusal a b text = Replies (refusal_line refusal) a b text
 abbrev pub Reaches : {S : Type 0} → (Answers : S → Text → Type 0) → Text → Type 0
 Reaches {S} Answers text = (text ≡ []) ⊎ ((b : S) × Answers b text)
 
--- The answer was written. At an error, a beginning of a complete answer was written, or nothing.
+-- If the result is Ok, a complete answer was written. If the result is an error, a beginning of a complete answer was written, or nothing.
 abbrev pub TellsAnswer : {T E S : Type 0} → Result T E → (before after : Option (List ℕ)) → (Answers : S → Text → Type 0) → S → Type 0
 TellsAnswer (Ok value) before after Answers b = Tells before after (Answers b)
 TellsAnswer (Err error) before after Answers b = TellsPart before after (Reaches Answers)
 
 -- Answers about the adapter and its memory.
 
--- Something happens to the adapter and its memory, and the observer `Lines` is told about it. Only the adapter, its memory, and what the
--- server keeps change.
+-- Something happens to the played adapter, and the observer `Lines` is told about it. `said` is what the log prints for the request.
 pub record Played (Happens : PlayedAdapter → PlayedAdapter → List Told → Type 0) (said : Text) (a b : Session) (text : Text) : Type 0 where
   -- what the observer is told
   pub told : List Told
   -- something happens, about which the observer is told this
   pub happens : Happens a.device b.device told
-  -- only the adapter, its memory, and what the server keeps have changed
+  -- only the played adapter and what the server keeps have changed
   pub after : b ≡ record a { device = b.device; kept = kept_after told a.kept }
   -- the text about what was told is written
   pub text_is : text ≡ text_of a.kept said told
 
--- The player meets an access. The player's moves and random steps are played, the access happens, and cycles are played.
+-- The player, if there is one, meets an access, and its moves are played. Then random steps are played, the access happens, and cycles
+-- follow.
 abbrev pub Accessed : Access → (said : Text) → Session → Session → Text → Type 0
 Accessed access said a b text = Played (AfterMoves (moves_before access a) (ServesAccess access)) said (met_before access a) b text
 
@@ -141,12 +141,13 @@ ReadsAt (Ok (Register offset)) wanted address said a b text = ReadsRegister offs
 ReadsAt (Ok Memory) wanted address said a b text = ReadsMemory address wanted said a b text
 ReadsAt (Err refusal) wanted address said a b text = Refuses refusal a b text
 
--- Bytes are written at this place. Without a place, the request is refused.
+-- Bytes are written at this place, and the answer is `OK`. Without a place, the request is refused.
 abbrev pub WritesAt : Result Place Refusal → (address : ℕ) → List ℕ → (said : Text) → Session → Session → Text → Type 0
 WritesAt (Ok place) address bytes said a b text = Answered (Accessed (write_to place address bytes) said a b) ok_line text
 WritesAt (Err refusal) address bytes said a b text = Refuses refusal a b text
 
--- The player meets a request that begins a round. The player's moves are played, and then something happens.
+-- The player, if there is one, meets a request with this first word, which begins a round. Its moves are played, and then something
+-- happens.
 abbrev pub BeginsRound : (word : Text) → (Happens : PlayedAdapter → PlayedAdapter → List Told → Type 0) → (said : Text)
     → Session → Session → Text → Type 0
 BeginsRound word Happens said a b text =
@@ -174,7 +175,7 @@ PlaysSettle line a b told = (moved : ℕ) × (line ≡ number_line moved) × Ser
 abbrev pub PlaysOffer : (frame : List ℕ) → (line : Text) → PlayedAdapter → PlayedAdapter → List Told → Type 0
 PlaysOffer frame line a b told = (line ≡ ok_line) × (b ≡ record a { offered = a.offered ++ frame ∷ [] }) × (told ≡ [])
 
--- The player meets a request for a number below a limit. The number is the answer.
+-- The player, if there is one, meets a request for a number below a limit. The number is the answer.
 abbrev pub AnswersChoice : (limit : ℕ) → (said : Text) → Session → Session → Text → Type 0
 AnswersChoice limit said a b text = (number : ℕ)
     × Answered (Played (ServesChoice limit (wanted_number a) number) said (meeting Choice (codes "choose") a) b) (number_line number) text
@@ -211,16 +212,16 @@ enabled_with works wire_free = record {
   phy = works kinds.PhyTick;
 }
 
--- The kinds of steps that would do something are the answer.
+-- The kinds of steps whose outcome now would be neither `Nothing` nor `WireFull` are the answer.
 pub record AnswersEnabled (a b : Session) (text : Text) : Type 0 where
-  -- whether a step of a kind has another outcome than `Nothing`
+  -- whether a step of this kind has another outcome than `Nothing`, whatever is in memory and on the wire
   pub works : StepKind → Bool
-  -- `works` is right for each kind
+  -- `TellsWork` holds of `works` for each kind
   pub each : (kind : StepKind) → TellsWork kind (works kind) a.device.machine.world.adapter
   -- the line of these kinds is the answer
   pub replies : Replies (enabled_line (enabled_with works a.device.wire_free)) a b text
 
--- The name of this place is the answer. Without a place, the request is refused.
+-- The name of the target at this place is the answer. Without a place, the request is refused.
 abbrev pub AnswersTarget : Result Place Refusal → (address : ℕ) → Session → Session → Text → Type 0
 AnswersTarget (Ok place) address a b text = Replies (word_line (target_text (target_at place address a))) a b text
 AnswersTarget (Err refusal) address a b text = Refuses refusal a b text
@@ -231,9 +232,9 @@ pub record AnswersRings (a b : Session) (text : Text) : Type 0 where
   pub receive : RingWords
   -- the registers of the transmit ring
   pub transmit : RingWords
-  -- the receive ring with these registers is that of the adapter
+  -- the receive ring with these registers is the adapter's receive ring
   pub receive_is : ring_from receive ≡ ring_of_engine Receive a.device.machine.world
-  -- the transmit ring with these registers is that of the adapter
+  -- the transmit ring with these registers is the adapter's transmit ring
   pub transmit_is : ring_from transmit ≡ ring_of_engine Transmit a.device.machine.world
   -- the line of both rings is the answer
   pub replies : Replies (rings_line receive transmit) a b text
@@ -259,7 +260,7 @@ pub record SettlesUntil (time : ℕ) (said : Text) (a b : Session) (text : Text)
   -- after that, only the clock changes
   pub after : b ≡ record settled { clock = time }
 
--- The adapter settles, the clock is set to this time, and the time is the answer. Without a time, the request is refused.
+-- The adapter settles, the clock is set to this time, and the time is the answer. If there is no time, the request is refused.
 abbrev pub MovesClock : (time : Option ℕ) → (said : Text) → Session → Session → Text → Type 0
 MovesClock (Some time) said a b text = Answered (SettlesUntil time said a b) (decimal_line time) text
 MovesClock None said a b text = Refuses refusals.Value a b text
@@ -277,21 +278,22 @@ pub record OnSession (Answers : Session → Session → Text → Type 0) (a b : 
   -- nothing changes but the session
   pub after : b ≡ record a { session = b.session }
 
--- the line that reports a change of the interrupt line from one session to another, or no text if its level is equal in both
+-- the line that reports a change of the interrupt line from one session to another, or no text if both sessions have the same level
 abbrev pub line_between : Session → Session → Text
 line_between was is = line_moved (is_asserted was.device.machine.world.adapter) (is_asserted is.device.machine.world.adapter)
 
--- A copy of the session is saved.
+-- A copy of the session is saved, and the answer is `OK`.
 abbrev pub Saves : Server → Server → Text → Type 0
 Saves a b text = (address : Option Ptr) × Replies ok_line (record a { saved = Some (copied address a.session) }) b text
 
--- A copy of the saved session becomes the session. If this changes the interrupt line, the change is reported.
+-- A copy of the saved session becomes the session. A change of the interrupt line is reported before `OK`. Without a saved session, the
+-- request is refused.
 abbrev pub Restores : (saved : Option Session) → Server → Server → Text → Type 0
 Restores (Some session) a b text = (address : Option Ptr)
     × Replies (line_between a.session session ++ ok_line) (record a { session = copied address session }) b text
 Restores None a b text = Refuses refusals.Saved a b text
 
--- A report is the answer.
+-- The report that a request `Look` asks for is the answer.
 abbrev pub Looks : Look → Session → Session → Text → Type 0
 Looks (looks.Port width port) a b text = AnswersPort width port a b text
 Looks looks.Endianness a b text = Replies (word_line (codes "little")) a b text
@@ -326,23 +328,23 @@ abbrev pub said_at : Result Place Refusal → (address : ℕ) → (said : Text) 
 said_at (Ok place) address said session = concat (said ∷ codes " -> " ∷ target_text (target_at place address session) ∷ [])
 said_at (Err refusal) address said session = said
 
--- what the log prints for an access at this place: its line, and after `log targets` also the name of the access's target
+-- what the log prints for an access: its line, and after `log targets`, if the access has a place, also the name of the access's target
 abbrev pub access_said : Result Place Refusal → (address : ℕ) → (said : Text) → Session → Text
 access_said place address said session = if session.targets then said_at place address said session else said
 
--- what the log prints for a request: its line, and for an access after `log targets` also the name of the access's target
+-- what the log prints for a request: its line, and for an access with a place, after `log targets`, also the name of the access's target
 abbrev pub request_said : Request → (said : Text) → Session → Text
 request_said (requests.Read wanted address) said session = access_said (place_in session address (size_of wanted)) address said session
 request_said (requests.Write address bytes) said session = access_said (place_in session address (length bytes)) address said session
 request_said request said session = said
 
--- A request is answered.
+-- The server answers a request. `said` is the line of the request.
 abbrev pub Does : Request → (said : Text) → Server → Server → Text → Type 0
 Does requests.Save said a b text = Saves a b text
 Does requests.Restore said a b text = Restores a.saved a b text
 Does request said a b text = OnSession (SessionDoes request (request_said request said a.session)) a b text
 
--- A request is answered, or refused.
+-- The server answers the request of the line `said`, or refuses this line.
 abbrev pub AnswersTo : Result Request Refusal → (said : Text) → Server → Server → Text → Type 0
 AnswersTo (Ok request) said a b text = Does request said a b text
 AnswersTo (Err refusal) said a b text = Refuses refusal a b text

@@ -1,7 +1,7 @@
 -- The state before the first request (our choice).
 use denote.RawPtr.{Ptr}
 use Rattle.std.specs.Prelude.{[]}
-use Rattle.pci_function.specs.ConfigSpace.{new_function}
+use Rattle.registers.specs.ConfigSpace.{new_function}
 use Rattle.std.specs.Prelude.{ℕ, Option, false}
 use Rattle.std.specs.Prelude.{replicate}
 use Rattle.std.specs.Option.{option_map}

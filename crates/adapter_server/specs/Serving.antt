@@ -16,11 +16,11 @@ use Rattle.adapter_server.specs.declared.options.ServeOptions.{ServeOptions}
 use Rattle.server_requests.specs.declared.refusal.Refusal.TheVariants as refusals
 use Rattle.adapter_server.specs.declared.snapshot.Server.{Server}
 
--- a server before the first request: nothing is saved
+-- a server before the first request: a new session, and no saved copy
 abbrev pub new_server : ServeOptions → Option Player → (address : Option Ptr) → Server
 new_server options player address = record { session = new_session options player address; saved = None }
 
--- `Holds` is true for a server before the first request, for some address of its memory.
+-- `Holds` is true for a new server with these options and this player, for some address of its memory.
 abbrev pub FromNew : ServeOptions → Option Player → (Holds : Server → Type 0) → Type 0
 FromNew options player Holds = (address : Option Ptr) × Holds (new_server options player address)
 
@@ -55,7 +55,7 @@ pub record ServesFront (bytes : List ℕ) (begin : Server) (text : Text) : Type 
   -- the text consists of the answers, one after the other
   pub serves : Serves answered begin last text
 
--- a beginning of the answer to the first of these lines, or nothing
+-- a beginning of the answer to the first of these lines, or no text
 abbrev pub BeginsNext : List Text → Server → Text → Type 0
 BeginsNext [] a text = text ≡ []
 BeginsNext (line ∷ later) a text = Begins (Reaches (Turns line a)) text
@@ -97,15 +97,15 @@ pub record ServesTo (bytes : List ℕ) (begin : Server) (left : Option Player) (
   pub player : left ≡ player_of last.session.agenda last.session.kept.recorder
 
 -- A new server with this player answers all lines, and `left` is the player after them.
-abbrev pub ServesAll : ServeOptions → Option Player → (bytes : List ℕ) → (left : Option Player)
+unfoldable pub ServesAll : ServeOptions → Option Player → (bytes : List ℕ) → (left : Option Player)
     → (before after : Option (List ℕ)) → Type 0
 ServesAll options player bytes left before after =
     FromNew options player (λ begin. Tells before after (ServesTo bytes begin left))
 
 -- A new server with this player answers the first n lines, for some n.
-abbrev pub ServesSome : ServeOptions → Option Player → (bytes : List ℕ) → (before after : Option (List ℕ)) → Type 0
+unfoldable pub ServesSome : ServeOptions → Option Player → (bytes : List ℕ) → (before after : Option (List ℕ)) → Type 0
 ServesSome options player bytes before after = FromNew options player (λ begin. Tells before after (ServesFront bytes begin))
 
 -- A new server with this player answers the first n lines, for some n. Then a beginning of the next answer is written, or nothing.
-abbrev pub ServesPart : ServeOptions → Option Player → (bytes : List ℕ) → (before after : Option (List ℕ)) → Type 0
+unfoldable pub ServesPart : ServeOptions → Option Player → (bytes : List ℕ) → (before after : Option (List ℕ)) → Type 0
 ServesPart options player bytes before after = FromNew options player (λ begin. Tells before after (ServesBegun bytes begin))

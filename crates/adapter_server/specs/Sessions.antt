@@ -11,7 +11,7 @@ use Rattle.access_names.specs.declared.target.Target.TheVariants as targets
 use Rattle.adapter.specs.State.{AdapterState}
 use Rattle.bus.specs.declared.event.Access.{Access}
 use Rattle.bus.specs.declared.event.Access.TheVariants.{Loads, Reads, Stores, Writes}
-use Rattle.pci_function.specs.ConfigSpace.{registers_of}
+use Rattle.registers.specs.ConfigSpace.{registers_of}
 use Rattle.played_adapter.specs.Moves.{access_moves, due_in_agenda, met, request_moves}
 use Rattle.played_adapter.specs.Playing.{has_bytes, reported}
 use Rattle.played_adapter.specs.declared.choices.Move.{Move}
@@ -69,8 +69,8 @@ abbrev pub meets_registers : (registers address count : ℕ) → Bool
 meets_registers registers address count =
     nat_lt 0 count && nat_lt address (registers + register_bytes) && nat_lt registers (address + count)
 
--- the target of an access of `count` bytes at an address, or why it is refused; `in_memory` is whether memory contains all of these bytes;
--- without an address of the first register, no address reaches registers
+-- The target of an access of `count` bytes at an address, or why the access is refused. `in_memory` is whether memory contains all of these
+-- bytes. Without an address of the first register, no address reaches registers.
 abbrev pub place_with : Option ℕ → (in_memory : Bool) → (address count : ℕ) → Result Place Refusal
 place_with (Some registers) in_memory address count =
     if is_register registers address count then Ok (Register (address - registers))
@@ -79,7 +79,7 @@ place_with (Some registers) in_memory address count =
     else Err refusals.Address
 place_with None in_memory address count = if in_memory then Ok Memory else Err refusals.Address
 
--- the target of an access of `count` bytes at an address, or why it is refused
+-- the target of an access of `count` bytes at an address, or why the access is refused
 abbrev pub place_in : Session → (address count : ℕ) → Result Place Refusal
 place_in session address count = place_with (registers_of session.function) (has_bytes session.device address count) address count
 
@@ -88,7 +88,7 @@ abbrev pub write_to : Place → (address : ℕ) → List ℕ → Access
 write_to (Register offset) address bytes = Writes offset (from_le_bytes w32 bytes)
 write_to Memory address bytes = Stores address bytes
 
--- These bytes can be written at this place: there are four bytes for a register, or memory contains all of the bytes.
+-- The bytes fit the place: there are four bytes for a register, or memory contains all of the bytes.
 abbrev pub Takes : Place → (address : ℕ) → List ℕ → PlayedAdapter → Type 0
 Takes (Register offset) address bytes device = length bytes ≡ 4
 Takes Memory address bytes device = has_bytes device address (length bytes) ≡ true
@@ -99,7 +99,8 @@ Takes Memory address bytes device = has_bytes device address (length bytes) ≡ 
 abbrev pub met_agenda : Before → (name : Text) → Option AgendaState → Option AgendaState
 met_agenda before name agenda = option_map (met before name) agenda
 
--- the recorder, if there is one, after an access or a request that an agenda meets began; the same recorder if there is no agenda
+-- The recorder, if there is one, whose event is the next access or request with this name that the agenda meets. Without an agenda, the
+-- recorder doesn't change.
 abbrev pub begun_recorder : Before → (name : Text) → Option AgendaState → Option RecorderState → Option RecorderState
 begun_recorder before name agenda recorder =
     option_map_or (λ (agenda : AgendaState). option_map (begun (coming before name agenda)) recorder) agenda recorder
@@ -111,8 +112,8 @@ meeting before name session = record session {
   kept = record session.kept { recorder = begun_recorder before name session.agenda session.kept.recorder };
 }
 
--- the moves of the agenda, if there is one, before an access of a target with this name, or a request with this first word; a request for a
--- number has no moves
+-- The moves of the agenda, if there is one, before an access of a target with this name, or a request with this first word. A request for a
+-- number has no moves.
 abbrev pub moves_with : Before → (name : Text) → PlayedAdapter → Option AgendaState → List Move
 moves_with Read name device agenda = option_map_or (λ (agenda : AgendaState). access_moves Read name agenda device) agenda []
 moves_with Write name device agenda = option_map_or (λ (agenda : AgendaState). access_moves Write name agenda device) agenda []
@@ -123,7 +124,7 @@ moves_with Choice name device agenda = []
 abbrev pub moves_at : Before → (name : Text) → Session → List Move
 moves_at before name session = moves_with before name session.device session.agenda
 
--- the number of the agenda, if there is one, that is due at an access of a target with this name, or a request with this first word; or 0
+-- the number that the agenda's first due action chooses at an access of a target with this name, or a request with this first word; or 0
 abbrev pub wanted_with : Before → (name : Text) → Option AgendaState → ℕ
 wanted_with before name agenda =
     option_map_or (λ (agenda : AgendaState). chosen (due_in_agenda before name agenda)) agenda 0
@@ -155,10 +156,10 @@ target_in Memory address adapter = memory_target_in adapter address
 abbrev pub target_at : Place → (address : ℕ) → Session → Target
 target_at place address session = target_in place address session.device.machine.world.adapter
 
--- the moves before this access
+-- the moves of the player, if there is one, before this access
 abbrev pub moves_before : Access → Session → List Move
 moves_before access session = moves_at (before_of access) (target_text (target_of access session)) session
 
--- the session after its player has met this access
+-- the session after its player, if there is one, has met this access
 abbrev pub met_before : Access → Session → Session
 met_before access session = meeting (before_of access) (target_text (target_of access session)) session

@@ -51,7 +51,7 @@ task_word (tasks.Offer frame) = codes "offer"
 task_word (tasks.Choose limit) = codes "choose"
 task_word (tasks.SetClock time) = []
 
--- the name that a player meets: the name of an access's target, or the first word of another request
+-- the name that a player meets: the name of an access's target, or the first word of another request; an empty text for `SetClock`
 abbrev pub task_name : Task → AdapterState → Text
 task_name (tasks.Read place address wanted) adapter = target_text (target_in place address adapter)
 task_name (tasks.Write place address bytes) adapter = target_text (target_in place address adapter)
@@ -94,7 +94,7 @@ task_said task said session = if session.targets then named_line said task sessi
 
 -- What is played.
 
--- The bytes of an access fit its place, and a read gets as many bytes as it asks for.
+-- The bytes of an access fit the place of the access, and `into` has the number of bytes that a read asks for.
 abbrev pub Fits : Task → (into : List ℕ) → PlayedAdapter → Type 0
 Fits (tasks.Read place address wanted) into device = (length into ≡ size_of wanted) × Takes place address into device
 Fits (tasks.Write place address bytes) into device = Takes place address bytes.now device

@@ -14,7 +14,8 @@ use server_requests::Wanted;
 use std::alloc::Global;
 use std::io::Write;
 
-/// Plays and answers an access. In the log, the access has the name of its target after `log targets`.
+/// Plays an access after the moves of the player, and answers the access. After the request `log targets`, the log's
+/// line of the access ends with the name of the access's target.
 fn access<W: Write>(
     session: &mut Session,
     alloc: Global,

@@ -45,8 +45,8 @@ pub(crate) fn perform<W: Write>(
     }
 }
 
-/// Answers `clock_step` or `clock_set`: settles, sets the clock to this time, and answers with this time. Refuses if
-/// there is no time.
+/// Answers `clock_step` or `clock_set`: settles, sets the clock to this time, and answers with this time. Refuses the
+/// request if `time` is `None`.
 fn move_clock<W: Write>(
     session: &mut Session,
     alloc: Global,
@@ -67,7 +67,7 @@ fn move_clock<W: Write>(
 
 /// Answers a request that a session answers. Writes nothing at `save` and `restore`, which the server answers.
 ///
-/// In the log, an access has the name of its target after `log targets`.
+/// After the request `log targets`, the log's line of an access ends with the name of the access's target.
 fn answer_session<W: Write>(
     session: &mut Session,
     alloc: Global,
@@ -121,7 +121,7 @@ impl Server {
     ghost use Rattle.adapter_server.specs.Answers.{Does};
     ghost use Rattle.adapter_server.specs.Serving.{AnswersNext};
 
-    /// Answers a request.
+    /// Answers a request. `said` is the line of the request.
     fn answer<W: Write>(
         &mut self,
         alloc: Global,

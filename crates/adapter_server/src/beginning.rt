@@ -10,8 +10,8 @@ use crate::snapshot::Server;
 use adapter::Adapter;
 use adapter::offsets::PBA;
 use dma_memory::HostMemory;
-use pci_function::PciFunction;
 use played_adapter::{Frames, PlayedAdapter};
+use registers::PciFunction;
 use server_output::{AnswerError, Faults, Kept};
 use std::alloc::{AllocError, Global};
 use step_schedules::Player;
@@ -35,8 +35,8 @@ fn new_device(alloc: Global, options: &ServeOptions) -> Result<PlayedAdapter, Al
     PlayedAdapter::watched(alloc, adapter, memory, options.seed)
 }
 
-/// Returns a server before the first request: a new adapter with memory of zeros, this player, log and events off, a
-/// clock at 0, and no saved copy.
+/// Returns a server before the first request: a new adapter with memory of zeros, and this player. Log and events are
+/// off, the clock is at 0, and there is no saved copy.
 pub(crate) fn new_server(
     alloc: Global,
     options: &ServeOptions,

@@ -17,7 +17,7 @@ use std::alloc::Global;
 use std::io::Write;
 use std::mem;
 
-/// Answers `enabled` with the kinds of steps that would do something.
+/// Answers `enabled` with the kinds of steps whose outcome now would be neither `Nothing` nor `WireFull`.
 fn say_enabled_steps<W: Write>(
     session: &Session,
     alloc: Global,
@@ -38,8 +38,8 @@ fn say_enabled_steps<W: Write>(
     say_enabled(alloc, out, enabled)
 }
 
-/// Answers `target` with the name of what an access of these bytes would read or write. Refuses if the access would be
-/// refused.
+/// Answers `target` with the name of the register or memory that an access of `count` bytes at this address reaches.
+/// Refuses if the access would be refused.
 fn say_target<W: Write>(
     session: &Session,
     alloc: Global,

@@ -41,7 +41,7 @@ fn meet_named<O: Observer>(
 impl Session {
     ghost use Rattle.adapter_server.specs.Tasks.{task_begun};
 
-    /// The recorder, if there is a player, begins a task, unless the task sets the clock.
+    /// The recorder, if there is a player, begins the event of a task, unless the task sets the clock.
     #[inline]
     pub(crate) fn begin(&mut self, alloc: Global, task: Task<'_>) -> Result<(), AllocError>
         ensures { OnOk result (self.new ≡ task_begun task.entry self.old) }

@@ -3,8 +3,7 @@
 ghost use Rattle.std.specs.Prelude.{◌≡◌};
 ghost use Rattle.adapter_server.specs.Defaults.{default_options};
 
-use eeprom::Image;
-use mdic_phy::Link;
+use eeprom_phy::{Image, Link};
 
 /// The options of a served adapter.
 #[derive(Clone, Copy)]
@@ -15,7 +14,7 @@ pub struct ServeOptions {
     pub registers: u64,
     /// The contents of the EEPROM. A wrong checksum isn't corrected.
     pub image: Image,
-    /// The setting of the link: the number of ticks until it is up, or never.
+    /// The setting of the link: the number of ticks of the PHY until the link is up, or never.
     pub link: Link,
     /// The value written once to PBA. Its field RXA is the receive part of the packet buffer in kilobytes: an even
     /// number from 2 to 48. With any other value, PBA is as after power-on.

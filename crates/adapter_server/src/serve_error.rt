@@ -13,9 +13,9 @@ use std::alloc::AllocError;
 pub enum ServeError {
     /// Memory was refused.
     Memory,
-    /// Reading from the input failed.
+    /// Reading from the input failed, or there were too many lines, or too many reads of one line.
     Read,
-    /// Writing to the output failed.
+    /// Writing to the output failed, or the writer took no byte, or there were too many writes of one text.
     Write,
 }
 

@@ -60,7 +60,7 @@ fn serve_lines<R: BufRead, W: Write>(
 
 /// Serves an adapter: reads requests from `input`, one per line, and writes their answers to `output`.
 ///
-/// Answers each line, and flushes `output` after each answer, before it reads more bytes. Refuses a line that isn't a
+/// Answers each line, and flushes `output` after each answer, before reading further bytes. Refuses a line that isn't a
 /// request, and a line of more than 131,200 bytes. At the end of the input, returns the player after the last line.
 ///
 /// Pass a buffered writer: `serve` writes an answer in pieces.

@@ -4,8 +4,8 @@ ghost use Rattle.std.specs.Prelude.{◌≡◌, ◌-◌, None, Some, if◌then◌
 ghost use Rattle.adapter_server.specs.Sessions.{is_register, meets_registers, place_with};
 
 use crate::task::Task;
-use pci_function::PciFunction;
 use played_adapter::PlayedAdapter;
+use registers::PciFunction;
 use server_output::{Kept, joined};
 use server_requests::{Refusal, Setting};
 use std::alloc::{AllocError, Global};
@@ -17,10 +17,10 @@ const REGISTER_BYTES: u64 = 0x2_0000;
 /// The size of a register, in bytes.
 const WORD_BYTES: u64 = 4;
 
-/// An adapter that is served, between two requests.
+/// The state of an adapter that is served, between two requests.
 #[derive(Drop)]
 pub struct Session {
-    /// The adapter, its memory, and what is played before and after an access.
+    /// The adapter, its memory, the offered frames, and the settings of what is played before and after an access.
     pub device: PlayedAdapter,
     /// The PCI function, which determines the address of the registers.
     pub function: PciFunction,
@@ -30,14 +30,14 @@ pub struct Session {
     pub kept: Kept,
     /// The agenda of the player, if there is a player.
     pub agenda: Option<Agenda>,
-    /// Whether the log, when it is on, contains the names of the targets of accesses.
+    /// Whether the log, when it is on, contains the names of the targets in the lines of accesses.
     pub targets: bool,
 }
 
 /// The target of an access.
 #[derive(Clone, Copy)]
 pub enum Place {
-    /// The register at this offset.
+    /// The register at this offset, in bytes.
     Register(u32),
     /// Bytes of memory.
     Memory,
@@ -125,7 +125,7 @@ impl Session {
         }
     }
 
-    /// Sets how later requests are answered. While a schedule is played, `Interleave` turns random steps off.
+    /// Changes a setting for later requests. While a schedule is played, `Interleave` turns random steps off.
     pub(crate) fn set(&mut self, setting: Setting)
         ensures { self.new ≡ with_setting setting self.old }
     {
@@ -143,8 +143,8 @@ impl Session {
         }
     }
 
-    /// Returns the text that the log prints for an access after `log targets`: the access's line, and the name of its
-    /// target.
+    /// Returns the text that the log prints for an access after `log targets`: the line of the access, and the name of
+    /// the access's target.
     pub(crate) fn named_line(
         &self,
         alloc: Global,

@@ -1,4 +1,4 @@
-// A server: an adapter that is served, and the copy that `save` made last.
+// The state of a server: an adapter that is served, and the copy that `save` made last.
 
 ghost use Rattle.std.specs.Prelude.{◌≡◌};
 
@@ -29,7 +29,7 @@ impl Server {
     ghost use Rattle.adapter_server.specs.Answers.{Restores, Saves, TellsAnswer};
     ghost use Rattle.adapter_server.specs.Serving.{player_of};
 
-    /// Returns the player, and drops everything else.
+    /// Returns the player, or `None` if the agenda or the recorder is missing. Drops everything else.
     pub(crate) fn into_player(mut self) -> Option<Player>
         ensures { result ≡ player_of self.session.agenda self.session.kept.recorder }
     {
@@ -51,7 +51,8 @@ impl Server {
         say(out, b"OK\n")
     }
 
-    /// Answers `restore`: replaces the session by a copy of the saved one. Refuses if nothing was saved.
+    /// Answers `restore`: replaces the session by a copy of the saved session, and reports a change of the interrupt
+    /// line. Refuses if nothing was saved.
     pub(crate) fn restore<W: Write>(&mut self, out: &mut W) -> Result<(), AnswerError>
         ensures { TellsAnswer result (W.contents out.old) (W.contents out.new)
             (Restores self.old.saved self.old) self.new }

@@ -51,7 +51,7 @@ pub(crate) fn target_at(machine: &Machine, place: Place, address: u64) -> Target
     }
 }
 
-/// Returns the value of these four bytes, the lowest first.
+/// Returns the number with these four bytes, the lowest first.
 fn register_value(bytes: &[u8]) -> u32
     requires { length bytes.now ≡ 4 }
     ensures { result ≡ from_le_bytes w32 bytes.now }
@@ -134,6 +134,7 @@ impl<'a> Task<'a> {
     }
 
     /// Returns the name that a player meets: the name of an access's target, or the first word of another request.
+    /// Returns an empty text if the task sets the clock.
     pub(crate) fn name(self, alloc: Global, machine: &Machine) -> Result<String, AllocError>
         ensures { IfOk result (λ name. string_bytes name ≡ task_name self.entry machine.now.world.adapter) }
     {

@@ -1,4 +1,4 @@
--- Cycles after an access or an arrival, and accesses that nothing comes with.
+-- Cycles after an access or an arrival, and plain accesses.
 use Rattle.std.proofs.Common.{◌≡◌, ◌++◌, ◌∷◌, [], ◌∙◌, ◌&&◌, ℕ, Bool, List, Option, None, Some, ap, false, if◌then◌else◌, length}
 use Rattle.std.proofs.Common.{nat_lt, refl, subst, sym, true}
 use Rattle.std.proofs.lemmas.List.{append-nil}
@@ -22,7 +22,6 @@ use Rattle.nic82540em.specs.declared.watched.WatchedAdapter.{WatchedAdapter}
 laws : Composes HearsBetween
 laws = record { stays = λ a. refl; joins = heard_joins }
 
--- Something happened, and then cycles were played, or no cycle.
 followed_player : (paced : Bool) (Happens : PlayedAdapter → PlayedAdapter → List Told → Type 0) (a middle b : PlayedAdapter)
     (before now after : Events) → Tells HearsBetween before now (Happens a middle)
     → Tells HearsBetween now after (Follows paced middle b) → Tells HearsBetween before after (PacedOr paced Happens a b)
@@ -35,7 +34,6 @@ followed_player false Happens a middle b before now after one two = record {
       (laws.joins before now after one.told two.told one.hears two.hears);
 }
 
--- Something happened, and then cycles were played, or nothing happened. The schedule doesn't change.
 pub followed : (paced : Bool) (Happens : PlayedAdapter → PlayedAdapter → List Told → Type 0) (a middle b : WatchedAdapter)
     → Tells HearsBetween a.events middle.events (Happens a.player middle.player) → middle.agenda ≡ a.agenda
     → Heard (Follows paced) middle b → Heard (PacedOr paced Happens) a b
@@ -44,7 +42,6 @@ followed paced Happens a middle b one same two = (
   two.1 ∙ same,
 )
 
--- Events that are off don't change.
 kept : (events : Events) (event : Option KeptEvent) → events.on ≡ false → keeps events event ≡ events
 kept events None off = refl
 kept events (Some event) off =
@@ -55,20 +52,18 @@ unheard : (told : List Told) (events : Events) → events.on ≡ false → hears
 unheard [] events off = refl
 unheard (one ∷ rest) events off = ap (hears rest) (kept events (event_of one) off) ∙ unheard rest events off
 
--- An adapter without a schedule meets no access.
 unmet : (comes : Bool) (before : Before) (target : Target) (a : WatchedAdapter) → a.agenda ≡ None → MeetsIf comes before target a a
 unmet true before target a none =
     subst (λ (agenda : Option AgendaState). MeetsName before (target_text target) agenda a a) (sym none) refl
 unmet false before target a none = refl
 
--- If the maximum of `pace` is 0, no cycle follows.
 unpaced : (made : Bool) (Happens : PlayedAdapter → PlayedAdapter → List Told → Type 0) (a b : PlayedAdapter) (told : List Told) → a.pace ≡ 0
     → Happens a b told → PacedIf made Happens a b told
 unpaced true Happens a b told none happens =
     subst (λ (pace : ℕ). PacedOr (true && nat_lt 0 pace) Happens a b told) (sym none) happens
 unpaced false Happens a b told none happens = happens
 
--- What happens to a plain adapter is all that happens at an access, whatever an observer hears.
+-- At a plain adapter, what happens is the whole access: no schedule meets the access, no cycle follows, and events don't change.
 pub plain : {O : Type 0} (heard : O → O → List Told → Type 0) (now later : O) (comes made : Bool) (before : Before) (target : Target)
     (Happens : PlayedAdapter → PlayedAdapter → List Told → Type 0) (a b : WatchedAdapter) → IsPlain a
     → Tells heard now later (Happens a.player b.player) → b.events ≡ a.events → b.agenda ≡ a.agenda

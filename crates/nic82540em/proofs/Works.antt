@@ -26,7 +26,6 @@ by_number works Fault answer adapter is tells = ((λ yes zero. absurd (cc)), (λ
 by_number works (Delivered unit fate) answer adapter is tells =
     ((λ yes zero. absurd (cc)), (λ other. tells.1 (λ same. absurd (cc))))
 
--- A kind has work in the adapter if and only if a step of this kind returns another number than 0.
 pub has_work : (kind : StepKind) (works : Bool) (watched : WatchedAdapter) → steps.TellsWork kind works watched.player.machine.world.adapter
     → HasWork kind works watched
 has_work kind works watched tells answer b answered =
@@ -53,7 +52,6 @@ for_each watched take put moves done eeprom phy has0 has1 has2 has3 has4 has5 Rx
 for_each watched take put moves done eeprom phy has0 has1 has2 has3 has4 has5 EepromTick = has4
 for_each watched take put moves done eeprom phy has0 has1 has2 has3 has4 has5 PhyTick = has5
 
--- The sum of the bits of all kinds is the mask.
 pub possible : (watched : WatchedAdapter) (n0 n1 n2 n3 n4 n5 : ℕ) → TellsWork TxTake 1 n0 watched → TellsWork TxPut 2 n1 watched
     → TellsWork RxData 4 n2 watched → TellsWork RxDone 8 n3 watched → TellsWork EepromTick 16 n4 watched → TellsWork PhyTick 32 n5 watched
     → TellsPossible (n0 + n1 + n2 + n3 + n4 + n5) watched

@@ -13,8 +13,8 @@ use Rattle.access_names.specs.declared.target.Target.{Target}
 use Rattle.access_names.specs.declared.target.Target.TheVariants.{Register}
 use Rattle.bus.specs.declared.event.Access.{Access}
 use Rattle.bus.specs.declared.event.Access.TheVariants.{Loads, Reads, Stores, Writes}
-use Rattle.eeprom.specs.Image.{image_with}
-use Rattle.mdic_phy.specs.declared.phy.Link.{Link}
+use Rattle.eeprom_phy.specs.Image.{image_with}
+use Rattle.eeprom_phy.specs.declared.phy.Link.{Link}
 use Rattle.rx_engine.specs.declared.arrival.Fate.{Fate}
 use Rattle.nic82540em.specs.Numbers.{fate_number, is_receive_share, kind_with, link_with, outcome_number, refused}
 use Rattle.nic82540em.specs.Events.{HearsBetween, no_events, without_first}
@@ -50,7 +50,7 @@ abbrev pub Follows : (paced : Bool) → PlayedAdapter → PlayedAdapter → List
 Follows true a b told = player.Paced a b told
 Follows false a b told = (b ≡ a) × (told ≡ [])
 
--- An access or an arrival is made, or refused. Cycles follow if it is made and the maximum of `pace` isn't 0.
+-- An access or an arrival is made, or refused. Cycles follow if the access or arrival is made and the maximum of `pace` isn't 0.
 abbrev pub PacedIf : (made : Bool) → (PlayedAdapter → PlayedAdapter → List Told → Type 0) → PlayedAdapter → PlayedAdapter → List Told
     → Type 0
 PacedIf made Happens a b told = PacedOr (made && nat_lt 0 a.pace) Happens a b told
@@ -59,11 +59,11 @@ PacedIf made Happens a b told = PacedOr (made && nat_lt 0 a.pace) Happens a b to
 abbrev pub AccessedMet : Access → WatchedAdapter → WatchedAdapter → Type 0
 AccessedMet access a b = Heard (PacedIf true (player.Accessed access)) a b
 
--- Bytes are loaded, if memory contains them. Cycles follow a load that is made.
+-- If memory contains the bytes, the steps before an access are played, the bytes are loaded, and cycles follow, as `PacedIf` defines.
 abbrev pub LoadsMet : (address : ℕ) → (old new : List ℕ) → (answer : Bool) → WatchedAdapter → WatchedAdapter → Type 0
 LoadsMet address old new answer a b = Heard (PacedIf answer (player.AnswersLoad address old new answer)) a b
 
--- Bytes are stored, if memory contains their places. Cycles follow a store that is made.
+-- If memory contains the places, the steps before an access are played, the bytes are stored, and cycles follow, as `PacedIf` defines.
 abbrev pub StoresMet : (address : ℕ) → (bytes : List ℕ) → (answer : Bool) → WatchedAdapter → WatchedAdapter → Type 0
 StoresMet address bytes answer a b = Heard (PacedIf answer (player.AnswersStore address bytes answer)) a b
 
@@ -89,12 +89,12 @@ target_of (Stores address bytes) a = target_at address a
 abbrev pub Accessed : Access → WatchedAdapter → WatchedAdapter → Type 0
 Accessed access a b = AfterMeeting true (before_of access) (target_of access a) (AccessedMet access) a b
 
--- If memory contains the bytes, the schedule meets their load. Then the load is made or refused, as `LoadsMet` defines.
+-- If memory contains the bytes, the schedule, if there is one, meets their load. Then the load is made or refused, as `LoadsMet` defines.
 abbrev pub AnswersLoad : (address : ℕ) → (old new : List ℕ) → (answer : Bool) → WatchedAdapter → WatchedAdapter → Type 0
 AnswersLoad address old new answer a b =
     AfterMeeting (player.has_bytes a.player address (length old)) Read (target_at address a) (LoadsMet address old new answer) a b
 
--- If memory contains the places, the schedule meets the store. Then the store is made or refused, as `StoresMet` defines.
+-- If memory contains the places, the schedule, if there is one, meets the store. Then the store is made or refused, as `StoresMet` defines.
 abbrev pub AnswersStore : (address : ℕ) → (bytes : List ℕ) → (answer : Bool) → WatchedAdapter → WatchedAdapter → Type 0
 AnswersStore address bytes answer a b =
     AfterMeeting (player.has_bytes a.player address (length bytes)) Write (target_at address a) (StoresMet address bytes answer) a b
@@ -108,7 +108,7 @@ IsPlain a = (a.agenda ≡ None) × (a.player.pace ≡ 0) × (a.events.on ≡ fal
 abbrev pub Settles : (moved : ℕ) → WatchedAdapter → WatchedAdapter → Type 0
 Settles moved a b = Heard (ServesSettle moved) a b
 
--- The oldest frame is taken off the wire, if there is one and it fits.
+-- The oldest frame is taken off the wire, if there is a frame and it fits. The answer is the frame's length, or 0 if there is no frame.
 abbrev pub AnswersTaking : (old new : List ℕ) → (answer : ℕ) → WatchedAdapter → WatchedAdapter → Type 0
 AnswersTaking old new answer a b = Silently (player.AnswersTaking old new answer) a b
 
@@ -124,7 +124,7 @@ image_of options = if options.has_image then options.image else image_with optio
 abbrev pub with_missed : (count : ℕ) → AdapterState → AdapterState
 with_missed count adapter = record adapter { missed_packets = count }
 
--- a new adapter with the EEPROM of the options and this link; PBA was written with the kilobytes of the options, and MPC has their count
+-- a new adapter with the EEPROM of the options and this link; PBA was written with the options' kilobytes, and MPC has the options' count
 abbrev pub adapter_of : AdapterOptions → Link → AdapterState
 adapter_of options link = with_missed options.missed (after_write pba options.receive_kilobytes (new_adapter (image_of options) link))
 
@@ -156,7 +156,8 @@ pub record StepAnswered (kind : StepKind) (number : ℕ) (a b : WatchedAdapter) 
   -- the step is played
   pub plays : Heard (Steps kind outcome) a b
 
--- A step of this kind is played, and the number of its outcome is the answer. If there is no kind, nothing happens.
+-- A step of this kind is played, and the number of its outcome is the answer. If there is no kind, nothing happens, and the answer is
+-- `refused`.
 abbrev pub AnswersKind : Option StepKind → (answer : ℕ) → WatchedAdapter → WatchedAdapter → Type 0
 AnswersKind (Some kind) answer a b = StepAnswered kind answer a b
 AnswersKind None answer a b = (answer ≡ refused) × (b ≡ a)
@@ -174,7 +175,8 @@ pub record AnswersArrival (frame : List ℕ) (answer : ℕ) (a b : WatchedAdapte
   -- the frame arrives, and cycles follow, as `PacedIf` defines
   pub arrives : Heard (PacedIf true (Arrives frame fate)) a b
 
--- A step of this kind is added to the list of scheduled steps, if there is a kind and the list has room.
+-- A step of this kind is added to the list of scheduled steps, if there is a kind and the list has room. The answer is whether it was
+-- added.
 abbrev pub SchedulesKind : (access : ℕ) → Option StepKind → (answer : Bool) → PlayedAdapter → PlayedAdapter → Type 0
 SchedulesKind access (Some kind) answer a b = player.AnswersSchedule access kind answer a b
 SchedulesKind access None answer a b = (answer ≡ false) × (b ≡ a)
@@ -187,7 +189,8 @@ AnswersSchedule access number answer a b = Silently (SchedulesKind access (kind_
 abbrev pub most_drawn : ℕ
 most_drawn = 65535
 
--- From now on, up to `count` steps are drawn before each access, by a generator with this seed. While a schedule is played, none are drawn.
+-- If `count` is allowed, up to `count` steps are drawn before each later access, by a generator with this seed. While a schedule is played,
+-- no steps are drawn.
 pub record Interleaves (plays : Bool) (count seed : ℕ) (answer : Bool) (a b : PlayedAdapter) : Type 0 where
   -- the answer is whether the maximum is allowed
   pub range : answer ≡ nat_le count most_drawn
@@ -200,7 +203,7 @@ pub record Interleaves (plays : Bool) (count seed : ℕ) (answer : Bool) (a b : 
 abbrev pub AnswersInterleave : (count seed : ℕ) → (answer : Bool) → WatchedAdapter → WatchedAdapter → Type 0
 AnswersInterleave count seed answer a b = Silently (Interleaves (is_some a.agenda) count seed answer) a b
 
--- From now on, up to `count` cycles are played after each access and each call of `arrive`.
+-- If `count` is allowed, up to `count` cycles are played after each later access and each later call of `arrive`.
 pub record SetsPace (count : ℕ) (answer : Bool) (a b : PlayedAdapter) : Type 0 where
   -- the answer is whether the maximum is allowed
   pub range : answer ≡ nat_le count most_drawn
@@ -213,8 +216,8 @@ pub record SetsPace (count : ℕ) (answer : Bool) (a b : PlayedAdapter) : Type 0
 abbrev pub AnswersPace : (count : ℕ) → (answer : Bool) → WatchedAdapter → WatchedAdapter → Type 0
 AnswersPace count answer a b = Silently (SetsPace count answer) a b
 
--- A number below a limit is chosen. If steps are drawn before accesses, the generator draws the number. Otherwise it is `wanted_number` if
--- that is below the limit, or else 0. If the limit is 0, the number is 0.
+-- A number below a limit is chosen. If steps are drawn before accesses, the generator draws the number. Otherwise the number is
+-- `wanted_number` if `wanted_number` is below the limit, or else 0. If the limit is 0, the number is 0.
 pub record Chooses (limit answer : ℕ) (a b : WatchedAdapter) : Type 0 where
   -- the number is chosen, and the events hear what is told about the choice
   pub chooses : Tells HearsBetween a.events b.events (ServesChoice limit (wanted_number a.agenda) answer a.player b.player)
@@ -228,7 +231,7 @@ pub record AnswersOffer (frame : List ℕ) (answer : Bool) (a b : WatchedAdapter
   -- if memory is refused, nothing changes
   pub refused : answer ≡ false → b ≡ a
 
--- the adapter whose wire is full from now on, or has room again until 64 frames wait
+-- the adapter whose wire is full from now on if `full` is true, or else has room again until 64 frames wait
 abbrev pub with_wire : (full : Bool) → WatchedAdapter → WatchedAdapter
 with_wire full a = record a { player = record a.player { wire_free = not full } }
 
@@ -270,7 +273,7 @@ bit_if is_set value = if is_set then value else 0
 pub record TellsWork (kind : StepKind) (value : ℕ) (answer : ℕ) (a : WatchedAdapter) : Type 0 where
   -- whether a step of this kind has something to do
   pub works : Bool
-  -- `works` is right for this kind
+  -- `HasWork` holds of `works` for this kind
   pub has_work : HasWork kind works a
   -- the answer is the value of the bit, or 0
   pub answer_is : answer ≡ bit_if works value
@@ -279,7 +282,7 @@ pub record TellsWork (kind : StepKind) (value : ℕ) (answer : ℕ) (a : Watched
 pub record TellsPossible (mask : ℕ) (a : WatchedAdapter) : Type 0 where
   -- whether a kind has something to do
   pub works : StepKind → Bool
-  -- `works` is right for each kind
+  -- `HasWork` holds of `works` for each kind
   pub each : (kind : StepKind) → HasWork kind (works kind) a
   -- a bit for each kind, by its number
   pub mask_is : mask ≡ bit_if (works TxTake) 1 + bit_if (works TxPut) 2 + bit_if (works RxData) 4 + bit_if (works RxDone) 8

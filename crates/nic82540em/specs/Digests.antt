@@ -5,7 +5,7 @@ use Rattle.std.specs.Hash.FoldHasher as folding
 use Rattle.adapter.specs.Hashed.{adapter_writes}
 use Rattle.adapter.specs.State.{AdapterState}
 
--- the words that are hashed: a seed, and then those of the adapter: its registers, its frames in order, and its work in progress
+-- the words that are hashed: a seed, and then those of the adapter: its registers, its PHY, its frames in order, and its work in progress
 abbrev pub state_writes : ℕ → AdapterState → HashWrites
 state_writes seed adapter = u64 seed ++ adapter_writes adapter
 

@@ -29,7 +29,8 @@ reason_number Length = 5
 reason_number Buffer = 6
 reason_number Bsex = 7
 
--- the event of a step, from the numbers of its kind and its outcome; for a fault, with its reason and the index of its descriptor
+-- The event of a step, from the numbers of its kind and its outcome. The event of a fault also has the reason and the head of the engine's
+-- ring.
 abbrev pub step_event : (kind outcome : ℕ) → Option EngineFault → KeptEvent
 step_event kind outcome None = record { what = 0; kind = kind; value = outcome; reason = 0; index = 0 }
 step_event kind outcome (Some fault) =
@@ -39,8 +40,8 @@ step_event kind outcome (Some fault) =
 abbrev pub other_event : (what value : ℕ) → KeptEvent
 other_event what value = record { what = what; kind = 0; value = value; reason = 0; index = 0 }
 
--- the event of a thing that is told: of a step with another outcome than `Nothing`, an arrival, or a change of the interrupt line; other
--- things have no event
+-- The event of a thing that is told: of a step with another outcome than `Nothing`, an arrival, or a change of the interrupt line. Other
+-- things have no event.
 abbrev pub event_of : Told → Option KeptEvent
 event_of (Stepped kind outcome fault) =
     if outcome_number outcome == 0 then None else Some (step_event (kind_number kind) (outcome_number outcome) fault)
@@ -54,7 +55,7 @@ event_of (Line level) = Some (other_event 2 (if level then 1 else 0))
 abbrev pub no_events : Events
 no_events = record { on = false; waiting = record { items = []; capacity = 4096 } }
 
--- the events after one event: it waits after the others, if new events are kept and there is room
+-- The events after an event, if there is one, was told. The event waits after the others, if new events are kept and there is room.
 abbrev pub keeps : Events → Option KeptEvent → Events
 keeps events None = events
 keeps events (Some event) =

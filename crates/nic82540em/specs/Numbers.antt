@@ -4,12 +4,12 @@ use Rattle.adapter.specs.declared.outcome.Outcome.{Outcome}
 use Rattle.adapter.specs.declared.outcome.Outcome.TheVariants.{Took, Put, WireFull, Part, Moved, Done, Delivered, Ticked, Nothing, Fault}
 use Rattle.adapter.specs.declared.step.StepKind.{StepKind}
 use Rattle.played_adapter.specs.Kinds.{kind_numbered}
-use Rattle.mdic_phy.specs.declared.phy.Link.{Link}
-use Rattle.mdic_phy.specs.declared.phy.Link.TheVariants.{After, Never}
+use Rattle.eeprom_phy.specs.declared.phy.Link.{Link}
+use Rattle.eeprom_phy.specs.declared.phy.Link.TheVariants.{After, Never}
 use Rattle.rx_engine.specs.declared.arrival.Fate.{Fate}
 use Rattle.rx_engine.specs.declared.arrival.Fate.TheVariants.{Off, Illegal, Filtered, Missed, Stored}
 
--- the setting of the link for this number of ticks until the link is up; for 0, the link is never up; no setting for a number above 65,535
+-- The setting of the link for this number of ticks until the link is up. For 0, the link is never up. A number above 65,535 has no setting.
 abbrev pub link_with : ℕ → Option Link
 link_with number = if number == 0 then Some Never else if nat_lt 65535 number then None else Some (After number)
 
@@ -18,8 +18,8 @@ link_with number = if number == 0 then Some Never else if nat_lt 65535 number th
 abbrev pub is_receive_share : ℕ → Bool
 is_receive_share kilobytes = (kilobytes % 2 == 0) && nat_le 2 kilobytes && nat_le kilobytes 48
 
--- the number that `step` and `arrive` return if they are refused; `play` returns this number if it is refused and can't return the number
--- of a faulty line
+-- The number that `step` and `arrive` return if they are refused. `play` returns this number if it is refused and can't return the number
+-- of a faulty line.
 abbrev pub refused : ℕ
 refused = 0xFFFFFFFF
 

@@ -1,4 +1,4 @@
--- The owner of an adapter's box, or of none, in a handle of C (our choice).
+-- The owner in a handle of C: a full owner owns an adapter's box, and an empty owner owns no box (our choice).
 use mathlib.Core.Bool.{Bool, true, false}
 use base.Fml.{Fml, feq}
 use base.Stored.{Coded}
@@ -13,7 +13,7 @@ use Rattle.nic82540em.specs.contracts.watched.WatchedAdapter.{the_row}
 use Rattle.nic82540em.specs.declared.watched.WatchedAdapter.{WatchedAdapter}
 use Rattle.nic82540em.specs.Events.{no_events}
 use Rattle.played_adapter.specs.Playing.{new_player}
-use Rattle.mdic_phy.specs.declared.phy.Link.TheVariants.{Never}
+use Rattle.eeprom_phy.specs.declared.phy.Link.TheVariants.{Never}
 
 -- a full owner owns a box, and an empty owner contains the null pointer
 abbrev pub held_owns : Bool → Global → Ptr → the_row.Denot → Fml

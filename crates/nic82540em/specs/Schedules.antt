@@ -20,11 +20,11 @@ use Rattle.step_schedules.specs.declared.deviation.Before.TheVariants.{Choice, R
 use Rattle.step_schedules.specs.declared.schedule_error.ScheduleError.{ScheduleError}
 use Rattle.step_schedules.specs.declared.schedule_error.ScheduleError.TheVariants.{Line, Memory, Text as NoText}
 
--- These moves are played, and `agenda` is the schedule after the moves.
+-- These moves are played, and `agenda` is the agenda of the adapter afterwards.
 pub record Plays (next : List Move) (agenda : AgendaState) (a b : WatchedAdapter) : Type 0 where
   -- the moves are played, and the events hear what is told about the moves
   pub plays : Tells HearsBetween a.events b.events (InOrder Makes next a.player b.player)
-  -- the schedule after the moves
+  -- `agenda` is the agenda after the moves
   pub agenda_is : b.agenda ≡ Some agenda
 
 -- The schedule, if there is one, meets an access of a target with this name. The default steps before the access are played, and then the
@@ -52,8 +52,8 @@ pub record AfterMeeting (comes : Bool) (before : Before) (target : Target) (Happ
   -- then this happens
   pub happens : Happens met b
 
--- The schedule, if there is one, meets a request that begins a round. The actions that are due are played. Without a schedule, nothing
--- happens.
+-- The schedule, if there is one, meets a request with this first word, which begins a round. The actions that are due are played. Without a
+-- schedule, nothing happens.
 abbrev pub Begins : (word : Text) → Option AgendaState → WatchedAdapter → WatchedAdapter → Type 0
 Begins word (Some agenda) a b = Plays (moves.request_moves Request word agenda) (moves.met Request word agenda) a b
 Begins word None a b = b ≡ a
@@ -65,8 +65,8 @@ request_word number =
     else if number == 3 then Some (codes "settle")
     else None
 
--- The schedule meets the request with this first word, and the answer is `true`. Without a word, nothing happens, and the answer is
--- `false`.
+-- The schedule, if there is one, meets the request with this first word, and the answer is `true`. Without a word, nothing happens, and the
+-- answer is `false`.
 abbrev pub AnswersWord : Option Text → (answer : Bool) → WatchedAdapter → WatchedAdapter → Type 0
 AnswersWord (Some word) answer a b = (answer ≡ true) × Begins word a.agenda a b
 AnswersWord None answer a b = (answer ≡ false) × (b ≡ a)
@@ -75,7 +75,7 @@ AnswersWord None answer a b = (answer ≡ false) × (b ≡ a)
 abbrev pub AnswersRound : (number : ℕ) → (answer : Bool) → WatchedAdapter → WatchedAdapter → Type 0
 AnswersRound number answer a b = AnswersWord (request_word number) answer a b
 
--- the number that the first action that is due at a request `choose` now chooses, or 0 if no action is due
+-- the number that the first action due at a request `choose` now chooses, or 0 without such an action or without a schedule
 abbrev pub wanted_number : Option AgendaState → ℕ
 wanted_number (Some agenda) = chosen (moves.due_in_agenda Choice (codes "choose") agenda)
 wanted_number None = 0
@@ -88,13 +88,13 @@ after_choice agenda = option_map (moves.met Choice (codes "choose")) agenda
 abbrev pub line_number : ℕ → ℕ
 line_number line = if nat_lt 0 line && nat_lt line refused then line else refused
 
--- the number of an error: the number of the faulty line, if there is one, else `refused`
+-- the number of an error: `line_number` of the faulty line, if there is a faulty line, else `refused`
 abbrev pub error_number : ScheduleError → ℕ
 error_number (Line line fault) = line_number line
 error_number NoText = refused
 error_number Memory = refused
 
--- The text is UTF-8, and the result is the agenda of the schedule in the text; or the result is an error that is right for the text.
+-- The text is UTF-8, and the result is the agenda of the schedule in the text. Or the result is an error that `IsRead` allows for the text.
 abbrev pub IsAgenda : (text : List ℕ) → Result AgendaState ScheduleError → Type 0
 IsAgenda text (Ok agenda) =
     IsUtf8 text × ((schedule : ScheduleRead) × (schedule_in text ≡ Ok schedule) × (agenda ≡ agenda_of schedule))
@@ -119,7 +119,7 @@ pub record PlaysText (text : List ℕ) (a b : WatchedAdapter) : Type 0 where
 pub record RefusesText (text : List ℕ) (answer : ℕ) (a b : WatchedAdapter) : Type 0 where
   -- the error
   pub error : ScheduleError
-  -- the error is right for this text
+  -- `IsRead` allows the error for this text
   pub error_is : IsRead text (Err error)
   -- the answer is the number of the error
   pub number : answer ≡ error_number error

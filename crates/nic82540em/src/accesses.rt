@@ -1,4 +1,5 @@
-// Calls of C for a driver's accesses, for the number of accesses, and for the address of the host's memory.
+// Calls of C for a driver's accesses, for the number of accesses, and for the address of the host's memory. An access
+// comes after the steps that are due or drawn, and before the cycles of `nic82540em_pace`.
 
 ghost use Rattle.std.specs.Prelude.{◌≡◌, IfSome, false, length, true};
 ghost use Rattle.bus.specs.declared.event.Access.TheVariants.{Reads, Writes};

@@ -1,5 +1,5 @@
-// What most exports do with the adapter of a handle. A schedule, if there is one, meets each access before the access.
-// Cycles follow an access or an arrival, up to the maximum of `pace`.
+// What most exports do with the adapter of a handle. If a schedule is played, its default steps and its due actions are
+// played before each access. Cycles follow an access or an arrival, up to the maximum of `pace`.
 
 ghost use Rattle.std.specs.Prelude.{◌≡◌, ◌<◌, ◌&&◌, IfOk, IfSome, nat_lt, true};
 ghost use Rattle.bus.specs.declared.event.Access.TheVariants.{Reads, Writes};
@@ -20,8 +20,7 @@ use access_names::Target;
 use adapter::Adapter;
 use adapter::offsets::PBA;
 use dma_memory::HostMemory;
-use eeprom::Image;
-use mdic_phy::Link;
+use eeprom_phy::{Image, Link};
 use played_adapter::PlayedAdapter;
 use std::alloc::{AllocError, Global};
 use std::hash::{FoldHasher, Hasher};
@@ -43,7 +42,7 @@ fn image_of(options: &AdapterOptions) -> Image
 }
 
 /// Returns a new adapter with the EEPROM of the options and this link. PBA was written with the kilobytes of the
-/// options, and MPC has their count.
+/// options, and MPC has the count of missed packets of the options.
 fn adapter_of(alloc: Global, options: &AdapterOptions, link: Link) -> Result<Adapter, AllocError>
     ensures { IfOk result (λ adapter. adapter ≡ adapter_of options.now link) }
 {
@@ -110,11 +109,11 @@ fn follow(watched: &mut WatchedAdapter, is_made: bool, most: u16)
     }
 }
 
-/// Whether nothing comes with an access. Then ticks and events are off, no step is scheduled or drawn, no schedule is
-/// played, and the maximum of `pace` is 0.
+/// Whether an access is plain: ticks and events are off, no step is scheduled or drawn, no schedule is played, and the
+/// maximum of `pace` is 0.
 ///
-/// The contract states what the callers' proofs use. The tests for steps before an access keep the calls that play
-/// these steps out of the callers.
+/// The contract states only what the proofs of the callers use. The tests for steps before an access let the compiler
+/// omit the calls that play these steps.
 #[inline(always)]
 fn is_plain(watched: &WatchedAdapter) -> bool
     ensures { result ≡ true → IsPlain watched.now }
@@ -147,7 +146,8 @@ pub(crate) fn write(watched: &mut WatchedAdapter, offset: u32, value: u32)
     meet_and_write(watched, offset, value);
 }
 
-/// Loads the bytes from an address on into `into`. If some are outside memory, returns `false` and changes nothing.
+/// Loads the bytes from an address on into `into`. If some of them are outside memory, returns `false` and changes
+/// nothing.
 #[inline(always)]
 pub(crate) fn load(watched: &mut WatchedAdapter, address: u64, into: &mut [u8]) -> bool
     ensures { AnswersLoad address into.old into.new result watched.old watched.new }
@@ -247,7 +247,7 @@ pub(crate) fn arrive(watched: &mut WatchedAdapter, frame: &[u8]) -> u32
     fate_number(fate)
 }
 
-/// Adds a copy of a frame to those that are offered.
+/// Adds a copy of a frame to the offered frames.
 ///
 /// If memory is refused, returns `false` and changes nothing.
 pub(crate) fn offer(alloc: Global, watched: &mut WatchedAdapter, frame: &[u8]) -> bool
@@ -268,8 +268,8 @@ pub(crate) fn schedule(watched: &mut WatchedAdapter, access: u64, number: u32) -
     }
 }
 
-/// From now on, up to `count` steps and arrivals of offered frames are played before each access; while a schedule is
-/// played, none. A generator with this seed draws them.
+/// From now on, up to `count` steps and arrivals of offered frames are played before each access. A generator with this
+/// seed draws them. While a schedule is played, no steps are drawn.
 ///
 /// If `count` is above 65,535, returns `false` and changes nothing.
 pub(crate) fn interleave(watched: &mut WatchedAdapter, count: u32, seed: u64) -> bool
@@ -302,8 +302,8 @@ pub(crate) fn pace(watched: &mut WatchedAdapter, count: u32) -> bool
 
 /// Chooses a number below `limit`, or 0 if `limit` is 0.
 ///
-/// If steps are drawn before accesses, the generator draws the number. Otherwise the number is the first one in the
-/// schedule that is due. If this number isn't below `limit`, or none is due, the number is 0.
+/// If steps are drawn before accesses, the generator draws the number. Otherwise it is the number that the schedule's
+/// first due action chooses. If this number isn't below `limit`, or no action is due, the number is 0.
 pub(crate) fn choose(watched: &mut WatchedAdapter, limit: u32) -> u32
     ensures done { Chooses limit result watched.old watched.new }
     ensures below { 0 < limit → result < limit }
@@ -314,7 +314,7 @@ pub(crate) fn choose(watched: &mut WatchedAdapter, limit: u32) -> u32
         .serve_choose(limit, wanted, &mut watched.events)
 }
 
-/// Returns a digest of the adapter's registers, of the frames in its packet buffers and of its work in progress.
+/// Returns a digest of the adapter's registers, its PHY, the frames in its packet buffers and its work in progress.
 /// Adapters with the same state have equal digests for each seed.
 #[tactic(auto, unfolding(crate::specs::Digests::state_digest_of))]
 pub(crate) fn state_digest(watched: &WatchedAdapter, seed: u64) -> u64

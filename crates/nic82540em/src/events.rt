@@ -4,7 +4,7 @@ ghost use Rattle.std.specs.Prelude.{◌≡◌, IfOk, IfSome, None, Some, slice_g
 ghost use Rattle.nic82540em.specs.Events.{keeps, no_events, without_first};
 
 use circular_buffer::HeapCircularBuffer;
-use frame_queue::copy_of;
+use descriptors::copy_of;
 use std::alloc::{AllocError, Global};
 
 /// The maximum number of events that wait (our choice).
@@ -18,11 +18,12 @@ pub struct KeptEvent {
     pub what: u32,
     /// The number of the step's kind, or 0 if the event isn't a step.
     pub kind: u32,
-    /// The number of the step's outcome or of the frame's fate, or the line's new level: 1 if it is asserted, else 0.
+    /// The number of the step's outcome or of the frame's fate, or the interrupt line's new level: 1 if the line is
+    /// asserted, else 0.
     pub value: u32,
     /// The number of the fault's reason, or 0 if there is no fault.
     pub reason: u32,
-    /// The index of the fault's descriptor, or 0 if there is no fault.
+    /// The head of the ring of the fault's engine, or 0 if there is no fault.
     pub index: u32,
 }
 
@@ -46,7 +47,7 @@ impl Events {
         })
     }
 
-    /// Returns a copy: the same events wait, and new events are kept or not, as here.
+    /// Returns a copy: the same events wait, and new events are kept if and only if they are kept here.
     pub(crate) fn copy(&self) -> Result<Events, AllocError>
         ensures { IfOk result (λ copy. copy ≡ self.now) }
     {

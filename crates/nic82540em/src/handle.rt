@@ -2,7 +2,7 @@
 
 use crate::owner::Owner;
 
-/// A handle, which holds an adapter or none. C sets all bytes of a handle to 0 before the first call.
+/// A handle, which holds an adapter or no adapter. C sets all bytes of a handle to 0 before the first call.
 #[repr(C)]
 pub struct Nic {
     /// Whether the handle holds an adapter.

@@ -1,8 +1,8 @@
 //! An 82540EM and its host's memory as a C library: `bindings/c/nic82540em.h` declares these calls.
 //!
 //! Most calls make a call of `played_adapter`'s [`PlayedAdapter`], on the adapter in a handle. The C program makes a
-//! handle of zeros. If a handle holds no adapter, each call except [`nic82540em_new`] changes nothing, and returns 0,
-//! `false` or `0xFFFFFFFF` if the call has a result.
+//! handle of zeros. If a handle holds no adapter, only [`nic82540em_new`], and a copy into this handle, change the
+//! handle. Every other call changes nothing, and returns 0, `false` or `0xFFFFFFFF` if the call has a result.
 #![tactic(auto)]
 
 mod accesses;
@@ -45,7 +45,7 @@ pub use rounds::{nic82540em_begin_round, nic82540em_play};
 use std::alloc::Global;
 pub use watched::WatchedAdapter;
 
-/// Makes a new adapter in a handle that holds no adapter.
+/// Makes a new adapter in a handle that holds no adapter, and returns `true`.
 ///
 /// Returns `false`, and changes nothing, if the handle holds an adapter, an option is out of range, or memory is
 /// refused.

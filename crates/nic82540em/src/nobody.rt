@@ -5,7 +5,7 @@ use adapter::{Fate, Outcome, StepKind};
 use played_adapter::Observer;
 use step_schedules::Action;
 
-/// The observer of an access after which no event is kept: it is told what happens, and does nothing.
+/// The observer of an access of which no event is kept: it is told what happens, and does nothing.
 #[derive(Clone, Copy)]
 pub(crate) struct Nobody;
 

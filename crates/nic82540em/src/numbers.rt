@@ -1,4 +1,4 @@
-// Numbers that stand for options, kinds of steps, outcomes and fates in calls from C (our choice).
+// Numbers that stand for options, kinds of steps, outcomes, fates and reasons of faults in calls from C (our choice).
 
 ghost use Rattle.std.specs.Prelude.{◌≡◌};
 ghost use Rattle.nic82540em.specs.Events as events;
@@ -6,8 +6,7 @@ ghost use Rattle.nic82540em.specs.Numbers as numbers;
 
 use access_names::Reason;
 use adapter::{Fate, Outcome, StepKind};
-use eeprom::WORDS;
-use mdic_phy::Link;
+use eeprom_phy::{Link, WORDS};
 
 /// The number that `nic82540em_step` and `nic82540em_arrive` return if they are refused. `nic82540em_play` returns
 /// this number if it is refused and can't return the number of a faulty line.
@@ -22,7 +21,8 @@ const MOST_TICKS: u32 = 65_535;
 pub struct AdapterOptions {
     /// The size of memory in bytes.
     pub memory: u64,
-    /// The number of ticks of the PHY from the start of negotiation until the link is up, at most 65,535. 0: never.
+    /// The number of ticks of the PHY from the start of negotiation until the link is up, at most 65,535. If the number
+    /// is 0, the link is never up.
     pub link: u32,
     /// PBA.RXA, the receive part of the packet buffer in kilobytes: an even number from 2 to 48.
     pub receive_kilobytes: u32,
@@ -71,7 +71,7 @@ pub(crate) fn kind_with(number: u32) -> Option<StepKind>
     })
 }
 
-/// The number of a kind of steps.
+/// Returns the number of a kind of steps.
 pub(crate) fn kind_number(kind: StepKind) -> u32
     ensures { result ≡ events.kind_number kind }
 {
@@ -85,7 +85,7 @@ pub(crate) fn kind_number(kind: StepKind) -> u32
     }
 }
 
-/// The number of the reason of a fault.
+/// Returns the number of the reason of a fault.
 pub(crate) fn reason_number(reason: Reason) -> u32
     ensures { result ≡ events.reason_number reason }
 {
@@ -100,7 +100,7 @@ pub(crate) fn reason_number(reason: Reason) -> u32
     }
 }
 
-/// The number of an outcome.
+/// Returns the number of an outcome.
 pub(crate) fn outcome_number(outcome: Outcome<()>) -> u32
     ensures { result ≡ numbers.outcome_number outcome }
 {
@@ -118,7 +118,7 @@ pub(crate) fn outcome_number(outcome: Outcome<()>) -> u32
     }
 }
 
-/// The number of a fate.
+/// Returns the number of a fate.
 pub(crate) fn fate_number(fate: Fate) -> u32
     ensures { result ≡ numbers.fate_number fate }
 {

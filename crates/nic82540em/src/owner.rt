@@ -1,4 +1,4 @@
-// A box that C keeps.
+// The owner of an adapter's box, in a handle of C.
 
 ghost use Rattle.std.specs.Prelude.{◌≡◌, Bool, true, false};
 ghost use Rattle.nic82540em.specs.declared.watched.WatchedAdapter.{WatchedAdapter};
@@ -10,8 +10,8 @@ use std::alloc::Global;
 use std::marker::Model;
 use std::mem::replace;
 
-/// A boxed adapter, or none. The owner is in a handle of C. After all bytes of the handle were set to 0, C code neither
-/// reads nor writes the owner.
+/// A boxed adapter, or no adapter. The owner is in a handle of C. After all bytes of the handle were set to 0, C code
+/// neither reads nor writes the owner.
 ///
 /// `Owner` isn't `Drop`, so code that loses an owner doesn't compile. `into_parts` consumes a full owner, and
 /// `into_alloc` an empty one.

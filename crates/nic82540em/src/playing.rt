@@ -43,8 +43,8 @@ pub extern "C" fn nic82540em_settle(alloc: Global, nic: &mut Nic) -> u64
     on_adapter!(alloc, nic, 0, |adapter| calls::settle(&mut adapter))
 }
 
-/// Delivers a frame to the adapter, and then plays cycles, up to the maximum of [`nic82540em_pace`]. Returns the number
-/// of the frame's fate.
+/// Delivers a frame to the adapter, and then plays cycles until one does nothing, up to the maximum of
+/// [`nic82540em_pace`]. Returns the number of the frame's fate.
 #[unsafe(no_mangle)]
 pub extern "C" fn nic82540em_arrive(alloc: Global, nic: &mut Nic, frame: &[u8]) -> u32
     requires sound { nic.old.owner.full ≡ nic.old.held }
@@ -61,8 +61,8 @@ pub extern "C" fn nic82540em_arrive(alloc: Global, nic: &mut Nic, frame: &[u8]) 
     )
 }
 
-/// Takes the oldest frame off the wire, if it fits into `into`. Returns the frame's length in bytes, also if it doesn't
-/// fit, or 0 if no frame waits.
+/// Moves the oldest frame from the wire to the beginning of `into`, if the frame fits. Returns the frame's length in
+/// bytes, also if the frame doesn't fit, or 0 if no frame waits.
 #[unsafe(no_mangle)]
 pub extern "C" fn nic82540em_take_put(alloc: Global, nic: &mut Nic, into: &mut [u8]) -> usize
     requires sound { nic.old.owner.full ≡ nic.old.held }
@@ -76,8 +76,8 @@ pub extern "C" fn nic82540em_take_put(alloc: Global, nic: &mut Nic, into: &mut [
 }
 
 /// From now on, up to `count` steps and arrivals of offered frames are played before each access. A generator with this
-/// seed draws them. While a schedule of [`nic82540em_play`](crate::nic82540em_play) is played, none are drawn. Returns
-/// `false`, and changes nothing, if `count` is above 65,535.
+/// seed draws them. While a schedule of [`nic82540em_play`](crate::nic82540em_play) is played, no steps are drawn.
+/// Returns `false`, and changes nothing, if `count` is above 65,535.
 #[unsafe(no_mangle)]
 pub extern "C" fn nic82540em_interleave(alloc: Global, nic: &mut Nic, count: u32, seed: u64) -> bool
     requires sound { nic.old.owner.full ≡ nic.old.held }
@@ -115,9 +115,9 @@ pub extern "C" fn nic82540em_pace(alloc: Global, nic: &mut Nic, count: u32) -> b
 
 /// Returns a number below `limit`, or 0 if `limit` is 0.
 ///
-/// If steps are drawn before accesses, the generator draws the number. Otherwise the number is the first one that is
-/// due in the schedule of [`nic82540em_play`](crate::nic82540em_play). If this number isn't below `limit`, or none is
-/// due, the number is 0.
+/// If steps are drawn before accesses, the generator draws the number. Otherwise it is the number that the first due
+/// action in the schedule of [`nic82540em_play`](crate::nic82540em_play) chooses. If this number isn't below `limit`,
+/// or no action is due, the number is 0.
 #[unsafe(no_mangle)]
 pub extern "C" fn nic82540em_choose(alloc: Global, nic: &mut Nic, limit: u32) -> u32
     requires sound { nic.old.owner.full ≡ nic.old.held }
@@ -132,7 +132,7 @@ pub extern "C" fn nic82540em_choose(alloc: Global, nic: &mut Nic, limit: u32) ->
 
 /// Adds a step of the kind with this number to the end of the list of scheduled steps.
 ///
-/// The step is played before the first access with a number of at least `access`, after all steps added before. Returns
+/// The step is played before the next access with a number of at least `access`, after all steps added before. Returns
 /// `false`, and changes nothing, if no kind has this number, or if 4,096 steps wait.
 #[unsafe(no_mangle)]
 pub extern "C" fn nic82540em_schedule(
@@ -218,7 +218,7 @@ pub extern "C" fn nic82540em_offer(alloc: Global, nic: &mut Nic, frame: &[u8]) -
     )
 }
 
-/// Sets whether the wire is full. While it is full, no frame is put on it, even if fewer than 64 frames wait.
+/// Sets whether the wire is full. While the wire is full, no frame is put on it, even if fewer than 64 frames wait.
 #[unsafe(no_mangle)]
 pub extern "C" fn nic82540em_fill_wire(alloc: Global, nic: &mut Nic, full: bool)
     requires sound { nic.old.owner.full ≡ nic.old.held }

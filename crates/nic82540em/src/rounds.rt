@@ -10,8 +10,9 @@ use std::alloc::Global;
 
 /// From now on, plays the schedule in a text instead of an earlier schedule, and draws no steps before accesses.
 ///
-/// Returns 0. If a line is faulty, returns the number of the first faulty line and changes nothing. Returns
-/// `0xFFFFFFFF` and changes nothing if the text isn't UTF-8, memory is refused, or this number is above `0xFFFFFFFE`.
+/// Returns 0 if this schedule is played. If a line is faulty, returns the number of the first faulty line and changes
+/// nothing. Returns `0xFFFFFFFF` and changes nothing if the text isn't UTF-8, memory is refused, or the line's number
+/// is above `0xFFFFFFFE`.
 #[unsafe(no_mangle)]
 pub extern "C" fn nic82540em_play(alloc: Global, nic: &mut Nic, text: &[u8]) -> u32
     requires sound { nic.old.owner.full ≡ nic.old.held }
@@ -31,8 +32,8 @@ pub extern "C" fn nic82540em_play(alloc: Global, nic: &mut Nic, text: &[u8]) -> 
 /// Begins the schedule's next round with the request that has this number: 0 `arrive`, 1 `offer`, 2 `step`,
 /// 3 `settle`.
 ///
-/// Plays the actions of the schedule that are due before the request. Returns `false`, and changes nothing, if no
-/// request has this number.
+/// Plays the actions of the schedule, if there is one, that are due before the request, and returns `true`. If no
+/// request has this number, returns `false` and changes nothing.
 #[unsafe(no_mangle)]
 pub extern "C" fn nic82540em_begin_round(alloc: Global, nic: &mut Nic, number: u32) -> bool
     requires sound { nic.old.owner.full ≡ nic.old.held }

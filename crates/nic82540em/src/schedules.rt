@@ -26,7 +26,8 @@ pub(crate) fn meet(watched: &mut WatchedAdapter, before: Before, target: Target)
         .meet_access(agenda, before, name.as_slice(), &mut watched.events);
 }
 
-/// As [`meet`], for an access of these bytes in memory. Changes nothing if memory doesn't contain all of the bytes.
+/// As [`meet`], for an access of `count` bytes in memory from `address` on. Changes nothing if memory doesn't contain
+/// all of these bytes.
 pub(crate) fn meet_memory(watched: &mut WatchedAdapter, before: Before, address: u64, count: u64)
     ensures { MeetsIf (has_bytes watched.old.player address count) before
         (memory_target_in watched.old.player.machine.world.adapter address) watched.old watched.new }
@@ -102,7 +103,8 @@ fn error_number(error: ScheduleError) -> u32
     }
 }
 
-/// Returns the agenda of the schedule in a text, before the run.
+/// Returns the agenda of the schedule in a text, before the run. Fails if the text isn't a schedule, or if memory is
+/// refused.
 fn agenda_in(alloc: Global, text: &[u8]) -> Result<Agenda, ScheduleError>
     ensures { IsAgenda text.now result }
 {
@@ -115,7 +117,8 @@ fn agenda_in(alloc: Global, text: &[u8]) -> Result<Agenda, ScheduleError>
 
 /// From now on, plays the schedule in a text instead of an earlier schedule, and draws no steps before accesses.
 ///
-/// Returns 0. If the text isn't a schedule, or memory is refused, returns the number of the error and changes nothing.
+/// Returns 0 if this schedule is played. If the text isn't a schedule, or memory is refused, returns the number of the
+/// error and changes nothing.
 pub(crate) fn play(alloc: Global, watched: &mut WatchedAdapter, text: &[u8]) -> u32
     ensures { AnswersPlay text.now result watched.old watched.new }
 {

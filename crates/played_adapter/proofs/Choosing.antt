@@ -14,7 +14,6 @@ use Rattle.played_adapter.proofs.Happening.{happened}
 use Rattle.played_adapter.proofs.Telling.{tells_both, tells_so}
 
 module _ {O : Type 0} (heard : O → O → List Told → Type 0) (laws : Composes heard) where
-  -- No frame is offered.
   pub none_arrives : (left : List (List ℕ)) (a : PlayedAdapter) (before : O) → a.offered ≡ [] → left ≡ []
       → Tells heard before before (NextArrives a (record a { offered = left }))
   none_arrives left a before none still = record {
@@ -24,7 +23,6 @@ module _ {O : Type 0} (heard : O → O → List Told → Type 0) (laws : Compose
     hears = laws.stays before;
   }
 
-  -- The oldest frame arrived.
   pub oldest_arrives : (frame : List ℕ) (later : List (List ℕ)) (fate : Fate) (a b : PlayedAdapter) (machine : MachineState)
       (before now end : O) → a.offered ≡ frame ∷ later → Occurs (Arrives frame fate) a.machine.world
       → machine ≡ after_event (Arrives frame fate) a.machine → heard before now (Offered frame fate ∷ [])
@@ -36,14 +34,12 @@ module _ {O : Type 0} (heard : O → O → List Told → Type 0) (laws : Compose
       (after (Arrives frame fate) (record a { offered = later })) _ b before now end
       occurs (ap (λ (m : MachineState). record a { machine = m; offered = later }) state) tells refl reports)
 
-  -- What the generator draws was played, and the access happened.
   pub accessed_after : (access : Access) (a middle b : PlayedAdapter) (before now end : O)
       → Tells heard before now (Interleaves a middle) → Tells heard now end (HappensAlone access middle b)
       → Tells heard before end (AccessedAfter access a b)
   accessed_after access a middle b before now end draws happens =
       tells_both heard laws (Interleaves a) (λ m rest. HappensAlone access m b rest) middle before now end draws happens
 
-  -- An access happened after what the generator draws, and then cycles were played.
   pub served : (access : Access) (a middle later b : PlayedAdapter) (before now then end : O)
       → Tells heard before now (Interleaves a middle) → Tells heard now then (HappensAlone access middle later)
       → Tells heard then end (Paced later b) → Tells heard before end (ServesAccess access a b)

@@ -62,7 +62,6 @@ module _ {O : Type 0} (heard : O → O → List Told → Type 0) (laws : Compose
     plays = tells_more Cycle heard laws so_far.busy here a b c before now after so_far.plays plays;
   }
 
-  -- A cycle that did nothing is the last.
   pub settled : (most count moved : ℕ) (a b c : PlayedAdapter) (before now after : O) → count < most
       → BusyCycles count moved a b before now → Tells heard now after (Cycle 0 b c) → Tells heard before after (Settles most moved a c)
   settled most count moved a b c before now after below so_far idle =
@@ -78,7 +77,6 @@ module _ {O : Type 0} (heard : O → O → List Told → Type 0) (laws : Compose
         moved_is = so_far.moved_is;
       }) plays
 
-  -- The maximum number of cycles was played, and each did something.
   pub settled_late : (most moved : ℕ) (a b : PlayedAdapter) (before now : O) → BusyCycles most moved a b before now
       → Tells heard before now (Settles most moved a b)
   settled_late most moved a b before now so_far =

@@ -6,7 +6,6 @@ use Rattle.step_schedules.specs.declared.deviation.Action.{Action}
 use Rattle.played_adapter.specs.Moves.{moves_of, moves_of_next}
 use Rattle.played_adapter.specs.declared.choices.Move.{Move}
 
--- The moves of actions, and of one more, if there is one.
 pub moves_next : (actions : List Action) (next : Option Action)
     → flat_map moves_of (with_next actions next) ≡ flat_map moves_of actions ++ moves_of_next next
 moves_next actions None = sym (append-nil (flat_map moves_of actions))

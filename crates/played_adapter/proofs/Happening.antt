@@ -14,7 +14,6 @@ use Rattle.played_adapter.specs.declared.player.PlayedAdapter.{PlayedAdapter}
 use Rattle.played_adapter.proofs.Telling.{tells_both}
 
 module _ {O : Type 0} (heard : O → O → List Told → Type 0) (laws : Composes heard) where
-  -- An event happened and was told, and then a change of the interrupt line was reported.
   pub happened : (one : Event) (of_it of_that : List Told) (a next m b : PlayedAdapter) (before now end : O)
       → Occurs one a.machine.world → m ≡ next → heard before now of_it → of_it ≡ of_that → Tells heard now end (Reports m b)
       → Tells heard before end (Happens one of_that next a b)
@@ -29,7 +28,6 @@ module _ {O : Type 0} (heard : O → O → List Told → Type 0) (laws : Compose
     hears = laws.joins before now end of_it reports.told tells reports.hears;
   }
 
-  -- An access happened.
   pub alone : (access : Access) (a b : PlayedAdapter) (machine : MachineState) (before now end : O)
       → Occurs (Accesses access) a.machine.world → machine ≡ after_event (Accesses access) a.machine
       → heard before now (told.Accessed access ∷ []) → Tells heard now end (Reports (record a { machine = machine }) b)
@@ -38,13 +36,11 @@ module _ {O : Type 0} (heard : O → O → List Told → Type 0) (laws : Compose
       happened (Accesses access) _ (told.Accessed access ∷ []) a (after (Accesses access) a) _ b before now end occurs
       (ap (λ (m : MachineState). record a { machine = m }) state) tells refl reports
 
-  -- An access happened after the steps before it.
   pub accessed : (access : Access) (a middle b : PlayedAdapter) (before now end : O) → Tells heard before now (Prepares a middle)
       → Tells heard now end (HappensAlone access middle b) → Tells heard before end (Accessed access a b)
   accessed access a middle b before now end prepares happens =
       tells_both heard laws (Prepares a) (λ m. HappensAlone access m b) middle before now end prepares happens
 
-  -- No bytes are loaded.
   pub not_loaded : (address : ℕ) (bytes : List ℕ) (a : PlayedAdapter) (before : O) → false ≡ has_bytes a address (length bytes)
       → Tells heard before before (AnswersLoad address bytes bytes false a a)
   not_loaded address bytes a before is = record {

@@ -51,7 +51,6 @@ made_keeps (Tick kind) a b told played = step_keeps kind played.0 a b told playe
 made_keeps (Hold action) a b told noted = ap size_of noted.0
 made_keeps (Play choice) a b told chosen = chosen_keeps choice a b told chosen
 
--- Memory contains the same places after moves.
 pub moves_keep : (moves : List Move) (a b : PlayedAdapter) (told : List Told) (address count : ℕ) → InOrder Makes moves a b told
     → has_bytes b address count ≡ has_bytes a address count
 moves_keep moves a b told address count made =
@@ -63,7 +62,6 @@ scheduled_keeps step a b told played = step_keeps step.kind played.0 (without_ne
 played_keeps : (kind : StepKind) (a b : PlayedAdapter × ℕ) (told : List Told) → Plays kind a b told → size_of b.0 ≡ size_of a.0
 played_keeps kind a b told played = step_keeps kind played.outcome a.0 b.0 told played.steps
 
--- Bytes in memory are still in memory after the steps before an access.
 pub still_fits : (a b : PlayedAdapter) (told : List Told) (address count : ℕ) → has_bytes a address count ≡ true → Prepares a b told
     → address + count ≤ size_of b
 still_fits a b told address count fits steps =
@@ -79,15 +77,12 @@ still_fits a b told address count fits steps =
     let before : address + count ≤ size_of a = grind (arith, nat_tests) in
     omega arith
 
--- Bytes in memory are still in memory after what the generator draws.
 pub draws_fit : (a b : PlayedAdapter) (told : List Told) (address count : ℕ) → has_bytes a address count ≡ true
     → Interleaves a b told → address + count ≤ size_of b
 draws_fit a b told address count fits steps =
     let later = interleaving_keeps a b told steps in
     let before : address + count ≤ size_of a = grind (arith, nat_tests) in
     omega arith
-
--- If no steps are played before an access, only the access happens.
 
 none_drawn : (a b : PlayedAdapter) (told : List Told) → a.most_steps ≡ 0 → Interleaves a b told → (b ≡ a) × (told ≡ [])
 none_drawn a b told none steps =

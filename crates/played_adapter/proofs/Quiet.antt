@@ -14,7 +14,6 @@ none_drawn a most =
     subst (λ (n : ℕ). Times DrawsChoice (drawn_count n a.generator).0 (record a { generator = (drawn_count n a.generator).1 }) a [])
     (sym most) (refl, refl)
 
--- If ticks are off, no step is scheduled and no steps are drawn, the steps before an access only count the access.
 pub quiet_prepares : (a b : PlayedAdapter) → a.ticks ≡ false → a.most_steps ≡ 0 → a.scheduled.items ≡ [] → b ≡ counted a
     → Prepares a b []
 quiet_prepares a b ticks most items is = record {
@@ -33,7 +32,6 @@ quiet_prepares a b ticks most items is = record {
   told_is = refl;
 }
 
--- In this case, only the access happens.
 pub quiet_access : {O : Type 0} (heard : O → O → List Told → Type 0) (access : Access) (a b c : PlayedAdapter) (before after : O)
     → a.ticks ≡ false → a.most_steps ≡ 0 → a.scheduled.items ≡ [] → b ≡ counted a
     → Tells heard before after (HappensAlone access b c) → Tells heard before after (Accessed access a c)

@@ -22,7 +22,6 @@ next_due : (access : ℕ) (items : List ScheduledStep) (step : ScheduledStep) �
 next_due access [] step is = absurd (cc)
 next_due access (x ∷ later) step is = front (nat_le x.access access) x step (due access later) is
 
--- If no step is scheduled, no step is due.
 pub none_waits : (access : ℕ) (items : List ScheduledStep) → slice_get items 0 ≡ None → None ≡ slice_get (due access items) 0
 none_waits access [] is = refl
 none_waits access (x ∷ later) is = absurd (cc)
@@ -31,7 +30,6 @@ late : (is : Bool) (x : ScheduledStep) (later : List ScheduledStep) → is ≡ f
 late true x later is = absurd (cc)
 late false x later is = refl
 
--- If the first step waits for a later access, no step is due.
 pub first_is_late : (access : ℕ) (items : List ScheduledStep) (step : ScheduledStep) → slice_get items 0 ≡ Some step → access < step.access
     → None ≡ slice_get (due access items) 0
 first_is_late access [] step is later = absurd (cc)
@@ -45,7 +43,7 @@ nothing_left [] is = refl
 nothing_left (x ∷ later) is = absurd (cc)
 
 module _ {O : Type 0} (heard : O → O → List Told → Type 0) (laws : Composes heard) where
-  -- These scheduled steps were played, and the others that were due are still due.
+  -- The steps `done`, the first of those that are due at `a`, were played; those that are left are due at `now`.
   pub record Scheduled (a now : PlayedAdapter) (before after : O) : Type 0 where
     pub done : List ScheduledStep
     pub plays : Tells heard before after (InOrder PlaysScheduled done a now)
@@ -54,7 +52,6 @@ module _ {O : Type 0} (heard : O → O → List Told → Type 0) (laws : Compose
   pub none_scheduled : (a : PlayedAdapter) (before : O) → Scheduled a a before before
   none_scheduled a before = record { done = []; plays = tells_none PlaysScheduled heard laws a before; rest = refl }
 
-  -- One more scheduled step is played.
   pub one_scheduled : (a b taken c : PlayedAdapter) (step : ScheduledStep) (outcome : Outcome (Unit {0})) (before now after : O)
       → Scheduled a b before now → Some step ≡ slice_get (due_in b) 0 → taken ≡ without_next b
       → Tells heard now after (Steps step.kind outcome taken c) → Scheduled a c before after
@@ -71,7 +68,6 @@ module _ {O : Type 0} (heard : O → O → List Told → Type 0) (laws : Compose
             ∙ sym (append_assoc so_far.done (step ∷ []) (due_in c));
       }
 
-  -- No step is due any more.
   pub all_scheduled : (a b c : PlayedAdapter) (before after : O) → Scheduled a b before after → None ≡ slice_get (due_in b) 0 → c ≡ b
       → Tells heard before after (InOrder PlaysScheduled (due_in a) a c)
   all_scheduled a b c before after so_far none same =

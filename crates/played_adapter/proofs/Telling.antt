@@ -3,12 +3,10 @@ use Rattle.std.proofs.Common.{◌≡◌, ◌+◌, ◌++◌, ◌∙◌, ℕ, List
 use Rattle.std.proofs.lemmas.List.{append-nil, replicate_more}
 use Rattle.played_adapter.specs.Order.{Composes, InOrder, Joins, Tells, Times}
 
--- A list with one property was told, so a list with another property that follows was told.
 pub tells_so : {O T : Type 0} (heard : O → O → List T → Type 0) (P Q : List T → Type 0) (before after : O)
     → ((told : List T) → P told → Q told) → Tells heard before after P → Tells heard before after Q
 tells_so heard P Q before after so tells = record { told = tells.told; holds = so tells.told tells.holds; hears = tells.hears }
 
--- One thing was told, and then another.
 pub tells_both : {O S T : Type 0} (heard : O → O → List T → Type 0) → Composes heard → (First Later : S → List T → Type 0) (middle : S)
     (before now after : O) → Tells heard before now (First middle) → Tells heard now after (Later middle)
     → Tells heard before after (Joins First Later)
@@ -43,12 +41,10 @@ module _ {X S T : Type 0} (Happens : X → S → S → List T → Type 0) where
     told_is = sym (append-nil told);
   }
 
-  -- One more thing happens.
   pub in_order_more : (xs : List X) (x : X) (a b c : S) (told rest : List T) → InOrder Happens xs a b told → Happens x b c rest
       → InOrder Happens (xs ++ x ∷ []) a c (told ++ rest)
   in_order_more xs x a b c told rest so_far next = in_order_joined xs (x ∷ []) a b c told rest so_far (in_order_one x b c rest next)
 
-  -- A size that no item changes is the same after all items.
   pub in_order_keeps : (size : S → ℕ) → ((x : X) (a b : S) (told : List T) → Happens x a b told → size b ≡ size a) → (xs : List X)
       (a b : S) (told : List T) → InOrder Happens xs a b told → size b ≡ size a
   in_order_keeps size keeps [] a b told all = ap size all.0
@@ -56,11 +52,9 @@ module _ {X S T : Type 0} (Happens : X → S → S → List T → Type 0) where
       in_order_keeps size keeps later all.middle b all.rest all.goes_on ∙ keeps x a all.middle all.first all.happens
 
   module _ {O : Type 0} (heard : O → O → List T → Type 0) (laws : Composes heard) where
-    -- Nothing has happened yet.
     pub tells_none : (a : S) (before : O) → Tells heard before before (InOrder Happens [] a a)
     tells_none a before = record { told = []; holds = (refl, refl); hears = laws.stays before }
 
-    -- Things are told, and then others.
     pub tells_joined : (xs ys : List X) (a b c : S) (before now after : O) → Tells heard before now (InOrder Happens xs a b)
         → Tells heard now after (InOrder Happens ys b c) → Tells heard before after (InOrder Happens (xs ++ ys) a c)
     tells_joined xs ys a b c before now after so_far next = record {
@@ -69,19 +63,16 @@ module _ {X S T : Type 0} (Happens : X → S → S → List T → Type 0) where
       hears = laws.joins before now after so_far.told next.told so_far.hears next.hears;
     }
 
-    -- One thing is told.
     pub tells_one : (x : X) (a b : S) (before after : O) → Tells heard before after (Happens x a b)
         → Tells heard before after (InOrder Happens (x ∷ []) a b)
     tells_one x a b before after one =
         record { told = one.told; holds = in_order_one x a b one.told one.holds; hears = one.hears }
 
-    -- One more thing is told.
     pub tells_more : (xs : List X) (x : X) (a b c : S) (before now after : O) → Tells heard before now (InOrder Happens xs a b)
         → Tells heard now after (Happens x b c) → Tells heard before after (InOrder Happens (xs ++ x ∷ []) a c)
     tells_more xs x a b c before now after so_far next =
         tells_joined xs (x ∷ []) a b c before now after so_far (tells_one x b c now after next)
 
--- Something happened once more.
 pub times_more : {S T O : Type 0} (Happens : S → S → List T → Type 0) (heard : O → O → List T → Type 0) → Composes heard → (count : ℕ)
     (a b c : S) (before now after : O) → Tells heard before now (Times Happens count a b) → Tells heard now after (Happens b c)
     → Tells heard before after (Times Happens (count + 1) a c)

@@ -15,8 +15,8 @@ use Rattle.played_adapter.specs.declared.choices.Choice.TheVariants.{Step, Arriv
 abbrev pub choice_numbered : ℕ → Choice
 choice_numbered number = if number == 6 then Arrival else Step (kind_numbered number)
 
--- the choice that the next word determines, and the generator after it: one of six kinds of steps, or, while a frame is offered, also an
--- arrival
+-- The choice that the generator's next word determines, and the generator after this word. If no frame is offered, the choice is a step,
+-- else a step or an arrival.
 abbrev pub drawn : (offered : List (List ℕ)) → Lcg → Choice × Lcg
 drawn offered generator =
     if length offered == 0 then (let kind = drawn_kind generator in (Step kind.0, kind.1))

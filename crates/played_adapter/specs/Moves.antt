@@ -2,8 +2,8 @@
 use Rattle.std.specs.Prelude.{◌++◌, ◌∷◌, [], Bool, List, None, Option, Some, flat_map, if◌then◌else◌}
 use Rattle.adapter.specs.declared.step.StepKind.{StepKind}
 use Rattle.adapter.specs.declared.step.StepKind.TheVariants as kinds
-use Rattle.eeprom.specs.Eerd.{is_pending}
-use Rattle.mdic_phy.specs.Mdic.{has_work}
+use Rattle.eeprom_phy.specs.Eerd.{is_pending}
+use Rattle.eeprom_phy.specs.Mdic.{has_work}
 use Rattle.step_schedules.specs.Agendas.{AgendaState, after_event, coming, held_at}
 use Rattle.step_schedules.specs.Waiting.{due_before}
 use Rattle.step_schedules.specs.Words.{Text}
@@ -53,14 +53,14 @@ listed (Some next) = next ∷ []
 abbrev pub default_moves : (has_work is_held : Bool) → StepKind → Action → List Move
 default_moves has_work is_held kind hold = if has_work then (if is_held then Hold hold else Tick kind) ∷ [] else []
 
--- the moves of the default steps before an access, of which these are held
+-- the moves of the default steps before an access; `held` is which of them are held
 abbrev pub tick_moves : Held → PlayedAdapter → List Move
 tick_moves held a =
     let adapter = a.machine.world.adapter in
     default_moves (is_pending adapter.eerd) held.eeprom kinds.EepromTick HoldEeprom
     ++ default_moves (has_work adapter.mdic adapter.phy) held.phy kinds.PhyTick HoldPhy
 
--- the actions that are due before an access or a request that comes now
+-- the actions of an agenda that are due if an access of a target with this name, or a request with this first word, comes now
 abbrev pub due_in_agenda : Before → (name : Text) → AgendaState → List Action
 due_in_agenda before name agenda = due_before (coming before name agenda) agenda.waiting
 
@@ -69,11 +69,11 @@ abbrev pub access_moves : Before → (name : Text) → AgendaState → PlayedAda
 access_moves before name agenda a =
     let due = due_in_agenda before name agenda in tick_moves (held_at due agenda) a ++ flat_map moves_of due
 
--- the moves of an agenda before a request
+-- the moves of an agenda before a request: of the actions that are due
 abbrev pub request_moves : Before → (name : Text) → AgendaState → List Move
 request_moves before name agenda = flat_map moves_of (due_in_agenda before name agenda)
 
--- the agenda after an access or a request came
+-- the agenda after it met an access of a target with this name, or a request with this first word
 abbrev pub met : Before → (name : Text) → AgendaState → AgendaState
 met before name agenda = after_event (coming before name agenda) agenda
 

@@ -36,27 +36,36 @@ use Rattle.played_adapter.specs.declared.choices.Choice.TheVariants.{Arrival, St
 use Rattle.played_adapter.specs.declared.choices.Move.{Move}
 use Rattle.played_adapter.specs.declared.choices.Move.TheVariants.{Hold, Play, Tick}
 use Rattle.played_adapter.specs.declared.player.PlayedAdapter.{PlayedAdapter}
+use Rattle.played_adapter.specs.declared.player.Queues.{Queues}
 use Rattle.played_adapter.specs.declared.scheduling.ScheduledStep.{ScheduledStep}
 
 -- A new adapter.
 
--- a new adapter, whose memory has this address, before its first access; the wire is empty, with room for this many frames, and no step is
--- scheduled, with room for this many steps
-unfoldable pub new_with_room : (frames steps : ℕ) → (memory : List ℕ) → AdapterState → Option Ptr → PlayedAdapter
-new_with_room frames steps memory adapter address = record {
+-- empty queues, with room for this many frames on the wire, and for this many scheduled steps
+abbrev pub empty_queues : (frames steps : ℕ) → Queues
+empty_queues frames steps =
+    record { wire = record { capacity = frames; frames = [] }; offered = []; scheduled = record { items = []; capacity = steps } }
+
+-- a new adapter with these frames and steps that wait, whose memory has this address, before its first access
+unfoldable pub new_with_queues : Queues → (memory : List ℕ) → AdapterState → Option Ptr → PlayedAdapter
+new_with_queues queues memory adapter address = record {
   machine = record { world = record { memory = memory; adapter = adapter }; reported = is_asserted adapter };
   address = address;
-  wire = record { capacity = frames; frames = [] };
+  wire = queues.wire;
   keeps_put = true;
   wire_free = true;
-  offered = [];
+  offered = queues.offered;
   generator = pcg32_of_seed (pcg32_seed 16 0);
   most_steps = 0;
   pace = 0;
-  scheduled = record { items = []; capacity = steps };
+  scheduled = queues.scheduled;
   accesses = 0;
   ticks = false;
 }
+
+-- a new adapter with empty queues, whose memory has this address, before its first access
+abbrev pub new_with_room : (frames steps : ℕ) → (memory : List ℕ) → AdapterState → Option Ptr → PlayedAdapter
+new_with_room frames steps memory adapter address = new_with_queues (empty_queues frames steps) memory adapter address
 
 -- a new adapter with room for 64 frames on its wire, and for 4,096 scheduled steps
 abbrev pub new_player : (memory : List ℕ) → AdapterState → Option Ptr → PlayedAdapter
@@ -95,12 +104,11 @@ line_of a = line_told a.machine.reported (is_asserted a.machine.world.adapter)
 abbrev pub Reports : PlayedAdapter → PlayedAdapter → List Told → Type 0
 Reports a b told = (b ≡ reported a) × (told ≡ line_of a)
 
--- An event happens, and leads to the state `next`. The observer is told the event, and then a change of the interrupt line, if there is
--- one.
+-- An event happens, and leads to the state `next`. The observer is told `of_it`, and then a change of the interrupt line, if there is one.
 pub record Happens (one : Event) (of_it : List Told) (next : PlayedAdapter) (a b : PlayedAdapter) (told : List Told) : Type 0 where
   -- the event can happen in this state
   pub occurs : Occurs one a.machine.world
-  -- after it, the level of the line counts as told
+  -- after the event, the level of the line counts as told
   pub after : b ≡ reported next
   -- the event is told, and then the change of the line, if there is one
   pub told_is : told ≡ of_it ++ line_of next
@@ -137,7 +145,7 @@ AllArrive a b told = Times NextArrives (length a.offered) a b told
 abbrev pub has_room : PlayedAdapter → Bool
 has_room a = a.wire_free && (not a.keeps_put || nat_lt (length a.wire.frames) a.wire.capacity)
 
--- a step of this kind with this outcome
+-- the event of a step of this kind with this outcome; if the step puts a frame, the event contains this frame
 abbrev pub step_of : StepKind → Outcome (Unit {0}) → PlayedAdapter → Event
 step_of kind outcome a = event.Steps kind (has_room a) (framed outcome a.machine.world.adapter)
 
@@ -173,13 +181,13 @@ expected wire_free [] = Nothing
 expected true (queued ∷ later) = Put queued.frame
 expected false (queued ∷ later) = WireFull
 
--- A step of this kind is played, and counted if it does something.
+-- A step of this kind is played, and counted if the step does something.
 pub record Plays (kind : StepKind) (a b : PlayedAdapter × ℕ) (told : List Told) : Type 0 where
   -- the outcome of the step
   pub outcome : Outcome (Unit {0})
   -- the step is played
   pub steps : Steps kind outcome a.0 b.0 told
-  -- the number of steps that did something
+  -- the number of steps that did something, which grows by 1 if this step did something
   pub count : b.1 ≡ a.1 + moved_by outcome
 
 -- The wire.
@@ -202,9 +210,9 @@ pub record AnswersTaking (old new : List ℕ) (answer : ℕ) (a b : PlayedAdapte
   pub bytes : answer ≤ length old → new ≡ front_of a.wire.frames ++ drop answer old
   -- if the frame fits, it is no longer on the wire
   pub taken : answer ≤ length old → b ≡ without_front a
-  -- if it doesn't fit, the buffer is unchanged
+  -- if the frame doesn't fit, the buffer is unchanged
   pub same_bytes : length old < answer → new ≡ old
-  -- if it doesn't fit, the adapter is unchanged
+  -- if the frame doesn't fit, the adapter is unchanged
   pub same : length old < answer → b ≡ a
 
 -- Cycles.
@@ -225,8 +233,8 @@ Cycle moved a b told = PlaysAll cycle moved a b told
 abbrev pub most_cycles : ℕ
 most_cycles = 131072
 
--- for each cycle, the number of its steps that do something: the busy cycles, and then a cycle that does nothing, if fewer than the maximum
--- are busy
+-- For each cycle, the number of its steps that do something. The busy cycles come first, and then a cycle that does nothing, if fewer than
+-- the maximum are busy.
 abbrev pub with_last : (most : ℕ) → (busy : List ℕ) → List ℕ
 with_last most busy = if nat_lt (length busy) most then busy ++ 0 ∷ [] else busy
 
@@ -240,7 +248,7 @@ pub record Settles (most moved : ℕ) (a b : PlayedAdapter) (told : List Told) :
   pub few : length busy ≤ most
   -- these cycles are played, in order
   pub plays : InOrder Cycle (with_last most busy) a b told
-  -- the number of all steps that do something
+  -- `moved` is the sum of these numbers
   pub moved_is : moved ≡ sum busy
 
 -- Steps before an access.
@@ -272,7 +280,7 @@ PlaysScheduled step a b told = (outcome : Outcome (Unit {0})) × Steps step.kind
 
 -- A step is scheduled after the others, if there is room for another step.
 pub record AnswersSchedule (access : ℕ) (kind : StepKind) (answer : Bool) (a b : PlayedAdapter) : Type 0 where
-  -- whether there is room for another step
+  -- the answer is whether there is room for another step
   pub range : answer ≡ nat_lt (length a.scheduled.items) a.scheduled.capacity
   -- if there is room, the step is scheduled after the others
   pub taken : answer ≡ true → b ≡ record a {
@@ -286,7 +294,7 @@ abbrev pub noted : (did : Bool) → Action → List Told
 noted true action = Noted action ∷ []
 noted false action = []
 
--- A step is played, and noted if it does something.
+-- A step is played, and noted if the step does something.
 pub record StepChosen (kind : StepKind) (a b : PlayedAdapter) (told : List Told) : Type 0 where
   -- the outcome of the step
   pub outcome : Outcome (Unit {0})
@@ -324,7 +332,7 @@ abbrev pub Interleaves : PlayedAdapter → PlayedAdapter → List Told → Type 
 Interleaves a b told =
     Times DrawsChoice (drawn_count a.most_steps a.generator).0 (record a { generator = (drawn_count a.most_steps a.generator).1 }) b told
 
--- the adapter after an access was counted
+-- the adapter after an access was counted; the count ends at `most_accesses`
 abbrev pub counted : PlayedAdapter → PlayedAdapter
 counted a = record a { accesses = min (a.accesses + 1) most_accesses }
 
@@ -350,7 +358,7 @@ Paced a b told = (moved : ℕ) × Settles a.pace moved a b told
 
 -- Accesses.
 
--- Only the access happens. It is told, and then a change of the interrupt line, if there is one.
+-- Only the access happens. The access is told, and then a change of the interrupt line, if there is one.
 abbrev pub HappensAlone : Access → PlayedAdapter → PlayedAdapter → List Told → Type 0
 HappensAlone access a b told =
     Happens (event.Accesses access) (tell.Accessed access ∷ []) (after (event.Accesses access) a) a b told
@@ -367,9 +375,9 @@ has_bytes a address count = nat_le (address + count) (length a.machine.world.mem
 pub record AnswersLoad (address : ℕ) (old new : List ℕ) (answer : Bool) (a b : PlayedAdapter) (told : List Told) : Type 0 where
   -- the answer is whether memory contains all bytes
   pub range : answer ≡ has_bytes a address (length old)
-  -- if memory contains them, the access happens
+  -- if memory contains them, the steps before the access are played, and the access happens
   pub accessed : answer ≡ true → Accessed (Loads address (length old)) a b told
-  -- if memory contains them, the buffer contains the bytes afterwards
+  -- if memory contains them, the buffer contains the bytes of memory after the access
   pub loaded : answer ≡ true → new ≡ bytes_at b.machine.world.memory address (length old)
   -- if memory doesn't contain all of them, nothing happens
   pub refused : answer ≡ false → (new ≡ old) × (b ≡ a) × (told ≡ [])
@@ -378,7 +386,7 @@ pub record AnswersLoad (address : ℕ) (old new : List ℕ) (answer : Bool) (a b
 pub record AnswersStore (address : ℕ) (bytes : List ℕ) (answer : Bool) (a b : PlayedAdapter) (told : List Told) : Type 0 where
   -- the answer is whether memory contains all their places
   pub range : answer ≡ has_bytes a address (length bytes)
-  -- if memory contains them, the access happens
+  -- if memory contains them, the steps before the access are played, and the access happens
   pub accessed : answer ≡ true → Accessed (Stores address bytes) a b told
   -- if memory doesn't contain all of them, nothing happens
   pub refused : answer ≡ false → (b ≡ a) × (told ≡ [])

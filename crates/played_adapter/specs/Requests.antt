@@ -36,7 +36,7 @@ ServesArrival frame fate a b told = PacedAfter (Arrives frame fate a) b told
 abbrev pub ServesSettle : (moved : ℕ) → PlayedAdapter → PlayedAdapter → List Told → Type 0
 ServesSettle moved a b told = Joins (AllArrive a) (λ middle rest. Settles most_cycles moved middle b rest) told
 
--- A number below a limit, or 0 if the limit is 0, is chosen. It is noted if it is above 0.
+-- A number below a limit, or 0 if the limit is 0, is chosen. A number above 0 is noted.
 pub record ServesChoice (limit wanted answer : ℕ) (a b : PlayedAdapter) (told : List Told) : Type 0 where
   -- the answer is the chosen number
   pub number : answer ≡ (chosen_below a.most_steps limit wanted a.generator).0

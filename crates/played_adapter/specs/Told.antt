@@ -15,7 +15,7 @@ pub data Told : Type 0 where
   Arrived : (frame : List ℕ) → Fate → Told
   -- an offered frame that arrived, and its fate
   Offered : (frame : List ℕ) → Fate → Told
-  -- an access
+  -- an access; of a load, the address and the number of bytes
   Accessed : Access → Told
   -- the new level of the interrupt line
   Line : (level : Bool) → Told

@@ -24,7 +24,7 @@ impl PlayedAdapter {
         }
     }
 
-    /// Counts an access.
+    /// Counts an access, up to the greatest `u64`.
     #[inline(always)]
     fn count(&mut self)
         ensures { self.new ≡ counted self.old }
@@ -32,7 +32,7 @@ impl PlayedAdapter {
         self.accesses = self.accesses.saturating_add(1);
     }
 
-    /// Whether ticks are off, no steps are drawn, and no step is scheduled. Then no step is played before the next
+    /// Whether ticks are off, no steps are drawn, and no step is scheduled. If so, no step is played before the next
     /// access.
     #[inline(always)]
     fn is_quiet(&self) -> bool
@@ -65,7 +65,7 @@ impl PlayedAdapter {
         self.count();
     }
 
-    /// Reads a register, and reports the read and then a change of the interrupt line.
+    /// Reads a register, and reports the read and then a change of the interrupt line, if there is one.
     #[inline(always)]
     pub(crate) fn read_now<O: Observer>(&mut self, offset: u32, observer: &mut O) -> u32
         ensures { Tells O.heard observer.old observer.new (HappensAlone (Reads offset result) self.old self.new) }
@@ -76,7 +76,7 @@ impl PlayedAdapter {
         value
     }
 
-    /// Writes a register, and reports the write and then a change of the interrupt line.
+    /// Writes a register, and reports the write and then a change of the interrupt line, if there is one.
     #[inline(always)]
     pub(crate) fn write_now<O: Observer>(&mut self, offset: u32, value: u32, observer: &mut O)
         ensures { Tells O.heard observer.old observer.new (HappensAlone (Writes offset value) self.old self.new) }
@@ -86,7 +86,7 @@ impl PlayedAdapter {
         self.report(observer);
     }
 
-    /// Loads bytes from memory, and reports the load and then a change of the interrupt line.
+    /// Loads bytes from memory, and reports the load and then a change of the interrupt line, if there is one.
     pub(crate) fn load_now<O: Observer>(&mut self, address: u64, into: &mut [u8], observer: &mut O)
         requires { address + length into.old ≤ length self.old.machine.world.memory }
         ensures tells { Tells O.heard observer.old observer.new
@@ -98,7 +98,7 @@ impl PlayedAdapter {
         self.report(observer);
     }
 
-    /// Stores bytes in memory, and reports the store and then a change of the interrupt line.
+    /// Stores bytes in memory, and reports the store and then a change of the interrupt line, if there is one.
     pub(crate) fn store_now<O: Observer>(&mut self, address: u64, bytes: &[u8], observer: &mut O)
         requires { address + length bytes.now ≤ length self.old.machine.world.memory }
         ensures { Tells O.heard observer.old observer.new (HappensAlone (Stores address bytes.now) self.old self.new) }
@@ -108,7 +108,8 @@ impl PlayedAdapter {
         self.report(observer);
     }
 
-    /// Reads the register at an offset in bytes. Returns 0 at an offset without a register.
+    /// Plays the steps before an access, and reads the register at an offset in bytes. Returns 0 if no register has
+    /// this offset.
     #[inline(always)]
     pub fn read<O: Observer>(&mut self, offset: u32, observer: &mut O) -> u32
         ensures { Tells O.heard observer.old observer.new (Accessed (Reads offset result) self.old self.new) }
@@ -129,7 +130,8 @@ impl PlayedAdapter {
         self.read_now(offset, observer)
     }
 
-    /// Writes the register at an offset in bytes. The write does nothing at an offset without a register.
+    /// Plays the steps before an access, and writes the register at an offset in bytes. If no register has this offset,
+    /// the write does nothing.
     #[inline(always)]
     pub fn write<O: Observer>(&mut self, offset: u32, value: u32, observer: &mut O)
         ensures { Tells O.heard observer.old observer.new (Accessed (Writes offset value) self.old self.new) }
@@ -159,7 +161,8 @@ impl PlayedAdapter {
         count <= size && address <= size - count
     }
 
-    /// Loads the bytes from an address on into the whole of `into`.
+    /// Plays the steps before an access, and loads the bytes from an address on into the whole of `into`. Returns
+    /// `true`.
     ///
     /// If some of these bytes are outside memory, returns `false`, and nothing happens.
     pub fn load<O: Observer>(&mut self, address: u64, into: &mut [u8], observer: &mut O) -> bool
@@ -174,9 +177,9 @@ impl PlayedAdapter {
         true
     }
 
-    /// Stores bytes in memory from an address on.
+    /// Plays the steps before an access, and stores bytes in memory from an address on. Returns `true`.
     ///
-    /// If some bytes would be outside memory, returns `false`, and nothing happens.
+    /// If some of these places are outside memory, returns `false`, and nothing happens.
     pub fn store<O: Observer>(&mut self, address: u64, bytes: &[u8], observer: &mut O) -> bool
         ensures { Tells O.heard observer.old observer.new (AnswersStore address bytes.now result self.old self.new) }
     {

@@ -61,7 +61,7 @@ impl PlayedAdapter {
         }
     }
 
-    /// Plays each of two moves, if there is one.
+    /// Plays the first move, if there is one, and then the second move, if there is one.
     fn make_both<O: Observer>(
         &mut self,
         first: Option<Move>,
@@ -117,8 +117,8 @@ impl PlayedAdapter {
         }
     }
 
-    /// Plays the moves of the default steps, and then of the due actions, before an access with this name, and counts
-    /// the access.
+    /// Plays the moves of the default steps, and then of the due actions, before an access of a target with this name.
+    /// The agenda counts the access.
     pub fn meet_access<O: Observer>(
         &mut self,
         agenda: &mut Agenda,
@@ -136,7 +136,8 @@ impl PlayedAdapter {
         agenda.count(&event);
     }
 
-    /// Plays the moves of the actions that are due before a request with this name, and counts the request.
+    /// Plays the moves of the actions that are due before a request with this first word. The agenda counts the
+    /// request.
     pub fn meet_request<O: Observer>(
         &mut self,
         agenda: &mut Agenda,

@@ -34,7 +34,7 @@ pub enum Move {
     Tick(StepKind),
     /// The default step of the EEPROM or the PHY is left out. This action is noted.
     Hold(Action),
-    /// A choice is played, and noted if it does something.
+    /// A choice is played, and noted if the choice does something.
     Play(Choice),
 }
 
@@ -73,8 +73,8 @@ impl PlayedAdapter {
         }
     }
 
-    /// Draws a choice with the generator's next word: a step, or, while frames are offered, also the arrival of the
-    /// oldest one.
+    /// Draws a choice with the generator's next word: a step if no frame is offered, else a step or the arrival of the
+    /// oldest offered frame.
     pub(crate) fn draw(&mut self) -> Choice
         ensures choice { result ≡ (drawn self.old.offered self.old.generator).0 }
         ensures state { self.new ≡ drawn_from self.old }

@@ -4,22 +4,11 @@ ghost use Rattle.std.specs.Prelude.{◌≡◌, IfOk};
 ghost use Rattle.bus.specs.Machines.{is_asserted};
 ghost use Rattle.played_adapter.specs.Playing.{IsCopy};
 
-use crate::frames::Frames;
-use crate::player::{PlayedAdapter, address_of};
-use crate::scheduling::ScheduledStep;
+use crate::player::{PlayedAdapter, Queues, address_of};
 use bus::Machine;
-use circular_buffer::HeapCircularBuffer;
-use frame_queue::{FrameQueue, copy_of};
+use descriptors::copy_of;
 use rand_pcg::Lcg64Xsh32;
 use std::alloc::AllocError;
-
-/// The frames and steps that wait.
-#[derive(Drop)]
-struct Queues {
-    wire: FrameQueue,
-    offered: Frames,
-    scheduled: HeapCircularBuffer<ScheduledStep>,
-}
 
 /// Returns a copy of the adapter and its memory.
 fn copy_of_machine(machine: &Machine) -> Result<Machine, AllocError>
@@ -29,7 +18,7 @@ fn copy_of_machine(machine: &Machine) -> Result<Machine, AllocError>
 }
 
 impl PlayedAdapter {
-    /// Returns copies of the frames and steps that wait.
+    /// Returns copies of the frames on the wire, the offered frames and the scheduled steps.
     fn copy_queues(&self) -> Result<Queues, AllocError>
         ensures wire { IfOk result (λ queues. queues.wire ≡ self.now.wire) }
         ensures offered { IfOk result (λ queues. queues.offered ≡ self.now.offered) }
@@ -45,7 +34,7 @@ impl PlayedAdapter {
         })
     }
 
-    /// Returns the same adapter with this machine, this generator, and these frames and steps that wait. The level of
+    /// Returns the same adapter with this machine, these frames and scheduled steps, and this generator. The level of
     /// the interrupt line counts as reported.
     fn with_copies(&self, machine: Machine, queues: Queues, generator: Lcg64Xsh32) -> PlayedAdapter
         ensures { result ≡ record self.now {

@@ -51,8 +51,8 @@ impl PlayedAdapter {
         kind_numbered(word % KINDS)
     }
 
-    /// Draws a number of steps and arrivals, up to the maximum, with the generator's next word. If the maximum is 0,
-    /// returns 0 and takes no word.
+    /// Draws a number of steps and arrivals, at most `most_steps`, with the generator's next word. If `most_steps` is
+    /// 0, returns 0 and takes no word.
     fn draw_count(&mut self) -> u64
         ensures count { result ≡ (drawn_count self.old.most_steps self.old.generator).0 }
         ensures state { self.new ≡
@@ -65,8 +65,8 @@ impl PlayedAdapter {
         u64::from(word) % (u64::from(self.most_steps) + 1)
     }
 
-    /// If steps are drawn and `limit` isn't 0, draws a number below `limit` with the generator's next word. Otherwise
-    /// takes no word, and returns `wanted` if it is below `limit`, or else 0.
+    /// If neither `most_steps` nor `limit` is 0, draws a number below `limit` with the generator's next word. Otherwise
+    /// takes no word, and returns `wanted` if `wanted` is below `limit`, or else 0.
     pub(crate) fn choose_below(&mut self, limit: u32, wanted: u32) -> u32
         ensures number { result ≡ (chosen_below self.old.most_steps limit wanted self.old.generator).0 }
         ensures state { self.new ≡

@@ -48,7 +48,7 @@ impl WaitingFrame {
     }
 }
 
-/// Frames that wait, to arrive or to be fetched, the oldest first. In contracts, the value is their list.
+/// Frames that wait, to arrive or to be fetched, the oldest first. In contracts, the value is the list of these frames.
 #[derive(Drop)]
 pub struct Frames {
     frames: VecDeque<WaitingFrame>,
@@ -113,7 +113,7 @@ impl Frames {
         self.try_push(alloc, frame)
     }
 
-    /// Removes the oldest frame, if there is one, and returns it.
+    /// Removes and returns the oldest frame, or returns `None` if there is no frame.
     pub fn pop(&mut self) -> Option<WaitingFrame>
         ensures none { IfNone result ((self.old ≡ []) × (self.new ≡ [])) }
         ensures some { IfSome result (λ frame. self.old ≡ frame ∷ self.new) }

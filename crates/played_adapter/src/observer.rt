@@ -30,7 +30,7 @@ pub trait Observer {
         requires fits { length frame.now ≤ longest_frame }
         ensures { heard self.old self.new (told.Stepped kind (with_frame frame.now outcome) fault ∷ []) };
 
-    /// A frame arrived, and had this fate.
+    /// A frame that wasn't offered arrived, and had this fate.
     fn arrived(&mut self, frame: &[u8], fate: Fate)
         ensures { heard self.old self.new (told.Arrived frame.now fate ∷ []) };
 

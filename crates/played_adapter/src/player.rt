@@ -1,7 +1,7 @@
 // The adapter that is played.
 
 ghost use Rattle.std.specs.Prelude.{◌≡◌, IfOk};
-ghost use Rattle.played_adapter.specs.Playing.{new_player, new_watched, new_with_room};
+ghost use Rattle.played_adapter.specs.Playing.{empty_queues, new_player, new_watched, new_with_queues, new_with_room};
 
 use crate::frames::Frames;
 use crate::scheduling::{MOST_SCHEDULED, ScheduledStep};
@@ -9,8 +9,8 @@ use crate::wire::WIRE_FRAMES;
 use adapter::Adapter;
 use bus::Machine;
 use circular_buffer::HeapCircularBuffer;
+use descriptors::FrameQueue;
 use dma_memory::HostMemory;
-use frame_queue::FrameQueue;
 use rand_core::SeedableRng;
 use rand_pcg::Lcg64Xsh32;
 use std::alloc::{AllocError, Global};
@@ -45,6 +45,29 @@ pub struct PlayedAdapter {
     pub ticks: bool,
 }
 
+/// The frames and steps that wait.
+#[derive(Drop)]
+pub(crate) struct Queues {
+    pub(crate) wire: FrameQueue,
+    pub(crate) offered: Frames,
+    pub(crate) scheduled: HeapCircularBuffer<ScheduledStep>,
+}
+
+impl Queues {
+    /// Returns empty queues, with room for this many frames on the wire, and for this many scheduled steps.
+    fn new(alloc: Global, frames: u8, steps: usize) -> Result<Queues, AllocError>
+        ensures { IfOk result (λ queues. queues ≡ empty_queues frames steps) }
+    {
+        let wire = FrameQueue::new(alloc, frames)?;
+        let scheduled = HeapCircularBuffer::with_capacity(alloc, steps)?;
+        Ok(Queues {
+            wire,
+            offered: Frames::new(alloc),
+            scheduled,
+        })
+    }
+}
+
 /// Returns the address of the first byte of memory, or `None` if memory is empty.
 pub(crate) fn address_of(memory: &HostMemory) -> Option<*const u8> {
     let Ok(bytes) = memory.view(0, 1) else {
@@ -55,9 +78,31 @@ pub(crate) fn address_of(memory: &HostMemory) -> Option<*const u8> {
 }
 
 impl PlayedAdapter {
+    /// Returns this adapter with this memory, and these frames and steps that wait. No step is played before or after an
+    /// access.
+    #[tactic(auto, unfolding(crate::specs::Playing::new_with_queues))]
+    fn with_queues(adapter: Adapter, memory: HostMemory, queues: Queues) -> PlayedAdapter
+        ensures { result ≡ new_with_queues queues memory adapter result.address }
+    {
+        let address = address_of(&memory);
+        PlayedAdapter {
+            machine: Machine::new(adapter, memory),
+            address,
+            wire: queues.wire,
+            keeps_put: true,
+            wire_free: true,
+            offered: queues.offered,
+            generator: Lcg64Xsh32::seed_from_u64(0),
+            most_steps: 0,
+            pace: 0,
+            scheduled: queues.scheduled,
+            accesses: 0,
+            ticks: false,
+        }
+    }
+
     /// Returns this adapter with this memory. Its wire is empty, with room for this many frames. No step is scheduled,
     /// with room for this many. No frame is offered, and no step is played before or after an access.
-    #[tactic(auto, unfolding(crate::specs::Playing::new_with_room))]
     fn with_room(
         alloc: Global,
         adapter: Adapter,
@@ -67,21 +112,8 @@ impl PlayedAdapter {
     ) -> Result<PlayedAdapter, AllocError>
         ensures { IfOk result (λ player. player ≡ new_with_room frames steps memory adapter player.address) }
     {
-        let address = address_of(&memory);
-        Ok(PlayedAdapter {
-            machine: Machine::new(adapter, memory),
-            address,
-            wire: FrameQueue::new(alloc, frames)?,
-            keeps_put: true,
-            wire_free: true,
-            offered: Frames::new(alloc),
-            generator: Lcg64Xsh32::seed_from_u64(0),
-            most_steps: 0,
-            pace: 0,
-            scheduled: HeapCircularBuffer::with_capacity(alloc, steps)?,
-            accesses: 0,
-            ticks: false,
-        })
+        let queues = Queues::new(alloc, frames, steps)?;
+        Ok(PlayedAdapter::with_queues(adapter, memory, queues))
     }
 
     /// Returns this adapter with this memory and an empty wire, on which frames that are put wait.

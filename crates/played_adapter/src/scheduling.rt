@@ -34,7 +34,8 @@ impl PlayedAdapter {
             .is_ok()
     }
 
-    /// Removes and returns the first scheduled step if it is due before the next access. Otherwise returns `None`.
+    /// Removes and returns the first scheduled step if this step is due before the next access. Otherwise returns
+    /// `None`.
     fn take_due(&mut self) -> Option<ScheduledStep>
         ensures step { result ≡ slice_get (due_in self.old) 0 }
         ensures state { IfSome result (λ step. self.new ≡ without_next self.old) }

@@ -79,7 +79,7 @@ impl PlayedAdapter {
         self.machine.step(kind, wire_free)
     }
 
-    /// Reports a step `TxPut` before it is taken, so that the observer can borrow the frame.
+    /// Reports a step `TxPut` before the step is taken, so that the observer can borrow the frame.
     #[inline(always)]
     fn tell_put<O: Observer>(&self, observer: &mut O)
         ensures { O.heard observer.old observer.new (told.Stepped TxPut
@@ -106,7 +106,8 @@ impl PlayedAdapter {
         outcome
     }
 
-    /// Makes the adapter take a step. Returns the step's outcome.
+    /// Makes the adapter take a step. Reports the step, and then a change of the interrupt line, if there is one.
+    /// Returns the step's outcome.
     pub fn step<O: Observer>(&mut self, kind: StepKind, observer: &mut O) -> Outcome<()>
         ensures { Tells O.heard observer.old observer.new (Steps kind result self.old self.new) }
     {
@@ -120,7 +121,8 @@ impl PlayedAdapter {
         outcome
     }
 
-    /// Delivers a frame to the adapter. Returns the frame's fate.
+    /// Delivers a frame to the adapter. Reports the arrival, and then a change of the interrupt line, if there is one.
+    /// Returns the frame's fate.
     pub fn arrive<O: Observer>(&mut self, frame: &[u8], observer: &mut O) -> Fate
         ensures { Tells O.heard observer.old observer.new (Arrives frame.now result self.old self.new) }
     {

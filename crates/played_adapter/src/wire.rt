@@ -32,7 +32,7 @@ impl PlayedAdapter {
         }
     }
 
-    /// Takes the oldest frame off the wire, if it fits into `into`.
+    /// Moves the oldest frame from the wire to the beginning of `into`, if the frame fits.
     ///
     /// Returns the frame's length in bytes, or 0 if no frame waits. If the frame is longer than `into`, nothing
     /// changes.

@@ -1,4 +1,4 @@
--- When all schedules pass.
+-- Conditions under which all schedules pass.
 use Rattle.std.proofs.Common.{◌≡◌, ◌∙◌, ◌≤◌, ◌∷◌, [], ℕ, List, None, Some, arith, inl, inr, sym}
 use Rattle.std.proofs.lemmas.Bool.Decides.{nat_tests}
 use Rattle.schedule_search.specs.Tests.{AllPass, IsSame, IsSchedule, MayTake, Test, left_after}

@@ -5,7 +5,6 @@ use Rattle.std.proofs.lemmas.List.{reverse-append}
 use Rattle.schedule_search.specs.Searches.{path_of}
 use Rattle.schedule_search.specs.declared.path.Choice.{Choice}
 
--- the path with one more choice, which was written to the slice
 pub path-set : (choices : List Choice) (count : ℕ) (choice : Choice) → count < length choices
     → path_of (count + 1) (set choices count choice) ≡ choice ∷ path_of count choices
 path-set choices count choice fits =
@@ -19,7 +18,6 @@ path-cons choices count none fits =
 abbrev pub no_choice : Choice
 no_choice = record { place = record { key = record { one = 0; two = 0 }; possible = 0 }; left = 0; taken = 0 }
 
--- a path consists of its newest choice and the path before it
 pub split : (choices : List Choice) (count : ℕ) → (count ≡ 0 → ⊥) → count ≤ length choices
     → path_of count choices ≡ get_or choices (count - 1) no_choice ∷ path_of (count - 1) choices
 split choices count some fits =
@@ -27,7 +25,6 @@ split choices count some fits =
     subst (λ n. path_of n choices ≡ get_or choices (count - 1) no_choice ∷ path_of (count - 1) choices) is
     (path-cons choices (count - 1) no_choice (omega (arith, some, fits)))
 
--- the path after its newest choice was written
 pub written : (choices : List Choice) (count : ℕ) (choice : Choice) → (count ≡ 0 → ⊥) → count ≤ length choices
     → path_of count (set choices (count - 1) choice) ≡ choice ∷ path_of (count - 1) choices
 written choices count choice some fits =

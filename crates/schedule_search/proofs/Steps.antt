@@ -14,7 +14,6 @@ use Rattle.schedule_search.proofs.Tried.{all_known, all_tried, known_passes, nex
 abbrev pub none_known : Known
 none_known = record { key = record { one = 0; two = 0 }; left = 0 }
 
--- what a search has tried, by the newest choice of its path
 tried_by : (test : Test) (search : Search) (choices : List Choice) (table : List Known) → (search.count ≡ 0 → ⊥)
     → search.count ≤ length choices → IsSearch test search choices table
     → AreTried test search.cost search.depth
@@ -40,7 +39,7 @@ next_tried test search choice next path less is tried all =
     subst (λ here. AreTried test search.cost search.depth (here ∷ path)) (sym is)
     (next_is_tried test search.cost choice (run_of path) tried.0 less all, tried.1, tried.2)
 
--- the next choice is taken at the newest place
+-- If the newest choice isn't the last one at its place, the search preserves its invariant when this choice takes its next number.
 pub another : (test : Test) (search : Search) (choices : List Choice) (table : List Known) (next : Choice)
     → (search.count ≡ 0 → ⊥) → search.count ≤ length choices
     → (get_or choices (search.count - 1) no_choice).taken < (get_or choices (search.count - 1) no_choice).place.possible
@@ -57,7 +56,7 @@ another test search choices table next some fits less is holds all = record {
   none_failed = holds.none_failed;
 }
 
--- the newest choice was the last one at its place, so all schedules that begin with the path without it pass
+-- If the newest choice is the last one at its place, all schedules that begin with the path without this choice pass.
 pub removed_passes : (test : Test) (search : Search) (choices : List Choice) (table : List Known)
     → (search.count ≡ 0 → ⊥) → search.count ≤ length choices
     → (get_or choices (search.count - 1) no_choice).place.possible ≤ (get_or choices (search.count - 1) no_choice).taken
@@ -96,7 +95,6 @@ removed test search choices table new some fits last more holds equal all =
       none_failed = holds.none_failed;
     }
 
--- all schedules pass from a place whose state is known
 pub known : (test : Test) (search : Search) (choices : List Choice) (table : List Known) (place : Place) (entry : Known) (left : ℕ)
     → IsTrueKnown test search.cost entry → IsKnownBy entry place.key left
     → left ≡ left_of search.cost search.depth (path_of search.count choices)

@@ -21,7 +21,6 @@ none_before : (cost left : ℕ) (place : Place) (number : ℕ) → number < (fir
 none_before cost left place number less (inl is) = grind (arith, nat_tests, less, is)
 none_before cost left place number less (inr may) = grind (arith, nat_tests, less, may)
 
--- nothing was tried at the first choice
 pub first_is_tried : (test : Test) (cost left : ℕ) (place : Place) (run : List ℕ) → test.at run ≡ Some place
     → IsTried test cost (first_choice cost left place) run
 first_is_tried test cost left place run is = record {
@@ -76,7 +75,6 @@ all_at test cost choice run number place later tried last all is may schedule =
     (subst (λ here. IsSchedule test cost (left_after cost choice.left here.possible number) (number ∷ run) later)
     (sym is) schedule)
 
--- after the last choice, all schedules have passed
 pub all_tried : (test : Test) (cost : ℕ) (choice : Choice) (run : List ℕ) → IsTried test cost choice run
     → choice.place.possible ≤ choice.taken
     → AllPass test cost (left_after cost choice.left choice.place.possible choice.taken) (choice.taken ∷ run)
@@ -86,7 +84,6 @@ all_tried test cost choice run tried last all (number ∷ later) schedule =
     all_at test cost choice run number schedule.0 later tried last all
     (some_injective choice.place schedule.0 (test.at run) tried.place schedule.1.0) schedule.1.1 schedule.1.2
 
--- from a known state, all schedules pass whose deviations cost at most what its entry states
 pub known_passes : (test : Test) (cost left : ℕ) (entry : Known) (place : Place) (run : List ℕ)
     → IsTrueKnown test cost entry → IsKnownBy entry place.key left → test.at run ≡ Some place → AllPass test cost left run
 known_passes test cost left entry place run true_known known is =

@@ -47,8 +47,8 @@ ended test cost depth zero path = record { path = path; room = 0 }
 ended test cost depth (suc room) path =
     ended_at (ended test cost depth room) cost depth (suc room) path (test.at (run_of path))
 
--- the path to try after a path: the next choice at the newest place with a next choice, without later places; no path if there is no such
--- place
+-- The path to try after a path: the next choice at the newest place with a next choice, without later places. Without such a place, there
+-- is no path.
 abbrev pub next_path : List Choice → Option (List Choice)
 next_path [] = None
 next_path (choice ∷ path) =
@@ -82,8 +82,8 @@ pub record AllAreTried : Type 0 where
 
 -- The list of schedules.
 
--- After a run, a test may take these numbers, with deviations that cost at most `left`: the numbers up to the end of the test if there are
--- at most `room`, or else the first `room` numbers.
+-- After a run, a test may take these numbers, with deviations that cost at most `left`. They are the numbers up to the end of the test if
+-- there are at most `room`, or else the first `room` numbers.
 abbrev pub IsWithin : Test → ℕ → ℕ → ℕ → List ℕ → List ℕ → Type 0
 IsWithin test cost zero left run later = later ≡ []
 IsWithin test cost (suc room) left run [] = test.at run ≡ None

@@ -27,17 +27,18 @@ abbrev pub first_choice : ℕ → ℕ → Place → Choice
 first_choice cost left place =
     record { place = place; left = left; taken = if nat_lt left cost then place.possible else 0 }
 
+-- the choice of the next number at the same place
 abbrev pub next_choice : Choice → Choice
 next_choice choice = record choice { taken = choice.taken + 1 }
 
--- A choice may be made after a run, and for each smaller number that may be taken at its place, all schedules that take the number pass.
+-- A choice may be made after a run. For each smaller number that may be taken at its place, all schedules that take the number pass.
 pub record IsTried (test : Test) (cost : ℕ) (choice : Choice) (run : List ℕ) : Type 0 where
   pub place : test.at run ≡ Some choice.place
   pub may : MayTake cost choice.left choice.place.possible choice.taken
   pub before : (number : ℕ) → number < choice.taken → MayTake cost choice.left choice.place.possible number
       → AllPass test cost (left_after cost choice.left choice.place.possible number) (number ∷ run)
 
--- Each choice of a path is tried (`IsTried`), and its `left` is the maximum total cost that the choices before it leave.
+-- Each choice of a path is tried (`IsTried`), and its `left` is the maximum total cost after the choices before it (`left_of`).
 abbrev pub AreTried : Test → ℕ → ℕ → List Choice → Type 0
 AreTried test cost depth [] = Unit {0}
 AreTried test cost depth (choice ∷ path) =
@@ -75,7 +76,7 @@ known_of key left = record { key = key; left = left }
 abbrev pub IsKnownBy : Known → Key → ℕ → Type 0
 IsKnownBy entry key left = (0 < key.one) × (entry.key ≡ key) × (left ≤ entry.left)
 
--- Only this entry of a table may be new.
+-- The new table is the old table, or the old table with this entry in place of another entry.
 abbrev pub HasOneMore : List Known → Known → List Known → Type 0
 HasOneMore old entry new = (new ≡ old) ⊎ ((at : ℕ) × (new ≡ slice_set old at entry))
 

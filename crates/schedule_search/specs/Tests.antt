@@ -4,7 +4,7 @@ use Rattle.schedule_search.specs.declared.path.Place.{Place}
 
 -- The behavior of a test. A run is the list of the numbers that were taken at its places, the newest one first.
 pub record Test : Type 0 where
-  -- the place of a run after these numbers, or none if the run has ended
+  -- the place that a run reaches after these numbers, or `None` if the run has ended
   pub at : List ℕ → Option Place
   -- whether a run that has ended passes
   pub passes : List ℕ → Bool
@@ -18,12 +18,12 @@ MayTake cost left possible number = (number ≡ possible) ⊎ ((number < possibl
 abbrev pub left_after : ℕ → ℕ → ℕ → ℕ → ℕ
 left_after cost left possible number = if nat_lt number possible then left - cost else left
 
--- The run that begins with a run, and takes these numbers, the first one first.
+-- the longer run that begins with `run`, and then takes these numbers in their order
 abbrev pub played : List ℕ → List ℕ → List ℕ
 played run [] = run
 played run (number ∷ later) = played (number ∷ run) later
 
--- After a run, these numbers are a schedule up to the end of the test, whose deviations cost at most `left`.
+-- After a run, these numbers are a schedule: they lead to the end of the test, and their deviations cost at most `left` in total.
 abbrev pub IsSchedule : Test → ℕ → ℕ → List ℕ → List ℕ → Type 0
 IsSchedule test cost left run [] = test.at run ≡ None
 IsSchedule test cost left run (number ∷ later) =

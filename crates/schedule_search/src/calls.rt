@@ -13,9 +13,9 @@ ghost use Rattle.schedule_search.specs.Tests.{AllPass, EqualKeys, Test};
 use crate::path::{Choice, Key, Known, Place};
 use crate::search::{Met, Search, Step};
 
-/// The run takes the newest choice of the path.
+/// The path has one more choice, the first one at this place, and the run takes this choice.
 pub const GOES: u32 = 0;
-/// All schedules that begin with the path pass.
+/// The state is known: all schedules that begin with the path pass, if their deviations cost at most `depth` in total.
 pub const PASSES: u32 = 1;
 /// The path has no room for another choice.
 pub const FULL: u32 = 2;
@@ -73,7 +73,8 @@ pub extern "C" fn schedule_search_meet(
     }
 }
 
-/// Makes a step back: all schedules that begin with the path were tried. Returns [`ANOTHER`], [`REMOVED`] or [`ENDED`].
+/// Makes a step back, after all schedules that begin with the path were tried. Returns [`ANOTHER`], [`REMOVED`] or
+/// [`ENDED`].
 #[unsafe(no_mangle)]
 pub extern "C" fn schedule_search_back(
     search: &mut Search,
@@ -114,8 +115,8 @@ pub extern "C" fn schedule_search_fail(search: &mut Search)
     crate::fail(search);
 }
 
-/// Returns the index of the first entry that has this key or is empty. The entries are looked at in a circle, from entry
-/// `key.one` modulo their number on. If there is no such entry, returns the number of entries.
+/// Returns the index of the first entry that has this key or is empty. The search begins at entry `key.one` modulo the
+/// number of entries, and wraps. If there is no such entry, returns the number of entries.
 #[unsafe(no_mangle)]
 pub extern "C" fn schedule_search_find(known: &[Known], key: &Key) -> usize
     ensures within { result ≤ length known.now }

@@ -7,8 +7,8 @@ ghost use Rattle.schedule_search.specs.declared.path.Known.{Known};
 
 use crate::path::{Key, Known};
 
-/// Returns the index of the first entry that has this key or is empty. The entries are looked at in a circle, from entry
-/// `key.one` modulo their number on. If there is no such entry, returns the number of entries.
+/// Returns the index of the first entry that has this key or is empty. The search begins at entry `key.one` modulo the
+/// number of entries, and wraps. If there is no such entry, returns the number of entries.
 pub fn find(known: &[Known], key: Key) -> usize
     ensures within { result ≤ length known.now }
     ensures found { (none : Known) → result < length known.now
@@ -37,8 +37,8 @@ pub(crate) fn is_known(entry: Known, key: Key, left: u32) -> bool
     key.one > 0 && entry.key.one == key.one && entry.key.two == key.two && left <= entry.left
 }
 
-/// Notes that from the state with this key, each schedule whose deviations cost at most `left` passes. Stores the note
-/// in the entry that [`find`] returns. Does nothing if there is none.
+/// Notes that from the state with this key, each schedule whose deviations cost at most `left` passes. The note
+/// replaces the entry at the index that [`find`] returns. Does nothing if there is no such entry.
 pub(crate) fn note(known: &mut [Known], key: Key, left: u32)
     ensures { HasOneMore known.old (known_of key left) known.new }
 {

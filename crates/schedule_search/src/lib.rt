@@ -21,7 +21,7 @@ pub use known::{find, grow};
 pub use path::{Choice, Key, Known, Place};
 pub use search::{Met, Search, Step, back, begin, fail, meet};
 
-/// The first run, and then the run of each next path, are the list of the schedules, in order.
+/// The first run, and then the run of each next path until there is none, are the list of the schedules, in order.
 pub fn all_are_tried()
     ensures { AllAreTried }
 {}

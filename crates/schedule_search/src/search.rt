@@ -20,15 +20,16 @@ pub struct Search {
     pub cost: u32,
     /// The number of choices in the path.
     pub count: usize,
-    /// The number of choices, from the first one, from whose places a schedule has failed.
+    /// The number of choices, counted from the first one, from whose places at least one schedule has failed.
     pub failing: usize,
 }
 
 /// What the caller does at a place.
 pub enum Met {
-    /// The run takes the newest choice of the path.
+    /// The path has one more choice, the first one at this place, and the run takes this choice.
     Goes,
-    /// All schedules that begin with the path pass.
+    /// The state is known: all schedules that begin with the path pass, if their deviations cost at most `depth` in
+    /// total.
     Passes,
     /// The path has no room for another choice.
     Full,
@@ -93,10 +94,10 @@ pub fn meet(search: &mut Search, path: &mut [Choice], known: &[Known], place: Pl
     Met::Goes
 }
 
-/// Makes a step back: all schedules that begin with the path were tried. Returns what the caller does next.
+/// Makes a step back, after all schedules that begin with the path were tried. Returns what the caller does next.
 ///
-/// The newest choice takes its next number, if there is one. Otherwise, this choice is removed; its state is noted as
-/// known, unless a schedule from its place has failed.
+/// The newest choice takes its next number, if there is one. Otherwise, this choice is removed; the state of its place
+/// is noted as known, unless a schedule from this place has failed.
 pub fn back(search: &mut Search, path: &mut [Choice], known: &mut [Known]) -> Step
     ensures search { (test : Test) → IsSearch test search.old path.old known.old → EqualKeys test
         → BelowPass test search.old path.old → IsSearch test search.new path.new known.new }

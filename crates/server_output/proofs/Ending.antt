@@ -11,7 +11,6 @@ use Rattle.server_output.specs.WritingLaws.{appends_kept, appends_then, part_the
 use Rattle.server_output.specs.declared.answer_error.AnswerError.{AnswerError}
 use Rattle.server_output.specs.declared.kept.Kept.{Kept}
 
--- What was told is written, or a beginning of it, and nothing of the line.
 pub unended : (stop : Option AnswerError) (before now after : Option (List ℕ)) (text line : Text) → WroteText None stop before now text
     → Keeps now after → WritesPart before after (text ++ line)
 unended None before now after text line wrote kept = record {
@@ -21,7 +20,6 @@ unended None before now after text line wrote kept = record {
 }
 unended (Some error) before now after text line wrote kept = part_kept before now after text line wrote kept
 
--- What was told and the line were written, or at an error a beginning. If there was no error, what was told is kept.
 pub ended : {T : Type 0} (result : Result T AnswerError) (said said' : Text) (kept kept' : Kept) (stop : Option AnswerError)
     (before now after : Option (List ℕ)) (told : List Told) (line : Text) → Heard said said' kept kept' None stop before now told
     → Ends stop result now after line

@@ -1,10 +1,9 @@
--- A text that is joined from parts.
+-- A text to which the next part of a text, or the text of the next item of a list, is appended.
 use Rattle.std.proofs.Common.{◌≡◌, ◌∙◌, ◌+◌, ◌<◌, ◌≤◌, ◌++◌, ◌∷◌, ℕ, List, Bor, length, get_or, drop, drop-cons, add-one, flat_map}
 use Rattle.std.proofs.Common.{append_assoc, ap, sym}
 use Rattle.std.proofs.lemmas.List.{append-nil, drop_all}
 use Rattle.server_output.specs.Texts.{Text, joined}
 
--- the next part is appended, and the parts after it remain
 pub one_part : (parts : List (Bor Text)) (i : ℕ) (d : Bor Text) (text after all : Text) → i < length parts
     → after ≡ text ++ (get_or parts i d).now → text ++ joined (drop i parts) ≡ all → after ++ joined (drop (i + 1) parts) ≡ all
 one_part parts i d text after all below same left =
@@ -18,7 +17,6 @@ pub all_parts : (parts : List (Bor Text)) (i : ℕ) (text all : Text) → length
 all_parts parts i text all end left =
     sym (append-nil text) ∙ sym (ap (λ (ps : List (Bor Text)). text ++ joined ps) (drop_all i parts end)) ∙ left
 
--- the text of the next item of a list is appended, and the texts of the items after it remain
 pub one_mapped : {X : Type 0} (f : X → Text) (xs : List X) (i : ℕ) (d : X) (text after all : Text) → i < length xs
     → after ≡ text ++ f (get_or xs i d) → text ++ flat_map f (drop i xs) ≡ all → after ++ flat_map f (drop (i + 1) xs) ≡ all
 one_mapped {X} f xs i d text after all below same left =

@@ -10,13 +10,11 @@ use Rattle.server_output.specs.Texts.{Text}
 pub use Rattle.server_output.specs.WritingLaws.{keeps_same, part_then}
 use Rattle.server_output.proofs.Writing.{appends_kept, appends_none, appends_then, tells_so}
 
--- A text that was written in full is a beginning of itself.
 pub part_whole : (Holds : Text → Type 0) (before after : Option (List ℕ)) → Tells before after Holds → TellsPart before after Holds
 part_whole Holds before after tells =
     tells_so Holds (Begins Holds) before after
     (λ text holds. record { text = text; rest = []; holds = holds; text_is = sym (append-nil text) }) tells
 
--- If nothing was written, a beginning of this text was written: the empty one.
 pub part_of : (Holds : Text → Type 0) (text : Text) (before after : Option (List ℕ)) → Holds text → Keeps before after
     → TellsPart before after Holds
 part_of Holds text before after holds kept = record {
@@ -28,7 +26,6 @@ part_of Holds text before after holds kept = record {
 pub part_none : (Holds : Text → Type 0) (text : Text) (before : Option (List ℕ)) → Holds text → TellsPart before before Holds
 part_none Holds text before holds = part_of Holds text before before holds (keeps_same before)
 
--- A beginning of a text with one property is a beginning of a text with another property that follows.
 pub part_so : (P Q : Text → Type 0) (before after : Option (List ℕ)) → ((text : Text) → P text → Q text) → TellsPart before after P
     → TellsPart before after Q
 part_so P Q before after so tells =
@@ -76,13 +73,11 @@ said_part text rest before now after said kept = record {
 pub nothing_said : (whole : Text) (before : Option (List ℕ)) → TellsPart before before (λ text. text ≡ whole)
 nothing_said whole before = part_none (λ (text : Text). text ≡ whole) whole before refl
 
--- If a call failed after a beginning of the text, its caller fails after the same beginning.
 pub says_stop : {T E : Type 0} (result : Result T E) (text : Text) (before after : Option (List ℕ)) → IsErr result
     → WritesPart before after text → Says result before after text
 says_stop (Ok value) text before after is part = absurd (cc)
 says_stop (Err error) text before after is part = part
 
--- A fact also holds if there is an error.
 pub whatever_err : {T E : Type 0} (result : Result T E) (P : Type 0) → P → OnErr result P
 whatever_err (Ok value) P holds = tt
 whatever_err (Err error) P holds = holds

@@ -4,7 +4,6 @@ use Rattle.server_output.specs.Order.{Tells}
 use Rattle.server_output.specs.Texts.{Text}
 pub use Rattle.server_output.specs.WritingLaws.{appends_kept, appends_none, appends_then}
 
--- A text with one property was written, so a text with another property that follows was written.
 pub tells_so : (P Q : Text → Type 0) (before after : Option (List ℕ)) → ((text : Text) → P text → Q text) → Tells before after P
     → Tells before after Q
 tells_so P Q before after so tells = record { text = tells.text; holds = so tells.text tells.holds; written = tells.written }

@@ -8,7 +8,7 @@ use Rattle.server_requests.specs.Widths.{size_of}
 use Rattle.server_requests.specs.declared.request.Wanted.{Wanted}
 use Rattle.server_requests.specs.declared.request.Wanted.TheVariants.{Base64, Bytes, Number}
 
--- the number with these bytes, at most 8; missing bytes are 0
+-- the number with these bytes, at most 8, the lowest first; missing bytes, the highest, are 0
 unfoldable pub number_spelled : List ℕ → ℕ
 number_spelled bytes = from_le_bytes w64 (bytes ++ replicate (8 - length bytes) 0)
 

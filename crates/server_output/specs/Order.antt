@@ -9,7 +9,7 @@ pub record Tells (before after : Option (List ℕ)) (Holds : Text → Type 0) : 
   pub text : Text
   -- the text has the property
   pub holds : Holds text
-  -- the text was written after the earlier text
+  -- the text was appended to the bytes `before`, and the bytes afterwards are `after`
   pub written : Appends before after text
 
 -- `part` is a beginning of a text with the property `Holds`.

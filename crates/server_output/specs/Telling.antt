@@ -1,4 +1,4 @@
--- The lines that a server writes about events at an adapter, and what it keeps (our choice).
+-- The lines that a server writes about events at an adapter, and what the server keeps (our choice).
 use Rattle.std.specs.Prelude.{◌≡◌, ◌++◌, ℕ, Bool, List, [], ◌∷◌, Option, Some, None, Result, Err}
 use Rattle.std.specs.Prelude.{flat_map, if◌then◌else◌}
 use Rattle.std.specs.Io.KnownBytes.{Appends, Keeps}
@@ -19,7 +19,8 @@ listed None = []
 
 -- The values that are kept.
 
--- what is kept after a step with this outcome and this fault: if events aren't written, also the frame that the step put and the fault
+-- What is kept after a step with this outcome and this fault. If events aren't written, the frame that the step put and the fault are also
+-- kept.
 abbrev pub kept_with : FrameOutcome → Option EngineFault → Kept → Kept
 kept_with outcome fault kept = record kept {
   put = if kept.events then kept.put else kept.put ++ put_by outcome;
@@ -42,7 +43,7 @@ kept_after (one ∷ later) kept = kept_after later (kept_one one kept)
 
 -- The text that is written.
 
--- the lines of the frame that a step put and of its fault, if events are written
+-- the line of the frame, if the step put a frame, and then the line of the fault, if there is a fault; no text if events aren't written
 abbrev pub step_shown : (events : Bool) → FrameOutcome → Option EngineFault → Text
 step_shown events outcome fault =
     (if events then flat_map frame_line (put_by outcome) else []) ++ (if events then flat_map fault_line (listed fault) else [])
@@ -71,7 +72,8 @@ WroteText None (Some error) before after text = WritesPart before after text
 abbrev pub Writes : (is : Option AnswerError) → (before after : Option (List ℕ)) → Text → Type 0
 Writes is before after text = WroteText None is before after text
 
--- The line of an answer was written, or at an error a beginning of the line. If writing had stopped before, nothing was written.
+-- The line of an answer was written, or at an error a beginning of the line. If writing had stopped before, nothing was written, and the
+-- result is the error that stopped writing.
 abbrev pub Ends : {T : Type 0} → (was : Option AnswerError) → Result T AnswerError → (before after : Option (List ℕ)) → Text → Type 0
 Ends None result before after line = Says result before after line
 Ends (Some error) result before after line = (result ≡ Err error) × Keeps before after
@@ -84,5 +86,5 @@ pub record Heard (said said' : Text) (kept kept' : Kept) (was is : Option Answer
   pub said_is : said' ≡ said
   -- the text about the list was written, or a beginning of this text if writing stopped in it
   pub wrote : WroteText was is before after (text_of kept said told)
-  -- if writing hasn't stopped, what was told is kept
+  -- if writing hasn't stopped, `kept'` is what is kept after this list was told
   pub kept_is : is ≡ None → kept' ≡ kept_after told kept

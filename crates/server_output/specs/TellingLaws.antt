@@ -11,7 +11,7 @@ use Rattle.server_output.specs.declared.answer_error.AnswerError.{AnswerError}
 use Rattle.server_output.specs.declared.kept.Kept.{Kept}
 use Rattle.server_output.specs.WritingLaws.{appends_kept, appends_none, appends_then, keeps_same, part_then}
 
--- A loan is the same at the start and at the end.
+-- The name of a loan doesn't change: in an interval without events, and in two consecutive intervals.
 pub lent_stays : {N : Type 0} (a : N) → a ≡ a
 lent_stays a = refl
 
@@ -65,7 +65,7 @@ kept_then : (first later : List Told) (kept : Kept) → kept_after later (kept_a
 kept_then [] later kept = refl
 kept_then (one ∷ first) later kept = kept_then first later (kept_one one kept)
 
--- The settings that determine the later text are the same as at the start.
+-- What was told first doesn't change `log` and `events`, so the later text is the same as with the settings at the start.
 later_text : (first later : List Told) (said : Text) (kept kept' : Kept) → kept' ≡ kept_after first kept
     → text_of kept' said later ≡ text_of kept said later
 later_text first later said kept kept' is =

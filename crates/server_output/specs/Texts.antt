@@ -57,16 +57,16 @@ fate_word Stored = codes "stored"
 
 -- The log: lines that begin with #.
 
--- a line of the log, or no text if the log is off
+-- the line of the log with this text, or no text if the log is off
 abbrev pub said_log : Bool → Text → Text
 said_log true said = codes "# " ++ said ++ codes "\n"
 said_log false said = []
 
--- what the log prints about a step
+-- what the line of the log contains about a step, after `# `
 abbrev pub step_said : StepKind → Outcome (Unit {0}) → Text
 step_said kind outcome = concat (codes "step " ∷ kind_word kind ∷ codes " -> " ∷ outcome_word outcome ∷ [])
 
--- what the log prints about the arrival of an offered frame
+-- what the line of the log contains about the arrival of an offered frame, after `# `
 abbrev pub arrive_said : List ℕ → Text
 arrive_said frame = concat (codes "arrive " ∷ encode_lower frame ∷ [])
 
@@ -167,7 +167,7 @@ reason_word reasons.Length = codes "length"
 reason_word reasons.Buffer = codes "buffer"
 reason_word reasons.Bsex = codes "bsex"
 
--- the words of a fault, each after a space: the engine, the index of the descriptor, and the reason
+-- the words of a fault, each after a space: the engine, the head of the engine's ring in decimal digits, and the reason
 abbrev pub fault_words : EngineFault → Text
 fault_words fault =
     codes " " ++ engine_word fault.engine ++ codes " " ++ decimal fault.index ++ codes " " ++ reason_word fault.reason

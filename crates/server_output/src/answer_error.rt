@@ -10,7 +10,7 @@ use std::alloc::AllocError;
 pub enum AnswerError {
     /// Memory was refused.
     Memory,
-    /// Writing to the output failed.
+    /// Writing to the output failed, or the writer took no byte, or there were too many writes of one text.
     Write,
 }
 

@@ -1,4 +1,4 @@
-// Answers.
+// The answers to requests that aren't refused, and their lines.
 
 ghost use Rattle.std.specs.Prelude.{◌≡◌, ◌≤◌, length};
 ghost use Rattle.server_output.specs.Answers.{IsSized, line_of, number_spelled};

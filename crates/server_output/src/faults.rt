@@ -8,7 +8,7 @@ use access_names::EngineFault;
 use std::alloc::{AllocError, Global};
 use std::marker::Model;
 
-/// Faults that wait to be fetched, the oldest first. In contracts, the value is their list.
+/// Faults that wait to be fetched, the oldest first. In contracts, the value is the list of these faults.
 #[derive(Drop)]
 pub struct Faults {
     faults: Vec<EngineFault>,

@@ -1,4 +1,4 @@
-// The past events that a server keeps.
+// The past events that a server keeps, which events the server writes, and the recorder.
 
 ghost use Rattle.std.specs.Prelude.{◌≡◌, ◌++◌, OnOk, if◌then◌else◌};
 ghost use Rattle.std.specs.Option.{option_map};
@@ -13,7 +13,7 @@ use played_adapter::Frames;
 use std::alloc::{AllocError, Global};
 use step_schedules::{Action, Recorder};
 
-/// The past events that a server keeps, which events it writes, and the recorder.
+/// The past events that a server keeps, which events the server writes, and the recorder.
 #[derive(Drop)]
 pub struct Kept {
     /// Whether steps, accesses and arrivals are written.
@@ -44,7 +44,7 @@ impl Clone for Kept {
 }
 
 impl Kept {
-    /// Keeps the frame that a step put, if it put one and events aren't written.
+    /// Keeps the frame that a step put, if the step put a frame and events aren't written.
     pub(crate) fn keep_put(
         &mut self,
         alloc: Global,
@@ -64,7 +64,7 @@ impl Kept {
         }
     }
 
-    /// Keeps the fault of a step, if there is one and events aren't written.
+    /// Keeps the fault of a step, if there is a fault and events aren't written.
     pub(crate) fn keep_fault(&mut self, fault: Option<EngineFault>) -> Result<(), AllocError>
         ensures { OnOk result (self.new ≡ record self.old {
           faults = if self.old.events then self.old.faults else self.old.faults ++ listed fault;

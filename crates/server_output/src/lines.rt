@@ -179,7 +179,7 @@ pub(crate) fn decimal_line(alloc: Global, number: u64) -> Result<Vec<u8>, AllocE
     word_line(alloc, digits.format(number).as_bytes())
 }
 
-/// Appends the word of the oldest frame, and removes the frame, if there is one.
+/// Removes the oldest frame, if there is one, and appends the word of this frame.
 fn push_frame(alloc: Global, text: &mut Vec<u8>, frames: &mut Frames) -> Result<(), AllocError>
     ensures same { OnOk result (text.new.items ++ flat_map texts.frame_word frames.new
         ≡ text.old.items ++ flat_map texts.frame_word frames.old) }
@@ -232,7 +232,7 @@ fn reason_word(reason: Reason) -> &'static [u8]
     }
 }
 
-/// Appends the words of a fault, each after a space: its engine, the index of its descriptor, and its reason.
+/// Appends the words of a fault, each after a space: its engine, the head of the engine's ring, and its reason.
 pub(crate) fn push_fault(text: &mut Vec<u8>, fault: EngineFault) -> Result<(), AllocError>
     ensures { OnOk result (text.new.items ≡ text.old.items ++ texts.fault_words fault) }
 {

@@ -12,7 +12,7 @@ use adapter::StepKind;
 use std::alloc::{AllocError, Global};
 use std::io::Write;
 
-/// The kinds of steps in an answer to `enabled`: for each kind, whether the answer contains it.
+/// The kinds of steps in an answer to `enabled`: for each kind, whether the answer contains the kind.
 #[derive(Clone, Copy)]
 pub struct EnabledSteps {
     /// `txtake`.

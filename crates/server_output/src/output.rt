@@ -1,4 +1,4 @@
-// Writes text.
+// Writes texts, and the lines of answers.
 
 ghost use Rattle.std.specs.Prelude.{◌≡◌, ◌≤◌, [], IfOk, OnErr, OnOk, length, take};
 ghost use Rattle.std.specs.Io.KnownBytes.{Appends, Keeps};
@@ -106,7 +106,7 @@ pub(crate) fn say_decimal<W: Write>(
     say(out, line.as_slice())
 }
 
-/// Writes the line of an answer with frames. If this succeeds, no frame is left in the list.
+/// Writes the line of an answer with frames. If the line is written, no frame is left in the list.
 pub fn say_frames<W: Write>(
     alloc: Global,
     out: &mut W,

@@ -80,7 +80,8 @@ impl<'a, W: Write> Lines<'a, W> {
         }
     }
 
-    /// Returns the text about a step.
+    /// Returns the text about a step. It begins with the step's line of the log, if the log is on. If events are
+    /// written, the lines of the step's frame and of the step's fault follow, if there are any.
     fn step_text(
         &self,
         kind: StepKind,
@@ -97,7 +98,8 @@ impl<'a, W: Write> Lines<'a, W> {
         event_text(self.alloc, self.kept.log, &said, shown.as_slice())
     }
 
-    /// Returns the text about the arrival of an offered frame.
+    /// Returns the text about the arrival of an offered frame. It begins with the arrival's line of the log, if the log
+    /// is on. If events are written, the line of the arrival with the fate follows.
     fn arrival_text(&self, frame: &[u8], fate: Fate) -> Result<Vec<u8>, AllocError>
         ensures { IfOk result (λ text. text.items ≡ told_text self.now.kept.now.log self.now.kept.now.events
             self.now.said.now (told.Offered frame.now fate)) }
@@ -124,7 +126,8 @@ impl<'a, W: Write> Lines<'a, W> {
         }
     }
 
-    /// Writes the line of an answer. If writing has stopped, writes nothing, and returns the error that stopped it.
+    /// Writes the line of an answer. If writing has stopped, writes nothing, and returns the error that stopped
+    /// writing.
     pub fn end(&mut self, answer: Answer<'_>) -> Result<(), AnswerError>
         requires { IsSized answer }
         ensures state { self.new ≡ record self.old { out = self.new.out } }

@@ -10,7 +10,7 @@ use Rattle.std.specs.Str.{IsCharBoundary}
 use Rattle.text.specs.Words.{Text, is_space, is_tab, is_word, words_of}
 use Rattle.server_requests.specs.Words.{is_blank}
 
--- A line that is split at spaces, and whose parts are split at tabs, is split at both.
+-- Splitting a line at spaces, and then each part at tabs, has the same parts as splitting the line at both.
 
 onto-append : (x : ℕ) (parts more : List Text) → 0 < length parts → onto_first x parts ++ more ≡ onto_first x (parts ++ more)
 onto-append x [] more some = absurd (omega arith)
@@ -39,7 +39,7 @@ cut_once (byte ∷ line) =
 pub words_once : (line : Text) → words_of line ≡ filter is_word (slice_split is_blank line)
 words_once line = ap (filter is_word) (cut_once line)
 
--- The first blank.
+-- Cutting a line at its first blank.
 
 if-some : (b : Bool) (n k : ℕ) → Some k ≡ cond b (Some n) None → k ≡ n
 if-some true n k e = cc

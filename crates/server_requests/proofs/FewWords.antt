@@ -15,7 +15,6 @@ use Rattle.server_requests.specs.declared.verb.Verb.TheVariants.{Endianness, Int
 use Rattle.server_requests.specs.declared.verb.Verb.TheVariants.{Line, Interleave, Log, Wire, Offer, Events, Frames, Faults, Pace}
 use Rattle.server_requests.specs.declared.verb.Verb.TheVariants.{Choose, Digest, Enabled, Rings, Target, Save, Restore}
 
--- no request has more than four words
 too_many : (verb : Verb) (count : ℕ) → 4 < count → takes_words verb count ≡ false
 too_many (ReadNumber width) count more = grind (arith, nat_tests)
 too_many (WriteNumber width) count more = grind (arith, nat_tests)
@@ -53,7 +52,6 @@ too_many Restore count more = grind (arith, nat_tests)
 either : (n most : ℕ) → (n ≤ most) ⊎ (most < n)
 either n most = grind (arith, nat_tests)
 
--- A line with too many words is refused.
 refused_count : (verb : Verb) (words : List Text) → 4 < length words → request_if (Some verb) words ≡ Err refusals.Count
 refused_count verb words more =
     ap (λ (takes : Bool). cond takes (request_with verb words) (Err refusals.Count)) (too_many verb (length words) more)

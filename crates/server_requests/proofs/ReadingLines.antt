@@ -37,7 +37,6 @@ pub reads_none : (before : Option (List ℕ)) → BothKnown before before (Reads
 reads_none before = known_same before (Reads [] false)
     (λ bytes. record { got = []; kept = refl; long = refl; goes = record { all = refl; first = refl; behind = refl } })
 
--- what was read doesn't change if nothing is read
 pub reads_kept : (line : Text) (is_long : Bool) (before now after : Option (List ℕ)) → BothKnown before now (Reads line is_long)
     → Keeps now after → BothKnown before after (Reads line is_long)
 reads_kept line is_long None now after reads keeps = tt
@@ -82,7 +81,6 @@ goes_end got bytes a b c one two = record {
   rest = two.rest ∙ sym one.behind;
 }
 
--- an LF after bytes without one
 pub ends_at : (bytes later : List ℕ) → All (λ byte. byte ≢ 10) bytes → Ends bytes (bytes ++ 10 ∷ later) later
 ends_at bytes later all =
     let goes = goes_without bytes (10 ∷ later) all in
@@ -105,7 +103,6 @@ take_again (suc most) (x ∷ got) bytes = ap (λ (k : List ℕ). x ∷ k) (take_
 has_room : (most room line bytes : ℕ) → line ≤ most → room ≡ most - line → nat_lt room bytes ≡ nat_lt most (line + bytes)
 has_room most room line bytes fits is = grind (arith, nat_tests)
 
--- bytes that are appended as far as there is room
 pub adds_front : (line line' bytes : List ℕ) (room count : ℕ) → length line ≤ most_line_bytes → room ≡ most_line_bytes - length line
     → count ≡ min room (length bytes) → line' ≡ line ++ take count bytes → Adds (nat_lt room (length bytes)) bytes line line'
 adds_front line line' bytes room count fits room_is count_is is =
@@ -123,7 +120,6 @@ longer true false most all kept added both long is_more is_kept is_both = grind 
 longer false true most all kept added both long is_more is_kept is_both = grind (arith, nat_tests)
 longer false false most all kept added both long is_more is_kept is_both = grind (arith, nat_tests)
 
--- Keeping two parts, one after the other, is the same as keeping both joined.
 pub keeps_both : (line line' : Text) (is_long more : Bool) (got bytes : List ℕ) → line ≡ take most_line_bytes got
     → is_long ≡ nat_lt most_line_bytes (length got) → Adds more bytes line line'
     → (line' ≡ take most_line_bytes (got ++ bytes)) × ((is_long || more) ≡ nat_lt most_line_bytes (length (got ++ bytes)))
@@ -142,7 +138,6 @@ reads_more line line' is_long more before now after reads takes =
     let both = keeps_both line line' is_long more one.got two.0 one.kept one.long two.2 in
     record { got = one.got ++ two.0; kept = both.0; long = both.1; goes = goes_then one.got two.0 a b c one.goes two.1 }) reads takes
 
--- bytes from a reader's buffer without an LF are a part of a line that continues
 pub part_more : (a b : Option (List ℕ)) (line line' : Text) (is_long : Bool) (bytes : List ℕ) → All (λ byte. byte ≢ 10) bytes
     → Consumes a b bytes → Adds is_long bytes line line' → BothKnown a b (TakesPart (parts.More is_long) line line')
 part_more None b line line' is_long bytes all consumes adds = tt
@@ -165,7 +160,7 @@ part_last (Some a) (Some b) line line' is_long shown count below feed all consum
     ∙ append_assoc bytes (10 ∷ []) b in
     (bytes, subst (λ (old : List ℕ). Ends bytes old b) (sym is) (ends_at bytes b all), adds)
 
--- Whole lines.
+-- A line that was read to its end.
 
 more_than : (most n : ℕ) → true ≡ nat_lt most n → most < n
 more_than most n e = grind (arith, nat_tests)
@@ -173,7 +168,7 @@ more_than most n e = grind (arith, nat_tests)
 at_most : (most n : ℕ) → false ≡ nat_lt most n → n ≤ most
 at_most most n e = grind (arith, nat_tests)
 
--- A line was read, and its first bytes are kept.
+-- A whole line was read. `line` keeps its first bytes, as far as there is room, and `is_long` is whether there wasn't room for all.
 record Done (line : Text) (is_long : Bool) (old new : List ℕ) : Type 0 where
   got : List ℕ
   kept : line ≡ take most_line_bytes got
@@ -229,7 +224,6 @@ some_front : (most : ℕ) (line got a b : List ℕ) → 0 < length line → line
 some_front most line [] a b some kept all none = absurd (omega (arith, ap length (kept ∙ taken_none most)))
 some_front most line (x ∷ got) a b some kept all none = cc
 
--- If the input ends after bytes of a line, these bytes are the last line.
 pub reads_rest : (line line' : Text) (is_long : Bool) (before now after : Option (List ℕ)) → 0 < length line'
     → BothKnown before now (Reads line is_long) → BothKnown now after (TakesPart parts.None line line')
     → IsNextLine (kept_as is_long) line' before after
@@ -247,7 +241,6 @@ reads_rest line line' is_long before now after some reads takes =
       };
     }) reads takes)
 
--- If the input ends and no byte of a line was read, there is no further line.
 pub reads_end : (line line' : Text) (is_long : Bool) (before now after : Option (List ℕ)) → length line' ≡ 0
     → BothKnown before now (Reads line is_long) → BothKnown now after (TakesPart parts.None line line')
     → IsNextLine End line' before after
@@ -259,7 +252,7 @@ reads_end line line' is_long before now after none reads takes =
       still = two.0.still;
     }) reads takes
 
--- Lines.
+-- The lines of an input are its first line, and then the lines of the bytes after that line.
 
 lines_if : (feed : Bool) (byte : ℕ) (later : List ℕ)
     → ((later ≡ []) ⊎ (lines_of later ≡ first_line later ∷ lines_of (behind_line later)))

@@ -2,7 +2,7 @@
 use Rattle.std.specs.Prelude.{◌==◌, ℕ, Bool, List, [], ◌∷◌, if◌then◌else◌}
 use Rattle.server_requests.specs.Texts.{Text}
 
--- a byte that ends a line, LF
+-- whether a byte is LF, which ends a line
 abbrev pub is_feed : ℕ → Bool
 is_feed byte = byte == 0x0A
 
@@ -21,7 +21,7 @@ abbrev pub with_front : ℕ → List Text → List Text
 with_front byte [] = (byte ∷ []) ∷ []
 with_front byte (line ∷ lines) = (byte ∷ line) ∷ lines
 
--- the lines of some bytes: the lines that end with an LF, and the bytes after the last LF, if there are any
+-- the lines of some bytes, without LFs: each line that an LF ends, and then the bytes after the last LF, if there are any
 abbrev pub lines_of : List ℕ → List Text
 lines_of [] = []
 lines_of (byte ∷ later) = if is_feed byte then [] ∷ lines_of later else with_front byte (lines_of later)

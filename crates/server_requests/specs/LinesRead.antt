@@ -7,13 +7,13 @@ use Rattle.server_requests.specs.declared.line_reader.NextLine.TheVariants.{End,
 use Rattle.server_requests.specs.declared.line_reader.Part.{Part}
 use Rattle.server_requests.specs.declared.line_reader.Part.TheVariants as parts
 
--- If the bytes that were left before are known, the bytes that are left now are also known, and `Holds` relates both.
+-- If the bytes that were left before (first list) are known, the bytes left after (second list) are also known, and `Holds` relates both.
 abbrev pub BothKnown : Option (List ℕ) → Option (List ℕ) → (List ℕ → List ℕ → Type 0) → Type 0
 BothKnown None after Holds = ⊤
 BothKnown (Some old) None Holds = ⊥
 BothKnown (Some old) (Some new) Holds = Holds old new
 
--- No byte was left, and no byte is left.
+-- No byte was left to read before (`old`), and no byte is left after (`new`).
 pub record AtEnd (old new : List ℕ) : Type 0 where
   pub none : old ≡ []
   pub still : new ≡ []
@@ -22,29 +22,29 @@ pub record AtEnd (old new : List ℕ) : Type 0 where
 abbrev pub kept_as : Bool → NextLine
 kept_as is_long = if is_long then Long else Whole
 
--- These bytes were read, and none of them ends the line.
+-- These bytes were read, and no LF is among them.
 pub record GoesOn (bytes old new : List ℕ) : Type 0 where
-  -- The bytes were the first that were left.
+  -- The bytes were the first of the bytes that were left, and `new` are the bytes after them.
   pub all : old ≡ bytes ++ new
-  -- The line begins with these bytes.
+  -- The line of `old` consists of these bytes and then of the line of `new`.
   pub first : first_line old ≡ bytes ++ first_line new
-  -- The bytes after the line are the same before and after.
+  -- The bytes after the line of `old` are the bytes after the line of `new`.
   pub behind : behind_line old ≡ behind_line new
 
 -- These bytes were read, and they are the rest of a line. The line's LF was also read, if the line has an LF.
 pub record Ends (bytes old new : List ℕ) : Type 0 where
-  -- There was a line.
+  -- At least one byte was left.
   pub some : old ≢ []
-  -- The line consists of the bytes.
+  -- The rest of the line consists of `bytes`.
   pub first : first_line old ≡ bytes
-  -- The bytes after it are left.
+  -- The bytes after the line are left.
   pub rest : new ≡ behind_line old
 
--- Bytes were appended to a line, as far as there was room. `is_long` is true if there wasn't room for all of them.
+-- `bytes` were appended to `line`, as far as there was room; the result is `line'`. `is_long` is true if there wasn't room for all `bytes`.
 pub record Adds (is_long : Bool) (bytes : List ℕ) (line line' : Text) : Type 0 where
-  -- The line keeps the first bytes, as far as there is room.
+  -- The result is the first `most_line_bytes` bytes of `line` and `bytes` together, or all their bytes if there are fewer.
   pub kept : line' ≡ take most_line_bytes (line ++ bytes)
-  -- whether the line had no room for all bytes
+  -- whether `line` and `bytes` together have more than `most_line_bytes` bytes
   pub long : is_long ≡ nat_lt most_line_bytes (length line + length bytes)
 
 -- A part of a line was read and appended; or, for `None`, no byte was left, and the line doesn't change.
@@ -53,19 +53,21 @@ TakesPart parts.None line line' old new = AtEnd old new × (line' ≡ line)
 TakesPart (parts.More is_long) line line' old new = (bytes : List ℕ) × GoesOn bytes old new × Adds is_long bytes line line'
 TakesPart (parts.Last is_long) line line' old new = (bytes : List ℕ) × Ends bytes old new × Adds is_long bytes line line'
 
--- The first line of what was left was read, and isn't too long. The bytes after this line are left.
+-- The first line of the bytes that were left was read, and isn't too long. The bytes after this line are left.
 pub record IsWhole (line : Text) (old new : List ℕ) : Type 0 where
   pub some : old ≢ []
   pub short : length (first_line old) ≤ most_line_bytes
   pub line_is : line ≡ first_line old
   pub rest : new ≡ behind_line old
 
--- The first line of what was left is too long. The bytes after this line are left.
+-- The first line of the bytes that were left was read, and is too long. The bytes after this line are left.
 pub record IsLong (old new : List ℕ) : Type 0 where
   pub some : old ≢ []
   pub long : most_line_bytes < length (first_line old)
   pub rest : new ≡ behind_line old
 
+-- The meaning of the result of reading the next line: no line was left (`End`), `line` was read (`Whole`), or the line is too long
+-- (`Long`).
 abbrev pub IsNextLine : NextLine → Text → Option (List ℕ) → Option (List ℕ) → Type 0
 IsNextLine End line before after = BothKnown before after AtEnd
 IsNextLine Whole line before after = BothKnown before after (IsWhole line)

@@ -1,4 +1,4 @@
--- The request of a line (QEMU, docs/devel/testing/qtest; our choice).
+-- The request of a line, or why the line is refused (QEMU, docs/devel/testing/qtest; additional requests, and the refusals: our choice).
 use Rattle.std.specs.Prelude.{◌==◌, ℕ, List, [], ◌∷◌, Bool, true, false, Option, Some, None, Result, Ok, Err, codes, if◌then◌else◌, length}
 use Rattle.std.specs.Prelude.{replicate, IsUtf8}
 use Rattle.std.specs.Str.{bytes_eq}
@@ -8,7 +8,7 @@ use Rattle.server_requests.specs.Texts.{Text}
 use Rattle.server_requests.specs.Verbs.{kind_named, takes_words, verb_named}
 use Rattle.server_requests.specs.Widths.{bytes_spelling, greatest, greatest_at_port}
 use Rattle.server_requests.specs.Words.{word, words_of}
-use Rattle.pci_function.specs.declared.port_width.PortWidth.{PortWidth}
+use Rattle.registers.specs.declared.port_width.PortWidth.{PortWidth}
 use Rattle.server_requests.specs.declared.refusal.Refusal.{Refusal}
 use Rattle.server_requests.specs.declared.refusal.Refusal.TheVariants as refusals
 use Rattle.server_requests.specs.declared.refusal.Stop.{Stop}
@@ -29,7 +29,7 @@ use Rattle.server_requests.specs.declared.verb.Verb.TheVariants.{Choose, Digest,
 abbrev pub most_count : ℕ
 most_count = 65535
 
--- the request to write bytes, or a refusal if their number isn't the size
+-- the request to write bytes, or the refusal `value` if their number isn't the size
 abbrev pub sized : ℕ → ℕ → List ℕ → Result Request Refusal
 sized address size bytes = if length bytes == size then Ok (requests.Write address bytes) else Err refusals.Value
 
@@ -76,7 +76,7 @@ wire_in word = is_first (codes "free") (codes "full") word >>= λ free. Ok (requ
 abbrev pub events_in : Text → Result Request Refusal
 events_in word = is_first (codes "on") (codes "off") word >>= λ on. Ok (requests.Set (settings.Events on))
 
--- the request for a step of this kind; a word that names no kind is refused
+-- the request for a step of this kind; if a word named no kind, the word is refused
 abbrev pub step_or_refusal : Option StepKind → Result Request Refusal
 step_or_refusal (Some kind) = Ok (requests.Step kind)
 step_or_refusal None = Err refusals.Value
@@ -212,13 +212,13 @@ abbrev pub request_if : Option Verb → List Text → Result Request Refusal
 request_if (Some verb) words = if takes_words verb (length words) then request_with verb words else Err refusals.Count
 request_if None words = Err refusals.Unknown
 
--- the request of the words of a line
+-- the request of the words of a line; a line without words is refused
 abbrev pub request_in : List Text → Result Request Refusal
 request_in [] = Err refusals.Unknown
 request_in (first ∷ rest) = request_if (verb_named first) (first ∷ rest)
 
--- If the line is UTF-8, the result is the request or the refusal of its words. Otherwise the result is the refusal `text`. Or memory was
--- refused.
+-- If the line is UTF-8, the result is the request or the refusal of its words, or memory was refused.
+-- If the line isn't UTF-8, the result is the refusal `text`, or memory was refused.
 pub record IsRead (line : Text) (result : Result Request Stop) : Type 0 where
   pub text : IsUtf8 line → Gives result (request_in (words_of line))
   pub other : (¬ (IsUtf8 line)) → Gives {A = Request} result (Err refusals.Text)

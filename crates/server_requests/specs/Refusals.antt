@@ -4,7 +4,7 @@ use Rattle.server_requests.specs.Texts.{Text}
 use Rattle.server_requests.specs.declared.refusal.Refusal.{Refusal}
 use Rattle.server_requests.specs.declared.refusal.Refusal.TheVariants as refusals
 
--- the answer that refuses a request
+-- the answer to a line that is refused for this reason, with its LF
 abbrev pub refusal_line : Refusal → Text
 refusal_line refusals.Unknown = codes "FAIL unknown\n"
 refusal_line refusals.Count = codes "ERR count\n"

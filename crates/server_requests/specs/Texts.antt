@@ -1,2 +1,2 @@
--- Texts.
+-- The type of a text.
 pub use Rattle.text.specs.Words.{Text}

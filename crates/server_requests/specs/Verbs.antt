@@ -1,10 +1,11 @@
--- The kinds of requests, by their first words (QEMU, docs/devel/testing/qtest, up to clock_set; from step on our choice).
+-- The kinds of requests by their first words (QEMU, docs/devel/testing/qtest, up to clock_set; from step on our choice), and kinds of
+-- steps.
 use Rattle.std.specs.Prelude.{◌==◌, ◌||◌, ℕ, Bool, List, [], ◌∷◌, Option, codes}
 use Rattle.adapter.specs.declared.step.StepKind.{StepKind}
 use Rattle.adapter.specs.declared.step.StepKind.TheVariants as kinds
 use Rattle.text.specs.Tables.{value_in}
 use Rattle.server_requests.specs.Texts.{Text}
-use Rattle.pci_function.specs.declared.port_width.PortWidth.TheVariants as port
+use Rattle.registers.specs.declared.port_width.PortWidth.TheVariants as port
 use Rattle.server_requests.specs.declared.request.Width.TheVariants as width
 use Rattle.server_requests.specs.declared.verb.Verb.{Verb}
 use Rattle.server_requests.specs.declared.verb.Verb.TheVariants.{ReadNumber, WriteNumber, Read, Write, ReadBase64, WriteBase64}
@@ -65,7 +66,7 @@ verbs =
 unfoldable pub verb_named : Text → Option Verb
 verb_named word = value_in verbs word
 
--- whether a line with this kind of request may have this number of words
+-- whether a line with this kind of request may have this number of words, with the first word
 abbrev pub takes_words : Verb → (count : ℕ) → Bool
 takes_words (ReadNumber width) count = count == 2
 takes_words (WriteNumber width) count = count == 3
@@ -100,7 +101,7 @@ takes_words Rings count = count == 1
 takes_words Save count = count == 1
 takes_words Restore count = count == 1
 
--- the names of the kinds of steps
+-- the names of the kinds of steps, and these kinds
 abbrev pub step_kinds : List (Text × StepKind)
 step_kinds =
     (codes "txtake", kinds.TxTake)

@@ -1,8 +1,8 @@
--- Numbers in memory: the lowest byte first (our choice: a little-endian host, as QEMU's x86 machines are).
+-- The sizes and the greatest numbers of accesses, and the bytes of a number: the lowest first, as on a little-endian host (our choice).
 use Rattle.std.specs.Prelude.{ℕ, List, take}
 use Rattle.std.specs.Int.{to_le_bytes, w64}
-use Rattle.pci_function.specs.declared.port_width.PortWidth.{PortWidth}
-use Rattle.pci_function.specs.declared.port_width.PortWidth.TheVariants as port
+use Rattle.registers.specs.declared.port_width.PortWidth.{PortWidth}
+use Rattle.registers.specs.declared.port_width.PortWidth.TheVariants as port
 use Rattle.server_requests.specs.declared.request.Wanted.{Wanted}
 use Rattle.server_requests.specs.declared.request.Wanted.TheVariants.{Base64, Bytes, Number}
 use Rattle.server_requests.specs.declared.request.Width.{Width}
@@ -15,7 +15,7 @@ bytes_of Word = 2
 bytes_of Long = 4
 bytes_of Quad = 8
 
--- the number of bytes that a read asks for
+-- the number of bytes that a request to read asks for
 abbrev pub size_of : Wanted → ℕ
 size_of (Number width) = bytes_of width
 size_of (Bytes size) = size

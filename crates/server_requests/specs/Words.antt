@@ -5,11 +5,11 @@ use Rattle.std.specs.List.{slice_split}
 use Rattle.text.specs.Words.{Text, is_space, is_tab}
 pub use Rattle.text.specs.Words.{texts, word, words_of}
 
--- whether a byte separates words
+-- whether a byte is a space or a tab, which separate words
 abbrev pub is_blank : ℕ → Bool
 is_blank byte = is_space byte || is_tab byte
 
--- the parts of the text after a blank, which blanks separate, or no parts if there is no such text
+-- the parts of the text after the first blank, which blanks separate, or no parts if there is no such text
 abbrev pub parts_after : Option (Bor Text) → List Text
 parts_after None = []
 parts_after (Some text) = slice_split is_blank text.now

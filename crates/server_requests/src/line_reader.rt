@@ -8,24 +8,24 @@ ghost use Rattle.server_requests.specs.LinesRead.{Adds, BothKnown, IsNextLine, T
 use std::io;
 use std::io::{BufRead, ErrorKind};
 
-/// The maximum number of bytes of a line without its end (our choice): room for a `write` of 65,536 bytes.
+/// The maximum number of bytes of a line without its LF (our choice): room for a `write` of 65,536 bytes.
 pub const MOST_LINE_BYTES: usize = 131_200;
 
 /// The byte that ends a line.
 const LINE_FEED: u8 = 0x0A;
 
-/// Reading the input failed.
+/// A read of the input failed, or too many reads didn't reach the end of a line.
 #[derive(Clone, Copy)]
 pub struct ReadFailed;
 
 /// The result of reading a line.
 #[derive(Clone, Copy)]
 pub enum NextLine {
-    /// The input is at its end.
+    /// The input is at its end: there is no further line.
     End,
     /// A line of at most [`MOST_LINE_BYTES`] bytes.
     Whole,
-    /// A line of more than [`MOST_LINE_BYTES`] bytes. Only the beginning of the line is kept.
+    /// A line of more than [`MOST_LINE_BYTES`] bytes. Only its first [`MOST_LINE_BYTES`] bytes are kept.
     Long,
 }
 
@@ -40,10 +40,10 @@ fn kept_as(is_long: bool) -> NextLine
     }
 }
 
-/// A part of a line: the bytes in a reader's buffer.
+/// The result of reading the next part of a line from a reader's buffer.
 #[derive(Clone, Copy)]
 enum Part {
-    /// The input is at its end.
+    /// The input is at its end: there is no further part.
     None,
     /// Bytes that don't end the line. `is_long` is true if the line had no room for all of them.
     More { is_long: bool },
@@ -51,7 +51,7 @@ enum Part {
     Last { is_long: bool },
 }
 
-/// Appends bytes to a line, as far as there is room. Returns `true` if there wasn't room for all bytes.
+/// Appends bytes to a line, as far as there is room for them. Returns `true` if there wasn't room for all bytes.
 fn push_bytes(line: &mut Vec<u8>, bytes: &[u8]) -> bool
     requires room { MOST_LINE_BYTES ≤ vec_capacity line.old }
     requires fits { length line.old.items ≤ MOST_LINE_BYTES }
@@ -82,7 +82,8 @@ fn length_before_feed(bytes: &[u8]) -> usize
     count
 }
 
-/// Reads a part of a line from the reader's buffer, and appends the part as far as there is room. Skips the line feed.
+/// Reads the next part of a line from the reader's buffer, and appends the part as far as there is room. If the buffer
+/// contains the end of the line, skips the line feed.
 fn take_part<R: BufRead>(reader: &mut R, line: &mut Vec<u8>) -> io::Result<Part>
     requires room { MOST_LINE_BYTES ≤ vec_capacity line.old }
     requires fits { length line.old.items ≤ MOST_LINE_BYTES }
@@ -110,7 +111,7 @@ fn take_part<R: BufRead>(reader: &mut R, line: &mut Vec<u8>) -> io::Result<Part>
     Ok(Part::Last { is_long })
 }
 
-/// Replaces `line` by the next line, without its line feed.
+/// Replaces `line` by the next line, without its line feed. At the end of the input, `line` becomes empty.
 ///
 /// Keeps the first [`MOST_LINE_BYTES`] bytes of a longer line, and skips the rest. `line` must have room for
 /// [`MOST_LINE_BYTES`] bytes; then no memory is allocated.

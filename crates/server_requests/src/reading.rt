@@ -13,7 +13,7 @@ use crate::spelling::{base64_at, bytes_at, number_at, payload_at, size_at};
 use crate::verb::{Verb, kind_of, verb_of};
 use crate::width::greatest_at_port;
 use crate::words::words_in;
-use pci_function::PortWidth;
+use registers::PortWidth;
 use std::alloc::Global;
 use std::str;
 use text::word_at;
@@ -27,7 +27,7 @@ const MOST_LIMIT: u64 = 1_000_000_000;
 /// The maximum number of an I/O port.
 const MOST_PORT: u64 = 0xFFFF;
 
-/// Returns the request to write bytes, or refuses if their number isn't the size.
+/// Returns the request to write the bytes, or refuses if their number isn't the size.
 fn sized(address: u64, size: u64, payload: Payload) -> Result<Request, Stop>
     ensures { Gives result (reading.sized address size payload) }
 {
@@ -263,7 +263,7 @@ fn target_of(words: &[&str]) -> Result<Request, Stop>
     Ok(Request::Look(Look::Target(address, size)))
 }
 
-/// Returns the request of a line with this kind of request and an allowed number of words.
+/// Returns the request of a line with this kind of request. The line has an allowed number of words.
 fn request_with(alloc: Global, verb: Verb, words: &[&str]) -> Result<Request, Stop>
     requires { IsTrue (takes_words verb (length words.now)) }
     ensures { Gives result (reading.request_with verb (texts words.now)) }
@@ -304,7 +304,8 @@ fn request_with(alloc: Global, verb: Verb, words: &[&str]) -> Result<Request, St
     }
 }
 
-/// Returns the request of the words of a line.
+/// Returns the request of the words of a line. Refuses a line without words, or with an unknown first word, or with a
+/// number of words that isn't allowed.
 fn request_of(alloc: Global, words: &[&str]) -> Result<Request, Stop>
     ensures { Gives result (reading.request_in (texts words.now)) }
 {

@@ -6,23 +6,23 @@ ghost use Rattle.server_requests.specs.Refusals.{refusal_line};
 
 use std::alloc::AllocError;
 
-/// Why a line is refused. A refused line changes nothing.
+/// Why a line is refused. A refused line changes neither the adapter nor the server.
 #[derive(Clone, Copy)]
 pub enum Refusal {
-    /// `FAIL unknown`: the line's first word isn't that of a request, or the line has no word.
+    /// `FAIL unknown`: the line's first word isn't the first word of a request, or the line has no word.
     Unknown,
     /// `ERR count`: the line has too few or too many words.
     Count,
-    /// `ERR value`: a word has an invalid form, is out of range, or contains another number of bytes than SIZE; or the
-    /// clock would be 2^64 or more.
+    /// `ERR value`: a word has an invalid form, is out of range, or contains another number of bytes than SIZE. Or the
+    /// clock would be 2^64 nanoseconds or more.
     Value,
     /// `ERR size`: SIZE is above 65,536 bytes.
     Size,
-    /// `ERR address`: memory doesn't contain all bytes of the access, and none of them is a byte of a register; or SIZE
-    /// is 0, and ADDR is above the size of memory.
+    /// `ERR address`: memory doesn't contain all bytes of the access, and no byte of the access is a byte of a
+    /// register. Or SIZE is 0, and ADDR is above the size of memory.
     Address,
     /// `ERR register`: memory doesn't contain all bytes of the access, some of them are bytes of registers, and the
-    /// access isn't of four bytes at an aligned address.
+    /// access isn't four bytes at an aligned address.
     Register,
     /// `ERR saved`: the line is `restore`, and no state was saved.
     Saved,
@@ -58,7 +58,7 @@ impl From<AllocError> for Stop {
 }
 
 impl Refusal {
-    /// Returns the line that is written for a refusal.
+    /// Returns the answer to a line that is refused for this reason, with its line feed.
     pub fn text(self) -> &'static [u8]
         ensures { result.now ≡ refusal_line self }
     {

@@ -1,9 +1,9 @@
-// Requests.
+// The requests, and their parameters.
 
 ghost use Rattle.std.specs.Prelude.{◌≡◌};
 
 use adapter::StepKind;
-use pci_function::PortWidth;
+use registers::PortWidth;
 use std::marker::Model;
 
 /// The width of a number in an access.
@@ -19,7 +19,7 @@ pub enum Width {
     Quad,
 }
 
-/// The number of bytes that a read returns, and the form of its answer.
+/// The number of bytes that a read returns, and the form of the answer.
 #[derive(Clone, Copy)]
 pub enum Wanted {
     /// `readb`, `readw`, `readl`, `readq`: a number of this width, whose lowest byte is at the address.
@@ -30,7 +30,7 @@ pub enum Wanted {
     Base64(u64),
 }
 
-/// The bytes of a request. In contracts, the value is their list.
+/// The bytes of a write, or the frame of an `arrive` or `offer`. In contracts, the value is the list of these bytes.
 #[derive(Drop)]
 pub struct Payload {
     pub(crate) bytes: Vec<u8>,
@@ -53,17 +53,17 @@ impl Payload {
     }
 }
 
-/// How later requests are answered.
+/// A setting that later requests use.
 #[derive(Clone, Copy)]
 pub enum Setting {
-    /// `interleave`: up to this number of random steps are played before each access.
+    /// `interleave`: up to this number of random steps are played before each access, except with a schedule.
     Interleave(u16),
     /// `pace`: up to this number of cycles are played after each access and each `arrive`.
     Pace(u16),
-    /// `log`: whether steps, accesses and arrivals are printed, and whether the line of an access contains the name of
-    /// its target.
+    /// `log`: `on` is whether steps, accesses and arrivals are printed. `targets` is whether the line of an access ends
+    /// with the name of the access's target.
     Log { on: bool, targets: bool },
-    /// `events`: whether frames on the wire, faults, and arrivals of offered frames are printed.
+    /// `events`: whether frames put onto the wire, faults, and arrivals of offered frames are printed.
     Events(bool),
     /// `wire`: whether the wire is free. If not, the wire has no room for a frame.
     Wire(bool),
@@ -80,17 +80,17 @@ pub enum Look {
     Line,
     /// `digest`: a digest of the state of the adapter and of memory.
     Digest,
-    /// `frames`: the frames that were put onto the wire while events weren't printed, and weren't returned yet.
+    /// `frames`: the frames that were put onto the wire while events weren't printed, except those returned before.
     Frames,
-    /// `faults`: the faults that stopped an engine while events weren't printed, and weren't returned yet.
+    /// `faults`: the faults that stopped an engine while events weren't printed, except those returned before.
     Faults,
     /// `irq_intercept_in`, `irq_intercept_out`: nothing, because changes of the interrupt line are always printed.
     Intercept,
-    /// `enabled`: the kinds of steps that would do something.
+    /// `enabled`: the kinds of steps whose outcome now would be neither `nothing` nor `wirefull`.
     Enabled,
-    /// `target`: the name of what an access at this address, of this number of bytes, would read or write.
+    /// `target`: the name of the register or memory that an access at this address, of this number of bytes, reaches.
     Target(u64, u64),
-    /// `rings`: the bases, the lengths, the heads and the tails of both rings.
+    /// `rings`: the base, the length in bytes, the head and the tail of the receive ring, then of the transmit ring.
     Rings,
 }
 
@@ -101,7 +101,7 @@ pub enum Request {
     Read(Wanted, u64),
     /// `writeb`, `writew`, `writel`, `writeq`, `write`, `b64write`, `memset`: writes these bytes from an address on.
     Write(u64, Payload),
-    /// Returns state, and plays nothing.
+    /// Returns state of the adapter or the server, and plays nothing.
     Look(Look),
     /// `outb`, `outw`, `outl`: writes this value to this I/O port.
     WritePort(PortWidth, u16, u32),
@@ -111,17 +111,18 @@ pub enum Request {
     Step(StepKind),
     /// `arrive`: a frame is delivered to the adapter.
     Arrive(Payload),
-    /// `settle`: all offered frames arrive, and then cycles are played until one does nothing, up to a maximum number.
+    /// `settle`: all offered frames arrive, and then cycles are played until one does nothing, or until their maximum.
     Settle,
     /// `offer`: a frame waits for its arrival.
     Offer(Payload),
-    /// `choose`: returns a number below this limit, which isn't 0.
+    /// `choose`: returns a number below this limit. The limit isn't 0.
     Choose(u32),
-    /// `clock_step`: settles, and then advances the clock by this number of nanoseconds.
+    /// `clock_step`: does what `settle` does, and then advances the clock by this number of nanoseconds.
     ClockStep(u64),
-    /// `clock_set`: settles, and then sets the clock to this time in nanoseconds, unless the clock is already later.
+    /// `clock_set`: does what `settle` does, and then sets the clock to this time in nanoseconds, unless the clock is
+    /// later.
     ClockSet(u64),
-    /// `save`: keeps a copy of the state.
+    /// `save`: keeps a copy of the state, in place of the previous copy.
     Save,
     /// `restore`: replaces the state by a copy of the state that was saved last.
     Restore,

@@ -1,4 +1,4 @@
-// The numbers and bytes that words spell.
+// The numbers and bytes that words spell. Decoding bytes fails with `Stop::Memory` if memory is refused.
 
 ghost use Rattle.std.specs.Prelude.{◌≡◌};
 ghost use Rattle.server_requests.specs.Spellings.{Gives, base64_in, bytes_in, number_below, payload_in};
@@ -12,10 +12,10 @@ use hex::FromHexError;
 use std::alloc::Global;
 use text::number_of;
 
-/// The maximum number of bytes that a request reads or writes (our choice).
+/// The maximum SIZE of a request, in bytes (our choice).
 pub(crate) const MOST_BYTES: u64 = 65_536;
 
-/// Returns the number that a word spells. Refuses a word that isn't a number, or spells one above `most`.
+/// Returns the number that a word spells. Refuses a word that isn't a number, or that spells a number above `most`.
 pub(crate) fn number_at(text: &str, most: u64) -> Result<u64, Refusal>
     ensures { result ≡ number_below most text.now }
 {
@@ -25,7 +25,7 @@ pub(crate) fn number_at(text: &str, most: u64) -> Result<u64, Refusal>
     }
 }
 
-/// Returns the SIZE that a word spells, in bytes. Refuses a word that isn't a number, or spells one above 65,536.
+/// Returns the SIZE that a word spells, in bytes. Refuses a word that isn't a number, or is a number above 65,536.
 pub(crate) fn size_at(text: &str) -> Result<u64, Refusal>
     ensures { result ≡ size_in text.now }
 {
@@ -36,7 +36,7 @@ pub(crate) fn size_at(text: &str) -> Result<u64, Refusal>
     Ok(size)
 }
 
-/// Returns the bytes that pairs of hexadecimal digits spell, or refuses the word.
+/// Returns the bytes that pairs of hexadecimal digits spell. Refuses a text that isn't such pairs.
 pub(crate) fn bytes_at(alloc: Global, text: &str) -> Result<Payload, Stop>
     ensures { Gives result (bytes_in text.now) }
 {
@@ -47,7 +47,7 @@ pub(crate) fn bytes_at(alloc: Global, text: &str) -> Result<Payload, Stop>
     }
 }
 
-/// Returns the bytes that a text in base64 encodes (RFC 4648, section 4), or refuses the text.
+/// Returns the bytes that a text in base64 encodes (RFC 4648, section 4). Refuses a text that isn't base64.
 pub(crate) fn base64_at(alloc: Global, text: &str) -> Result<Payload, Stop>
     ensures { Gives result (base64_in text.now) }
 {
@@ -58,7 +58,7 @@ pub(crate) fn base64_at(alloc: Global, text: &str) -> Result<Payload, Stop>
     }
 }
 
-/// Returns the bytes that pairs of hexadecimal digits after `0x` spell, or refuses the word.
+/// Returns the bytes that pairs of hexadecimal digits after `0x` spell. Refuses a word that isn't `0x` and such pairs.
 pub(crate) fn payload_at(alloc: Global, text: &str) -> Result<Payload, Stop>
     ensures { Gives result (payload_in text.now) }
 {

@@ -1,11 +1,11 @@
-// The kinds of requests, by their first words.
+// The kinds of requests, by their first words, and the kinds of steps, by their names.
 
 ghost use Rattle.std.specs.Prelude.{◌≡◌};
 ghost use Rattle.server_requests.specs.Verbs.{kind_named, takes_words, verb_named};
 
 use crate::request::Width;
 use adapter::StepKind;
-use pci_function::PortWidth;
+use registers::PortWidth;
 use text::value_of;
 
 /// The kind of a request, by its first word.
@@ -78,7 +78,7 @@ pub(crate) enum Verb {
 }
 
 impl Verb {
-    /// Whether a line with this kind of request may have this number of words.
+    /// Whether a line with this kind of request may have this number of words, with the first word.
     pub(crate) fn takes_words(self, count: usize) -> bool
         ensures { result ≡ takes_words self count }
     {
@@ -145,7 +145,7 @@ const VERBS: [(&str, Verb); 43] = [
     ("rings", Verb::Rings),
 ];
 
-/// Returns the kind of request with this first word, or `None` if the word isn't that of a request.
+/// Returns the kind of request with this first word, or `None` if no request has this first word.
 #[tactic(auto, unfolding(crate::specs::Verbs::verb_named))]
 pub(crate) fn verb_of(word: &str) -> Option<Verb>
     ensures { result ≡ verb_named word.now }
@@ -153,7 +153,7 @@ pub(crate) fn verb_of(word: &str) -> Option<Verb>
     value_of(&VERBS, word)
 }
 
-/// The names of the kinds of steps.
+/// The names of the kinds of steps, and these kinds.
 const STEP_KINDS: [(&str, StepKind); 6] = [
     ("txtake", StepKind::TxTake),
     ("txput", StepKind::TxPut),

@@ -4,7 +4,7 @@ ghost use Rattle.std.specs.Prelude.{◌≡◌, IfOk};
 ghost use Rattle.server_requests.specs.Widths.{bytes_of, bytes_spelling, greatest, greatest_at_port, size_of};
 
 use crate::request::{Wanted, Width};
-use pci_function::PortWidth;
+use registers::PortWidth;
 use std::alloc::{AllocError, Global};
 
 impl Width {

@@ -23,7 +23,6 @@ one_due : (is : Bool) (actions : List Action) (w : WaitingRead)
 one_due true actions w = refl
 one_due false actions w = append-nil actions
 
--- The due actions, with one more deviation: the due actions of the others, and then its action if it is due.
 pub due_next : (event : EventRead) (ws : List WaitingRead) (w : WaitingRead)
     → due_before event (ws ++ w ∷ []) ≡ with_next (due_before event ws) (due_action event w)
 due_next event ws w =
@@ -47,7 +46,6 @@ held_so actions (Some action) =
     ∙ ap (λ (is : Bool). record { eeprom = list_any holds_eeprom actions || holds_eeprom action; phy = is })
     (any_next holds_phy actions action)
 
--- The default steps that are left out, with one more deviation: those of the others, and that of its action if it is due and a hold.
 pub held_next : (event : EventRead) (ws : List WaitingRead) (w : WaitingRead)
     → held_by (due_before event (ws ++ w ∷ [])) ≡ held_after (held_by (due_before event ws)) (due_action event w)
 held_next event ws w = ap held_by (due_next event ws w) ∙ held_so (due_before event ws) (due_action event w)
@@ -59,7 +57,6 @@ chosen_here true w later action number same is =
     subst (λ (a : Option Action). number ≡ chosen (with_next [] a ++ map action_of later)) (sym same) (is (map action_of later))
 chosen_here false w later action number same is = absurd (cc)
 
--- If no deviation of `before` is due, and the next deviation is due, the chosen number is that of its action.
 pub chosen_at : (event : EventRead) (before : List WaitingRead) (w : WaitingRead) (later : List WaitingRead) (action : Action) (number : ℕ)
     → due_before event before ≡ [] → due_action event w ≡ Some action → ((rest : List Action) → number ≡ chosen (action ∷ rest))
     → number ≡ chosen (due_before event (before ++ w ∷ later))
@@ -69,7 +66,6 @@ chosen_at event before w later action number none same is =
     ∙ map-append action_of (filter (is_due event) before) (filter (is_due event) (w ∷ later))
     ∙ ap (λ (l : List Action). l ++ due_before event (w ∷ later)) none))
 
--- A list consists of the items before an index, the item at the index, and the items after the index.
 pub split_at : {X : Type 0} (xs : List X) (i : ℕ) (x : X) → i < length xs → x ≡ get_or xs i x → xs ≡ take i xs ++ x ∷ drop (i + 1) xs
 split_at {X} xs i x inside is =
     let next : suc i ≡ i + 1 = omega arith in
@@ -77,13 +73,11 @@ split_at {X} xs i x inside is =
     ∙ ap (λ (l : List X). take i xs ++ l) (drop-cons xs i x inside
     ∙ ap (λ (y : X). y ∷ drop (suc i) xs) (sym is) ∙ ap (λ (n : ℕ). x ∷ drop n xs) next)
 
--- The views of a list of deviations: those before an index, the view at the index, and those after the index.
 pub read_split : (all : List Waiting) (i : ℕ) (one : Waiting) → i < length all → one ≡ get_or all i one
     → map waiting_read all ≡ map waiting_read (take i all) ++ waiting_read one ∷ map waiting_read (drop (i + 1) all)
 read_split all i one inside is =
     ap (map waiting_read) (split_at all i one inside is) ∙ map-append waiting_read (take i all) (one ∷ drop (i + 1) all)
 
--- The views of the first `i + 1` deviations: those of the first `i`, and then the view of the deviation at index `i`.
 pub read_more : (all : List Waiting) (i : ℕ) (one : Waiting) → i < length all → one ≡ get_or all i one
     → map waiting_read (take (i + 1) all) ≡ map waiting_read (take i all) ++ waiting_read one ∷ []
 read_more all i one inside is =

@@ -1,4 +1,4 @@
--- The deviations of a schedule in a run.
+-- Agendas: the deviations of a schedule that wait for their events in a run, and the default steps that actions leave out.
 use Rattle.std.specs.Prelude.{◌||◌, [], Bool, List, None, Option, Some, false, if◌then◌else◌, map, true}
 use Rattle.std.specs.List.{list_any}
 use Rattle.step_schedules.specs.Events.{EventRead, next_place}
@@ -29,11 +29,13 @@ agenda_of schedule =
 abbrev pub idle_agenda : AgendaState
 idle_agenda = record { plays = false; last = record { round = 0; access = 0 }; waiting = [] }
 
--- the access or request of this kind, and with this name, that comes next; its place is the next place of this kind after the last place
+-- The access or request of this kind, and with this name, that comes next. The place of this event is the next place of this kind after the
+-- last place.
 abbrev pub coming : Before → Text → AgendaState → EventRead
 coming before name agenda = record { place = next_place before agenda.last; before = before; name = name }
 
--- the agenda after an access or a request came: its place is the last place, and it is counted for each deviation that it matches
+-- The agenda after an access or a request came. The place of this event is the last place. The event is counted for each deviation that
+-- matches it.
 abbrev pub after_event : EventRead → AgendaState → AgendaState
 after_event event agenda = record agenda { last = event.place; waiting = map (counted event) agenda.waiting }
 
@@ -51,7 +53,7 @@ holds_phy _ = false
 abbrev pub held_by : List Action → Held
 held_by actions = record { eeprom = list_any holds_eeprom actions; phy = list_any holds_phy actions }
 
--- which default steps are left out before an event at which these actions are due
+-- which default steps are left out before an event: those that these due actions leave out, or all if the agenda plays no schedule
 abbrev pub held_at : (due : List Action) → AgendaState → Held
 held_at due agenda = if agenda.plays then held_by due else record { eeprom = true; phy = true }
 

@@ -21,6 +21,7 @@ use Rattle.step_schedules.specs.declared.deviation_words.Nameless.{Nameless}
 use Rattle.step_schedules.specs.declared.schedule_error.Fault.{Fault}
 use Rattle.step_schedules.specs.declared.schedule_error.Fault.TheVariants as faults
 
+-- whether a place is before another place: in an earlier round, or in the same round before an earlier access
 abbrev pub is_before : Place → Place → Bool
 is_before place other =
     nat_lt place.round other.round || (place.round == other.round && nat_lt place.access other.access)
@@ -83,7 +84,7 @@ words_after (Some place) words = drop 1 words
 unfoldable pub kind_named : Text → Option Before
 kind_named word = value_in ((codes "read", Read) ∷ (codes "write", Write) ∷ []) word
 
--- the kind of the request that a word names: a request that begins a round, or `choose`
+-- the kind of the request that a word names: a request that begins a round, or `choose`; no kind for other words
 unfoldable pub request_named : Text → Option Before
 request_named word =
     value_in (
@@ -132,8 +133,8 @@ named_number word = do
 
 -- Deviations.
 
--- whether an access or a request of this kind can be at a place: a request that begins a round, at ROUND.0; an access or `choose`, at
--- every other place
+-- Whether an access or a request of this kind can be at a place. A request that begins a round is at ROUND.0, and an access or `choose` is
+-- at every other place.
 abbrev pub is_place_of : Before → Place → Bool
 is_place_of Request place = place.access == 0
 is_place_of Read place = nat_lt 0 place.access
@@ -143,8 +144,8 @@ is_place_of Choice place = nat_lt 0 place.access
 abbrev pub place_before : Place → Before → Result Site Fault
 place_before place before = if is_place_of before place then Ok (site.Place place) else Err faults.RequestPlace
 
--- the site of a deviation, from the place and the number of its line; a fault if the line has both or neither, if the number is 0, or if
--- nothing of this kind can be at the place
+-- The site of a deviation, from the place and the number of its line. A line with both or with neither is a fault, and so are the number 0
+-- and a place at which nothing of this kind can be.
 abbrev pub site_in : Option Place → Option ℕ → Before → Result Site Fault
 site_in (Some place) None before = place_before place before
 site_in (Some place) (Some number) before = Err faults.PlaceAndNumber
@@ -163,7 +164,7 @@ takes Request action = not (is_choice action)
 takes Read action = not (is_choice action)
 takes Write action = not (is_choice action)
 
--- the site of a deviation, from the place and the last word of its line; an action that may not be before this kind is a fault
+-- The site of a deviation, from the place and the last word of its line. An action that may not be before this kind is a fault.
 abbrev pub site_at : Option Place → Action → Before → Text → Result Site Fault
 site_at place action before word = do
   number ← named_number word
@@ -207,7 +208,7 @@ nameless_in place action event = action_or_fault (action_in action) >>= nameless
 abbrev pub with_name : Text → Nameless → Result DeviationRead Fault
 with_name name read = Ok (record { site = read.site; action = read.action; before = read.before; name = name })
 
--- the deviation of a line, from its place and the words after the place
+-- the deviation of a line, from its place, if it has one, and the other words
 abbrev pub deviation_after : Option Place → List Text → Result DeviationRead Fault
 deviation_after place words =
     nameless_in place (action_words words) (event_words words) >>= with_name (name_in (last_word (event_words words)))

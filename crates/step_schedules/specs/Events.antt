@@ -58,8 +58,8 @@ is_same Request Request = true
 is_same Choice Choice = true
 is_same _ _ = false
 
--- whether a deviation matches an event: they have the same kind and name, and the same place if the deviation has a place; a number isn't
--- compared
+-- Whether a deviation matches an event: they have the same kind and name, and the same place if the deviation has a place. A number isn't
+-- compared.
 abbrev pub is_met_by : EventRead → DeviationRead → Bool
 is_met_by event deviation =
     is_at event deviation.site && is_same deviation.before event.before && bytes_eq deviation.name event.name

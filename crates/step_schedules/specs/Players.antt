@@ -19,7 +19,7 @@ pub record RecorderState : Type 0 where
 abbrev pub new_recorder : RecorderState
 new_recorder = record { event = no_event; played = [] }
 
--- the number that the first of these actions chooses, or 0 if the first action chooses no number
+-- the number that the first of these actions chooses; 0 if there is no action, or if the first action chooses no number
 abbrev pub chosen : List Action → ℕ
 chosen (Choose number ∷ later) = number
 chosen actions = 0
@@ -28,7 +28,7 @@ chosen actions = 0
 abbrev pub begun : EventRead → RecorderState → RecorderState
 begun event recorder = record recorder { event = event }
 
--- the deviation that plays an action before an access or a request, at its place
+-- the deviation that plays an action before an access or a request, at the place of this event
 abbrev pub deviation_before : EventRead → Action → DeviationRead
 deviation_before event action =
     record { site = site.Place event.place; action = action; before = event.before; name = event.name }

@@ -110,7 +110,8 @@ Stops (Line line fault) read = read ≡ Err (line, fault)
 Stops NoText read = ⊥
 Stops Memory read = ⊤
 
--- The call returned Ok, and `after` is what was read; or the call returned the number and the fault of a line; or memory was refused.
+-- The call returned Ok, and `after` is what was read; or it returned the number and the fault of the first faulty line; or memory was
+-- refused.
 abbrev pub AreLinesRead : Result SoFar (ℕ × Fault) → Result (Unit {0}) ScheduleError → SoFar → Type 0
 AreLinesRead read (Ok u) after = read ≡ Ok after
 AreLinesRead read (Err error) after = Stops error read
@@ -127,7 +128,8 @@ schedule_of (Err fault) = Err fault
 abbrev pub schedule_in : Text → Result ScheduleRead (ℕ × Fault)
 schedule_in text = schedule_of (read_in text)
 
--- The result is the schedule of the text, or its first faulty line, or that the text isn't UTF-8, or that memory was refused.
+-- The result is the schedule of the text; or the number and the fault of its first faulty line; or the text isn't UTF-8; or memory was
+-- refused.
 abbrev pub IsRead : Text → Result Schedule ScheduleError → Type 0
 IsRead text (Ok schedule) = IsUtf8 text × (schedule_in text ≡ Ok (schedule_read schedule))
 IsRead text (Err (Line line fault)) = IsUtf8 text × (schedule_in text ≡ Err (line, fault))

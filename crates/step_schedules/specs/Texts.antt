@@ -46,13 +46,15 @@ abbrev pub text_at : Site → Text → Text
 text_at (site.Place place) event = decimal place.round ++ codes "." ++ decimal place.access ++ codes " " ++ event
 text_at (site.Number number) event = event ++ codes "#" ++ decimal number
 
--- the line of a deviation
+-- the line of a deviation, without its LF
 abbrev pub deviation_text : DeviationRead → Text
 deviation_text deviation = text_at deviation.site (event_text deviation)
 
+-- the line of a deviation, with its LF
 abbrev pub deviation_line : DeviationRead → Text
 deviation_line deviation = deviation_text deviation ++ codes "\n"
 
+-- the lines of these deviations, in order
 abbrev pub deviation_lines : List DeviationRead → Text
 deviation_lines deviations = flat_map deviation_line deviations
 

@@ -1,4 +1,4 @@
--- Deviations that wait to be played.
+-- Deviations that wait for their events in a run, or have been due.
 use Rattle.std.specs.Prelude.{◌-◌, ◌==◌, ◌&&◌, ℕ, Bool, List, None, Option, Some, filter, if◌then◌else◌, map, nat_lt}
 use Rattle.step_schedules.specs.Events.{EventRead, is_met_by}
 use Rattle.step_schedules.specs.declared.waiting.Waiting.{Waiting}
@@ -11,7 +11,7 @@ use Rattle.step_schedules.specs.declared.deviation.Site.TheVariants as site
 pub record WaitingRead : Type 0 where
   -- the deviation
   pub deviation : DeviationRead
-  -- the number of matching events that must still come; the deviation is due before the last of them; 0: it was due
+  -- The number of matching events that must still come. The deviation is due before the last of them. If the number is 0, it has been due.
   pub left : ℕ
 
 abbrev pub waiting_read : Waiting → WaitingRead
@@ -29,7 +29,7 @@ waits deviation = record { deviation = deviation; left = left_at deviation.site 
 abbrev pub is_due : EventRead → WaitingRead → Bool
 is_due event waiting = waiting.left == 1 && is_met_by event waiting.deviation
 
--- a deviation after an event came, which is counted if the deviation matches it; `0 - 1` is 0
+-- a deviation after an event came; the event is counted if the deviation matches the event; `0 - 1` is 0
 abbrev pub counted : EventRead → WaitingRead → WaitingRead
 counted event waiting =
     record waiting { left = if is_met_by event waiting.deviation then waiting.left - 1 else waiting.left }
@@ -38,7 +38,7 @@ counted event waiting =
 abbrev pub action_of : WaitingRead → Action
 action_of waiting = waiting.deviation.action
 
--- the action of a deviation, if it is due before an event
+-- the action of a deviation that is due before an event, or no action if the deviation isn't due
 abbrev pub due_action : EventRead → WaitingRead → Option Action
 due_action event waiting = if is_due event waiting then Some (action_of waiting) else None
 

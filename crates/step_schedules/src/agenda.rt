@@ -21,12 +21,12 @@ const START: Place = Place {
     access: 0,
 };
 
-/// Which default steps are omitted before an access.
+/// Which default steps are left out before an access.
 #[derive(Clone, Copy)]
 pub struct Held {
-    /// Whether the default step of the EEPROM is omitted.
+    /// Whether the default step of the EEPROM is left out.
     pub eeprom: bool,
-    /// Whether the default step of the PHY is omitted.
+    /// Whether the default step of the PHY is left out.
     pub phy: bool,
 }
 
@@ -70,7 +70,7 @@ impl Clone for Agenda {
 }
 
 impl Held {
-    /// Returns these default steps, and the default step of this action if the action is a hold.
+    /// Returns these default steps, and also the default step that the action leaves out, if the action is a hold.
     fn and(self, action: Option<Action>) -> Held
         ensures { result ≡ spec.held_after self action }
     {
@@ -105,7 +105,8 @@ fn held_in(waiting: &[Waiting], event: &Event<'_>) -> Held
     held
 }
 
-/// Returns the number that the first due action chooses, or 0 if no action is due or it chooses no number.
+/// Returns the number that the first due action chooses. Returns 0 if no action is due, or if the first due action
+/// chooses no number.
 fn chosen_in(waiting: &[Waiting], event: &Event<'_>) -> u32
     ensures { result ≡ chosen (due_before (event_read event.now) (map waiting_read waiting.now)) }
 {
@@ -147,8 +148,8 @@ impl Agenda {
         self.plays
     }
 
-    /// Returns the access or request of this kind, and with this name, that comes next. Its place is the next place of
-    /// this kind after the place of the last access or request.
+    /// Returns the access or request of this kind, and with this name, that comes next. The place of this event is the
+    /// next place of this kind after the place of the last access or request.
     pub fn coming<'a>(&self, before: Before, name: &'a [u8]) -> Event<'a>
         ensures { event_read result ≡ spec.coming before name.entry.now self.now }
     {
@@ -180,7 +181,8 @@ impl Agenda {
         held_in(self.waiting.as_slice(), event)
     }
 
-    /// Returns the number that the first due action chooses, or 0 if no action is due or it chooses no number.
+    /// Returns the number that the first due action chooses. Returns 0 if no action is due, or if the first due action
+    /// chooses no number.
     pub fn chosen(&self, event: &Event<'_>) -> u32
         ensures { result ≡ chosen (due_before (event_read event.now) self.now.waiting) }
     {
@@ -199,8 +201,8 @@ impl Agenda {
         schedule.to_string(alloc)
     }
 
-    /// Counts an access or a request that comes now, for each deviation that matches it. Its place is the last place
-    /// from now on.
+    /// Counts an access or a request that comes now, for each deviation that matches it. The event's place becomes the
+    /// last place.
     pub fn count(&mut self, event: &Event<'_>)
         ensures { self.new ≡ spec.after_event (event_read event.now) self.old }
     {

@@ -28,7 +28,8 @@ impl Place {
 pub enum Site {
     /// The access or the request at this place.
     Place(Place),
-    /// The access or the request with this number, from 1, among those of the run with the deviation's kind and name.
+    /// The access or the request with this number, from 1, among the run's accesses and requests of the deviation's
+    /// kind and name.
     Number(u32),
 }
 
@@ -57,7 +58,7 @@ pub enum Action {
     EepromTick,
     /// The PHY takes one more step.
     PhyTick,
-    /// A request `choose` is answered with this number, if the number is below the request's limit.
+    /// A request `choose` is answered with this number if the number is below the request's limit, else with 0.
     Choose(u32),
 }
 
@@ -74,10 +75,10 @@ pub enum Before {
     Choice,
 }
 
-/// An action, and the access or request before which it happens. The action `Choose` answers this request.
+/// An action, and the access or request before which the action happens. The action `Choose` answers this request.
 #[derive(Drop)]
 pub struct Deviation {
-    /// Which access or request of the run.
+    /// The access or request of the run before which the action happens, by its place or its number.
     pub site: Site,
     /// The action.
     pub action: Action,

@@ -27,10 +27,10 @@ const ACTIONS: [(&str, Action); 9] = [
 /// The actions that begin with `hold`, by their second word.
 const HOLDS: [(&str, Action); 2] = [("eeprom", Action::HoldEeprom), ("phy", Action::HoldPhy)];
 
-/// The kinds of accesses, by their word.
+/// The kinds of accesses, by the word that names each.
 const KINDS: [(&str, Before); 2] = [("read", Before::Read), ("write", Before::Write)];
 
-/// The kinds of requests, by their word: requests that begin a round, and `choose`.
+/// The kinds of requests, by the word that names each request: requests that begin a round, and `choose`.
 const REQUESTS: [(&str, Before); 5] = [
     ("arrive", Before::Request),
     ("offer", Before::Request),
@@ -203,8 +203,8 @@ fn place_before(place: Place, before: Before) -> Result<Site, Fault>
     }
 }
 
-/// Returns the site of a deviation, from the place and the number of its line. Rejects a line with both or neither,
-/// the number 0, and a place at which nothing of this kind can be.
+/// Returns the site of a deviation, from the place and the number of its line. Rejects a line with both or with
+/// neither, the number 0, and a place at which nothing of this kind can be.
 fn site_of(place: Option<Place>, number: Option<u32>, before: Before) -> Result<Site, Fault>
     ensures { result ≡ spec.site_in place number before }
 {

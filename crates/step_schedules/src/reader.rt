@@ -17,7 +17,7 @@ use std::alloc::Global;
 pub(crate) struct Reader {
     /// The options and deviations so far.
     pub(crate) schedule: Schedule,
-    /// The place of the last deviation with a place, or 0.0 if no deviation has one.
+    /// The place of the last deviation with a place, or 0.0 if no deviation has a place.
     pub(crate) last: Place,
 }
 
@@ -38,7 +38,7 @@ impl Reader {
         }
     }
 
-    /// Stores the options of a line `options`. Rejects the line if it isn't the first line with words.
+    /// Stores the options of a line `options`. Rejects the line if this line isn't the first line with words.
     fn set_options(&mut self, alloc: Global, words: &[&str]) -> Result<(), Stop>
         requires { 0 < length words.now }
         ensures { spec.Becomes result (spec.after_options (texts words.now) (spec.so_far self.old))
@@ -67,7 +67,7 @@ impl Reader {
         Ok(())
     }
 
-    /// Reads the words of a line that describes a deviation.
+    /// Reads the words of a line that describes a deviation, and appends this deviation.
     fn read_deviation(&mut self, alloc: Global, words: &[&str]) -> Result<(), Stop>
         requires { 0 < length words.now }
         ensures { spec.Becomes result (spec.after_deviation_in (texts words.now) (spec.so_far self.old))
@@ -77,7 +77,7 @@ impl Reader {
         self.push(deviation)
     }
 
-    /// Reads the words of a line.
+    /// Reads the words of a line: no words, the server's options, or a deviation.
     fn read_words(&mut self, alloc: Global, words: &[&str]) -> Result<(), Stop>
         ensures { spec.Becomes result (spec.after_words (texts words.now) (spec.so_far self.old))
             (spec.so_far self.new) }
@@ -99,7 +99,7 @@ impl Reader {
         self.read_words(alloc, words.as_slice())
     }
 
-    /// Reads lines up to the first faulty one. The lines are numbered from 1.
+    /// Reads lines, numbered from 1. Stops at the first faulty line, and returns the error of this line.
     fn read_lines(&mut self, alloc: Global, lines: &[&str]) -> Result<(), ScheduleError>
         ensures { spec.AreLinesRead (spec.after_lines (texts lines.now) 1 (spec.so_far self.old)) result
             (spec.so_far self.new) }

@@ -21,8 +21,8 @@ pub enum Fault {
     Place,
     /// The words before `before` (after the place, if there is one) aren't an action.
     Action,
-    /// The words after `before` aren't an access, a request that begins a round, or `choose`. Or the last of them has
-    /// no name, or no number of one to nine digits after its `#`.
+    /// The words after `before` aren't an access, a request that begins a round, or `choose`. Or the last word has no
+    /// name, or has a `#` without a number of one to nine digits after it.
     Access,
     /// The action `choose K` is before an access or another request, or another action is before `choose`.
     Choice,

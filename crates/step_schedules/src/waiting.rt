@@ -13,8 +13,8 @@ use std::alloc::{AllocError, Global};
 #[derive(Drop)]
 pub struct Waiting {
     pub(crate) deviation: Deviation,
-    /// The number of matching events that must still come. The deviation is due before the last of them. 0: it has been
-    /// due.
+    /// The number of matching events that must still come. The deviation is due before the last of them. If the number
+    /// is 0, the deviation has been due.
     pub(crate) left: u32,
 }
 

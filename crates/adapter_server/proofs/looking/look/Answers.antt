@@ -1,7 +1,7 @@
 use Rattle.std.proofs.Common.{◌≡◌, ◌∙◌, ap, codes, rules}
 use Rattle.std.specs.Prelude.{List, ℕ}
 use Rattle.server_output.specs.Texts.{ok_line, rings_line, word_line}
-use Rattle.pci_function.specs.Ports.{answer_at}
+use Rattle.registers.specs.Ports.{answer_at}
 use Rattle.adapter_server.specs.Answers.{AnswersRings, Replies, line_number}
 use Rattle.adapter_server.specs.declared.session.Session.{Session}
 use Rattle.adapter_server.proofs.Printing.{answer_so, fetched, replied}

@@ -2,7 +2,8 @@ use Rattle.std.proofs.Common.{None, Option, subst, sym}
 use Rattle.std.specs.Prelude.{IfSome}
 use Rattle.step_schedules.specs.declared.player.Player.{Player}
 use Rattle.server_output.specs.Order.{Tells}
-use Rattle.adapter_server.specs.Serving.{FromNew, ServesBegun, ServesFront, ServesTo, new_server, player_of}
+use Rattle.adapter_server.specs.Serving.{FromNew, ServesAll, ServesBegun, ServesFront, ServesPart, ServesSome, ServesTo}
+use Rattle.adapter_server.specs.Serving.{new_server, player_of}
 use Rattle.server_output.proofs.PartsWritten.{whatever_err}
 use Rattle.adapter_server.proofs.FromNew.{from_any, from_new, read_from}
 use Rattle.adapter_server.proofs.ServedLines.{serves_none, serves_to}
@@ -10,6 +11,7 @@ use Rattle.adapter_server.proofs.ServedParts.{serves_stopped}
 use Rattle.adapter_server.proofs.server.serve.Goals as goal
 
 pub returns-clause-ok : goal.returns-clause-ok
+unfolding ServesAll
 returns-clause-ok g c =
     let left = g.R.Read.remaining c.args.input in
     let before = g.W.Write.contents c.args.output.now in
@@ -25,6 +27,7 @@ returns-clause-ok g c =
     c.in_ok-server.ensures (serves_to left c.in_ok-server.server last before after c.in_ok-served.ensures.ok))
 
 pub returns-in_err-server-clause-begun : goal.returns-in_err-server-clause-begun
+unfolding ServesPart
 returns-in_err-server-clause-begun g c =
     let left = g.R.Read.remaining c.args.input in
     let written = g.W.Write.contents c.args.output.now in
@@ -35,6 +38,7 @@ returns-in_err-server-clause-begun g c =
     (serves_stopped left left begin begin written written (serves_none left begin written)))
 
 pub returns-in_err-served-clause-read : goal.returns-in_err-served-clause-read
+unfolding ServesSome
 returns-in_err-served-clause-read g c =
     let left = g.R.Read.remaining c.args.input in
     let before = g.W.Write.contents c.args.output.now in
@@ -45,6 +49,7 @@ returns-in_err-served-clause-read g c =
     c.in_ok-server.ensures (c.in_err-served.ensures.read read))
 
 pub returns-in_err-served-clause-begun : goal.returns-in_err-served-clause-begun
+unfolding ServesPart
 returns-in_err-served-clause-begun g c =
     let left = g.R.Read.remaining c.args.input in
     let before = g.W.Write.contents c.args.output.now in

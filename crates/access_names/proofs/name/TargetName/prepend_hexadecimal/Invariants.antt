@@ -2,7 +2,7 @@ use Rattle.std.proofs.Common.{◌-◌, ◌≡◌, ◌+◌, ◌≤◌, drop, fals
 use Rattle.std.specs.Fmt.{digits_onto}
 use Rattle.access_names.proofs.name.TargetName.prepend_hexadecimal.Given as goal
 
--- the digits so far are in front, and so many may follow
+-- The digits of `left`, added in front of the written digits, are the digits of `number`. At most `digits` more digits are written.
 abbrev pub invariant-loop-digits : goal.invariant-loop-digits
 invariant-loop-digits l =
     (digits_onto l.digits 16 false l.left (drop l.at l.self.bytes)
