@@ -1,4 +1,5 @@
--- Exactly one result fits the bytes of a source.
+-- Of the results that depend on the bytes of a source, at most one fits. If the block of a reader contains the front of these bytes, the
+-- result of the reader fits them.
 use Rattle.std.proofs.Common.{◌≡◌, ◌≤◌, ◌⊎◌, ℕ, List, [], ◌++◌, length, drop, Bool, true, false, Result, Ok, Err, Option, Some, None, refl}
 use Rattle.std.proofs.Common.{sym, ap, subst, ◌∙◌}
 use Rattle.std.specs.Prelude.{IfSome, IfOk, IfErr}
@@ -105,14 +106,12 @@ pub only_from_fits : (o : Option (List ℕ)) (r : Result Trace ReadError) → If
 only_from_fits None r fits = tt
 only_from_fits (Some bytes) r fits = only_answer bytes r fits
 
--- a result that doesn't depend on the bytes fits them
 pub silent_fits : (o : Option (List ℕ)) (r : Result Trace ReadError) → is_of_bytes r ≡ false → IfSome o (λ bytes. IsAnswer bytes r)
 silent_fits None r silent = tt
 silent_fits (Some bytes) (Err errors.Memory) silent = tt
 silent_fits (Some bytes) (Err errors.Read) silent = tt
 silent_fits (Some bytes) r silent = absurd cc
 
--- an error that doesn't depend on the bytes fits them after a file header too
 pub silent_body : (number : Order) (o : Option (List ℕ)) (e : ReadError) → is_of_bytes (Err e) ≡ false
     → IfSome o (λ bytes. IsBodyFault number bytes e)
 silent_body number None e silent = tt
@@ -131,11 +130,9 @@ fault_fits bytes errors.Record h = absurd (header_fault-record (number_in h.0) b
 fault_fits bytes errors.Memory h = tt
 fault_fits bytes errors.Read h = tt
 
--- the bytes are those of the block, followed by those that are left
 known_parts : (held bytes rest : List ℕ) → (r : Receives [] held (Some bytes) (Some rest)) → bytes ≡ held ++ rest
 known_parts held bytes rest r = r.2 ∙ ap (λ (t : List ℕ). t ++ rest) (sym r.1)
 
--- the fault of the header is the fault of the front
 fault_known : (order : Endianness) (held bytes rest : List ℕ) → Receives [] held (Some bytes) (Some rest)
     → (24 ≤ length held) ⊎ IsAtEnd (Some rest) → header_fault (number_in order) bytes ≡ header_fault (number_in order) held
 fault_known order held bytes rest r filled =
@@ -189,11 +186,9 @@ fits_body order (Some bytes) (Some rest) held r got filled header ok fault =
     body_fits order bytes r whole (told_ok number r (drop 24 held ++ rest) (drop 24 bytes) behind ok)
     (subst (λ (x : List ℕ). IfErr r (λ e. IsBodyFault number x e)) behind fault)
 
--- a fault of the header isn't a failure of the source
 pub told_header : (T : Type 0) (bytes : List ℕ) (e : ReadError) (n : ℕ) → IsHeaderFault bytes e → TellsFailure {T = T} (Err e) n n
 told_header T bytes errors.Read n h = absurd (header_fault-read (number_in h.0) bytes h.1)
 told_header T bytes e n h = refl
 
--- bytes whose header has no fault have at least the 24 bytes of a file header
 pub passed_long : (order : Endianness) (held : List ℕ) → header_fault (number_in order) held ≡ None → 24 ≤ length held
 passed_long order held h = (IsFileHeader-from_none (number_in order) held h).long_enough

@@ -11,12 +11,10 @@ use Rattle.std.proofs.lemmas.List.{drop-drop, take_at, length-take-le, length-dr
 use Rattle.std.proofs.lemmas.List.Edits.{length-between}
 use Rattle.std.proofs.Math.Seq.{take-add}
 
--- an interval of bytes without its first bytes
 pub slice_range-drop : (xs : List ℕ) (start end count : ℕ) → slice_range xs (start + count) end ≡ drop count (slice_range xs start end)
 slice_range-drop xs start end count =
     between_is xs (start + count) end ∙ sym (drop-drop count start (take end xs)) ∙ ap (drop count) (sym (between_is xs start end))
 
--- the bytes of the block, moved to the front of its memory
 take-copy_within : (xs : List ℕ) (start end : ℕ) → start ≤ end → end ≤ length xs
     → take (end - start) (copy_within xs start end 0) ≡ slice_range xs start end
 take-copy_within xs start end order within =
@@ -24,20 +22,17 @@ take-copy_within xs start end order within =
     let all : length held ≡ end - start = length-take-le (end - start) (drop start xs) (omega (arith, length-drop start xs)) in
     take_at held (drop (0 + (end - start)) xs) (end - start) all
 
--- the number of bytes of the block after a read
 pub length_more : (old after : List ℕ) (start end count : ℕ) → start ≤ end → end ≤ length old → end - start + count ≤ length after
     → length (slice_range after 0 (end - start + count)) ≡ length (slice_range old start end) + count
 length_more old after start end count order within fits =
     omega (arith, length-between after 0 (end - start + count) fits, length-between old start end within)
 
--- the size of the memory doesn't change
 pub still_whole : (moved : Vec ℕ Global) (new : List ℕ) (end : ℕ) → length new ≡ moved.len → moved.len ≡ 327696 → end ≤ 327696
     → (0 ≤ end) × (end ≤ length (with_items moved new).items) × (length (with_items moved new).items ≡ 327696)
 still_whole moved new end same whole within =
     let is : length (with_items moved new).items ≡ 327696 = ap length (with_items_is moved new same) ∙ same ∙ whole in
     (omega arith, omega (arith, is), is)
 
--- one read after the bytes that were moved to the front
 pub read_more : (old moved new after : List ℕ) (start end count : ℕ) (a b : Option (List ℕ)) → start ≤ end → end ≤ length old
     → moved ≡ copy_within old start end 0
     → take (end - start) new ≡ take (end - start) moved → Consumes a b (slice_range new (end - start) (end - start + count)) → after ≡ new

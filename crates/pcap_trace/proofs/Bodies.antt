@@ -10,11 +10,10 @@ use Rattle.pcap_trace.specs.Format.{is_partial, IsRest, IsBody}
 
 -- ---- numbers in the bytes of a header
 
--- the number in the first n bytes is also that of a longer list with these bytes first
+-- the number in the first n bytes of a list doesn't depend on the bytes after them
 abbrev pub ReadsFirst : Order → Type 0
 ReadsFirst number = (n : ℕ) (xs ys : List ℕ) → n ≤ length xs → number n (xs ++ ys) ≡ number n xs
 
--- a word of a header, for any bytes after the header
 pub word-append : (number : Order) → ReadsFirst number → (at : ℕ) (header rest : List ℕ) → at + 4 ≤ length header
     → number 4 (drop at (header ++ rest)) ≡ number 4 (drop at header)
 word-append number first at header rest long =
@@ -30,7 +29,6 @@ packet_at-parts n bytes =
     sym (take-append-drop 16 bytes) ∙ ap (λ (x : List ℕ). take 16 bytes ++ x) (sym (take-append-drop n (drop 16 bytes)))
     ∙ sym (append_assoc (take 16 bytes) (take n (drop 16 bytes)) (drop n (drop 16 bytes)))
 
--- a word of the packet's header is that word of the bytes
 word-packet_at : (number : Order) → ReadsFirst number → (at : ℕ) (bytes : List ℕ) → 16 ≤ length bytes → at + 4 ≤ 16
     → number 4 (drop at (take 16 bytes)) ≡ number 4 (drop at bytes)
 word-packet_at number first at bytes long within =
@@ -83,7 +81,7 @@ IsBody-skipped number p bytes frames skipped e whole partial b = record {
 
 -- ---- a loop
 
--- The frames and the number of skipped packets so far. If the rest is a body, all of it is a body with these frames first.
+-- If `rest` is a body, `bytes` are a body with the frames `frames` before its frames, and with `skipped` more skipped packets.
 abbrev pub GoesOn : Order → List ℕ → List ℕ → List (List ℕ) → ℕ → Type 0
 GoesOn number bytes rest frames skipped =
     (more : List (List ℕ)) (others : ℕ) (e : Ending) → IsBody number rest more others e
@@ -118,7 +116,6 @@ GoesOn-skipped number first bytes rest frames skipped n told short long some so_
     let sum : skipped + suc others ≡ skipped + 1 + others = omega arith in
     subst (λ (m : ℕ). IsBody number bytes (frames ++ more) m e) sum (so_far more (suc others) e one)
 
--- if the rest doesn't begin with a complete packet, the bytes are a body with the frames so far
 pub GoesOn-ends : (number : Order) (bytes rest : List ℕ) (frames : List (List ℕ)) (skipped : ℕ) (e : Ending) → IsRest number rest e
     → GoesOn number bytes rest frames skipped → IsBody number bytes frames skipped e
 GoesOn-ends number bytes rest frames skipped e ends so_far =

@@ -1,10 +1,9 @@
--- Bytes cut into pieces.
+-- Bytes cut into pieces, and one more piece at the end.
 use Rattle.std.proofs.Common.{◌≡◌, ◌≤◌, ℕ, suc, List, [], ◌∷◌, ◌++◌, length, take, drop, sum, refl, sym, ap, ◌∙◌, arith}
 use Rattle.std.proofs.lemmas.List.{nil_from_length, length-drop, take-append-le, drop-append-le, take_at, append-nil}
 use Rattle.std.proofs.lemmas.List.Sums.{sum_by-cons}
 use Rattle.pcap_trace.specs.Frames.{cut}
 
--- one more piece at the end
 pub cut-push : (ns bytes more : List ℕ) → sum ns ≡ length bytes → cut (ns ++ length more ∷ []) (bytes ++ more) ≡ cut ns bytes ++ more ∷ []
 cut-push [] bytes more all =
     let none : bytes ≡ [] = nil_from_length bytes (sym all) in

@@ -14,7 +14,7 @@ use Rattle.pcap_trace.specs.Reading.{header_fault, IsHeaderFault}
 use Rattle.pcap_trace.proofs.Bodies.{ReadsFirst}
 use Rattle.pcap_trace.proofs.Orders.{both_orders}
 
--- the tests in their order
+-- the first fault of a header, by the results of its tests
 abbrev first_fault : Bool → Bool → Bool → Bool → Bool → Option ReadError
 first_fault short magic_is major_is minor_is link_is =
     if short then Some errors.Header
@@ -90,7 +90,6 @@ told_fault-in Big bytes x is other =
     (is_magic (big_number 4 bytes)) (big_number 2 (drop 4 bytes) == 2) (big_number 2 (drop 6 bytes) == 4)
     (big_number 4 (drop 20 bytes) == 1) x (both_orders bytes) is other
 
--- a fault other than `Magic` in one of the byte orders is a fault of the header
 pub header_fault-in : (order : Endianness) (bytes : List ℕ) (e : ReadError) → (e ≡ errors.Magic → ⊥)
     → header_fault (number_in order) bytes ≡ Some e → IsHeaderFault bytes e
 header_fault-in order bytes errors.Magic other is = absurd (other refl)
@@ -123,7 +122,6 @@ header_fault-none number bytes h =
     let long : nat_lt (length bytes) 24 ≡ false = le-ltb _ _ h.long_enough in
     rw (long, h.magic_is, h.major_is, h.minor_is, h.link_type_is) refl
 
--- bytes after the first 24 don't change the fault
 header_fault-append : (number : Order) → ReadsFirst number → (held rest : List ℕ) → 24 ≤ length held
     → header_fault number (held ++ rest) ≡ header_fault number held
 header_fault-append number first held rest long =

@@ -31,7 +31,6 @@ take-nil : (k : ℕ) → take k nothing_left ≡ nothing_left
 take-nil zero = refl
 take-nil (suc k) = refl
 
--- a read into a slice with room returned no byte: the limit is reached, or the reader is at its end
 pub ends : (b : Option (List ℕ)) (limit n : ℕ) (buf into : List ℕ) → length buf ≡ min (length into) limit
     → (n ≡ 0 → 0 < length buf → IsAtEnd b) → n ≡ 0 → 0 < length into → IsAtEnd (first_of (limit - n) b)
 ends None limit n buf into len end none room = tt

@@ -16,7 +16,6 @@ flushed (Some xs) None after waiting all h k = absurd h
 flushed (Some xs) (Some ys) None waiting all h k = absurd k
 flushed (Some xs) (Some ys) (Some zs) waiting all h k = k ∙ h
 
--- the bytes written before, and then a front of the bytes that wait, are a front of all bytes
 front_of : (n : ℕ) (xs ys waiting all : List ℕ) → ys ++ waiting ≡ xs ++ all → length xs ≤ length ys → (m : ℕ)
     × (ys ++ take n waiting ≡ xs ++ take m all)
 front_of n xs ys waiting all is longer =
@@ -51,7 +50,6 @@ Grows-none a = ([], Appends-nil a)
 pub Grows-more : (a b c : Option (List ℕ)) → Grows a b → Grows b c → Grows a c
 Grows-more a b c g h = (g.0 ++ h.0, Appends-trans a b c g.0 h.0 g.1 h.1)
 
--- the file header waits
 pub header_waits : (unit : Unit) (a : Option (List ℕ)) (waiting : List ℕ) → waiting ≡ file_header unit
     → Appends a (append_known a waiting) (written unit [])
 header_waits unit a waiting is = subst (λ (w : List ℕ). Appends a (append_known a w) (written unit [])) (sym is)

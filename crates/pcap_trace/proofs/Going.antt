@@ -1,4 +1,4 @@
--- A loop over the packets of a source; a block contains the front of the bytes.
+-- The loop of `read_body`, whose block contains the front of the bytes: after a read, after a packet, and at the end.
 use Rattle.std.proofs.Common.{◌≡◌, ◌<◌, ◌≤◌, ◌+◌, ◌⊎◌, inl, inr, ℕ, List, [], ◌∷◌, ◌++◌, length, take, drop, Bool, true, false, not, eqb}
 use Rattle.std.proofs.Common.{Option, Some, None, sym, ap, subst, ◌∙◌, append-nil, append_assoc, arith}
 use Rattle.std.specs.Prelude.{IfSome}
@@ -16,7 +16,6 @@ GoesOnKnown number None rest frames skipped = Unit {0}
 GoesOnKnown number (Some bytes) None frames skipped = ⊥
 GoesOnKnown number (Some bytes) (Some rest) frames skipped = GoesOn number bytes rest frames skipped
 
--- a read moves bytes from the source to the block
 pub GoesOnKnown-read : (number : Order) (a before after : Option (List ℕ)) (old new : List ℕ) (frames : List (List ℕ)) (skipped : ℕ)
     → Receives old new before after
     → GoesOnKnown number a (prepend_known old before) frames skipped → GoesOnKnown number a (prepend_known new after) frames skipped
@@ -28,7 +27,6 @@ GoesOnKnown-read number (Some bytes) (Some left) (Some rest) old new frames skip
     ∙ ap (λ (t : List ℕ). t ++ rest) (sym r.1) in
     subst (λ (x : List ℕ). GoesOn number bytes x frames skipped) same so_far
 
--- a read doesn't change the words that the block already contained
 pub word-read : (number : Order) → ReadsFirst number → (at : ℕ) (old new : List ℕ) (before after : Option (List ℕ)) → at + 4 ≤ length old
     → Receives old new before after → number 4 (drop at new) ≡ number 4 (drop at old)
 word-read number first at old new before after long r = ap (λ (t : List ℕ). number 4 (drop at t)) r.1
@@ -36,7 +34,6 @@ word-read number first at old new before after long r = ap (λ (t : List ℕ). n
 
 -- ---- a packet in the block
 
--- the bytes after the packet
 rest_behind : (n : ℕ) (held left : List ℕ) → 16 + n ≤ length held → drop n (drop 16 (held ++ left)) ≡ drop (16 + n) held ++ left
 rest_behind n held left long =
     ap (drop n) (drop-append-le 16 held left (omega arith)) ∙ drop-append-le n (drop 16 held) left (omega (arith, length-drop 16 held))
@@ -79,13 +76,11 @@ GoesOnKnown-skipped number first (Some bytes) (Some left) held frames skipped n 
 
 -- ---- the end
 
--- fewer bytes than a header are left
 rest_short : (number : Order) (held : List ℕ) (empty : Bool) → empty ≡ eqb (length held) 0 → length held < 16
     → IsRest number held (ending_of (not empty))
 rest_short number held true is short = nil_from_length held (eqb-true _ _ (sym is))
 rest_short number held false is short = inl (omega (arith, eqb-false _ _ (sym is)), short)
 
--- a header is left, and fewer bytes than its packet
 rest_cut : (number : Order) (held : List ℕ) (empty : Bool) (n : ℕ) → empty ≡ eqb (length held) 0 → n ≡ captured_length number held
     → 16 ≤ length held → n ≤ most_captured → length held < 16 + n
     → IsRest number held (ending_of (not empty))
@@ -123,7 +118,6 @@ ends_cut number a left held frames skipped empty n is told long short cut filled
           (rest_cut number held empty n is told long short cut) so_far
     ]
 
--- a header with a captured length above the limit
 pub ends_oversized : (number : Order) → ReadsFirst number
     → (a left : Option (List ℕ)) (held : List ℕ) (frames : List (List ℕ)) (skipped n : ℕ) → n ≡ captured_length number held
     → 16 ≤ length held → most_captured < n

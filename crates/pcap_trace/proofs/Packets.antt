@@ -11,23 +11,19 @@ use Rattle.pcap_trace.specs.declared.unit.Unit.{Unit}
 use Rattle.pcap_trace.specs.Format.{Timed, packet_of, timed, file_header, written}
 use Rattle.pcap_trace.proofs.Sent.{AppendsFront-longer, AppendsFront-then}
 
--- one more packet at the end
 pub packets-push : (unit : Unit) (ts : List Timed) (t : Timed)
     → flat_map (packet_of unit) (ts ++ t ∷ []) ≡ flat_map (packet_of unit) ts ++ packet_of unit t
 packets-push unit ts t = flat_map-append (packet_of unit) ts (t ∷ [])
     ∙ ap (λ (x : List ℕ). flat_map (packet_of unit) ts ++ x) (flat_map-cons (packet_of unit) t [] ∙ append-nil (packet_of unit t))
 
--- the written form of these frames and one more
 pub written-push : (unit : Unit) (ts : List Timed) (t : Timed) → written unit (ts ++ t ∷ []) ≡ written unit ts ++ packet_of unit t
 written-push unit ts t = ap (λ (x : List ℕ). file_header unit ++ x) (packets-push unit ts t)
     ∙ sym (append_assoc (file_header unit) (flat_map (packet_of unit) ts) (packet_of unit t))
 
--- the written form of these frames and some more
 pub written-append : (unit : Unit) (ts us : List Timed) → written unit (ts ++ us) ≡ written unit ts ++ flat_map (packet_of unit) us
 written-append unit ts us = ap (λ (x : List ℕ). file_header unit ++ x) (flat_map-append (packet_of unit) ts us)
     ∙ sym (append_assoc (file_header unit) (flat_map (packet_of unit) ts) (flat_map (packet_of unit) us))
 
--- one more pair of a slice
 timed-more : (ps : List (ℕ × List ℕ)) (i : ℕ) (p : ℕ × List ℕ) → i < length ps → p ≡ get_or ps i p
     → map timed (take (i + 1) ps) ≡ map timed (take i ps) ++ timed p ∷ []
 timed-more ps i p below is = ap (map timed) (take_more ps i p below ∙ ap (λ (q : ℕ × List ℕ). take i ps ++ q ∷ []) (sym is))

@@ -3,7 +3,6 @@ use Rattle.std.proofs.Common.{◌≡◌, ◌≤◌, ◌+◌, ◌++◌, ℕ, List
 use Rattle.std.proofs.lemmas.List.{length-append, length-take-le}
 use Rattle.std.proofs.Math.Seq.{take-append_seam}
 
--- The block then begins with the first bytes, which the new bytes follow.
 pub put_after : (block bytes : List ℕ) (end : ℕ) → end + length bytes ≤ length block
     → take (end + length bytes) (take end block ++ bytes ++ drop (end + length bytes) block) ≡ take end block ++ bytes
 put_after block bytes end fits =

@@ -15,11 +15,9 @@ pub take-past : (n : ℕ) (x y : List ℕ) → take (length x + n) (x ++ y) ≡ 
 take-past n [] y = rw zero-add refl
 take-past n (z ∷ x) y = rw suc-add (ap (λ (t : List ℕ). z ∷ t) (take-past n x y))
 
--- all of x, and then a beginning of y
 pub AppendsFront-then : (a b c : Option (List ℕ)) (x y : List ℕ) → Appends a b x → AppendsFront b c y → AppendsFront a c (x ++ y)
 AppendsFront-then a b c x y went more = (length x + more.0, rw take-past (Appends-trans a b c x (take more.0 y) went more.1))
 
--- a beginning of x is a beginning of any list that begins with x
 take-longer : (n : ℕ) (x y : List ℕ) → take n x ≡ take (length (take n x)) (x ++ y)
 take-longer n x y =
     let f = take n x in

@@ -8,7 +8,6 @@ use Rattle.pcap_trace.specs.Format.{Order, Packet, Ending, complete, cut_off, ov
 use Rattle.pcap_trace.specs.Format.{skipped_of, IsRest, IsBody}
 use Rattle.pcap_trace.proofs.Bodies.{ReadsFirst, word-append}
 
--- a rest doesn't begin with a complete packet
 rest_without_packet : (number : Order) → ReadsFirst number → (rest : List ℕ) (e : Ending) (p : Packet) (more : List ℕ)
     → IsRest number rest e → IsPacket number p → rest ≡ p.header ++ (p.captured ++ more) → ⊥
 rest_without_packet number first rest e p more ends whole is =
@@ -43,7 +42,6 @@ regroup p ps rest =
     ap (λ (x : List ℕ). x ++ rest) (flat_map-cons packet_bytes p ps) ∙ append_assoc (packet_bytes p) (flat_map packet_bytes ps) rest
     ∙ append_assoc p.header p.captured (flat_map packet_bytes ps ++ rest)
 
--- the bytes determine the packet at the front
 front_unique : (number : Order) → ReadsFirst number → (p q : Packet) (x y : List ℕ) → IsPacket number p → IsPacket number q
     → p.header ++ (p.captured ++ x) ≡ q.header ++ (q.captured ++ y) → (p ≡ q) × (x ≡ y)
 front_unique number first p q x y whole_p whole_q is =
@@ -76,7 +74,6 @@ parts_unique number first (p ∷ ps) (q ∷ qs) x y e f whole_p whole_q ends_x e
     let others = parts_unique number first ps qs x y e f whole_p.1 whole_q.1 ends_x ends_y one.1 in
     (ap (λ (r : Packet). r ∷ ps) one.0 ∙ ap (λ (rs : List Packet). q ∷ rs) others.0, others.1)
 
--- two readings of a body are the same
 pub body_unique : (number : Order) → ReadsFirst number → (bytes : List ℕ) (fs gs : List (List ℕ)) (m n : ℕ) (e f : Ending)
     → IsBody number bytes fs m e → IsBody number bytes gs n f → (fs ≡ gs) × (m ≡ n) × (e ≡ f)
 body_unique number first bytes fs gs m n e f p q =

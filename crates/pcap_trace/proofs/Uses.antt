@@ -4,7 +4,6 @@ use Rattle.std.proofs.lemmas.List.{append-nil, append_assoc}
 use Rattle.std.specs.Io.KnownBytes.{Consumes, Keeps}
 use Rattle.pcap_trace.specs.Devices.{Receives, Uses}
 
--- no read
 none_consumed : (a : Option (List ℕ)) → Consumes a a []
 none_consumed None = tt
 none_consumed (Some xs) = refl
@@ -12,7 +11,6 @@ none_consumed (Some xs) = refl
 pub received_none : (held : List ℕ) (a : Option (List ℕ)) → Receives held held a a
 received_none held a = ([], sym (append-nil held), none_consumed a)
 
--- two reads, one after the other
 pub receives_joined : (x y z : List ℕ) (a b c : Option (List ℕ)) → Receives x y a b → Receives y z b c → Receives x z a c
 receives_joined x y z None b c one two = (
   one.0 ++ two.0,
@@ -30,21 +28,17 @@ receives_joined x y z (Some old) (Some mid) (Some new) one two = (
 pub uses_none : (a : Option (List ℕ)) → Uses a a
 uses_none a = record { used = []; consumes = none_consumed a }
 
--- a read that failed
 pub uses_kept : (a b : Option (List ℕ)) → Keeps a b → Uses a b
 uses_kept None b kept = record { used = []; consumes = tt }
 uses_kept (Some xs) None kept = absurd kept
 uses_kept (Some xs) (Some ys) kept = record { used = []; consumes = sym kept }
 
--- a read that returned these bytes
 pub uses_read : (a b : Option (List ℕ)) (bytes : List ℕ) → Consumes a b bytes → Uses a b
 uses_read a b bytes consumes = record { used = bytes; consumes = consumes }
 
--- reads that returned bytes
 pub uses_received : (old new : List ℕ) (a b : Option (List ℕ)) → Receives old new a b → Uses a b
 uses_received old new a b received = record { used = received.0; consumes = received.2 }
 
--- one use after the other is one use
 pub uses_joined : {a b c : Option (List ℕ)} → Uses a b → Uses b c → Uses a c
 uses_joined {a = None} one two = record { used = []; consumes = tt }
 uses_joined {a = Some xs} {b = None} one two = absurd one.consumes

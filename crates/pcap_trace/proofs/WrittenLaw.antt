@@ -1,4 +1,4 @@
--- The bytes written are a trace of exactly these frames.
+-- The bytes written are a trace of these frames (`WrittenIsTrace`), and of no others (`WrittenIsNoOther`).
 use Rattle.std.proofs.Common.{◌≡◌, ◌<◌, ◌^◌, ℕ, List, [], ◌∷◌, ◌++◌, Bool, true, false, length, drop, map, refl, sym, ap, subst, ◌∙◌}
 use Rattle.std.proofs.Common.{append-nil, arith}
 use Rattle.std.specs.List.{flat_map, AllByRecursion}
@@ -62,7 +62,6 @@ skipped_of-written : (unit : Unit) (ts : List Timed) → AllByRecursion IsShort 
 skipped_of-written unit [] short = refl
 skipped_of-written unit (t ∷ ts) short = rw (packet-kept unit t short.0) (skipped_of-written unit ts short.1)
 
--- both first words are magic numbers
 magic_is-written : (unit : Unit) → is_magic (little_number 4 (file_header unit)) ≡ true
 unfolding file_header
 magic_is-written Micros = refl

@@ -89,6 +89,7 @@ pub data Ending : Type 0 where
   cut_off : Ending
   oversized : Ending
 
+-- the bytes after the last complete packet, for each ending
 abbrev pub IsRest : Order → List ℕ → Ending → Type 0
 IsRest number rest complete = rest ≡ []
 IsRest number rest cut_off =

@@ -17,8 +17,8 @@ header_fault number bytes =
     else (if not (number 4 (drop 20 bytes) == 1) then Some errors.LinkType
     else None)))
 
--- The error is `Magic` if this is the file header's fault in both byte orders. Another error is the file header's fault in at least one
--- byte order. (our choice)
+-- The error is a fault of the file header that the bytes begin with: `Magic` in both byte orders, any other error in at least one byte
+-- order. (our choice)
 abbrev pub IsHeaderFault : List ℕ → ReadError → Type 0
 IsHeaderFault bytes errors.Magic = (order : Endianness) → header_fault (number_in order) bytes ≡ Some errors.Magic
 IsHeaderFault bytes e = (order : Endianness) × (header_fault (number_in order) bytes ≡ Some e)
@@ -27,7 +27,8 @@ IsHeaderFault bytes e = (order : Endianness) × (header_fault (number_in order) 
 abbrev pub HasOversized : Order → List ℕ → Type 0
 HasOversized number bytes = (frames : List (List ℕ)) × (skipped : ℕ) × IsBody number bytes frames skipped oversized
 
--- The result fits the bytes. `Memory` and `Read` fit any bytes. (our choice)
+-- The result fits the bytes. A trace fits if the bytes are this trace. `Record` fits if a file header and then a body with too large a
+-- captured length follow. `Memory` and `Read` fit any bytes. Another error fits if it is a fault of the file header. (our choice)
 abbrev pub IsAnswer : List ℕ → Result Trace ReadError → Type 0
 IsAnswer bytes (Ok t) = IsTrace bytes t.frames t.skipped t.cut
 IsAnswer bytes (Err errors.Record) = (order : Endianness) × IsFileHeader (number_in order) bytes

@@ -12,7 +12,7 @@ use thiserror::Error;
 
 /// Why a trace was not read. A call that fails returns no part of the trace.
 ///
-/// The first four are faults of the file header (libpcap, "pcap-savefile", File Header). If a header has several
+/// The first four errors are faults of the file header (libpcap, "pcap-savefile", File Header). If a header has several
 /// faults, the first in this order is returned.
 #[derive(Clone, Copy, Debug, PartialEq, Eq)]
 pub enum ReadError {

@@ -1,5 +1,4 @@
--- The happenings of a join or a leave, between those of its ticks. They change no count, and have no frame that a socket returns or that is
--- put on a wire.
+-- The happenings of a join or a leave, between those of its ticks.
 use Rattle.std.proofs.Common.{◌≡◌, ◌∙◌, ◌++◌, [], ℕ, List, Ok, Err, Option, Some, None, option_map, slice_get, refl, sym, ap}
 use Rattle.std.specs.List.{flat_map, fold}
 use Rattle.std.proofs.lemmas.Grind.{flat_map-append}
@@ -33,7 +32,6 @@ leaves_quiet host group (answer.Left (Err error)) = none-quiet
 leaves_quiet host group _ = none-quiet
 
 module _ (middle ticked said : List Happening) (between : IsBetween middle ticked said) (quiet : AreQuiet middle) where
-  -- lists that are made of each happening
   list-around : {T : Type 0} (of : Happening → List T) → flat_map of middle ≡ [] → flat_map of said ≡ flat_map of ticked
   list-around {T} of none =
       ap (flat_map of) between.all ∙ flat_map-append of between.before (middle ++ between.behind)

@@ -1,4 +1,4 @@
--- Recorded drains.
+-- The record of a drain: it doesn't depend on the number of moved frames, and grows frame by frame in the loop of `note_drained`.
 use Rattle.std.proofs.Common.{◌≡◌, ◌++◌, ◌∷◌, [], zero, suc, ℕ, List, Option, Some, None, map, option_map, slice_get}
 use Rattle.std.proofs.Common.{◌<◌, ◌+◌, length, slice_index_or, take, arith}
 use Rattle.std.proofs.Common.{refl, sym, ap, subst, ◌∙◌, append_assoc}
@@ -52,7 +52,7 @@ same-tally : (host buffered k : ℕ) (frames : List GivenFrame) (found : Option 
 same-tally host buffered k frames None = refl
 same-tally host buffered k frames (Some tally) = ap (λ (t : Tally). Some t) (moves-count host buffered k frames tally)
 
--- a list of one entry
+-- Lists of one entry.
 
 first-act : (a b : Act) (list others : List Act) → a ∷ list ≡ b ∷ others → a ≡ b
 first-act a b list others is = cc
@@ -71,7 +71,6 @@ lone-entry (entry ∷ []) act number log is =
 lone-entry (entry ∷ next ∷ later) act number log is =
     absurd (no-acts next.1 (acts_in later) (rest-acts entry.1 act (next.1 ∷ acts_in later) [] is))
 
--- The record of a drain doesn't depend on the number of moved frames.
 pub noted_moves : (host buffered : ℕ) (frames : List GivenFrame) (a b : Record) → AreNoted (Drained host 0 frames ∷ []) a b
     → AreNoted (Drained host buffered frames ∷ []) a b
 noted_moves host buffered frames a b noted = record {
@@ -95,7 +94,6 @@ pub none_got : (host number : ℕ) (returned : List KeptFrame)
     → FramesGrow (returned_in number (said_of_drain host 0 [])) returned returned
 none_got host number returned = returned_none returned
 
--- one more of these frames
 more-said : (host place : ℕ) (all : List DrainedFrame) (one : DrainedFrame) → place < length all → one ≡ slice_index_or all place one
     → said_of_drain host 0 (map drained_frame (take place all)) ++ given-at host (drained_frame one) ∷ []
     ≡ said_of_drain host 0 (map drained_frame (take (place + 1) all))

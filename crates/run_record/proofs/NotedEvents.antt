@@ -1,4 +1,4 @@
--- Recorded events, in order.
+-- The frames that sockets return in an event are those of its answer, and the record of one event or drain.
 use Rattle.std.proofs.Common.{◌≡◌, ◌==◌, ◌&&◌, ◌++◌, ◌∷◌, [], ℕ, Bool, true, false, nat_le, nat_lt, List, Option, Some, None, Ok, Err}
 use Rattle.std.proofs.Common.{length, map, replicate, suc, zero}
 use Rattle.std.proofs.Common.{if◌then◌else◌, refl, sym, ap, subst, ◌∙◌, append-nil}
@@ -30,7 +30,7 @@ use Rattle.run_record.specs.Tallies.{AreNoted, TalliesGrow}
 use Rattle.run_record.specs.declared.record.Record.{Record}
 use Rattle.run_record.proofs.AroundTicks.{AreQuiet, gives_around, joins_quiet, leaves_quiet}
 
--- The frame that an event returns.
+-- Ticks and sends return no frame.
 
 given-of : (n host : ℕ) (one : FrameOutcome) → returned_in n (outcome_happenings host one) ≡ []
 given-of n host (outcome.Put frame) = refl
@@ -128,8 +128,6 @@ given-said n (event.Join host group ticks) reply =
 given-said n (event.Leave host group ticks) reply =
     gives-by-ticks n (left_by_answer host group reply.answer) (leaves_quiet host group reply.answer) ticks.items reply.outcomes.list
 given-said n (event.Tick one) reply = given-alone n one reply.outcomes.list
-
--- Answers with a frame that a socket returned, and answers without.
 
 pub returned_none : (returned : List KeptFrame) → FramesGrow [] returned returned
 returned_none returned = sym (append-nil returned)

@@ -1,4 +1,4 @@
--- What the parts of an event add to the record.
+-- How a count at one host, and the outcome of a tick, change the counts of the hosts.
 use Rattle.std.proofs.Common.{◌≡◌, ◌<◌, ◌≤◌, ◌==◌, ◌∷◌, [], ℕ, Bool, true, false, List, Option, Some, None, length}
 use Rattle.std.proofs.Common.{slice_get, slice_set, option_map, if◌then◌else◌, inl, inr, refl, sym, ap, subst, ◌∙◌, arith}
 use Rattle.std.proofs.lemmas.Bool.Decides.{eqb_tells}
@@ -14,7 +14,7 @@ use Rattle.run_record.specs.declared.tally.Passage.{Passage}
 use Rattle.run_record.specs.declared.tally.Passage.TheVariants as passage
 use Rattle.run_record.specs.declared.tally.Tally.{Tally}
 
--- Changes at one place.
+-- Changes of one item of a list.
 
 abbrev pub changed_at : {X : Type 0} → (k place : ℕ) → (X → X) → X → X
 changed_at k place change one = if k == place then change one else one
@@ -59,7 +59,7 @@ pub set-nowhere : {X : Type 0} → (xs : List X) (place : ℕ) (change : X → X
     → (k : ℕ) → slice_get xs k ≡ option_map (changed_at k place change) (slice_get xs k)
 set-nowhere xs place change below k = beyond xs place k change (slice_get xs k) below refl
 
--- Numbers of hosts.
+-- Counts of hosts.
 
 pub counts_there : (hosts : List Tally) (host : ℕ) (one : Passage) (tally new : Tally) → slice_get hosts host ≡ Some tally
     → new ≡ counted_once one tally → TallyCounts host one hosts (slice_set hosts host new)

@@ -1,4 +1,4 @@
--- Frames that a run records, and the traces of sockets and wires.
+-- Frames that are added to the recorded frames, and how `write_trace` writes the frames of one trace.
 use Rattle.std.proofs.Common.{◌≡◌, ◌<◌, ◌≤◌, ◌++◌, ◌∷◌, [], ℕ, Bool, true, false, List, Option, Some, length, drop, take}
 use Rattle.std.proofs.Common.{if◌then◌else◌, option_map, slice_get, sum_by, suc, unwrap_or, zero}
 use Rattle.std.proofs.Common.{refl, sym, ap, subst, ◌∙◌, append_assoc, append-nil, arith}
@@ -24,7 +24,6 @@ use Rattle.run_record.specs.declared.kept.Traces.TheVariants as traces
 
 -- One more frame.
 
--- one more frame, whose bytes follow the others
 frames-more : (infos : List FrameInfo) (bytes : List ℕ) (info : FrameInfo) (frame : List ℕ) → sum_by length_in infos ≡ length bytes
     → info.length ≡ length frame
     → frames_from (infos ++ info ∷ []) (bytes ++ frame) ≡ frames_from infos bytes ++ frame_with info frame ∷ []
@@ -56,8 +55,8 @@ put_more puts info frame infos more bytes longer is all size more_is longer_is =
 
 -- Writing.
 
--- The first of the frames that pass the test were written or wait in the block. `infos` are the frames that are left, and `bytes` are their
--- bytes.
+-- The invariant of the loop: `front`, the first of the frames that pass the test, were written or wait in the block. `infos` and `bytes`
+-- are the remaining frames and their bytes.
 pub record HasKept (unit : Unit) (test : ℕ → ℕ → Bool) (all : List KeptFrame) (infos : List FrameInfo) (bytes : List ℕ)
     (before now : Option (List ℕ)) (waiting : List ℕ) : Type 0 where
   pub front : List Timed
@@ -83,7 +82,6 @@ module _ (test : ℕ → ℕ → Bool) where
   abbrev if-here : Bool → Timed → List Timed
   if-here here frame = if here then frame ∷ [] else []
 
-  -- what the first of the frames that are left adds
   next : (all : List KeptFrame) (info : FrameInfo) (infos list : List FrameInfo) (frame bytes rest : List ℕ) (here : Bool)
       (front : List Timed)
       → list ≡ info ∷ infos → frame ≡ take info.length bytes → rest ≡ drop info.length bytes → test info.host info.socket ≡ here
@@ -158,13 +156,11 @@ module _ (test : ℕ → ℕ → Bool) where
 
 -- Texts.
 
--- an item of a list, by its place
 item_at : {X : Type 0} (xs : List X) (place : ℕ) → place < length xs → (x : X) × (slice_get xs place ≡ Some x)
 item_at [] place below = absurd (omega (arith, below))
 item_at (x ∷ xs) zero below = (x, refl)
 item_at (x ∷ xs) (suc place) below = item_at xs place (omega (arith, below))
 
--- the text of the trace with this number
 pub text_at : (traces : Traces) (frames : List KeptFrame) (trace : ℕ) → trace < length (texts_in traces frames)
     → slice_get (texts_in traces frames) trace ≡ Some (frames_where (is_in_trace traces trace) frames)
 text_at (traces.Sockets sockets) frames trace below =

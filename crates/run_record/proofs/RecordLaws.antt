@@ -1,4 +1,4 @@
--- How a record changes over two intervals, and at the end of an event.
+-- The record of an event: what is recorded of its ticks, line and answer is what `RecordsReplies` states of the event and its reply.
 use Rattle.std.proofs.Common.{◌≡◌, ◌==◌, ◌⊎◌, ◌++◌, ◌∷◌, [], ℕ, arith, inl, inr, length, Bool, true, false, Err}
 use Rattle.std.proofs.Common.{Global, List, None, Ok, Option, Some, Vec, map}
 use Rattle.std.proofs.Common.{if◌then◌else◌, option_map, slice_get, refl, sym, ap, subst, ◌∙◌, append-nil}
@@ -44,7 +44,7 @@ first a b list others same = cc
 rest : (a b : Tick) (list : List Tick) (others : List Tick) → b ∷ others ≡ a ∷ list → others ≡ list
 rest a b list others same = cc
 
--- The happenings of an event: those of its ticks and those of its answer, in either order.
+-- A send's accepted frame may be counted before or after the happenings of the send's ticks.
 
 counts-commute : (a b : Bool) (one : Passage) (tally : Tally)
     → (if a then counted_once passage.Accepted (if b then counted_once one tally else tally) else
@@ -185,7 +185,6 @@ accepted-last list host frame (answer.Sent (Ok u)) a b c ticks sent = λ k.
 accepted-last list host frame (answer.Sent (Err error)) a b c ticks sent = none-more list a b c ticks sent
 accepted-last list host frame _ a b c ticks sent = none-more list a b c ticks sent
 
--- the outcome of a tick by itself
 alone : (one : Tick) (ticks : List TickTold) → map tick_in ticks ≡ one ∷ []
     → lone_tick_happenings one (map note_of ticks) ≡ flat_map happened_of ticks
 alone one [] same = absurd (cc)
@@ -293,7 +292,6 @@ reset-puts number host one ticked happened (inr between) =
     ∙ sym (join early (Disabled host ∷ (stopping ++ (up ++ (resting ++ Enabled host ∷ later)))))
     ∙ sym (ap of between.all)
 
--- the frames that an event puts are those of its ticks
 event-puts : (number : ℕ) (one : Event) (reply : Reply) (ticks : List TickTold) → AreOfTicks one ticks
     → reply.outcomes.list ≡ map note_of ticks → IsInOrder one reply → put_frames_in number (flat_map happened_of ticks) ≡ put_frames_in
     number (said one reply)
@@ -341,11 +339,9 @@ answered-as number (event.Reset host list) reply =
 answered-as number (event.Recv host socket list) reply = sym (given-said number (event.Recv host socket list) reply)
 answered-as number one reply = sym (given-said number one reply)
 
--- no frame is appended
 none-returned : (more old new : List KeptFrame) → more ≡ [] → new ≡ old → FramesGrow more old new
 none-returned more old new none same = same ∙ sym (append-nil old) ∙ ap (λ (list : List KeptFrame). old ++ list) (sym none)
 
--- A send's answer has no frame for a socket.
 pub sent-answers : (one : Event) (host : ℕ) (frame : Vec ℕ Global) (list : Vec Tick Global) (given : FrameAnswer) (old new : Record)
     → one ≡ event.Send host frame list → new.number ≡ old.number → new.puts ≡ old.puts → new.log ≡ old.log → new.failed ≡ old.failed
     → new.returned ≡ old.returned
@@ -363,7 +359,6 @@ sent-answers one host frame list given old new is number puts log failed returne
           (given-accepted old.number host frame.items given) returned;
     })
 
--- A reset's answer has no frame for a socket.
 pub reset-answers : (one : Event) (host : ℕ) (list : Vec Tick Global) (given : FrameAnswer) (old new : Record)
     → one ≡ event.Reset host list → new.number ≡ old.number → new.puts ≡ old.puts → new.log ≡ old.log → new.failed ≡ old.failed
     → new.returned ≡ old.returned
@@ -381,7 +376,7 @@ reset-answers one host list given old new is number puts log failed returned hos
           (given-up-gives old.number host given) returned;
     })
 
--- Each outcome belongs to its tick.
+-- The ticks of an event, paired with the outcomes in its reply, are the ticks that the observer was told.
 
 paired-all : (ticks : List TickTold) → paired (map tick_in ticks) (map note_of ticks) ≡ ticks
 paired-all [] = refl
@@ -391,7 +386,7 @@ told-ticks : (one : Event) (ticks : List TickTold) → AreOfTicks one ticks → 
 told-ticks one ticks of_ticks =
     ap (λ (played : List Tick). paired played (map note_of ticks)) (sym of_ticks) ∙ paired-all ticks
 
--- The answer of an event ends what is recorded of it.
+-- After the ticks, the line and the answer of an event are recorded, and the number has grown, the event with its reply is recorded.
 pub records-reply : (one : Event) (given : FrameAnswer) (accesses : ℕ) (ticks : List TickTold) (begin ticked lined after : Record)
     (number : ℕ) → HearsTicks begin ticked ticks → AreOfTicks one ticks → number ≡ next_number ticked.number
     → NotesLine one accesses given ticked lined → NotesAnswer (answered one given) lined after

@@ -1,4 +1,4 @@
--- The summaries of hosts, by the record.
+-- The counts in a record after a run are the lengths of the lists of the run's happenings, each at most the greatest number.
 use Rattle.std.proofs.Common.{◌≡◌, ◌+◌, ◌==◌, ◌++◌, ◌||◌, ◌∷◌, [], ℕ, Bool, true, false, List, length, if◌then◌else◌}
 use Rattle.std.proofs.Common.{refl, sym, ap, ◌∙◌, arith, append_assoc, append-nil}
 use Rattle.std.proofs.lemmas.Grind.{flat_map-append}
@@ -83,7 +83,7 @@ same-numbers a p r s g t h o a' p' r' s' g' t' h' o' b b' is-a is-p is-r is-s is
     ∙ ap (λ (n : ℕ). numbers a' p' r' s' g' t' h' n b) is-o
     ∙ ap (numbers a' p' r' s' g' t' h' o') last
 
--- each list grows by what one happening adds to it
+-- the counts if each list grows by what one happening adds to it
 abbrev behind_one : ℕ → List Happening → Happening → Tally
 behind_one k done one = numbers (length (accepted k done) + length (accepted_in_one k one))
     (length (put k done) + length (put_in_one k one))
@@ -116,7 +116,6 @@ more a = omega arith
 more-by : (n a : ℕ) → grown_by n (as_told a) ≡ as_told (a + n)
 more-by n a = omega arith
 
--- the number after these acts
 pub number_told : (before : ℕ) (acts : List Act) → number_behind (as_told before) acts ≡ as_told (before + length acts)
 number_told before [] = ap as_told (omega arith)
 number_told before (act ∷ acts) =
@@ -148,7 +147,6 @@ counts-put false frame a p r s g t h o b = as-is a p r s g t h o b
 abbrev none-of : Bool → List (List ℕ)
 none-of c = if c then [] else []
 
--- a frame reaches the host, which doesn't store it
 counts-reached : (c : Bool) (frame : List ℕ) (a p r s g t h o : ℕ) (b : Bool)
     → (if c then counted_once passage.Reached (numbers a p r s g t h o b) else numbers a p r s g t h o b) ≡ numbers (a + 0) (p + 0) (r +
     length (if c then frame ∷ [] else [])) (s + length (none-of c)) (g + 0) (t + 0) (h + 0) (o + 0) (b || false)
@@ -243,6 +241,5 @@ counted-all k done (one ∷ rest) =
     ap (λ (t : Tally). fold (tallied_by k) t rest) (one-counted k done one ∙ tally-behind k done one)
     ∙ counted-all k (done ++ one ∷ []) rest ∙ ap (tally_of k) (append_assoc done (one ∷ []) rest)
 
--- After a run that began with an empty record, the counts are the lengths of the lists.
 pub noted-lists : (k : ℕ) (happened : List Happening) → fold (tallied_by k) no_tally happened ≡ tally_of k happened
 noted-lists k happened = counted-all k [] happened

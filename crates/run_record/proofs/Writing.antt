@@ -1,4 +1,4 @@
--- Sinks that get their texts, one after another.
+-- The traces of several sinks are written one after the other: the invariant of the loop in `KeptFrames::write`.
 use Rattle.std.proofs.Common.{◌≡◌, ◌<◌, ◌+◌, ◌∷◌, [], zero, suc, ℕ, List, Option, Some, None, length, map, slice_get, slice_set}
 use Rattle.std.proofs.Common.{option_map}
 use Rattle.std.specs.List.{All}
@@ -33,7 +33,6 @@ none_written unit texts old = record {
   others = λ k past. refl;
 }
 
--- a sink whose text isn't written yet is unchanged
 pub as_before : (unit : Unit) (place : ℕ) (texts : List (List Timed)) (old new : List SinkState) (now : SinkState)
     → AreWritten unit place texts old new
     → slice_get new place ≡ Some now → slice_get old place ≡ Some now

@@ -14,17 +14,17 @@ pub data Act : Type 0 where
   Ran : (event : Event) (reply : Reply) → Act
   Drained : (host buffered : ℕ) (given : List GivenFrame) → Act
 
--- what happens to frames in an act
+-- the happenings of an act, in order
 abbrev pub said_in : Act → List Happening
 said_in (Ran event reply) = said event reply
 said_in (Drained host buffered given) = said_of_drain host buffered given
 
--- events with their replies, in order
+-- the acts of events, each with the reply at the same index; the list ends with the shorter of the two lists
 abbrev pub ran : List Event → List Reply → List Act
 ran [] replies = []
 ran (event ∷ events) [] = []
 ran (event ∷ events) (reply ∷ replies) = Ran event reply ∷ ran events replies
 
--- what happens to frames in several acts, in order
+-- the happenings of several acts, in order
 abbrev pub history : List Act → List Happening
 history acts = flat_map said_in acts

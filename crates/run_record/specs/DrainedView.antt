@@ -1,4 +1,4 @@
--- A frame that a drained host returned, without its place in memory.
+-- A frame that a drained host returned, as contracts of drains state it: `Given`.
 use Rattle.packet_socket.specs.HostCalls.{Given}
 use Rattle.run_record.specs.declared.drained.DrainedFrame.{DrainedFrame}
 

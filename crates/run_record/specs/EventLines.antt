@@ -12,7 +12,7 @@ use Rattle.run_record.specs.Acts.{Act, Drained, Ran}
 use Rattle.run_record.specs.EventTexts.{answer_text, event_text, name_at, numbered, told_text}
 use Rattle.run_record.specs.Numbers.{next_number}
 
--- the text of a tick and its outcome
+-- the text of a tick, with the number of its call's accesses before it, and with its outcome
 abbrev pub text_of : (names : List (List ℕ)) → TickTold → List ℕ
 text_of names told = told_text names told.tick told.accesses told.outcome
 
@@ -20,34 +20,34 @@ text_of names told = told_text names told.tick told.accesses told.outcome
 pub record Place : Type 0 where
   -- the number of the event or drain
   pub number : ℕ
-  -- the number of its line
+  -- the number of its line in the scenario
   pub line : ℕ
 
--- `EVENT line LINE`
+-- `EVENT line LINE`: the number of the event or drain, and the number of its line
 abbrev pub place_text : Place → List ℕ
 place_text place = numbered [] place.number ++ numbered (codes " line ") place.line
 
--- `EVENT line LINE CALL ANSWER accesses N`, the event's ticks with their outcomes, and a line feed
+-- `EVENT line LINE CALL ANSWER accesses N`, then `outcomes`, the text of the event's ticks, and a line feed; `NoCall` has no ANSWER
 abbrev pub event_line : (names : List (List ℕ)) → Place → Event → (accesses : ℕ) → FrameAnswer → (outcomes : List ℕ) → List ℕ
 event_line names place event accesses answer outcomes =
     place_text place ++ event_text names event ++ answer_text answer ++ numbered (codes " accesses ") accesses ++ outcomes ++ codes "\n"
 
--- `EVENT line LINE drain HOST ok N`: N frames were returned
+-- `EVENT line LINE drain HOST ok N` and a line feed: the host returned N frames
 abbrev pub drain_line : (names : List (List ℕ)) → Place → (host count : ℕ) → List ℕ
 drain_line names place host count =
     place_text place ++ (codes " drain " ++ name_at names host) ++ numbered (codes " ok ") count ++ codes "\n"
 
--- ticks with outcomes: the i-th outcome belongs to the i-th tick
+-- each tick with the outcome at the same index; the list ends with the shorter of the two lists
 abbrev pub paired : List Tick → List Numbered → List TickTold
 paired [] outcomes = []
 paired (tick ∷ ticks) [] = []
 paired (tick ∷ ticks) (one ∷ outcomes) = tick_told tick one.accesses one.outcome ∷ paired ticks outcomes
 
--- the ticks of an event, each with its outcome
+-- the ticks `played_ticks` of an event, each with its outcome in the reply
 abbrev pub told_in : Event → Reply → List TickTold
 told_in event reply = paired (played_ticks event) reply.outcomes.list
 
--- the line of an act
+-- the line of an act at this place in the run and the scenario
 abbrev pub act_line : (names : List (List ℕ)) → Place → Act → List ℕ
 act_line names place (Ran event reply) =
     event_line names place event reply.accesses reply.answer (flat_map (text_of names) (told_in event reply))
@@ -57,7 +57,8 @@ act_line names place (Drained host buffered given) = drain_line names place host
 abbrev pub place_at : (number line : ℕ) → Place
 place_at number line = record { number = number; line = line }
 
--- The lines of these acts, each with the number of its line in the scenario. The first act has this number.
+-- The lines of these acts, each given with the number of its line in the scenario. The first act has number `number`, the next act
+-- `next_number number`.
 abbrev pub lines_from : (names : List (List ℕ)) → (number : ℕ) → List (ℕ × Act) → List ℕ
 lines_from names number [] = []
 lines_from names number (entry ∷ entries) =
@@ -65,24 +66,24 @@ lines_from names number (entry ∷ entries) =
 
 -- A log.
 
--- a log: the names of the hosts, the ticks so far of the event that is played, and the lines of the events and drains before this event
+-- the state of a log, during an event or between two events
 pub record LogState : Type 0 where
   -- the names of the hosts
   pub names : List (List ℕ)
-  -- the ticks so far of the event that is played, with their outcomes
+  -- the text of the ticks so far of the event that is played, with their outcomes; empty between two events
   pub outcomes : List ℕ
   -- the lines of the events and drains before this event
   pub text : List ℕ
 
--- the log of these hosts without lines
+-- the log of hosts with these names, without ticks and lines
 abbrev pub no_lines : (names : List (List ℕ)) → LogState
 no_lines names = record { names = names; outcomes = []; text = [] }
 
--- the log after the outcome of a tick
+-- the log after a tick: the tick's text is appended to `outcomes`
 abbrev pub tick_logged : LogState → TickTold → LogState
 tick_logged log told = record log { outcomes = log.outcomes ++ text_of log.names told }
 
--- the log after the end of an event: the event's line is appended
+-- the log after the end of an event: the event's line is appended, and `outcomes` is emptied
 abbrev pub end_logged : Place → Event → (accesses : ℕ) → FrameAnswer → LogState → LogState
 end_logged place event accesses answer log =
     record log { outcomes = []; text = log.text ++ event_line log.names place event accesses answer log.outcomes }

@@ -4,9 +4,11 @@ use Rattle.network_plan.specs.declared.plan.HostPlan.{HostPlan}
 use Rattle.run_record.specs.EventLines.{LogState}
 use Rattle.run_record.specs.declared.run_log.EventLog.TheInside.{Inside}
 
+-- the name of a planned host
 abbrev pub plan_name : HostPlan → List ℕ
 plan_name plan = string_bytes plan.name
 
+-- the state of the log whose fields are `inside`
 abbrev pub log_state_of : Inside → LogState
 log_state_of inside = record {
   names = map string_bytes inside.names.items;

@@ -20,7 +20,7 @@ use Rattle.rx_engine.specs.declared.arrival.Fate.TheVariants as fate
 use Rattle.stations.specs.declared.tick.Tick.{Tick}
 use Rattle.stations.specs.declared.tick.Tick.TheVariants as tick
 
--- a label and a number
+-- a label, and a number in decimal
 abbrev pub numbered : (label : List ℕ) → ℕ → List ℕ
 numbered label number = label ++ decimal number
 
@@ -39,7 +39,7 @@ step_word step.RxDone = codes " rxdone:"
 step_word step.EepromTick = codes " eeprom:"
 step_word step.PhyTick = codes " phy:"
 
--- a tick, with the name of its host; `go` has no host
+-- a blank, the word for a tick, and the name of the tick's host; `go` has no host
 abbrev pub tick_text : (names : List (List ℕ)) → Tick → List ℕ
 tick_text names tick.Go = codes " go"
 tick_text names (tick.Step host kind) = step_word kind ++ name_at names host
@@ -53,7 +53,7 @@ fate_word fate.Filtered = codes " filtered"
 fate_word fate.Missed = codes " missed"
 fate_word fate.Stored = codes " stored"
 
--- a blank and the word for an outcome
+-- a blank and the word for an outcome; a delivery has the word for the fate of its frame
 abbrev pub outcome_word : FrameOutcome → List ℕ
 outcome_word outcome.Took = codes " took"
 outcome_word (outcome.Put frame) = codes " put"
@@ -82,7 +82,8 @@ told_text names tick accesses one = numbered (codes " @") accesses ++ tick_text 
 
 -- Events and their answers.
 
--- an event, with the name of its host, without its ticks and the address of a group; of an event that is a tick, only the word `tick`
+-- A blank, the word for an event, and the name of its host. The frame's size in bytes follows for a send, the socket's number for a recv.
+-- An event that is a tick has only the word `tick`.
 abbrev pub event_text : (names : List (List ℕ)) → Event → List ℕ
 event_text names (event.Send host frame ticks) = (codes " send " ++ name_at names host) ++ numbered (codes " ") (length frame.items)
 event_text names (event.Recv host socket ticks) = (codes " recv " ++ name_at names host) ++ numbered (codes " ") socket
@@ -92,19 +93,19 @@ event_text names (event.Join host group ticks) = codes " join " ++ name_at names
 event_text names (event.Leave host group ticks) = codes " leave " ++ name_at names host
 event_text names (event.Tick tick) = codes " tick"
 
--- the result of a send
+-- a blank and the words for the result of a send: `ok`, or the error's code and name
 abbrev pub sent_word : Result (Unit {0}) SendError → List ℕ
 sent_word (Ok u) = codes " ok"
 sent_word (Err send.TooShort) = codes " E20 TooShort"
 sent_word (Err send.TooLong) = codes " E21 TooLong"
 sent_word (Err send.RingFull) = codes " E22 RingFull"
 
--- the words for a recv that returned no frame
+-- a blank, and the code and name of the error of a recv that returned no frame
 abbrev pub recv_word : RecvError → List ℕ
 recv_word recv.Empty = codes " E30 Empty"
 recv_word recv.NoSocket = codes " E31 NoSocket"
 
--- the result of a join or a leave
+-- a blank and the words for the result of a join or a leave: `ok`, or the error's code and name
 abbrev pub group_word : Result (Unit {0}) GroupError → List ℕ
 group_word (Ok u) = codes " ok"
 group_word (Err group.NotGroup) = codes " E23 NotGroup"
@@ -125,13 +126,17 @@ answer_word (answer.Reset sending holding on_after) = codes " givenup"
 answer_word answer.NoCall = []
 answer_word answer.NoHost = codes " nohost"
 
--- the numbers of an answer: the size in bytes of the frame that a socket returned, the number of frames that an interrupt handler took, or
--- the numbers of frames that a reset gave up, and of its accesses before the receiver was enabled again
+-- the numbers of frames `sending` and `holding` that a reset gave up, and of its accesses after which the receiver was on again
+abbrev pub given_up_numbers : (sending holding on_after : ℕ) → List ℕ
+given_up_numbers sending holding on_after =
+    numbered (codes " ") sending ++ numbered (codes " ") holding ++ numbered (codes " on ") on_after
+
+-- The numbers of an answer: for a recv, the size of the returned frame in bytes; for an interrupt, the number of frames taken; for a reset,
+-- `given_up_numbers`. Else none.
 abbrev pub answer_numbers : FrameAnswer → List ℕ
 answer_numbers (answer.Received (Ok frame)) = numbered (codes " ") (length frame)
 answer_numbers (answer.Interrupted (handled.Handled taken)) = numbered (codes " ") taken
-answer_numbers (answer.Reset sending holding on_after) =
-    numbered (codes " ") (length sending.items) ++ numbered (codes " ") (length holding.items) ++ numbered (codes " on ") on_after
+answer_numbers (answer.Reset sending holding on_after) = given_up_numbers (length sending.items) (length holding.items) on_after
 answer_numbers one = []
 
 -- the answer to an event, with its numbers; nothing for `NoCall`

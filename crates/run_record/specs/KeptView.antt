@@ -1,5 +1,5 @@
--- How frames are stored. One list contains the host, the socket, the number and the length of each frame. Another list contains the bytes
--- of all frames, one frame after the other.
+-- How frames are stored. One list contains for each frame its host, its socket, the number of its event or drain, and its length in bytes.
+-- Another list contains the bytes of all frames, one frame after the other.
 use Rattle.std.specs.Prelude.{◌≡◌, ◌≤◌, ◌∷◌, [], ℕ, List, drop, length, sum_by, take}
 use Rattle.std.specs.List.{AllByRecursion}
 use Rattle.descriptors.specs.Frames.{longest_frame}
@@ -16,18 +16,21 @@ abbrev pub frames_from : List FrameInfo → (bytes : List ℕ) → List KeptFram
 frames_from [] bytes = []
 frames_from (info ∷ infos) bytes = frame_with info (take info.length bytes) ∷ frames_from infos (drop info.length bytes)
 
+-- the frames that these two lists store
 abbrev pub kept_frames_of : Inside → List KeptFrame
 kept_frames_of inside = frames_from inside.infos.items inside.bytes.items
 
+-- the number of the frame's bytes
 abbrev pub length_in : FrameInfo → ℕ
 length_in info = info.length
 
+-- the frame has at most 1,518 bytes
 abbrev pub HasKeptSize : FrameInfo → Type 0
 HasKeptSize info = info.length ≤ longest_frame
 
--- Each frame has at most 1,518 bytes, and the stored bytes are those of the frames.
+-- Each frame has at most 1,518 bytes, and the lengths of the frames add up to the number of stored bytes.
 pub record HasKeptBytes (inside : Inside) : Type 0 where
-  -- the lengths of the frames add up to the number of bytes
+  -- the lengths of the frames add up to the number of stored bytes
   pub bytes : sum_by length_in inside.infos.items ≡ length inside.bytes.items
-  -- no frame is too long
+  -- each frame has at most 1,518 bytes
   pub short : AllByRecursion HasKeptSize inside.infos.items

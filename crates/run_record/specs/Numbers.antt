@@ -9,6 +9,6 @@ greatest_number = 2 ^ 64 - 1
 abbrev pub next_number : ℕ → ℕ
 next_number number = min (number + 1) greatest_number
 
--- a number in a summary: it saturates at the greatest
+-- a number as a summary contains it: at most the greatest number
 abbrev pub as_told : ℕ → ℕ
 as_told number = min number greatest_number

@@ -1,4 +1,4 @@
--- How the record of a run changes with each call of its observer (our choice).
+-- How a run changes its record: by its ticks, by the answer to an event, and by events with their replies (our choice).
 use Rattle.std.specs.Prelude.{◌≡◌, ◌⊎◌, ◌++◌, ◌∷◌, [], ℕ, List, None, Option, Some, false, length}
 use Rattle.std.specs.List.{flat_map, fold}
 use Rattle.host_calls.specs.Happenings.{Disabled, Enabled, Happening, tick_happenings}
@@ -16,8 +16,8 @@ use Rattle.run_record.specs.RunLogs.{log_ended, log_heard}
 use Rattle.run_record.specs.Tallies.{AreNoted, TalliesGrow, given_up_of}
 use Rattle.run_record.specs.declared.record.Record.{Record}
 
--- The outcomes of these ticks are counted. The frames that the ticks put, and the texts of the ticks, are recorded if the record has a list
--- for them, unless memory was refused.
+-- The outcomes of these ticks are counted. Unless memory was refused, the frames that the ticks put are recorded if `old` has a list for
+-- them. The texts of the ticks are recorded under the same condition if `old` has lines.
 pub record HearsTicks (old new : Record) (ticks : List TickTold) : Type 0 where
   pub before : new.failed ≡ false → old.failed ≡ false
   pub number : new.number ≡ old.number
@@ -26,14 +26,14 @@ pub record HearsTicks (old new : Record) (ticks : List TickTold) : Type 0 where
   pub puts : new.failed ≡ false → PutsGrow (put_frames_in old.number (flat_map happened_of ticks)) old.puts new.puts
   pub log : new.failed ≡ false → new.log ≡ fold log_heard old.log ticks
 
--- the happenings that an event's answer reports: frames accepted, returned or given up
+-- the happenings that an event's answer reports: frames accepted by a send, returned by a recv, or given up by a reset
 abbrev pub answered : Event → FrameAnswer → List Happening
 answered (event.Send host frame ticks) answer = accepted_by_answer host frame.items answer
 answered (event.Recv host socket ticks) answer = given_by_answer host socket answer
 answered (event.Reset host ticks) answer = given_up_of host answer
 answered one answer = []
 
--- These happenings are counted. The frames that sockets returned are recorded, unless memory was refused.
+-- These happenings are counted. The frames that sockets returned in them are recorded, unless memory was refused.
 pub record NotesAnswer (happened : List Happening) (old new : Record) : Type 0 where
   pub number : new.number ≡ old.number
   pub puts : new.puts ≡ old.puts
@@ -42,7 +42,7 @@ pub record NotesAnswer (happened : List Happening) (old new : Record) : Type 0 w
   pub hosts : TalliesGrow happened old.hosts.items new.hosts.items
   pub returned : new.failed ≡ false → FramesGrow (returned_in old.number happened) old.returned new.returned
 
--- The line of an event is recorded if lines are recorded, and its answer is counted if it is a refusal, unless memory was refused.
+-- Unless memory was refused, the answer is counted if it is a refusal, and the event's line is recorded if lines are recorded.
 pub record NotesLine (event : Event) (accesses : ℕ) (answer : FrameAnswer) (old new : Record) : Type 0 where
   pub number : new.number ≡ old.number
   pub hosts : new.hosts.items ≡ old.hosts.items
@@ -51,7 +51,8 @@ pub record NotesLine (event : Event) (accesses : ℕ) (answer : FrameAnswer) (ol
   pub before : new.failed ≡ false → old.failed ≡ false
   pub log : new.failed ≡ false → new.log ≡ log_ended (place_at old.number old.line) event accesses answer old.log
 
--- The happenings of a reset: the happenings of its ticks, in order, and between them the happenings of the reset itself.
+-- `happened` consists of `ticked`, the happenings of a reset's ticks in order, and of the happenings of the reset itself at three places
+-- between them. These are `Disabled`, then `given_up`, then `Enabled`.
 pub record TellsReset (host : ℕ) (given_up ticked happened : List Happening) : Type 0 where
   pub early : List Happening
   pub stopping : List Happening
@@ -60,7 +61,8 @@ pub record TellsReset (host : ℕ) (given_up ticked happened : List Happening) :
   pub ticks : ticked ≡ early ++ (stopping ++ (resting ++ later))
   pub all : happened ≡ early ++ Disabled host ∷ (stopping ++ (given_up ++ (resting ++ Enabled host ∷ later)))
 
--- A reply has its outcomes in order. This restricts only the reply to a reset of a host that exists.
+-- A reply has its outcomes in order. Only the reply to a reset is restricted: its happenings are in the order of `TellsReset`. Or the reply
+-- has another answer than a reset's, and its happenings are only those of its ticks.
 abbrev pub IsInOrder : Event → Reply → Type 0
 IsInOrder (event.Reset host ticks) reply =
     ((said (event.Reset host ticks) reply ≡ tick_happenings ticks.items reply.outcomes.list) × (given_up_of host reply.answer ≡ []))
@@ -68,23 +70,25 @@ IsInOrder (event.Reset host ticks) reply =
     (said (event.Reset host ticks) reply)
 IsInOrder one reply = Unit {0}
 
+-- each reply has its outcomes in order, as far as there are an event and a reply at the same index
 abbrev pub AreInOrder : List Event → List Reply → Type 0
 AreInOrder [] replies = Unit {0}
 AreInOrder (event ∷ events) [] = Unit {0}
 AreInOrder (event ∷ events) (reply ∷ replies) = IsInOrder event reply × AreInOrder events replies
 
--- Events and their replies are recorded, and memory wasn't refused.
+-- Events and their replies are recorded, and memory wasn't refused before.
 pub record RecordsRun (events : List Event) (replies : List Reply) (old new : Record) : Type 0 where
   pub before : old.failed ≡ false
   pub noted : AreNoted (ran events replies) old new
 
--- Events and their replies are recorded if the replies have their outcomes in order, unless memory was refused.
+-- There is one reply for each event. Unless memory was refused, the events and their replies are recorded if the replies have their
+-- outcomes in order.
 pub record RecordsReplies (old new : Record) (events : List Event) (replies : List Reply) : Type 0 where
   pub each : length replies ≡ length events
   pub recorded : new.failed ≡ false → AreInOrder events replies → RecordsRun events replies old new
 
--- No frame that an adapter put is recorded yet. Such frames will be recorded if and only if `wires`, the number of traces of wires to
--- write, isn't 0.
+-- A new record has an empty list for the frames that adapters put. It may have no such list only if `wires`, the number of traces of wires
+-- to write, is 0.
 abbrev pub IsNewRecord : (wires : ℕ) → Option (List KeptFrame) → Type 0
 IsNewRecord wires None = wires ≡ 0
 IsNewRecord wires (Some puts) = puts ≡ []

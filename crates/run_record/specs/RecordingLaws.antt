@@ -1,4 +1,4 @@
--- What is recorded in two consecutive intervals is recorded in both together.
+-- What is recorded in two consecutive intervals is recorded in both together, and an interval without ticks and events records nothing.
 use Rattle.std.proofs.Common.{◌≡◌, ◌++◌, ◌∷◌, [], ℕ, List, None, Option, Some, length}
 use Rattle.std.proofs.Common.{option_map, slice_get, refl, sym, ap, subst, ◌∙◌, append_assoc, append-nil, arith, length-append}
 use Rattle.std.specs.Prelude.{⊤}
@@ -23,7 +23,7 @@ use Rattle.run_record.specs.declared.record.Record.{Record}
 use Rattle.run_record.specs.declared.run_log.RunLog.{RunLog}
 use Rattle.run_record.specs.declared.tally.Tally.{Tally}
 
--- Numbers of hosts.
+-- Counts of hosts.
 
 pub stays : (k : ℕ) (found : Option Tally) → found ≡ option_map (tally_behind [] k) found
 stays k None = refl
@@ -149,7 +149,6 @@ ticks_compose = record {
   };
 }
 
--- the acts of two lists, if the first list has the same number of replies as of events
 ran-join : (events later : List Event) (replies others : List Reply) → length replies ≡ length events
     → ran (events ++ later) (replies ++ others) ≡ ran events replies ++ ran later others
 ran-join [] later [] others same = refl
@@ -158,7 +157,6 @@ ran-join (one ∷ events) later [] others same = absurd (omega (arith, same))
 ran-join (one ∷ events) later (reply ∷ replies) others same =
     ap (λ (acts : List Act). Ran one reply ∷ acts) (ran-join events later replies others (omega (arith, same)))
 
--- If the replies of two lists together have their outcomes in order, so do the replies of each list.
 order-first : (events later : List Event) (replies others : List Reply) → length replies ≡ length events
     → AreInOrder (events ++ later) (replies ++ others) → AreInOrder events replies × AreInOrder later others
 order-first [] later [] others same order = (tt, order)

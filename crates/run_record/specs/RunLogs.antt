@@ -1,4 +1,4 @@
--- The record of the answers of a run (our choice).
+-- The numbers of refused calls and the lines in the record of a run, and how events and drains change them (our choice).
 use Rattle.std.specs.Prelude.{◌≡◌, ◌∷◌, [], ℕ, Bool, List, Some, None, Err, if◌then◌else◌, length, map}
 use Rattle.std.specs.Prelude.{option_map}
 use Rattle.std.specs.List.{fold}
@@ -34,15 +34,15 @@ refusals_by count (Drained host buffered given) = count
 
 -- The log.
 
--- the log before the first event
+-- the log before the first event or drain: no call was refused, and there is no line; lines are recorded if `events` is true
 abbrev pub new_log : (names : List (List ℕ)) → (events : Bool) → RunLog
 new_log names events = record { refusals = no_refusals; lines = if events then Some (no_lines names) else None }
 
--- the log after an answer was counted, if it is a refusal
+-- the log after an answer, which is counted if it is a refusal (`refusals_behind`); the lines don't change
 abbrev pub answered_log : FrameAnswer → RunLog → RunLog
 answered_log one log = record log { refusals = refusals_behind log.refusals one }
 
--- the log after the outcome of a tick
+-- the log after a tick: the tick's text, with its outcome, is recorded if lines are recorded
 abbrev pub log_heard : RunLog → TickTold → RunLog
 log_heard log told = record log { lines = option_map (λ (lines : LogState). tick_logged lines told) log.lines }
 
@@ -51,7 +51,7 @@ abbrev pub log_ended : Place → Event → (accesses : ℕ) → FrameAnswer → 
 log_ended place event accesses one log =
     answered_log one (record log { lines = option_map (end_logged place event accesses one) log.lines })
 
--- the log after a drain in which a host returned `count` frames
+-- the log after a drain in which a host returned `count` frames: the drain's line is appended if lines are recorded
 abbrev pub act_drained : Place → (host count : ℕ) → RunLog → RunLog
 act_drained place host count log = record log { lines = option_map (drain_logged place host count) log.lines }
 
@@ -61,7 +61,7 @@ act_logged place (Ran event reply) log =
     log_ended place event reply.accesses reply.answer (fold log_heard log (told_in event reply))
 act_logged place (Drained host buffered given) log = act_drained place host (length given) log
 
--- The log after acts, in order, each with the number of its line in the scenario. The first act has this number.
+-- The log after acts, in order, each given with the number of its line in the scenario. The first act has the number `number`.
 abbrev pub logged : (number : ℕ) → List (ℕ × Act) → RunLog → RunLog
 logged number [] log = log
 logged number (entry ∷ entries) log =
@@ -71,7 +71,7 @@ logged number (entry ∷ entries) log =
 abbrev pub acts_in : List (ℕ × Act) → List Act
 acts_in entries = map (λ (entry : ℕ × Act). entry.1) entries
 
--- These acts were recorded, each with some line number.
+-- These acts were recorded in the log, in order, each with some line number. The first act has the number `old.number`.
 pub record AreLogged (acts : List Act) (old new : Record) : Type 0 where
   pub entries : List (ℕ × Act)
   pub are : acts_in entries ≡ acts

@@ -26,11 +26,11 @@ abbrev pub count_given : ℕ → Happening → ℕ
 count_given k (Given host socket frame) = if k == host then 1 else 0
 count_given k one = 0
 
--- the number of frames that sockets of the k-th host returned
+-- the number of frames that sockets of the k-th host returned in these happenings
 abbrev pub all_given : ℕ → List Happening → ℕ
 all_given k happened = sum_by (count_given k) happened
 
--- the frame of a happening, if it reached the k-th host while the host's receive side was disabled
+-- the frame of a happening, if the frame reached the k-th host's adapter while its receive side was disabled
 abbrev pub off_by : ℕ → Happening → List (List ℕ)
 off_by k (Reached host frame fate.Off) = of_host k host (frame ∷ [])
 off_by k one = []
@@ -51,7 +51,7 @@ counted_once passage.Off tally = record tally { reached = next_number tally.reac
 counted_once passage.Stored tally = record tally { reached = next_number tally.reached; stored = next_number tally.stored }
 counted_once passage.Given tally = record tally { given = next_number tally.given }
 
--- the counts of the k-th host after a passage at a host
+-- the counts of the k-th host after a passage at host `host`
 abbrev pub counted_at : (k host : ℕ) → Passage → Tally → Tally
 counted_at k host one tally = if k == host then counted_once one tally else tally
 
@@ -61,25 +61,25 @@ passage_by fate.Stored = passage.Stored
 passage_by fate.Off = passage.Off
 passage_by _ = passage.Reached
 
--- this number plus `more`, up to the greatest
+-- this number plus `more`, but at most the greatest number
 abbrev pub grown_by : (more : ℕ) → ℕ → ℕ
 grown_by more number = min (number + more) greatest_number
 
--- the counts after a reset that gave up these numbers of frames
+-- the counts of a host after its reset, which gave up these numbers of frames
 abbrev pub tally_given_up : (sending holding : ℕ) → Tally → Tally
 tally_given_up sending holding tally =
     record tally { sending = grown_by sending tally.sending; holding = grown_by holding tally.holding; is_reset = true }
 
--- the counts of the k-th host after a reset of a host
+-- the counts of the k-th host after a reset of host `host`, which gave up these numbers of frames
 abbrev pub given_up_at : (k host sending holding : ℕ) → Tally → Tally
 given_up_at k host sending holding tally = if k == host then tally_given_up sending holding tally else tally
 
--- the numbers of frames that resets gave up and dropped, if there was a reset
+-- If there was a reset: the numbers of frames that resets gave up, and of frames that reached the adapter while receive was disabled.
 abbrev pub resets_in : Tally → Option GivenUp
 resets_in tally =
     if tally.is_reset then Some (record { sending = tally.sending; holding = tally.holding; off = tally.off }) else None
 
--- the happening that the answer of a reset reports
+-- the happening that the answer of a reset reports; other answers report none
 abbrev pub given_up_of : (host : ℕ) → FrameAnswer → List Happening
 given_up_of host (answer.Reset sending holding on_after) = HasGivenUp host sending.items holding.items ∷ []
 given_up_of host one = []
@@ -113,15 +113,15 @@ no_tally = record {
 abbrev pub tally_behind : List Happening → ℕ → Tally → Tally
 tally_behind happened k tally = fold (tallied_by k) tally happened
 
--- The counts of each host changed as these happenings change them.
+-- The number of hosts didn't change, and the counts of each host changed as these happenings change them.
 abbrev pub TalliesGrow : List Happening → (old new : List Tally) → Type 0
 TalliesGrow happened old new = (k : ℕ) → slice_get new k ≡ option_map (tally_behind happened k) (slice_get old k)
 
--- the number of the event after these acts
+-- the number of the event or drain after these acts, the first of which has the number `number`
 abbrev pub number_behind : ℕ → List Act → ℕ
 number_behind number acts = fold (λ n act. next_number n) number acts
 
--- These acts are recorded.
+-- These acts are recorded: their happenings are counted, and their frames, refusals and lines are added as far as `old` records them.
 pub record AreNoted (acts : List Act) (old new : Record) : Type 0 where
   pub number : new.number ≡ number_behind old.number acts
   pub hosts : TalliesGrow (history acts) old.hosts.items new.hosts.items
@@ -131,11 +131,11 @@ pub record AreNoted (acts : List Act) (old new : Record) : Type 0 where
 
 -- Changes of counts by the parts of an act.
 
--- one passage at a host was counted
+-- one passage at this host was counted, if the host exists; the other counts are unchanged
 abbrev pub TallyCounts : (host : ℕ) → Passage → (old new : List Tally) → Type 0
 TallyCounts host one old new = (k : ℕ) → slice_get new k ≡ option_map (counted_at k host one) (slice_get old k)
 
--- the numbers of frames that a reset of a host gave up were counted
+-- The numbers of frames that a reset of this host gave up were counted, if the host exists. The counts of other hosts are unchanged.
 abbrev pub TallyGivesUp : (host sending holding : ℕ) → (old new : List Tally) → Type 0
 TallyGivesUp host sending holding old new =
     (k : ℕ) → slice_get new k ≡ option_map (given_up_at k host sending holding) (slice_get old k)

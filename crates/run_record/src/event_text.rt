@@ -24,12 +24,12 @@ fn push_number(text: &mut Vec<u8>, label: &[u8], number: u64) -> Result<(), Allo
 }
 
 /// Returns the name of a host, or an empty name if there is no such host.
-fn name_of(names: &[String], host: usize) -> &[u8]
+fn name_of(names: &[String], host: usize) -> &str
     ensures { result.now ≡ texts.name_at (map string_bytes names.now) host }
 {
     match names.get(host) {
-        Some(name) => name.as_bytes(),
-        None => b"",
+        Some(name) => name.as_str(),
+        None => "",
     }
 }
 
@@ -44,7 +44,22 @@ fn push_host(
         (text.new.items ≡ text.old.items ++ (label.now ++ texts.name_at (map string_bytes names.now) host)) }
 {
     text.extend_from_slice(label)?;
-    text.extend_from_slice(name_of(names, host))
+    text.extend_from_slice(name_of(names, host).as_bytes())
+}
+
+/// Appends a label, the name of a host, a blank and a number.
+fn push_counted(
+    text: &mut Vec<u8>,
+    label: &[u8],
+    names: &[String],
+    host: usize,
+    number: u64,
+) -> Result<(), AllocError>
+    ensures { OnOk result (text.new.items ≡ text.old.items
+        ++ (label.now ++ texts.name_at (map string_bytes names.now) host) ++ texts.numbered (codes " ") number) }
+{
+    push_host(text, label, names, host)?;
+    push_number(text, b" ", number)
 }
 
 /// Returns a blank, the word for a step as scenarios spell it, and a colon.
@@ -104,7 +119,8 @@ fn outcome_word(outcome: &Outcome<()>) -> &'static [u8]
     }
 }
 
-/// Appends the word for an outcome, and the size of the frame in bytes if the outcome has a frame.
+/// Appends a blank and the word for an outcome. If the outcome has a frame, also appends a blank and the frame's size
+/// in bytes.
 fn push_outcome(text: &mut Vec<u8>, outcome: &Outcome<()>, frame: &[u8]) -> Result<(), AllocError>
     ensures { OnOk result
         (text.new.items ≡ text.old.items ++ texts.outcome_text (with_frame frame.now outcome.now)) }
@@ -142,12 +158,10 @@ fn push_event(text: &mut Vec<u8>, names: &[String], event: &Event) -> Result<(),
 {
     match event {
         Event::Send { host, frame, .. } => {
-            push_host(text, b" send ", names, *host)?;
-            push_number(text, b" ", frame.len() as u64)
+            push_counted(text, b" send ", names, *host, frame.len() as u64)
         }
         Event::Recv { host, socket, .. } => {
-            push_host(text, b" recv ", names, *host)?;
-            push_number(text, b" ", *socket as u64)
+            push_counted(text, b" recv ", names, *host, *socket as u64)
         }
         Event::Interrupt { host, .. } => push_host(text, b" interrupt ", names, *host),
         Event::Reset { host, .. } => push_host(text, b" reset ", names, *host),
@@ -157,7 +171,7 @@ fn push_event(text: &mut Vec<u8>, names: &[String], event: &Event) -> Result<(),
     }
 }
 
-/// Returns the words for the result of a send.
+/// Returns a blank and the words for the result of a send.
 fn sent_word(sent: Result<(), SendError>) -> &'static [u8]
     ensures { result.now ≡ texts.sent_word sent }
 {
@@ -169,7 +183,7 @@ fn sent_word(sent: Result<(), SendError>) -> &'static [u8]
     }
 }
 
-/// Returns the words for a recv that returned no frame.
+/// Returns a blank and the words for the error of a recv that returned no frame.
 fn recv_word(error: RecvError) -> &'static [u8]
     ensures { result.now ≡ texts.recv_word error }
 {
@@ -179,7 +193,7 @@ fn recv_word(error: RecvError) -> &'static [u8]
     }
 }
 
-/// Returns the words for the result of a join or a leave.
+/// Returns a blank and the words for the result of a join or a leave.
 fn group_word(changed: Result<(), GroupError>) -> &'static [u8]
     ensures { result.now ≡ texts.group_word changed }
 {
@@ -210,13 +224,25 @@ fn answer_word(answer: &Answer<()>) -> &'static [u8]
     }
 }
 
-/// Appends the answer to an event, with the size in bytes of the frame that a socket returned. Appends nothing for
-/// `NoCall`, the answer to an event that is a tick.
-fn push_answer(text: &mut Vec<u8>, answer: &Answer<()>, frame: &[u8]) -> Result<(), AllocError>
-    ensures { OnOk result
-        (text.new.items ≡ text.old.items ++ texts.answer_text (answer_with frame.now answer.now)) }
+/// Appends the numbers of frames that a reset gave up, and of its accesses before the receiver was enabled again.
+fn push_given_up(
+    text: &mut Vec<u8>,
+    sending: u64,
+    holding: u64,
+    on_after: u64,
+) -> Result<(), AllocError>
+    ensures { OnOk result (text.new.items ≡ text.old.items ++ texts.given_up_numbers sending holding on_after) }
 {
-    text.extend_from_slice(answer_word(answer))?;
+    push_number(text, b" ", sending)?;
+    push_number(text, b" ", holding)?;
+    push_number(text, b" on ", on_after)
+}
+
+/// Appends the numbers of an answer. `frame` is the frame that a socket returned.
+fn push_numbers(text: &mut Vec<u8>, answer: &Answer<()>, frame: &[u8]) -> Result<(), AllocError>
+    ensures { OnOk result
+        (text.new.items ≡ text.old.items ++ texts.answer_numbers (answer_with frame.now answer.now)) }
+{
     match answer {
         Answer::Received(Ok(())) => push_number(text, b" ", frame.len() as u64),
         Answer::Interrupted(Handled::Handled { taken }) => push_number(text, b" ", *taken),
@@ -224,13 +250,19 @@ fn push_answer(text: &mut Vec<u8>, answer: &Answer<()>, frame: &[u8]) -> Result<
             sending,
             holding,
             on_after,
-        } => {
-            push_number(text, b" ", sending.len() as u64)?;
-            push_number(text, b" ", holding.len() as u64)?;
-            push_number(text, b" on ", *on_after)
-        }
+        } => push_given_up(text, sending.len() as u64, holding.len() as u64, *on_after),
         _ => Ok(()),
     }
+}
+
+/// Appends the answer to an event, with the size in bytes of the frame that a socket returned. Appends nothing for
+/// `NoCall`, the answer to an event that is a tick.
+fn push_answer(text: &mut Vec<u8>, answer: &Answer<()>, frame: &[u8]) -> Result<(), AllocError>
+    ensures { OnOk result
+        (text.new.items ≡ text.old.items ++ texts.answer_text (answer_with frame.now answer.now)) }
+{
+    text.extend_from_slice(answer_word(answer))?;
+    push_numbers(text, answer, frame)
 }
 
 /// Appends the number of an event, and the number of its line in the scenario.

@@ -1,5 +1,5 @@
-//! The record of a run: counts for each host, the frames that each socket returned, the frames that were put on wires,
-//! and the answers.
+//! The record of a run: counts for each host, frames that sockets returned or adapters put, numbers of refused calls,
+//! and lines.
 ghost use Rattle.std.specs.Prelude.{◌≡◌, ◌≤◌, ◌++◌, ◌∷◌, [], ℕ, List, IfOk, OnOk, length, map, replicate};
 ghost use Rattle.adapter.specs.Outcomes.{with_frame};
 ghost use Rattle.host_calls.specs.Happenings.{tick_host, outcome_happenings};
@@ -25,7 +25,7 @@ use stations::{Observer, Tick};
 use std::alloc::{AllocError, Global};
 use wire::RunObserver;
 
-/// The record of a run.
+/// The record of a run. As the run's observer, it is told of each tick and of the answer to each event.
 #[derive(Drop)]
 pub struct Record {
     /// The number of the next event or drain, from 0. It saturates at the greatest `u64`.
@@ -40,9 +40,9 @@ pub struct Record {
     pub puts: Option<KeptFrames>,
     /// The numbers of refused calls, and the lines of events and drains.
     pub log: RunLog,
-    /// Whether memory was refused for a frame that a socket returned or that was put on a wire, or for an event's line.
-    /// The program never sets it to true, because memory is allocated before the event. The proof doesn't use this
-    /// fact.
+    /// Whether memory was refused for a frame that a socket returned or an adapter put, or for the text of a tick or an
+    /// event. The program never sets `failed` to true, because memory is allocated before the event. The proof doesn't
+    /// use this fact.
     pub failed: bool,
 }
 
@@ -90,7 +90,7 @@ fn give_up(hosts: &mut [Tally], host: usize, sending: u64, holding: u64)
     }
 }
 
-/// Counts the passage in an outcome at a host, if there is a passage.
+/// Counts the passage in an outcome at a host, if there is a passage and the host exists.
 #[tactic(auto, using(crate::proofs::Noting::told_passage, crate::proofs::Noting::told_nothing))]
 #[inline(always)]
 fn note_outcome(hosts: &mut [Tally], host: usize, outcome: &Outcome<()>)
@@ -109,7 +109,8 @@ fn is_put(outcome: &Outcome<()>) -> bool
     matches!(outcome, Outcome::Put(_))
 }
 
-/// Records the frame of an outcome at a host, if the frame was put on a wire and such frames are recorded.
+/// Records the frame of an outcome at a host, if the frame was put on a wire and such frames are recorded. `number` is
+/// the number of the event.
 #[inline(always)]
 fn note_put(
     puts: &mut Option<KeptFrames>,
@@ -152,7 +153,7 @@ fn note_sent(hosts: &mut [Tally], host: usize, answer: &Answer<()>)
     }
 }
 
-/// Counts the frames that a reset gave up, if the answer is that of a reset.
+/// If the answer is that of a reset and the host exists, counts the frames that the reset gave up, and notes the reset.
 #[tactic(auto, using(crate::specs::RecordingLaws::grows_not))]
 #[inline(never)]
 fn note_reset(hosts: &mut [Tally], host: usize, answer: &Answer<()>)
@@ -168,7 +169,7 @@ fn note_reset(hosts: &mut [Tally], host: usize, answer: &Answer<()>)
     }
 }
 
-/// Counts and records the frames that a drained host returned.
+/// Counts and records the frames that a drained host returned. `number` is the number of the drain.
 fn note_drained(
     hosts: &mut [Tally],
     returned: &mut KeptFrames,
@@ -219,6 +220,19 @@ impl Record {
         })
     }
 
+    /// Makes room for what is recorded of an event with `ticks` ticks.
+    #[inline(always)]
+    fn reserve(&mut self, event: &Event, ticks: usize) -> Result<(), AllocError>
+        ensures { self.new ≡ self.old }
+    {
+        reserve_puts(&mut self.puts, ticks)?;
+        self.log.reserve(ticks)?;
+        match event {
+            Event::Recv { .. } => self.returned.reserve(1),
+            _ => Ok(()),
+        }
+    }
+
     /// Counts the answer to an event if it is a refusal, and records the event's line if lines are recorded. Sets
     /// `failed` if memory was refused.
     #[inline(always)]
@@ -252,8 +266,8 @@ impl Record {
         }
     }
 
-    /// Counts the frames that an event's answer reports, and records the frame that a socket returned. The answers of
-    /// interrupts, joins, leaves and ticks report no frame.
+    /// Counts the frames that the answer to a send, a recv or a reset reports, and records the frame that a socket
+    /// returned. Changes nothing for other events.
     #[inline(always)]
     fn note_answer(&mut self, event: &Event, answer: &Answer<()>, frame: &[u8])
         requires fits { length frame.now ≤ 1518 }
@@ -268,8 +282,8 @@ impl Record {
         }
     }
 
-    /// Records the next drain: the frames that a host returned, and the drain's line if lines are recorded. The number
-    /// of frames that the host's adapter moved isn't recorded.
+    /// Counts and records the frames that a host returned in the next drain, and records the drain's line if lines are
+    /// recorded. The number of frames in the host's receive packet buffer before the drain isn't recorded.
     #[tactic(auto, using(crate::proofs::NotedEvents::drain_noted))]
     pub fn note_drain(&mut self, host: usize, given: &[DrainedFrame]) -> Result<(), AllocError>
         ensures { OnOk result
@@ -321,10 +335,7 @@ impl RunObserver for Record {
 
     #[inline(always)]
     fn make_room(&mut self, event: &Event, ticks: usize) -> bool {
-        !self.failed
-            && reserve_puts(&mut self.puts, ticks).is_ok()
-            && self.log.reserve(ticks).is_ok()
-            && (!matches!(event, Event::Recv { .. }) || self.returned.reserve(1).is_ok())
+        !self.failed && self.reserve(event, ticks).is_ok()
     }
 
     // The record changes as `NotesLine` and then `NotesAnswer` state. Then `number` grows by 1, unless it is the

@@ -24,10 +24,10 @@ const LONGEST_TOLD: usize = 96;
 /// Room for a line without its ticks, in bytes.
 const LONGEST_REST: usize = 192;
 
-/// A line for each event or drain that was played, in order. During an event, the log also contains the outcomes of the
-/// event's ticks so far.
+/// A line for each event or drain that was played, in order. During an event, the log also contains the texts of the
+/// event's ticks so far, with their outcomes.
 ///
-/// In contracts, the value is a `LogState`: the names of the hosts, the outcomes, and the lines.
+/// In contracts, the value is a `LogState`.
 #[derive(Drop)]
 pub struct EventLog {
     names: Vec<String>,
@@ -71,7 +71,7 @@ fn names_of(alloc: Global, plans: &[HostPlan]) -> Result<Vec<String>, AllocError
 {
     let mut names = Vec::new(alloc);
     for plan in plans {
-        names.push(String::from_str(alloc, plan.name.as_str())?)?;
+        names.push(plan.name.clone()?)?;
     }
     Ok(names)
 }
@@ -142,7 +142,7 @@ impl RunLog {
         }
     }
 
-    /// Records the outcome of a tick, if lines are recorded.
+    /// Appends the text of a tick, with its outcome, to the texts of its event's ticks, if lines are recorded.
     #[inline(always)]
     pub(crate) fn note(
         &mut self,

@@ -5,10 +5,15 @@ ghost use Rattle.run_record.specs.Tallies.{counted_once, resets_in, tally_given_
 /// The counts of a host's frames, and whether the host was reset. Each count saturates at the greatest `u64`.
 #[derive(Clone, Copy, Default)]
 pub struct Tally {
+    /// Frames that sends accepted.
     pub accepted: u64,
+    /// Frames that the host's adapter put on its wire.
     pub put: u64,
+    /// Frames that reached the host's adapter, whatever their fate.
     pub reached: u64,
+    /// Frames that reached the host's adapter, which stored them.
     pub stored: u64,
+    /// Frames that the host's sockets returned.
     pub given: u64,
     /// Frames to be sent that resets gave up.
     pub sending: u64,
@@ -20,14 +25,15 @@ pub struct Tally {
     pub is_reset: bool,
 }
 
-/// The numbers of frames that the resets of a host gave up and dropped. Each saturates at the greatest `u64`.
+/// The numbers of frames that a host lost by its resets, or dropped while its receive side was disabled. Each saturates
+/// at the greatest `u64`.
 #[derive(Clone, Copy)]
 pub struct GivenUp {
     /// Frames that were to be sent.
     pub sending: u64,
     /// Frames that the host held outside its sockets' queues.
     pub holding: u64,
-    /// Frames that reached its adapter while its receive side was disabled.
+    /// Frames that reached the host's adapter while its receive side was disabled.
     pub off: u64,
 }
 
@@ -83,7 +89,7 @@ impl Tally {
         }
     }
 
-    /// Returns the numbers of frames that resets gave up and dropped; `None` if there was no reset.
+    /// Returns the numbers of frames that the host lost and dropped; `None` if the host wasn't reset.
     pub fn resets(self) -> Option<GivenUp>
         ensures { result ≡ resets_in self }
     {

@@ -1,4 +1,4 @@
--- The ticks of a call, word by word.
+-- The loop that reads the ticks of a call, word by word.
 use Rattle.std.proofs.Common.{◌≡◌, ◌∙◌, ◌+◌, ◌<◌, ◌≤◌, ◌++◌, ◌&&◌, ℕ, true, List, [], ◌∷◌, Some, None, Bor, is_some, unwrap_or}
 use Rattle.std.proofs.Common.{length, get_or, take, ap, sym, subst, refl, arith}
 use Rattle.std.proofs.lemmas.Bool.{false≢true}

@@ -1,4 +1,4 @@
--- The result of reading a line, by the result of reading its words.
+-- `IsLineAnswer`, by the result of reading the words of the line.
 use Rattle.std.proofs.Common.{◌≡◌, ◌∙◌, ◌<◌, ◌≤◌, false, true, cond, Bor, List, [], ◌∷◌}
 use Rattle.std.proofs.Common.{Option, Some, None, Result, Ok, Err, length, ap, arith, sym, subst}
 use Rattle.std.proofs.lemmas.Bool.{false≢true}
@@ -33,14 +33,12 @@ module _ (before after : SoFar) (words : List Text) (kind : LineKind) (says : is
   words-said (Err (stop.Fault fault.Long)) h = absurd h
   words-said (Err (stop.Fault fault.Text)) h = absurd h
 
--- a skipped line changes nothing
 pub skipped-said : (before : SoFar) (words : List Text) → is_skipped words ≡ true → IsWordsAnswer before words (Ok tt) before
 skipped-said before words skips = (
   λ same. absurd (false≢true (sym same ∙ skips)),
   sym (ap (λ b. cond b before (after_kind (kind_named (word 0 words)) before words)) skips),
 )
 
--- a line that isn't skipped has a word
 pub words-there : (words : List (Bor Text)) → is_skipped (texts words) ≡ false → 0 < length words
 words-there [] says = absurd (false≢true (sym says))
 words-there (first ∷ words) says = omega arith

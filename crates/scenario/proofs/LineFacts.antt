@@ -23,11 +23,9 @@ use Rattle.scenario.specs.declared.refusal.Fault.TheVariants as fault
 use Rattle.scenario.specs.declared.refusal.Stop.{Stop}
 use Rattle.scenario.specs.declared.refusal.Stop.TheVariants as stop
 
--- a line has one text for each word
 pub text-count : (words : List (Bor Text)) → length (texts words) ≡ length words
 text-count words = length-map words (λ (one : Bor Text). one.now)
 
--- if the check of the options' counts passes, the line has the words and the options that a `host` line needs
 pub host-counted : (words : List (Bor Text)) (uses : List HostUse) (test : Bool) → 4 ≤ length words
     → uses ≡ uses_in (option_words (texts words)) → IsTrue test ↔ AreCounted uses → test ≡ true → HasHostWords (texts words)
 host-counted words uses test least is told passes = record {
@@ -35,12 +33,10 @@ host-counted words uses test least is told passes = record {
   options = subst AreCounted is (told.0 passes);
 }
 
--- if the test for a place fails, there is no place
 pub no-place : (place : Option ℕ) (test : Bool) → test ≡ is_some place → test ≡ false → place ≡ None
 no-place None test is fails = refl
 no-place (Some n) test is fails = absurd (false≢true (sym fails ∙ is))
 
--- no command comes before a line if and only if the list of commands is empty
 pub none-before : (commands : List Command) (test : Bool) → test ≡ (length commands == 0) → test ≡ true → length (map said_of commands) ≡ 0
 none-before commands test is passes = length-map commands said_of ∙ eqb-true (length commands) 0 (sym is ∙ passes)
 
@@ -49,12 +45,10 @@ pub some-before : (commands : List Command) (test : Bool) → test ≡ (length c
 some-before commands test is fails none =
     false≢true (sym fails ∙ is ∙ eq-eqb (length commands) 0 (sym (length-map commands said_of) ∙ none))
 
--- if P implies Q for each fault, and the fault of a reason has the property P, the fault has the property Q
 pub each-fault : (one : Stop) (P Q : Fault → Type 0) → ((f : Fault) → P f → Q f) → IfFault one P → IfFault one Q
 each-fault stop.Memory P Q step h = tt
 each-fault (stop.Fault f) P Q step h = step f h
 
--- the answer to a valid line is right if its command was added, or memory was refused
 pub line-said-by : (kind : LineKind) (before after made : SoFar) (words : List Text) (result : Result (Unit {0}) Stop)
     → IsGood kind before words → made ≡ after_line kind before words → OnOk result (after ≡ made)
     → IfErr result (λ stopped. stopped ≡ stop.Memory) → IsAnswer kind before words result after
@@ -62,7 +56,6 @@ line-said-by kind before after made words (Ok u) good is said memory = (good, sa
 line-said-by kind before after made words (Err stopped) good is said memory =
     subst (λ (one : Stop). IfFault one (IsFaulty kind before words)) (sym memory) tt
 
--- room for an item, and the change of its host, are the same for an equal name, an equal item and equal hosts
 pub room-read : (name name' : Text) (one one' : Item) (plans plans' : List HostPlan) → name ≡ name' → one ≡ one' → plans ≡ plans'
     → IsRoomFor name one (hosts_of plans) → IsRoomFor name' one' (hosts_of plans')
 room-read name name' one one' plans plans' name_is one_is plans_are room =
@@ -77,7 +70,6 @@ change-read name name' one one' plans plans' name_is one_is plans_are =
     ∙ ap (λ (i : Item). changed_first (has_name name') (with_item i) (hosts_of plans)) one_is
     ∙ ap (λ (p : List HostPlan). changed_first (has_name name') (with_item one') (hosts_of p)) plans_are
 
--- a fault of a call's host or ticks is a fault of the line
 pub call-faulty : (kind : CallKind) (before : SoFar) (words call ticks : List Text) (hosts : List Host) (name : Text) (f : Fault)
     → hosts ≡ before.hosts → name ≡ word 1 call → call ≡ call_words words → ticks ≡ tick_words words
     → length (call_words words) ≡ size_of_call kind → CanAsk kind call → IsFaultyCall hosts name ticks f
@@ -101,7 +93,6 @@ call-faulty kind before words call ticks hosts name f hosts_are name_is call_is 
     by_fault fault.Long h = absurd h
     by_fault fault.Text h = absurd h
 
--- adding a call's command gives the lines read so far after this line
 pub call-said : (kind : CallKind) (before : SoFar) (words call tick_texts : List Text) (hosts : List Host) (name : Text) (said : Said)
     (host : ℕ) (ticks : List Tick) → hosts ≡ before.hosts → name ≡ word 1 call → call ≡ call_words words → tick_texts ≡ tick_words words
     → said ≡ said_in_call kind call host ticks → host ≡ number_of name hosts → ticks ≡ ticks_in hosts tick_texts

@@ -1,4 +1,4 @@
--- The place of the first item that passes a test.
+-- Lemmas about the place of the first item that passes a test.
 use Rattle.std.proofs.Common.{◌≡◌, ◌∙◌, ◌+◌, ◌≤◌, ℕ, Bool, true, false, cond, List, [], ◌∷◌, Some, None}
 use Rattle.std.proofs.Common.{length, map, not, ap, refl, nat_lt, arith}
 use Rattle.std.specs.List.{position, position_or_len, prefix_len}

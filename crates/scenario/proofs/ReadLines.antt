@@ -1,4 +1,4 @@
--- How a text is read, line by line.
+-- The loop that reads a text line by line.
 use borrow.Author.Count.{below_more}
 use Rattle.std.proofs.Common.{◌≡◌, ◌∙◌, ◌+◌, ◌-◌, ◌<◌, ◌≤◌, ℕ, List, [], ◌∷◌}
 use Rattle.std.proofs.Common.{length, get_or, take, drop, add-zero, ap, get_or-drop, length-drop, sym, subst, refl, arith}
@@ -13,7 +13,8 @@ use Rattle.scenario.specs.declared.refusal.Fault.{Fault}
 use Rattle.scenario.specs.declared.refusal.Stop.{Stop}
 use Rattle.scenario.specs.declared.refusal.Stop.TheVariants as stop
 
--- The bytes before `start` are `count` lines. All these lines are valid or skipped, and `said` contains their hosts, commands and traces.
+-- The bytes before `start` are the first `count` lines of the text. All these lines are valid or skipped, and `said`
+-- contains their hosts, commands and traces.
 pub record IsReadUpTo (text : Text) (start count : ℕ) (said : SoFar) : Type 0 where
   pub within : start ≤ length text
   pub number : count ≤ start

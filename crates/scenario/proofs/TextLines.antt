@@ -1,4 +1,4 @@
--- The first line of a text.
+-- Lemmas about the first line of a text.
 use Rattle.std.proofs.Common.{◌≡◌, ◌∙◌, ◌+◌, ◌<◌, ◌==◌, ℕ, false, cond, List, [], ◌∷◌, Some, None}
 use Rattle.std.proofs.Common.{length, take, drop, ap, sym, refl, arith}
 use Rattle.std.proofs.lemmas.Bool.Decides.{nat_tests}

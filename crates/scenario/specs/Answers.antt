@@ -26,14 +26,14 @@ use Rattle.scenario.specs.declared.refusal.Stop.{Stop}
 abbrev pub most_line_bytes : ℕ
 most_line_bytes = 8192
 
--- A line of this kind is valid.
+-- A line of this kind with these words is valid after the lines read so far (`before`).
 pub record IsGood (kind : LineKind) (before : SoFar) (words : List Text) : Type 0 where
   pub count : HasCount kind words
   pub values : HasValues kind words
   pub names : HasHostNames kind before.hosts words
   pub order : HasOrder kind before.commands
 
--- A line of this kind has this fault: the first that applies.
+-- The fault of a line of this kind with these words is the first of Count, Value, Name and Order that applies.
 abbrev pub IsFaulty : LineKind → SoFar → List Text → Fault → Type 0
 IsFaulty kind before words fault.Count = ¬ HasCount kind words
 IsFaulty kind before words fault.Value = HasCount kind words × (¬ HasValues kind words)
@@ -42,41 +42,44 @@ IsFaulty kind before words fault.Order =
     HasCount kind words × HasValues kind words × HasHostNames kind before.hosts words × (¬ HasOrder kind before.commands)
 IsFaulty kind before words _ = ⊥
 
--- the result of reading a line of this kind
+-- the result of reading a line of this kind: Ok for a valid line, or its fault, or that memory was refused
 abbrev pub IsAnswer : LineKind → SoFar → List Text → Result (Unit {0}) Stop → SoFar → Type 0
 IsAnswer kind before words (Ok u) after = IsGood kind before words × (after ≡ after_line kind before words)
 IsAnswer kind before words (Err stop) after = IfFault stop (IsFaulty kind before words)
 
--- The result of adding an item to a host: the host has room and gets the item, or it has no room.
+-- The result of adding an item to a host: Ok if the host has room, and then the item was added; Name if the host has no
+-- room.
 abbrev pub IsGrowth : (Host → ℕ) → ℕ → (Host → Host) → Host → Result (Unit {0}) Fault → Host → Type 0
 IsGrowth held most change host (Ok u) after = (held host < most) × (after ≡ change host)
 IsGrowth held most change host (Err stopped) after = (stopped ≡ fault.Name) × (¬ (held host < most))
 
--- The result of adding an item to the first host of this name: the host has room and gets the item, or there is no such host with room.
+-- The result of adding an item to the first host of this name: Ok if there is such a host and it has room, and then the
+-- item was added. Name if there is no such host, or it has no room.
 abbrev pub IsChange : Text → (Host → ℕ) → ℕ → (Host → Host) → List Host → Result (Unit {0}) Fault → List Host → Type 0
 IsChange name held most change hosts (Ok u) after =
     IsRoomAt name held most hosts × (after ≡ changed_first (has_name name) change hosts)
 IsChange name held most change hosts (Err stopped) after = (stopped ≡ fault.Name) × (¬ IsRoomAt name held most hosts)
 
--- A host line is valid, and its words spell this address and these options.
+-- A `host` line with these words is valid, and the words spell this address and these options.
 pub record IsHostRead (before : SoFar) (words : List Text) (read : List ℕ × HostOptions) : Type 0 where
   pub good : IsGood line.Host before words
   pub address : read.0 ≡ address_in (word 2 words)
   pub options : read.1 ≡ options_asked (uses_in (option_words words))
 
--- Words spell these ticks, each `go` or at a known host.
+-- The words spell these ticks, and each tick is `go` or at a known host.
 pub record AreTicks (hosts : List Host) (words : List Text) (ticks : List Tick) : Type 0 where
   pub known : are_ticks_of hosts words ≡ true
   pub spelled : ticks ≡ ticks_in hosts words
 
--- The host of this name and the hosts of all ticks are known. `call` is the host's number and the ticks.
+-- The words `ticks` spell ticks. The host of this name and the hosts of these ticks are known. `call` is the host's
+-- number and the ticks.
 pub record IsCall (hosts : List Host) (name : Text) (ticks : List Text) (call : ℕ × List Tick) : Type 0 where
   pub spelled : are_ticks ticks ≡ true
   pub known : AreKnown hosts name ticks
   pub host : call.0 ≡ number_of name hosts
   pub inside : call.1 ≡ ticks_in hosts ticks
 
--- The host or the ticks of a call have this fault: the first that applies.
+-- The fault of the host or of the ticks of a call is the first of Value and Name that applies.
 abbrev pub IsFaultyCall : List Host → (name : Text) → (ticks : List Text) → Fault → Type 0
 IsFaultyCall hosts name ticks fault.Value = ¬ (are_ticks ticks ≡ true)
 IsFaultyCall hosts name ticks fault.Name = (are_ticks ticks ≡ true) × (¬ AreKnown hosts name ticks)
@@ -87,23 +90,24 @@ pub record IsReadable (line : Text) : Type 0 where
   pub size : length line ≤ most_line_bytes
   pub text : IsUtf8 line
 
--- Lines without words, and lines whose first word begins with # (0x23), are skipped.
+-- Whether a line with these words is skipped: there is no word, or the first word begins with # (0x23).
 abbrev pub is_skipped : List Text → Bool
 is_skipped [] = true
 is_skipped (first ∷ words) = slice_index first 0 == 0x23
 
--- A line is readable, and it is valid or skipped.
+-- The line is readable. After the lines read so far, the line is valid or skipped.
 pub record IsGoodLine (before : SoFar) (line : Text) : Type 0 where
   pub readable : IsReadable line
   pub said : is_skipped (words_of line) ≡ false
       → IsSomeAnd (kind_named (word 0 (words_of line))) (λ kind. IsGood kind before (words_of line))
 
--- The words of a line that isn't skipped have this fault.
+-- The fault of a line with these words that isn't skipped is the first of Word, Count, Value, Name and Order that
+-- applies.
 abbrev pub IsFaultySaying : SoFar → List Text → Fault → Type 0
 IsFaultySaying before words fault.Word = kind_named (word 0 words) ≡ None
 IsFaultySaying before words one = IsSomeAnd (kind_named (word 0 words)) (λ kind. IsFaulty kind before words one)
 
--- A line has this fault: the first that applies.
+-- The fault of a line is the first of Long, Text, Word, Count, Value, Name and Order that applies.
 abbrev pub IsFaultyLine : SoFar → Text → Fault → Type 0
 IsFaultyLine before line fault.Long = most_line_bytes < length line
 IsFaultyLine before line fault.Text = (length line ≤ most_line_bytes) × (¬ IsUtf8 line)
@@ -114,22 +118,25 @@ abbrev pub after_kind : Option LineKind → SoFar → List Text → SoFar
 after_kind (Some kind) before words = after_line kind before words
 after_kind None before words = before
 
+-- the hosts, commands and traces after a line with these words; a skipped line changes nothing
 abbrev pub after_words : SoFar → List Text → SoFar
 after_words before words = if is_skipped words then before else after_kind (kind_named (word 0 words)) before words
 
--- the result of reading the words of a line
+-- the result of reading the words of a line: Ok if the line is valid or skipped, or its fault, or that memory was
+-- refused
 abbrev pub IsWordsAnswer : SoFar → List Text → Result (Unit {0}) Stop → SoFar → Type 0
 IsWordsAnswer before words (Ok u) after =
     (is_skipped words ≡ false → IsSomeAnd (kind_named (word 0 words)) (λ kind. IsGood kind before words))
     × (after ≡ after_words before words)
 IsWordsAnswer before words (Err stop) after = IfFault stop (λ one. (is_skipped words ≡ false) × IsFaultySaying before words one)
 
--- the result of reading a line
+-- the result of reading a line: Ok if the line is readable, and valid or skipped, or its fault, or that memory was
+-- refused
 abbrev pub IsLineAnswer : SoFar → Text → Result (Unit {0}) Stop → SoFar → Type 0
 IsLineAnswer before line (Ok u) after = IsGoodLine before line × (after ≡ after_words before (words_of line))
 IsLineAnswer before line (Err stop) after = IfFault stop (IsFaultyLine before line)
 
--- the hosts, commands and traces of valid lines
+-- the hosts, commands and traces after these lines, in order, from the first line of a text on
 abbrev pub said_by : List Text → SoFar
 said_by lines = fold (λ before line. after_words before (words_of line)) nothing_read lines
 
@@ -137,7 +144,7 @@ said_by lines = fold (λ before line. after_words before (words_of line)) nothin
 abbrev pub AreGood : ℕ → List Text → Type 0
 AreGood count all = (k : ℕ) → k < count → IsGoodLine (said_by (take k all)) (word k all)
 
--- A text is read: all its lines are valid or skipped, and `read` contains their hosts, commands and traces.
+-- A text is read: all its lines are readable, and valid or skipped. `read` contains their hosts, commands and traces.
 pub record IsRead (text : Text) (read : SoFar) : Type 0 where
   pub good : AreGood (length (lines text)) (lines text)
   pub said : read ≡ said_by (lines text)

@@ -3,8 +3,8 @@ use Rattle.std.specs.Prelude.{◌≡◌, ◌≤◌, Bool, true, false, List, [],
 use Rattle.std.specs.Option.{option_map}
 use Rattle.std.specs.List.{fold}
 use Rattle.std.specs.Str.{bytes_eq}
-use Rattle.mdic_phy.specs.declared.phy.Link.{Link}
-use Rattle.mdic_phy.specs.declared.phy.Link.TheVariants as link
+use Rattle.eeprom_phy.specs.declared.phy.Link.{Link}
+use Rattle.eeprom_phy.specs.declared.phy.Link.TheVariants as link
 use Rattle.text.specs.Numbers.{number_in}
 use Rattle.text.specs.Tables.{value_in}
 use Rattle.scenario.specs.Words.{Text}
@@ -25,11 +25,11 @@ option_kinds =
     ∷ (codes "promiscuous", option.Promiscuous)
     ∷ []
 
--- the option with this name, if there is one
+-- the option with this name; None if there is no such option
 unfoldable pub option_named : Text → Option OptionKind
 option_named word = value_in option_kinds word
 
--- never, or the number of ticks after which a link is up, if the value spells one of these
+-- never, or the number of PHY ticks after which a link is up, below 2^16; None if the value spells neither
 abbrev pub link_in : Text → Option Link
 link_in value = if bytes_eq value (codes "never") then Some link.Never else option_map link.After (number_in 10 16 value)
 
@@ -37,7 +37,7 @@ abbrev pub use_or_unread : OptionKind → Option HostUse → HostUse
 use_or_unread kind (Some read) = read
 use_or_unread kind None = uses.Unread kind
 
--- the use of an option with its value; `Unread` if the value doesn't have its form
+-- the use of an option with its value; `Unread` if the value doesn't have the form of the option's value
 abbrev pub use_of : OptionKind → Text → HostUse
 use_of option.Rx value = use_or_unread option.Rx (option_map uses.Rx (number_in 10 16 value))
 use_of option.Tx value = use_or_unread option.Tx (option_map uses.Tx (number_in 10 16 value))
@@ -50,7 +50,7 @@ abbrev pub takes_value : OptionKind → Bool
 takes_value option.Promiscuous = false
 takes_value _ = true
 
--- the use of an option that no value follows
+-- the use of an option that no value follows; `Lone` if the option takes a value
 abbrev pub lone_use : OptionKind → HostUse
 lone_use option.Promiscuous = uses.Promiscuous
 lone_use kind = uses.Lone kind
@@ -67,7 +67,8 @@ abbrev pub use_without : Option OptionKind → HostUse
 use_without (Some kind) = lone_use kind
 use_without None = uses.Unknown
 
--- The uses that words spell. An option that takes a value takes the next word, if there is one. Any other word is a use by itself.
+-- The uses that words spell. An option that takes a value takes the next word, if there is one. Any other word is a use
+-- of its own.
 abbrev pub uses_in : List Text → List HostUse
 uses_in [] = []
 uses_in (word ∷ []) = use_without (option_named word) ∷ []
@@ -99,7 +100,7 @@ abbrev pub is_some_of : OptionKind → Option OptionKind → Bool
 is_some_of kind (Some own) = is_same own kind
 is_some_of kind None = false
 
--- whether a use is one of this option
+-- whether this is a use of this option
 abbrev pub is_use_of : OptionKind → HostUse → Bool
 is_use_of kind one = is_some_of kind (kind_of_use one)
 
@@ -126,7 +127,7 @@ pub record AreCounted (given : List HostUse) : Type 0 where
   pub whole : All (λ one. is_whole one ≡ true) given
   pub once : AreOnce given
 
--- Each use is of an option, and the option's value, if there is one, has its form.
+-- Each use is of a known option, and the option's value, if there is one, has the right form.
 pub record AreRead (given : List HostUse) : Type 0 where
   pub all : All (λ one. is_read one ≡ true) given
 
@@ -143,6 +144,6 @@ with_use options (uses.Link l) = record options { link = l }
 with_use options uses.Promiscuous = record options { promiscuous = true }
 with_use options _ = options
 
--- the values that options have after these uses
+-- the values of the options: the defaults, changed by these uses in order
 abbrev pub options_asked : List HostUse → HostOptions
 options_asked given = fold with_use defaults given

@@ -26,6 +26,6 @@ kinds =
     ∷ (codes "drain", line.Drain)
     ∷ []
 
--- the kind of the lines that begin with a word, if there is one
+-- the kind of the lines that begin with a word; None if there is no such kind
 unfoldable pub kind_named : Text → Option LineKind
 kind_named word = value_in kinds word

@@ -5,11 +5,11 @@ use Rattle.scenario.specs.SoFar.{SoFar}
 use Rattle.scenario.specs.Words.{Text}
 use Rattle.scenario.specs.declared.refusal.Fault.{Fault}
 
--- A text that is read isn't refused for a line.
+-- A text that can be read isn't refused for a line.
 abbrev pub TextsAreReadOrRefused : Type 0
 TextsAreReadOrRefused = (text : Text) (read : SoFar) (line : ℕ) (one : Fault) → IsRead text read → ¬ IsRefusedAt text line one
 
--- A text is refused for only one line, with only one fault.
+-- A text is refused for at most one line, with at most one fault.
 abbrev pub RefusalsAreOne : Type 0
 RefusalsAreOne =
     (text : Text) (line other : ℕ) (one two : Fault) → IsRefusedAt text line one → IsRefusedAt text other two

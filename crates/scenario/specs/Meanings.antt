@@ -3,7 +3,7 @@ use Rattle.std.specs.Prelude.{◌≡◌, ◌<◌, ◌≤◌, ◌&&◌, ℕ, Bool
 use Rattle.std.specs.Prelude.{IsSome, IsSomeAnd, codes, drop, false, is_some, length, map, nat_le, unwrap_or}
 use Rattle.std.specs.List.{list_all}
 use Rattle.std.specs.Str.Parse.{digits_value}
-use Rattle.eeprom.specs.Image.{image_with}
+use Rattle.eeprom_phy.specs.Image.{image_with}
 use Rattle.bring_up.specs.Configuration.{vlans_of}
 use Rattle.packet_socket.specs.declared.socket_kind.SocketKind.{SocketKind}
 use Rattle.packet_socket.specs.declared.socket_kind.SocketKind.TheVariants as socket
@@ -42,10 +42,11 @@ most_sockets = 8
 abbrev pub most_events : ℕ
 most_events = 1000000
 
--- the words of a call: the words before the first word that is a slash, or all words if there is none
+-- the words of a call: the words before the first word that is a slash, or all words if there is no slash
 abbrev pub call_words : List Text → List Text
 call_words words = words_before (codes "/") words
 
+-- the words of a call's ticks: the words after the first word that is a slash, or no word if there is no slash
 abbrev pub tick_words : List Text → List Text
 tick_words words = words_after (codes "/") words
 
@@ -74,13 +75,13 @@ pub record HasHostWords (words : List Text) : Type 0 where
   pub least : 4 ≤ length words
   pub options : AreCounted (uses_in (option_words words))
 
--- the number of words of a call, without its ticks
+-- the number of words of a call of this kind, without the slash and the ticks
 abbrev pub size_of_call : CallKind → ℕ
 size_of_call call.Interrupt = 2
 size_of_call call.Reset = 2
 size_of_call _ = 3
 
--- A line of this kind has the right number of words. The words of a call's ticks don't count.
+-- A line of this kind has the right number of words. The slash and the words of a call's ticks don't count.
 abbrev pub HasCount : LineKind → List Text → Type 0
 HasCount line.Host words = HasHostWords words
 HasCount (line.Item one) words = length words ≡ 3
@@ -96,7 +97,7 @@ IsItem item.Group text = IsAddress text
 IsItem item.Vlan text = is_number 10 16 text ≡ true
 IsItem item.Socket text = IsSome (socket_in text)
 
--- The words of a call have the form of this kind of call.
+-- The words of a call of this kind have the forms for their places.
 abbrev pub CanAsk : CallKind → List Text → Type 0
 CanAsk call.Send words = IsFrame (word 2 words)
 CanAsk call.Recv words = is_number 10 64 (word 2 words) ≡ true
@@ -105,7 +106,7 @@ CanAsk call.Reset words = Unit {0}
 CanAsk call.Join words = IsAddress (word 2 words)
 CanAsk call.Leave words = IsAddress (word 2 words)
 
--- Each word has the form for its place.
+-- Each word of a line of this kind has the form for its place.
 abbrev pub HasValues : LineKind → List Text → Type 0
 HasValues line.Host words = IsAddress (word 2 words) × AreRead (uses_in (option_words words))
 HasValues (line.Item one) words = IsItem one (word 2 words)
@@ -160,7 +161,8 @@ pub record AreKnown (hosts : List Host) (name : Text) (ticks : List Text) : Type
   pub host : NamesHost name hosts
   pub inside : are_ticks_of hosts ticks ≡ true
 
--- The names of hosts are known, the name of a new host isn't, and a host has room for a new item.
+-- The hosts that the line names are known; for a `host` line, the name of the new host isn't known. For a new item, the
+-- first host of this name has room.
 abbrev pub HasHostNames : LineKind → List Host → List Text → Type 0
 HasHostNames line.Host hosts words = place_of (word 1 words) hosts ≡ None
 HasHostNames (line.Item one) hosts words = IsRoomFor (word 1 words) (item_in one (word 2 words)) hosts
@@ -176,7 +178,7 @@ sets_up line.Host = true
 sets_up (line.Item one) = true
 sets_up _ = false
 
--- A line that sets up hosts is before the first command.
+-- If the line sets up hosts, no command comes before the line.
 abbrev pub HasOrder : LineKind → List Said → Type 0
 HasOrder kind commands = sets_up kind ≡ true → length commands ≡ 0
 
@@ -235,7 +237,7 @@ changing name change before = with_hosts (changed_first (has_name name) change b
 abbrev pub saying : Said → SoFar → SoFar
 saying said before = record before { commands = before.commands ++ said ∷ [] }
 
--- the event of this call at a host, with these ticks inside
+-- the event of this call at a host, during which these ticks are played
 abbrev pub said_asking : Asked → (host : ℕ) (ticks : List Tick) → Said
 said_asking (asked.Send frame) host ticks = Sends host frame.items ticks
 said_asking (asked.Recv socket) host ticks = Receives host socket ticks
@@ -244,7 +246,7 @@ said_asking asked.Reset host ticks = Resets host ticks
 said_asking (asked.Join group) host ticks = Joins host group ticks
 said_asking (asked.Leave group) host ticks = Leaves host group ticks
 
--- the event of a call with these words
+-- the event of a call of this kind with these words, at a host, during which these ticks are played
 abbrev pub said_in_call : CallKind → (words : List Text) (host : ℕ) (ticks : List Tick) → Said
 said_in_call call.Send words host ticks = Sends host (frame_in (word 2 words)) ticks
 said_in_call call.Recv words host ticks = Receives host (number_read (word 2 words)) ticks
@@ -253,7 +255,7 @@ said_in_call call.Reset words host ticks = Resets host ticks
 said_in_call call.Join words host ticks = Joins host (address_in (word 2 words)) ticks
 said_in_call call.Leave words host ticks = Leaves host (address_in (word 2 words)) ticks
 
--- The words of a call of this kind have its form, and spell the call `one`.
+-- The words of a call of this kind have the forms for their places, and spell the call `one`.
 pub record IsAsked (kind : CallKind) (words : List Text) (one : Asked) : Type 0 where
   pub form : CanAsk kind words
   pub said : (host : ℕ) (ticks : List Tick) → said_asking one host ticks ≡ said_in_call kind words host ticks
@@ -262,7 +264,7 @@ pub record IsAsked (kind : CallKind) (words : List Text) (one : Asked) : Type 0 
 abbrev pub number_of : Text → List Host → ℕ
 number_of name hosts = unwrap_or (place_of name hosts) 0
 
--- the hosts, commands and traces after a valid line
+-- the hosts, commands and traces after a valid line of this kind with these words
 abbrev pub after_line : LineKind → SoFar → List Text → SoFar
 after_line line.Host before words = with_hosts (before.hosts ++ host_of_words words ∷ []) before
 after_line (line.Item one) before words = changing (word 1 words) (with_item (item_in one (word 2 words))) before

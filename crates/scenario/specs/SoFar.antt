@@ -3,7 +3,7 @@ use Rattle.std.specs.Prelude.{ℕ, Bool, List, [], Option, String, map, position
 use Rattle.std.specs.Str.{bytes_eq}
 use Rattle.std.specs.declared.alloc.Global.{Global}
 use Rattle.bring_up.specs.declared.config.Config.{Config}
-use Rattle.mdic_phy.specs.declared.phy.Link.{Link}
+use Rattle.eeprom_phy.specs.declared.phy.Link.{Link}
 use Rattle.network_plan.specs.declared.event.Event.{Event}
 use Rattle.network_plan.specs.declared.event.Event.TheVariants as event
 use Rattle.network_plan.specs.declared.plan.HostPlan.{HostPlan}
@@ -18,15 +18,15 @@ use Rattle.scenario.specs.declared.command.Scenario.{Scenario}
 pub record Host : Type 0 where
   -- the host's name
   pub name : Text
-  -- the name of its wire
+  -- the name of the host's wire
   pub wire : Text
-  -- the words of its EEPROM
+  -- the words of the host's EEPROM
   pub image : List ℕ
-  -- the number of ticks until its link is up, or that the link is never up
+  -- the setting of the host's link: the number of PHY ticks until the link is up, or never
   pub link : Link
-  -- its rings, buffers, packet buffer and filter
+  -- the host's rings, buffers, packet buffer and filter
   pub config : Config
-  -- which frames its sockets take
+  -- which frames each socket of the host takes, in order
   pub sockets : List SocketKind
 
 -- the host of a plan
@@ -40,7 +40,8 @@ host_of_plan plan = record {
   sockets = plan.sockets.items;
 }
 
--- A command: an event with the bytes of its frame and the list of its ticks, a feed, random events, or a drain.
+-- A command or an event, with the bytes of its frame and the list of its ticks. Feeds, Draws and Drains are commands
+-- that aren't events: frames of a trace, random events, and a drain.
 pub data Said : Type 0 where
   Sends : (host : ℕ) (frame : List ℕ) (ticks : List Tick) → Said
   Receives : (host socket : ℕ) (ticks : List Tick) → Said
@@ -80,6 +81,7 @@ pub record SoFar : Type 0 where
 abbrev pub hosts_of : List HostPlan → List Host
 hosts_of plans = map host_of_plan plans
 
+-- the hosts, commands and names of traces of a scenario
 abbrev pub so_far : Scenario → SoFar
 so_far scenario = record {
   hosts = hosts_of scenario.plan.hosts.items;
@@ -94,6 +96,6 @@ nothing_read = record { hosts = []; commands = []; traces = [] }
 abbrev pub has_name : Text → Host → Bool
 has_name name host = bytes_eq host.name name
 
--- the number of the first host of this name, if there is one
+-- the number of the first host of this name; None if there is no such host
 abbrev pub place_of : Text → List Host → Option ℕ
 place_of name hosts = position (has_name name) hosts

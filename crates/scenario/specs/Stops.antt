@@ -11,7 +11,7 @@ abbrev pub IfFault : Stop → (Fault → Type 0) → Type 0
 IfFault stop.Memory P = Unit {0}
 IfFault (stop.Fault fault) P = P fault
 
--- the refusal of a text if the line with this number wasn't read
+-- the refusal of a text if the line with this number wasn't read for this reason
 abbrev pub refusal_at : ℕ → Stop → Refusal
 refusal_at line stop.Memory = refusal.Memory
 refusal_at line (stop.Fault fault) = refusal.Line line fault

@@ -23,17 +23,18 @@ tick_kinds =
     ∷ (codes "deliver", ticks.Deliver)
     ∷ []
 
--- the kind of ticks with this name, if there is one
+-- the kind of ticks with this name; None if there is no such kind
 unfoldable pub tick_kind_named : Text → Option TickKind
 tick_kind_named word = value_in tick_kinds word
 
 abbrev pub is_colon : ℕ → Bool
 is_colon byte = byte == 0x3A
 
--- the part of a word before its first colon
+-- the part of a word before its first colon, which names a kind of ticks
 abbrev pub kind_word : Text → Text
 kind_word word = before_first is_colon word
 
+-- the part of a word after its first colon, which names a host
 abbrev pub host_word : Text → Text
 host_word word = after_first is_colon word
 
@@ -41,7 +42,7 @@ host_word word = after_first is_colon word
 abbrev pub has_colon : Text → Bool
 has_colon word = nat_lt (position_or_len is_colon word) (length word)
 
--- whether a word spells a tick: go, or a kind, a colon and any name
+-- whether a word spells a tick: `go`, or the name of a kind, a colon, and any name of a host
 abbrev pub is_tick : Text → Bool
 is_tick word = bytes_eq word (codes "go") || (has_colon word && is_some (tick_kind_named (kind_word word)))
 
@@ -54,7 +55,7 @@ tick_if (Some kind) (Some host) = Some (tick_at kind host)
 tick_if (Some kind) None = None
 tick_if None host = None
 
--- the tick that a word spells, if the word is go, or its kind and its host are known
+-- the tick that a word spells, if the word is `go`, or its kind and its host are known; otherwise None
 abbrev pub tick_named : List Host → Text → Option Tick
 tick_named hosts word =
     if bytes_eq word (codes "go") then Some tick.Go

@@ -1,29 +1,31 @@
 // A scenario and its commands.
 
-use network_plan::{Event, Plan};
+use crate::tick_word::host_named;
+use network_plan::{Event, HostPlan, Plan};
 
 /// A command of a scenario.
 #[derive(Drop)]
 pub enum Command {
     /// An event.
     Event(Event),
-    /// For each frame of a trace, the events that send the frame and receive it at the other hosts on the wire.
+    /// For each frame of a trace, the events by which a host sends the frame, and the other hosts on its wire receive
+    /// the frame.
     Feed {
-        /// The host, numbered from 0 in the order of the plan.
+        /// The number of the sending host, from 0 in the order of the plan.
         host: usize,
-        /// The trace: the place of its name in [`trace_names`](Scenario::trace_names), from 0.
+        /// The trace: the index of its name in [`trace_names`](Scenario::trace_names), from 0.
         trace: usize,
     },
     /// Events drawn at random.
     Auto {
         /// The number of events.
         count: u32,
-        /// The seed.
+        /// The seed of the random generator.
         start: u64,
     },
-    /// A host delivers all frames that it holds for its sockets.
+    /// A host is drained: its sockets return all frames that the host holds for them.
     Drain {
-        /// The host, numbered from 0 in the order of the plan.
+        /// The number of the host, from 0 in the order of the plan.
         host: usize,
     },
 }
@@ -35,7 +37,7 @@ pub struct Scenario {
     pub plan: Plan,
     /// The commands, in order.
     pub commands: Vec<Command>,
-    /// The number of each command's line, from 1.
+    /// The number of each command's line, from 1, in the order of the commands.
     pub(crate) lines: Vec<u64>,
     /// The names of the traces to feed, one for each `feed` line, in order.
     pub(crate) traces: Vec<String>,
@@ -43,6 +45,21 @@ pub struct Scenario {
 
 impl Scenario {
     ghost use Rattle.std.specs.Prelude.{◌≡◌};
+    ghost use Rattle.scenario.specs.SoFar.{place_of, so_far};
+
+    /// Returns the hosts of the plan, in order.
+    pub(crate) fn hosts(&self) -> &[HostPlan]
+        ensures { result.now ≡ self.now.plan.hosts.items }
+    {
+        self.plan.hosts.as_slice()
+    }
+
+    /// Returns the number of the first host with this name; `None` if there is no such host.
+    pub(crate) fn host_named(&self, name: &str) -> Option<usize>
+        ensures { result ≡ place_of name.now (so_far self.now).hosts }
+    {
+        host_named(self.hosts(), name)
+    }
 
     /// Returns the number of the line of each command, from 1, in order.
     pub fn command_lines(&self) -> &[u64]

@@ -56,7 +56,7 @@ fn ticks_of(alloc: Global, hosts: &[HostPlan], words: &[&str]) -> Result<Vec<Tic
     Ok(ticks)
 }
 
-/// Returns the host of a call, and the ticks inside it.
+/// Returns the number of the host of a call, and the ticks that are played during the call.
 ///
 /// # Errors
 ///
@@ -90,7 +90,7 @@ fn say(scenario: &mut Scenario, command: Command) -> Result<(), Stop>
     Ok(())
 }
 
-/// What a call asks its host to do. It contains no ticks.
+/// What a call asks its host to do, without the ticks that are played during the call.
 #[derive(Drop)]
 enum Asked {
     /// To send a frame.
@@ -108,7 +108,7 @@ enum Asked {
 }
 
 impl Asked {
-    /// Returns the event of this call at a host, with these ticks inside.
+    /// Returns the event of this call at a host, during which these ticks are played.
     fn event(self, host: usize, ticks: Vec<Tick>) -> Event
         ensures { event_of result ≡ meanings.said_asking self host ticks.items }
     {
@@ -127,7 +127,7 @@ impl Asked {
     }
 }
 
-/// Returns the number of words of a call, without its ticks.
+/// Returns the number of words of a call of this kind, without the slash and the ticks.
 fn size_of_call(kind: CallKind) -> usize
     ensures { result ≡ meanings.size_of_call kind }
 {
@@ -171,8 +171,8 @@ fn asked_of(alloc: Global, kind: CallKind, call: &[&str]) -> Result<Asked, Stop>
     }
 }
 
-/// Reads a call and its ticks: `send HOST HEX`, `recv HOST S`, `interrupt HOST`, `reset HOST`, `join HOST ADDRESS` or
-/// `leave HOST ADDRESS`.
+/// Reads a line of a call: `send HOST HEX`, `recv HOST S`, `interrupt HOST`, `reset HOST`, `join HOST ADDRESS` or
+/// `leave HOST ADDRESS`. A word `/` and the words of the call's ticks may follow.
 pub(crate) fn read_call(
     alloc: Global,
     scenario: &mut Scenario,
@@ -186,8 +186,7 @@ pub(crate) fn read_call(
         return Err(Stop::Fault(Fault::Count));
     }
     let asked = asked_of(alloc, kind, call)?;
-    let hosts = scenario.plan.hosts.as_slice();
-    let (host, ticks) = call_of(alloc, hosts, word_at(call, 1), ticks)?;
+    let (host, ticks) = call_of(alloc, scenario.hosts(), word_at(call, 1), ticks)?;
     say(scenario, Command::Event(asked.event(host, ticks)))
 }
 
@@ -202,7 +201,7 @@ pub(crate) fn read_tick(scenario: &mut Scenario, words: &[&str]) -> Result<(), S
     if !is_tick(word) {
         return Err(Stop::Fault(Fault::Value));
     }
-    let Some(tick) = tick_of(scenario.plan.hosts.as_slice(), word) else {
+    let Some(tick) = tick_of(scenario.hosts(), word) else {
         return Err(Stop::Fault(Fault::Name));
     };
     say(scenario, Command::Event(Event::Tick(tick)))
@@ -215,7 +214,7 @@ pub(crate) fn read_feed(alloc: Global, scenario: &mut Scenario, words: &[&str]) 
     if words.len() != 3 {
         return Err(Stop::Fault(Fault::Count));
     }
-    let Some(host) = host_named(scenario.plan.hosts.as_slice(), word_at(words, 1)) else {
+    let Some(host) = scenario.host_named(word_at(words, 1)) else {
         return Err(Stop::Fault(Fault::Name));
     };
     let name = String::from_str(alloc, word_at(words, 2))?;
@@ -259,7 +258,7 @@ pub(crate) fn read_drain(scenario: &mut Scenario, words: &[&str]) -> Result<(), 
     if words.len() != 2 {
         return Err(Stop::Fault(Fault::Count));
     }
-    let Some(host) = host_named(scenario.plan.hosts.as_slice(), word_at(words, 1)) else {
+    let Some(host) = scenario.host_named(word_at(words, 1)) else {
         return Err(Stop::Fault(Fault::Name));
     };
     say(scenario, Command::Drain { host })

@@ -1,4 +1,4 @@
-// A new host of a plan, and its groups, VLANs and sockets.
+// Adds hosts to a plan, and groups, VLANs and sockets to a host.
 
 ghost use Rattle.std.specs.Prelude.{◌≡◌, ◌∷◌, ◌++◌, [], OnOk};
 ghost use Rattle.scenario.specs.Answers.{IsChange, IsGrowth};
@@ -10,7 +10,7 @@ use crate::refusal::Fault;
 use crate::tick_word::host_named;
 use arrayvec::ArrayVec;
 use bring_up::Config;
-use eeprom::Image;
+use eeprom_phy::Image;
 use network_plan::HostPlan;
 use packet_socket::SocketKind;
 use std::alloc::{AllocError, Global};
@@ -30,7 +30,7 @@ pub(crate) enum Item {
 ///
 /// # Errors
 ///
-/// Only if memory is refused; then the hosts don't change.
+/// Returns an error only if memory is refused. Then no host has been appended.
 pub(crate) fn add_host(
     alloc: Global,
     hosts: &mut Vec<HostPlan>,
@@ -76,7 +76,8 @@ fn push_group(host: &mut HostPlan, group: [u8; 6]) -> Result<(), Fault>
     Ok(())
 }
 
-/// Adds a VLAN to a host. Fails with [`Name`](Fault::Name) if the host has no room for another VLAN.
+/// Adds a VLAN to a host. Fails with [`Name`](Fault::Name) if the host has no room for another VLAN; then the host has
+/// lost its list of VLANs.
 fn push_vlan(host: &mut HostPlan, vlan: u16) -> Result<(), Fault>
     ensures { IsGrowth meanings.vlans_held meanings.most_vlans (meanings.with_vlan vlan)
         (host_of_plan host.old) result (host_of_plan host.new) }

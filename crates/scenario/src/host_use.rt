@@ -5,7 +5,7 @@ ghost use Rattle.scenario.specs.HostOptions as options;
 ghost use Rattle.scenario.specs.Words.{texts};
 
 use crate::spelling::{number8_of, number16_of};
-use mdic_phy::Link;
+use eeprom_phy::Link;
 use std::alloc::{AllocError, Global};
 use text::value_of;
 
@@ -18,23 +18,23 @@ pub(crate) enum OptionKind {
     Tx,
     /// `buffers N`: the number of receive buffers.
     Buffers,
-    /// `rxa N`: the receive part of the packet buffer, in kilobytes.
+    /// `rxa N`: the size of the receive packet buffer, in kilobytes.
     Rxa,
-    /// `link N` or `link never`: the number of ticks until the link is up, if it is ever up.
+    /// `link N` or `link never`: the number of PHY ticks until the link is up, or that the link is never up.
     Link,
     /// `promiscuous`: frames for every destination address pass the filter.
     Promiscuous,
 }
 
-/// A use of a word of a `host` line after the wire. An option that takes a value includes the next word, if there is
-/// one.
+/// A word of a `host` line after the wire, read as the use of an option. The use of an option that takes a value
+/// includes the next word, if there is one.
 #[derive(Clone, Copy)]
 pub(crate) enum HostUse {
     /// The word isn't an option.
     Unknown,
     /// An option that lacks its value.
     Lone(OptionKind),
-    /// An option whose value doesn't have its form.
+    /// An option whose value doesn't have the right form.
     Unread(OptionKind),
     /// `rx` with its value.
     Rx(u16),
@@ -72,7 +72,7 @@ const DEFAULTS: HostOptions = HostOptions {
 };
 
 impl OptionKind {
-    /// Returns the use of this option with a value.
+    /// Returns the use of this option with a value; `Unread` if the value doesn't have the right form.
     fn with_value(self, value: &str) -> HostUse
         ensures { result ≡ options.use_of self value.now }
     {
@@ -87,7 +87,7 @@ impl OptionKind {
         }
     }
 
-    /// Returns the use of this option without a value.
+    /// Returns the use of this option without a value; `Lone` if the option takes a value.
     fn without_value(self) -> HostUse
         ensures { result ≡ options.lone_use self }
     {
@@ -136,14 +136,14 @@ impl HostUse {
         }
     }
 
-    /// Returns false if and only if an option lacks its value.
+    /// Returns `false` if this is an option that lacks its value, else `true`.
     fn is_whole(&self) -> bool
         ensures { result ≡ options.is_whole self.now }
     {
         !matches!(self, HostUse::Lone(_))
     }
 
-    /// Returns whether the word is an option, and its value, if it has one, has its form.
+    /// Returns whether the word is an option, and the option's value, if there is one, has the right form.
     fn is_read(&self) -> bool
         ensures { result ≡ options.is_read self.now }
     {
@@ -172,7 +172,7 @@ impl HostOptions {
     }
 }
 
-/// Returns when a link is up: `never`, or after a number of ticks below 2^16. `None` for any other text.
+/// Returns when a link is up: `never`, or after a number of PHY ticks below 2^16. Returns `None` for any other text.
 fn link_of(value: &str) -> Option<Link>
     ensures { result ≡ options.link_in value.now }
 {
@@ -218,7 +218,8 @@ fn first_use(word: &str, behind: &[&str]) -> (HostUse, usize)
     }
 }
 
-/// Returns the uses of options that the words after the wire spell.
+/// Returns the uses of options that the words after the wire spell, in order. Returns an error only if memory is
+/// refused.
 pub(crate) fn uses_of(alloc: Global, words: &[&str]) -> Result<Vec<HostUse>, AllocError>
     ensures { IfOk result (λ uses. uses.items ≡ options.uses_in (texts words.now)) }
 {
@@ -255,20 +256,19 @@ fn are_once(uses: &[HostUse]) -> bool
 pub(crate) fn are_counted(uses: &[HostUse]) -> bool
     ensures { IsTrue result ↔ options.AreCounted uses.now }
 {
-    uses.iter().all(|one| one.is_whole()) && are_once(uses)
+    uses.iter().all(HostUse::is_whole) && are_once(uses)
 }
 
-/// Returns whether each word is an option, and its value, if it has one, has its form.
+/// Returns whether each word is an option, and the option's value, if there is one, has the right form.
 pub(crate) fn are_read(uses: &[HostUse]) -> bool
     ensures { IsTrue result ↔ options.AreRead uses.now }
 {
-    uses.iter().all(|one| one.is_read())
+    uses.iter().all(HostUse::is_read)
 }
 
-/// Returns the values that options have after these uses.
+/// Returns the values of the options: the defaults, changed by these uses in order.
 pub(crate) fn options_of(uses: &[HostUse]) -> HostOptions
     ensures { result ≡ options.options_asked uses.now }
 {
-    uses.iter()
-        .fold(DEFAULTS, |options, one| options.with_use(*one))
+    uses.iter().copied().fold(DEFAULTS, HostOptions::with_use)
 }

@@ -17,7 +17,7 @@ use text::{word_at, words_in};
 /// The maximum number of bytes of a line (our choice).
 const MOST_LINE_BYTES: usize = 8192;
 
-/// Reads the words of a line of this kind.
+/// Reads the words of a line of this kind, and adds its host, item or command to the scenario.
 fn read_kind(
     alloc: Global,
     scenario: &mut Scenario,
@@ -47,7 +47,7 @@ fn is_skipped(words: &[&str]) -> bool
     }
 }
 
-/// Reads the words of a line.
+/// Reads the words of a line, unless the line is skipped.
 fn read_words(alloc: Global, scenario: &mut Scenario, words: &[&str]) -> Result<(), Stop>
     ensures { IsWordsAnswer (so_far scenario.old) (texts words.now) result (so_far scenario.new) }
 {
@@ -60,7 +60,7 @@ fn read_words(alloc: Global, scenario: &mut Scenario, words: &[&str]) -> Result<
     }
 }
 
-/// Reads a line.
+/// Reads a line, unless the line is skipped, and adds its host, item or command to the scenario.
 pub(crate) fn read_line(alloc: Global, scenario: &mut Scenario, line: &[u8]) -> Result<(), Stop>
     ensures { IsLineAnswer (so_far scenario.old) line.now result (so_far scenario.new) }
 {

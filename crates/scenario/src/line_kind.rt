@@ -5,7 +5,7 @@ ghost use Rattle.scenario.specs.Kinds.{kind_named};
 
 use text::value_of;
 
-/// The kinds of items that a host can have several of.
+/// The kinds of items that lines add to a host.
 #[derive(Clone, Copy)]
 pub(crate) enum ItemKind {
     /// `group`: a multicast group of the host.
@@ -16,7 +16,7 @@ pub(crate) enum ItemKind {
     Socket,
 }
 
-/// The kinds of calls of a host in a run, including a reset.
+/// The kinds of calls of a host in a run; a reset is one of them.
 #[derive(Clone, Copy)]
 pub(crate) enum CallKind {
     /// `send`: the host sends a frame.
@@ -40,15 +40,15 @@ pub(crate) enum LineKind {
     Host,
     /// `group`, `vlan` or `socket`: a new item of a host.
     Item(ItemKind),
-    /// A host's call or reset, with ticks inside it.
+    /// A host's call or reset, and the ticks that are played during the call or reset.
     Call(CallKind),
-    /// `tick`: a tick between calls.
+    /// `tick`: a tick outside calls.
     Tick,
     /// `feed`: a host sends the frames of a trace.
     Feed,
     /// `auto`: events drawn at random.
     Auto,
-    /// `drain`: a host delivers all frames that it holds for its sockets.
+    /// `drain`: a host's sockets return all frames that the host holds for them.
     Drain,
 }
 

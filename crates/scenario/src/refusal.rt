@@ -30,12 +30,12 @@ pub enum Fault {
 /// Why a text was refused.
 #[derive(Clone, Copy, Debug, PartialEq, Eq, Error)]
 pub enum Refusal {
-    /// This line, numbered from 1, is the first faulty one.
+    /// This line, numbered from 1, is the first faulty line.
     #[error("line {line}: {fault:?}")]
     Line {
         /// The number of the line.
         line: usize,
-        /// Its fault.
+        /// The fault of the line.
         fault: Fault,
     },
     /// Memory was refused.

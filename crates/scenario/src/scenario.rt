@@ -1,4 +1,4 @@
-// Reads a text.
+// Reads the text of a scenario, line by line.
 
 ghost use Rattle.std.specs.Prelude.{◌≡◌, ◌∷◌, ◌<◌, ◌≤◌, IfErr, IfOk, IfSome, drop, length, position};
 ghost use Rattle.std.specs.List.{position_or_len};
@@ -13,7 +13,7 @@ use crate::refusal::{Refusal, Stop};
 use network_plan::Plan;
 use std::alloc::Global;
 
-/// Returns the place of the first line feed, if there is one.
+/// Returns the index of the first line feed, or `None` if there is no line feed.
 fn first_feed(text: &[u8]) -> Option<usize>
     ensures place { result ≡ position is_feed text.now }
     ensures within { IfSome result (λ place. place < length text.now) }
@@ -61,7 +61,7 @@ fn first_line(text: &[u8]) -> (&[u8], usize)
     (without_return(line), end + 1)
 }
 
-/// Returns a scenario without hosts and commands.
+/// Returns a scenario without hosts, commands and traces.
 fn empty_scenario(alloc: Global) -> Scenario
     ensures { so_far result ≡ nothing_read }
 {
@@ -76,7 +76,7 @@ fn empty_scenario(alloc: Global) -> Scenario
 }
 
 /// Reads the line with this number, and stores the number for the line's command, if the line has a command. The
-/// commands of earlier lines already have their numbers.
+/// numbers for the commands of earlier lines must have been stored.
 fn read_numbered(
     alloc: Global,
     scenario: &mut Scenario,
@@ -93,11 +93,11 @@ fn read_numbered(
 }
 
 impl Scenario {
-    /// Reads a text.
+    /// Reads the text of a scenario.
     ///
     /// # Errors
     ///
-    /// [`Line`](Refusal::Line) for the first faulty line, with the first of its [faults](crate::Fault), and
+    /// [`Line`](Refusal::Line) for the first faulty line, with the first of its [faults](crate::Fault), or
     /// [`Memory`](Refusal::Memory) if memory was refused.
     pub fn read(alloc: Global, text: &[u8]) -> Result<Scenario, Refusal>
         ensures read { IfOk result (λ scenario. IsRead text.now (so_far scenario)) }

@@ -16,7 +16,6 @@ use crate::host_use::{HostOptions, HostUse, are_counted, are_read, options_of, u
 use crate::line_kind::ItemKind;
 use crate::refusal::{Fault, Stop};
 use crate::spelling::{address_of, number16_of, socket_of};
-use crate::tick_word::host_named;
 use std::alloc::Global;
 use text::word_at;
 
@@ -26,7 +25,7 @@ const HOST_WORDS: usize = 4;
 /// The number of words of a `group`, a `vlan` and a `socket` line.
 const ITEM_WORDS: usize = 3;
 
-/// Returns the words after the first four of a `host` line: its options.
+/// Returns the words of a `host` line after the first four: the words of its options.
 fn option_words<'a, 'b>(words: &'b [&'a str]) -> &'b [&'a str]
     requires { HOST_WORDS ≤ length words.now }
     ensures { texts result.now ≡ option_words (texts words.entry.now) }
@@ -60,7 +59,7 @@ fn values_in(
     let Some(address) = address_of(word_at(words, 2)) else {
         return Err(Fault::Value);
     };
-    if host_named(scenario.plan.hosts.as_slice(), word_at(words, 1)).is_some() {
+    if scenario.host_named(word_at(words, 1)).is_some() {
         return Err(Fault::Name);
     }
     if !scenario.commands.is_empty() {
@@ -110,7 +109,7 @@ pub(crate) fn read_host(alloc: Global, scenario: &mut Scenario, words: &[&str]) 
     Ok(())
 }
 
-/// Returns the item of this kind that a text spells; `None` if the text doesn't have the form.
+/// Returns the item of this kind that a text spells; `None` if the text doesn't have the form of such an item.
 fn item_of(kind: ItemKind, text: &str) -> Option<Item>
     ensures { SomeIff result (IsItem kind text.now) (item_in kind text.now) }
 {

@@ -14,10 +14,10 @@ use packet_socket::SocketKind;
 use std::alloc::Global;
 use text::digits_of;
 
-/// The maximum number of digits of a frame (our choice).
+/// The maximum number of hexadecimal digits of a frame (our choice).
 const MOST_FRAME_DIGITS: usize = 8000;
 
-/// The number of digits of a socket's EtherType (our choice).
+/// The number of hexadecimal digits of a socket's EtherType (our choice).
 const ETHER_TYPE_DIGITS: usize = 4;
 
 const DECIMAL: u32 = 10;

@@ -1,7 +1,7 @@
 // The words that spell ticks.
 
 ghost use Rattle.std.specs.Prelude.{◌≡◌, ◌<◌, IfSome, length};
-ghost use Rattle.scenario.specs.SoFar.{has_name, host_of_plan, hosts_of, place_of};
+ghost use Rattle.scenario.specs.SoFar.{hosts_of, place_of};
 ghost use Rattle.scenario.specs.TickWords as words;
 
 use adapter::StepKind;
@@ -14,7 +14,7 @@ use text::value_of;
 pub(crate) enum TickKind {
     /// A step of this kind of the host's adapter.
     Step(StepKind),
-    /// The delivery of the oldest frame at the host's end of the wire.
+    /// The delivery of the oldest frame that waits at the host's end of its wire.
     Deliver,
 }
 
@@ -49,22 +49,15 @@ fn tick_kind_of(word: &str) -> Option<TickKind>
     value_of(&TICK_KINDS, word)
 }
 
-/// Returns whether a host has this name.
-fn is_named(host: &HostPlan, name: &str) -> bool
-    ensures { result ≡ has_name name.now (host_of_plan host.now) }
-{
-    host.name.as_str() == name
-}
-
 /// Returns the number of the first host with this name; `None` if there is no such host.
 pub(crate) fn host_named(hosts: &[HostPlan], name: &str) -> Option<usize>
     ensures place { result ≡ place_of name.now (hosts_of hosts.now) }
     ensures there { IfSome result (λ host. host < length hosts.now) }
 {
-    hosts.iter().position(|host| is_named(host, name))
+    hosts.iter().position(|host| host.name.as_str() == name)
 }
 
-/// Returns whether a word spells a tick: `go`, or a kind, a colon and any name.
+/// Returns whether a word spells a tick: `go`, or the name of a kind, a colon, and any name of a host.
 pub(crate) fn is_tick(word: &str) -> bool
     ensures { result ≡ words.is_tick word.now }
 {
@@ -77,7 +70,7 @@ pub(crate) fn is_tick(word: &str) -> bool
     }
 }
 
-/// Returns the tick that a word spells, if the word is `go`, or its kind and its host are known.
+/// Returns the tick that a word spells, if the word is `go`, or its kind and its host are known; otherwise `None`.
 pub(crate) fn tick_of(hosts: &[HostPlan], word: &str) -> Option<Tick>
     ensures { result ≡ words.tick_named (hosts_of hosts.now) word.now }
 {

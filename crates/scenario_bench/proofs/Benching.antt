@@ -1,4 +1,4 @@
--- The result of the bench, by what was played and recorded.
+-- The clauses of `bench`, by what was played and recorded.
 use Rattle.std.proofs.Common.{◌≡◌, ◌<◌, ◌≤◌, ◌+◌, ◌++◌, ◌∷◌, ◌⊎◌, [], zero, suc, ℕ, Bool, List, Option, Some, None, length, map, replicate}
 use Rattle.std.proofs.Common.{◌==◌, ◌&&◌, true, false, append_assoc, if◌then◌else◌, slice_get}
 use Rattle.std.proofs.Common.{option_map, inl, inr, refl, sym, ap, subst, ◌∙◌, arith, take}
@@ -49,7 +49,7 @@ use Rattle.run_record.specs.declared.tally.Tally.{Tally}
 use Rattle.run_record.proofs.Told.{noted-lists, number_told, tally_of}
 use Rattle.scenario_bench.proofs.ToldAnswers.{lines_told, refusals_told, same_names}
 
--- Summaries, in order.
+-- Summaries of the hosts, in order
 
 pub none_told : (plans : List HostPlan) (play : Play) → TellTallies 0 plans play []
 none_told plans play = record { count = refl; each = λ k plan tally host one plan_is tally_is host_is is. cc }
@@ -88,14 +88,13 @@ one_told first plans play told more plan one has plan_there tells is = record {
       ];
 }
 
--- The record after a run that began with an empty record.
+-- The record after a run that began with an empty record
 
 at-replicate : {X : Type 0} → (n k : ℕ) (x : X) → k < n → slice_get (replicate n x) k ≡ Some x
 at-replicate zero k x below = absurd (omega (arith, below))
 at-replicate (suc n) zero x below = refl
 at-replicate (suc n) (suc k) x below = at-replicate n k x (omega (arith, below))
 
--- each host has its counts
 pub tally_at : (plans : List HostPlan) (said : List Said) (a b : Play) (begun : Begins plans a) (played : HasPlayed said a b) (k : ℕ)
     → k < length plans → slice_get b.record.hosts.items k ≡ Some (tally_of k (history played.acts))
 tally_at plans said a b begun played k below =
@@ -117,7 +116,6 @@ pub tallies_enough : (plans : List HostPlan) (said : List Said) (a b : Play) →
 tallies_enough plans said a b begun played = enough b.record.hosts.items (length plans)
     (λ k below. (tally_of k (history played.acts), tally_at plans said a b begun played k below))
 
--- the frames of a socket among those that sockets returned in an event
 where-append : (test : ℕ → ℕ → Bool) (xs ys : List KeptFrame) → frames_where test (xs ++ ys) ≡ frames_where test xs ++ frames_where test ys
 where-append test [] ys = refl
 where-append test (x ∷ xs) ys =
@@ -139,7 +137,6 @@ returned-of k s number (Given host socket frame ∷ happened) =
 returned-of k s number (Accepted host frame ∷ happened) = returned-of k s number happened
 returned-of k s number (_ ∷ happened) = returned-of k s number happened
 
--- the frames of a socket among those that sockets returned in these acts
 returned-from : (k s number : ℕ) (acts : List Act)
     → frames_where (is_of_socket k s) (returned_from number acts) ≡ given_from k s number acts
 returned-from k s number [] = refl
@@ -166,7 +163,7 @@ texts_are plans said a b begun played =
     ∙ ap (λ (returned : List KeptFrame). returned ++ returned_from 0 played.acts) begun.returned)
     ∙ texts-of played.acts (sockets_from 0 (hosts_of plans))
 
--- The call.
+-- The summary
 
 abbrev pub plays_of : (scenario : Scenario) (said : List Said) (a b : Play) → Begins scenario.plan.hosts.items a → HasPlayed said a b
     → PlaysEvents scenario said
@@ -231,21 +228,19 @@ pub tells_as : (hosts plans : List HostPlan) (b : Play) (told : List HostSummary
     → TellTallies (length plans) plans b told
 tells_as hosts plans b told is tells = subst (λ (hs : List HostPlan). TellTallies (length hs) hs b told) is tells
 
--- a summary contains the refused calls and the lines of the record, and these summaries of hosts
+-- the summary contains these summaries of hosts, and the refused calls and the lines of the record
 pub record IsOfPlay (play : Play) (told : List HostSummary) (summary : Summary) : Type 0 where
   pub hosts : summary.hosts.items ≡ told
   pub refusals : summary.refusals ≡ play.record.log.refusals
   pub events : summary.events ≡ play.record.log.lines
 
--- Traces of wires.
+-- Traces of wires
 
--- frames are recorded after a run, if traces of wires are to be written
 still-recorded : (wires : ℕ) (more : List KeptFrame) (first puts : Option (List KeptFrame)) → IsNewRecord wires first
     → puts ≡ option_map (λ (old : List KeptFrame). old ++ more) first → AreRecorded wires puts
 still-recorded wires more None puts new is = subst (AreRecorded wires) (sym is) new
 still-recorded wires more (Some old) puts new is = subst (AreRecorded wires) (sym is) tt
 
--- the recorded frames of wires are those that were put
 same-puts : (more old : List KeptFrame) (puts : Option (List KeptFrame)) → old ≡ []
     → puts ≡ option_map (λ (old : List KeptFrame). old ++ more) (Some old) → unwrap_or puts [] ≡ more
 same-puts more old puts none is =
@@ -274,7 +269,7 @@ module _ (unit : Unit) (hosts : List Host) (wires : ℕ) (more : List KeptFrame)
       subst (λ (ps : List KeptFrame). AreWrittenUpTo unit failed (wire_texts hosts ps (wire_names hosts)) old new)
       (same-puts more first puts new_is is) wrote
 
--- A scenario that was played.
+-- A scenario that was played
 
 module _ (scenario : Scenario) (traces : List (List (List ℕ))) (first play : Play) (hosts : List HostSummary)
     (begins : Begins scenario.plan.hosts.items first) (has : HasPlayedScenario scenario traces first play hosts) where
@@ -294,7 +289,6 @@ module _ (scenario : Scenario) (traces : List (List (List ℕ))) (first play : P
   hosts-told {summary} of_play = hosts_tell plans said first play summary.hosts.items begins has.played
       (subst (λ (told : List HostSummary). TellTallies (length plans) plans play told) (sym of_play.hosts) has.tells)
 
-  -- the record of answers is that of a run that began with an empty record
   log-is : (events : Bool) → first.record.log ≡ new_log (map plan_name plans) events
       → play.record.log ≡ logged 0 has.played.noted.logged.entries (new_log (map plan_name plans) events)
   log-is events log =
@@ -349,6 +343,7 @@ module _ (scenario : Scenario) (traces : List (List (List ℕ))) (first play : P
 
     pub bench_failed : (error : BenchError) → StopsWriting unit (socket_texts_in plans play) (wire_texts_in plans play) error sinks
         → Stops unit scenario traces error sinks
+    unfolding Stops
     bench_failed (errors.Plan error) stops = absurd stops
     bench_failed (errors.Run stopped) stops = absurd stops
     bench_failed errors.Memory stops = stops
@@ -374,9 +369,8 @@ module _ (scenario : Scenario) (traces : List (List (List ℕ))) (first play : P
       ),
     )
 
--- Nothing was written.
+-- Errors after which nothing was written
 
--- memory was refused before an event, whose number the record has
 stopped-before : (scenario : Scenario) (all : List Said) (a b : Play) (done : ℕ) → Begins scenario.plan.hosts.items a
     → HasPlayedFront all a b → done ≡ b.record.number → StopsBefore scenario all done
 stopped-before scenario all a b done begun front is =
@@ -392,16 +386,16 @@ stopped-before scenario all a b done begun front is =
     }
 
 module _ (unit : Unit) (scenario : Scenario) (traces : List (List (List ℕ))) (sinks : BenchSinks) (untouched : AreUntouched sinks) where
-  -- no network was made
   pub unmade : (error : BenchError) → StopsAtPlan scenario.plan.hosts.items error → Stops unit scenario traces error sinks
+  unfolding Stops
   unmade (errors.Plan error) stops = (stops, untouched)
   unmade (errors.Run stopped) stops = absurd stops
   unmade errors.Memory stops = untouched
   unmade (errors.Write error) stops = absurd stops
 
-  -- memory was refused while events were played
   pub unplayed : (a b : Play) (error : BenchError) → Begins scenario.plan.hosts.items a
       → StopsWithin (scenario_events scenario traces) a b error → Stops unit scenario traces error sinks
+  unfolding Stops
   unplayed a b (errors.Plan error) begun stops = absurd stops
   unplayed a b (errors.Run stopped) begun stops =
       (stopped-before scenario (scenario_events scenario traces) a b stopped.done begun stops.0 stops.1, untouched)

@@ -1,4 +1,4 @@
--- The events of a scenario's commands, in order.
+-- Steps of the loops that make the events of commands.
 use Rattle.std.proofs.Common.{◌≡◌, ◌<◌, ◌+◌, ◌/◌, ◌%◌, [], ◌∷◌, ◌++◌, ◌∙◌}
 use Rattle.std.proofs.Common.{ℕ, zero, suc, List, Option, length, get_or, refl, sym, ap, append_assoc, arith}
 use Rattle.std.specs.List.{range_with_len}
@@ -7,13 +7,12 @@ use Rattle.std.proofs.lemmas.List.{length-map}
 use Rattle.std.proofs.lemmas.List.FromFn.{map-range_with_len_more}
 use Rattle.std.proofs.lemmas.Option.{slice_get-get_or, slice_get-map}
 use Rattle.adapter.specs.declared.step.StepKind.TheVariants.{RxData, RxDone}
-use Rattle.eeprom.specs.Image.{address_bytes}
+use Rattle.eeprom_phy.specs.Image.{address_bytes}
 use Rattle.network_plan.specs.declared.plan.HostPlan.{HostPlan}
 use Rattle.stations.specs.declared.tick.Tick.TheVariants.{Deliver, Step}
 use Rattle.scenario.specs.SoFar.{Host, Said, Interrupts, Receives, Ticks, host_of_plan, hosts_of}
 use Rattle.scenario_bench.specs.EventLists.{address_of, arrival_at, event_drawn, event_of_kind, moves_at}
 
--- one piece more is moved
 moves-more : (host piece : ℕ) → moves_at host (piece + 1)
     ≡ moves_at host piece ++ Ticks (Step host RxData) ∷ Ticks (Step host RxDone) ∷ []
 moves-more host zero = refl
@@ -42,7 +41,6 @@ arrival_at-more pieces host socket =
     (map-range_with_len_more (λ (n : ℕ). Receives host n []) 0 socket socket (omega arith))
     ∙ sym (append_assoc (Ticks (Deliver host) ∷ moves_at host pieces) (asked socket) (Receives host socket [] ∷ []))
 
--- one more socket is asked
 pub arrives-more : (before so_far all : List Said) (one : Said) (pieces host socket : ℕ)
     → so_far ≡ before ++ arrival_at pieces host socket → all ≡ so_far ++ one ∷ [] → one ≡ Receives host socket []
     → all ≡ before ++ arrival_at pieces host (socket + 1)
@@ -52,7 +50,6 @@ arrives-more before so_far all one pieces host socket is more one_is =
     ∙ append_assoc before (arrival_at pieces host socket) (Receives host socket [] ∷ [])
     ∙ ap (λ (more : List Said). before ++ more) (sym (arrival_at-more pieces host socket))
 
--- a host's address is the one of its EEPROM
 address_of-there : (plans : List HostPlan) (host : ℕ) (plan : HostPlan) → host < length plans
     → address_of (hosts_of plans) host ≡ address_bytes (get_or plans host plan).image
 address_of-there plans host plan below =

@@ -1,4 +1,4 @@
--- Events and drains, in order.
+-- `ActsLead` for events that were run, for a drain, and for consecutive acts.
 use Rattle.std.proofs.Common.{◌≡◌, ◌++◌, ◌∷◌, [], ℕ, List, length, map, inl, inr, refl, sym, ap, subst, ◌∙◌}
 use Rattle.std.proofs.Common.{append-nil, arith}
 use Rattle.std.proofs.lemmas.Grind.{flat_map-append}
@@ -20,7 +20,7 @@ use Rattle.wire.proofs.Running.{runs-none}
 use Rattle.run_record.specs.Acts.{Act, Drained, Ran, history, ran, said_in}
 use Rattle.scenario_bench.specs.PlayedActs.{ActsLead, ActsRun, DrainRuns, act_of}
 
--- Events that were run.
+-- Events that were run
 
 states-ran : (a : NetworkState) (events : List Event) (replies : List Reply) (b : NetworkState) → StatesRun a events replies b
     → ActsRun a (ran events replies) b
@@ -34,7 +34,6 @@ history-ran [] replies = refl
 history-ran (event ∷ events) [] = refl
 history-ran (event ∷ events) (reply ∷ replies) = ap (λ (rest : List Happening). said event reply ++ rest) (history-ran events replies)
 
--- each event has its reply
 pub acts-ran : (a : NetworkState) (events : List Event) (replies : List Reply) (b : NetworkState) → StatesRun a events replies b
     → map act_of (ran events replies) ≡ map event_of events
 acts-ran a [] [] b states = refl
@@ -55,7 +54,7 @@ leads-ran a events replies b runs = record {
 pub leads-none : (a : NetworkState) → ActsLead a [] a
 leads-none a = leads-ran a [] [] a (runs-none a [])
 
--- A host that was drained.
+-- A host that was drained
 
 pub leads-drained : (a : NetworkState) (host steps : ℕ) (given : List GivenFrame) (b : NetworkState)
     (drains : NetworkDrains a host steps [] given b)
@@ -71,7 +70,7 @@ leads-drained a host steps given b drains = record {
     buffered : ℕ
     buffered = length (world_at a.stations host).adapter.receiver.buffer
 
--- The wires of all stations stay.
+-- The wires of all stations don't change
 
 wires-drained : (a : NetworkState) (host buffered : ℕ) (given : List GivenFrame) (b : NetworkState) → DrainRuns a host buffered given b
     → (k : ℕ) → wire_at b.stations k ≡ wire_at a.stations k
@@ -93,7 +92,7 @@ wires-of a (Ran event reply ∷ acts) b states k =
 wires-of a (Drained host buffered given ∷ acts) b states k =
     wires-of states.0 acts b states.2 k ∙ wires-drained a host buffered given states.0 states.1 k
 
--- Acts join.
+-- Acts join
 
 states-join : (a : NetworkState) (acts : List Act) (b : NetworkState) (later : List Act) (c : NetworkState)
     → ActsRun a acts b → ActsRun b later c → ActsRun a (acts ++ later) c

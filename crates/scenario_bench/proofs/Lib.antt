@@ -3,6 +3,7 @@ pub mod Printed
 pub mod JoinedActs
 pub mod ResetsInOrder
 pub mod EmptySockets
+pub mod FileNames
 pub mod WireLists
 pub mod PlayedEvents
 pub mod ToldAnswers

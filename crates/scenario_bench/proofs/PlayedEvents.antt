@@ -1,4 +1,4 @@
--- Events that were played, in order.
+-- `HasPlayed` and `StopsWithin` for events and drains, for lists of items with events, and for commands.
 use Rattle.std.proofs.Common.{◌≡◌, ◌<◌, ◌≤◌, ◌-◌, ◌++◌, ◌∷◌, [], false, zero, suc, ℕ, List, length, map, refl, sym, ap, subst, ◌∙◌, arith}
 use Rattle.std.proofs.Common.{append_assoc, append-nil, drop, length-append, length-drop, take}
 use Rattle.std.proofs.lemmas.Grind.{flat_map-append}
@@ -53,7 +53,7 @@ played_join said later a b c one two = record {
   noted = notes_join one.acts two.acts a.record b.record c.record one.noted two.noted;
 }
 
--- The number of the scenario's line changes.
+-- The line number in the record changes
 
 abbrev pub lined : Play → (line : ℕ) → Play
 lined a line = record a { «record» = record a.record { line = line } }
@@ -95,7 +95,6 @@ stops_lined said line a b (errors.Run stopped) (front, number) = (
 stops_lined said line a b errors.Memory stops = stops
 stops_lined said line a b (errors.Write error) stops = absurd stops
 
--- events that were run are recorded
 pub played : (events : List Event) (a b : Play) → RunTold RecordsReplies events a.lan b.lan a.record b.record → b.record.failed ≡ false
     → HasPlayed (map event_of events) a b
 played events a b told sound =
@@ -109,7 +108,6 @@ played events a b told sound =
           subst (λ (rs : List Reply). AreNoted (ran events rs) a.record b.record) first.appended (told.told.recorded sound order).noted;
     }
 
--- the frames of a drain are recorded
 pub drained : (host steps : ℕ) (before frames slice : List DrainedFrame) (a b : Play)
     → NetworkDrains a.lan host steps (map drained_frame before) (map drained_frame frames) b.lan → before ≡ [] → slice ≡ frames
     → AreNoted (Drained host 0 (map drained_frame slice) ∷ []) a.record b.record → HasPlayed (Drains host ∷ []) a b
@@ -125,9 +123,8 @@ drained host steps before frames slice a b drains none same noted =
           (subst (λ (ds : List DrainedFrame). AreNoted (Drained host 0 (map drained_frame ds) ∷ []) a.record b.record) same noted);
     }
 
--- Memory was refused.
+-- Memory was refused
 
--- before one of these events; the events before it are recorded
 pub front_played : (events : List Event) (done : ℕ) (a b : Play) → done < length events
     → RunTold RecordsReplies (take done events) a.lan b.lan a.record b.record → b.record.failed ≡ false
     → HasPlayedFront (map event_of events) a b
@@ -139,7 +136,6 @@ front_played events done a b left told sound = record {
   played = played (take done events) a b told sound;
 }
 
--- among a part of these events and drains; those before this part were played
 pub stops_behind : (all before said later : List Said) (a b c : Play) (error : BenchError) → all ≡ before ++ (said ++ later)
     → HasPlayed before a b → StopsWithin said b c error → StopsWithin all a c error
 stops_behind all before said later a b c (errors.Plan error) is has stops = absurd stops
@@ -158,9 +154,9 @@ stops_behind all before said later a b c (errors.Run stopped) is has (front, num
 stops_behind all before said later a b c errors.Memory is has stops = stops
 stops_behind all before said later a b c (errors.Write error) is has stops = absurd stops
 
--- Lists of which each item's events are played in order.
+-- Lists of items whose events are played in order
 
--- The events of the first items were played, and the other items are left.
+-- The invariant of a loop over items: the events of the items before `rest` were played.
 pub record HasFed (X : Type 0) (events : X → List Said) (all rest : List X) (a b : Play) : Type 0 where
   pub done : List X
   pub parts : all ≡ done ++ rest
@@ -186,7 +182,6 @@ all_fed X events all rest a b has is =
     subst (λ (xs : List X). HasPlayed (flat_map events xs) a b)
     (sym (has.parts ∙ ap (λ (r : List X). has.done ++ r) is ∙ append-nil has.done)) has.played
 
--- memory was refused among the events of the next item
 pub fed_stops : (X : Type 0) (events : X → List Said) (all rest later : List X) (one : X) (a b c : Play) (error : BenchError)
     → HasFed X events all rest a b → rest ≡ one ∷ later → StopsWithin (events one) b c error → StopsWithin (flat_map events all) a c error
 fed_stops X events all rest later one a b c error has is stops =
@@ -194,7 +189,7 @@ fed_stops X events all rest later one a b c error has is stops =
     (ap (flat_map events) (has.parts ∙ ap (λ (r : List X). has.done ++ r) is) ∙ flat_map-append events has.done (one ∷ later))
     has.played stops
 
--- `left` words are left to draw.
+-- The invariant of the loop that draws words: `left` words remain, and the events of the other words were played.
 pub record HasDrawn (event : ℕ → Said) (words : List ℕ) (left : ℕ) (generator : Lcg) (a b : Play) : Type 0 where
   pub done : List ℕ
   pub parts : words ≡ done ++ words_from left generator
@@ -235,7 +230,6 @@ all_drawn event words left generator a b has none =
     subst (λ (ws : List ℕ). HasPlayed (map event ws) a b)
     (sym (has.parts ∙ ap (λ (n : ℕ). has.done ++ words_from n generator) none ∙ append-nil has.done)) has.played
 
--- memory was refused at the event of the next word
 pub draw_stops : (event : ℕ → Said) (words : List ℕ) (left word : ℕ) (generator later : Lcg) (said : Said) (a b c : Play)
     (error : BenchError) → HasDrawn event words left generator a b → 0 < left → (word, later) ≡ pcg32 generator → said ≡ event word
     → StopsWithin (said ∷ []) b c error → StopsWithin (map event words) a c error
@@ -245,7 +239,6 @@ draw_stops event words left word generator later said a b c error has some is sa
     ∙ map-append event has.done (word ∷ words_from (left - 1) later)
     ∙ ap (λ (s : Said). map event has.done ++ s ∷ map event (words_from (left - 1) later)) (sym said_is)) has.played stops
 
--- a frame was sent, and the events after the send were run
 pub sent : (hosts : List Host) (sender : ℕ) (frame : List ℕ) (one : Said) (events : List Event) (a b c : Play)
     → one ≡ Sends sender frame [] → HasPlayed (one ∷ []) a b
     → map event_of events ≡ behind_send hosts sender (pieces_for (length frame)) → HasPlayed (map event_of events) b c
@@ -255,7 +248,6 @@ sent hosts sender frame one events a b c is first follows second =
     (ap (λ (s : Said). s ∷ map event_of events) is ∙ ap (λ (s : List Said). Sends sender frame [] ∷ s) follows)
     (played_join (one ∷ []) (map event_of events) a b c first second)
 
--- memory was refused at the send of a frame
 pub send_stops : (hosts : List Host) (sender : ℕ) (frame : List ℕ) (one : Said) (a b : Play) (error : BenchError)
     → one ≡ Sends sender frame [] → StopsWithin (one ∷ []) a b error → StopsWithin (fed hosts sender frame) a b error
 send_stops hosts sender frame one a b error is stops =
@@ -263,7 +255,6 @@ send_stops hosts sender frame one a b error is stops =
     stops_behind (fed hosts sender frame) [] (one ∷ []) behind a a b error (ap (λ (s : Said). s ∷ behind) (sym is)) (played_none a)
     stops
 
--- memory was refused among the events after a send
 pub behind_stops : (hosts : List Host) (sender : ℕ) (frame : List ℕ) (one : Said) (events : List Event) (a b c : Play)
     (error : BenchError) → one ≡ Sends sender frame [] → HasPlayed (one ∷ []) a b
     → map event_of events ≡ behind_send hosts sender (pieces_for (length frame)) → StopsWithin (map event_of events) b c error
@@ -273,20 +264,18 @@ behind_stops hosts sender frame one events a b c error is first follows stops =
     (ap (λ (s : List Said). Sends sender frame [] ∷ s) (sym follows ∙ sym (append-nil (map event_of events)))
     ∙ ap (λ (s : Said). s ∷ (map event_of events ++ [])) (sym is)) first stops
 
--- Commands.
+-- Commands
 
 fed-frames : (hosts : List Host) (sender : ℕ) (traces : List Trace) (place : ℕ) (found : Option Trace) → slice_get traces place ≡ found
     → unwrap_or (slice_get (map frames_of traces) place) [] ≡ unwrap_or (option_map frames_of found) []
 fed-frames hosts sender traces place found is =
     ap (λ (o : Option (List (List ℕ))). unwrap_or o []) (slice_get-map frames_of traces place ∙ ap (option_map frames_of) is)
 
--- what holds for the events of a command holds for those of an equal command
 pub of_same : (Holds : List Said → Type 0) (hosts : List Host) (traces : List (List (List ℕ))) (one other : Command) → one ≡ other
     → Holds (events_of hosts traces (said_of other)) → Holds (events_of hosts traces (said_of one))
 of_same Holds hosts traces one other is holds =
     subst Holds (sym (ap (λ (c : Command). events_of hosts traces (said_of c)) is)) holds
 
--- the events of a command that is one event
 as-event : (hosts : List Host) (traces : List (List (List ℕ))) (one : Event)
     → event_of one ∷ [] ≡ events_of hosts traces (event_of one)
 as-event hosts traces (event.Send host frame ticks) = refl
@@ -312,7 +301,7 @@ of_no_feed hosts traces one host place a is past =
     (sym (ap (λ (c : Command). events_of hosts (map frames_of traces) (said_of c)) is
     ∙ ap (flat_map (fed hosts host)) (fed-frames hosts host traces place None (slice_get_past traces place past)))) (played_none a)
 
--- Several commands.
+-- Several commands
 
 pub one_ran : (hosts : List Host) (traces : List (List (List ℕ))) (commands rest later : List Command) (one : Command) (a b c : Play)
     → HasFed Said (events_of hosts traces) (map said_of commands) (map said_of rest) a b → rest ≡ one ∷ later
@@ -328,7 +317,6 @@ pub all_ran : (hosts : List Host) (traces : List (List (List ℕ))) (commands re
 all_ran hosts traces commands rest a b has is =
     all_fed Said (events_of hosts traces) (map said_of commands) (map said_of rest) a b has (ap (map said_of) is)
 
--- memory was refused in the next command
 pub command_stops : (hosts : List Host) (traces : List (List (List ℕ))) (commands rest later : List Command) (one : Command) (a b c : Play)
     (error : BenchError) → HasFed Said (events_of hosts traces) (map said_of commands) (map said_of rest) a b → rest ≡ one ∷ later
     → StopsWithin (events_of hosts traces (said_of one)) b c error → StopsWithin (all_events hosts traces (map said_of commands)) a c error

@@ -1,4 +1,4 @@
--- The replies of a run have their outcomes in order.
+-- `IsInOrder` holds for each reply of a run. For a reset of a host that exists, `TellsReset` holds.
 use Rattle.std.proofs.Common.{◌≡◌, ◌<◌, ◌+◌, ◌++◌, ◌∷◌, [], ℕ, List, None, Option, Some, map}
 use Rattle.std.proofs.Common.{inl, inr, sym, ap, subst, ◌∙◌, arith}
 use Rattle.std.proofs.lemmas.Option.{slice_get_cases}
@@ -34,7 +34,6 @@ some-same a b is = cc
 none-some : {P : Type 0} → (a : ResetAnswer) → None ≡ Some a → P
 none-some a is = absurd (cc)
 
--- what a reset gave up, by its answer
 given-up-is : (host : ℕ) (one : FrameAnswer) (found : ResetAnswer) → reset_answer one ≡ Some found
     → given_up_of host one ≡ GivenUp host found.sending found.holding ∷ []
 given-up-is host (answer.Reset sending holding on_after) found is =
@@ -42,7 +41,6 @@ given-up-is host (answer.Reset sending holding on_after) found is =
     (some-same (record { sending = sending.items; holding = holding.items; on_after = on_after }) found is)
 given-up-is host _ found is = none-some found is
 
--- the outcomes of the ticks are what the steps did
 steps-tell : (host : ℕ) (ticks : List Tick) (steps : List AtomicStep) (a b : List StationState) → LeadsTo host steps a b
     → without_go is_go (map tick_of steps) ≡ without_go is_go ticks → tick_happenings ticks (noted_of 0 steps) ≡ happened_in steps
 steps-tell host ticks steps a b leads played =
@@ -50,7 +48,7 @@ steps-tell host ticks steps a b leads played =
     ∙ ap (λ (list : List Tick). tick_happenings list (noted_of 0 steps)) (sym played)
     ∙ told-without_go (map tick_of steps) (noted_of 0 steps) ∙ told-steps host 0 steps a b leads
 
--- a reset of a host that exists
+-- `TellsReset` for a reset of a host that exists
 host-tells : (host : ℕ) (ticks : List Tick) (reply : Reply) (steps : List AtomicStep) (h h' : HostState) (a b : List StationState)
     → AnswersReset host ticks reply.answer steps (connected h a) (connected h' b) → LeadsTo host steps a b
     → without_go is_go (map tick_of steps) ≡ without_go is_go ticks → reply.outcomes.list ≡ noted_of 0 steps

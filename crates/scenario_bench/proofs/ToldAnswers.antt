@@ -15,7 +15,7 @@ use Rattle.run_record.specs.RunLogs.{act_logged, acts_in, log_heard, logged, new
 use Rattle.run_record.specs.declared.run_log.RunLog.{RunLog}
 use Rattle.run_record.specs.declared.run_log.Refusals.{Refusals}
 
--- Refusals.
+-- Refused calls
 
 refusals-heard : (ticks : List TickTold) (log : RunLog) → (fold log_heard log ticks).refusals ≡ log.refusals
 refusals-heard [] log = refl
@@ -33,7 +33,7 @@ refusals_told number (entry ∷ entries) log =
     refusals_told (next_number number) entries (act_logged (place_at number entry.0) entry.1 log)
     ∙ ap (λ (count : Refusals). fold refusals_by count (acts_in entries)) (refusals-act (place_at number entry.0) entry.1 log)
 
--- Lines.
+-- Lines
 
 abbrev ready : (names : List (List ℕ)) → (text : List ℕ) → LogState
 ready names text = record { names = names; outcomes = []; text = text }

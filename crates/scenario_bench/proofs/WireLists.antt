@@ -1,4 +1,4 @@
--- Names of wires.
+-- The loop that collects the names of wires.
 use Rattle.std.proofs.Common.{◌≡◌, ◌<◌, ◌+◌, ◌++◌, ◌∷◌, [], ℕ, Bool, true, false, List, length, take}
 use Rattle.std.proofs.Common.{◌||◌, if◌then◌else◌, slice_index_or}
 use Rattle.std.proofs.Common.{refl, sym, ap, ◌∙◌, arith, bytes_eq, string_bytes}
@@ -21,7 +21,6 @@ chosen : (there : Bool) (names more : List (List ℕ)) (b : Bool) → b ≡ ther
     → (if b then names else more) ≡ (if there then names else more)
 chosen there names more b is = ap (λ (c : Bool). if c then names else more) is
 
--- the names of one host more
 one-more : (plans : List HostPlan) (number : ℕ) (plan d : HostPlan) (wires : List (Bor (List ℕ))) (there : Bool) → number < length plans
     → plan ≡ slice_index_or plans number d → names_in wires ≡ wire_names (hosts_of (take number plans))
     → list_any (λ (name : Bor (List ℕ)). bytes_eq name.now (string_bytes plan.wire)) wires ≡ there

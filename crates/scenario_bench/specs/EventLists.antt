@@ -10,14 +10,14 @@ use Rattle.rand_pcg.specs.Lcg.{Lcg}
 use Rattle.rand_pcg.specs.Pcg.{pcg32, pcg32_of_seed}
 use Rattle.dma_memory.specs.Layout.{receive_buffer_bytes}
 use Rattle.descriptors.specs.Frames.{longest_frame, shortest_frame}
-use Rattle.eeprom.specs.Image.{address_bytes}
+use Rattle.eeprom_phy.specs.Image.{address_bytes}
 use Rattle.adapter.specs.declared.step.StepKind.TheVariants.{RxData, RxDone, TxPut, TxTake}
 use Rattle.stations.specs.declared.tick.Tick.{Tick}
 use Rattle.stations.specs.declared.tick.Tick.TheVariants.{Deliver, Go, Step}
 use Rattle.run_record.specs.Puts.{wire_name_of}
 use Rattle.scenario.specs.SoFar.{Host, Said, Draws, Feeds, Interrupts, Receives, Sends, Ticks}
 
--- the number of receive buffers that a frame of this size needs after it is padded; 1 if the frame is too long for `send`
+-- the number of receive buffers that a frame of this size needs after padding; 1 if the frame is too long for `send`
 abbrev pub pieces_for : (size : ℕ) → ℕ
 pieces_for size = if nat_le size longest_frame then div_ceil (max size shortest_frame) receive_buffer_bytes else 1
 
@@ -26,30 +26,33 @@ abbrev pub moves_at : (host pieces : ℕ) → List Said
 moves_at host zero = []
 moves_at host (suc pieces) = Ticks (Step host RxData) ∷ Ticks (Step host RxDone) ∷ moves_at host pieces
 
--- A frame is delivered to a host, and moved to memory in this number of pieces. Then the interrupt is handled, and each socket is asked
--- once, in order.
+-- A frame is delivered to a host, and moved to memory in this number of pieces. Then the host handles an interrupt, and
+-- asks each of its sockets once for a frame, in order.
 abbrev pub arrival_at : (pieces host sockets : ℕ) → List Said
 arrival_at pieces host sockets =
     Ticks (Deliver host) ∷ moves_at host pieces
     ++ Interrupts host [] ∷ map (λ socket. Receives host socket []) (range_with_len 0 sockets)
 
--- The arrivals of a frame at each other host on the sender's wire. `number` is the number of the first host in the list.
+-- The arrivals of a frame at each host of the list that is on this wire and isn't the sender. `number` is the number of
+-- the first host in the list.
 abbrev pub arrivals_from : (pieces number sender : ℕ) (wire : List ℕ) → List Host → List Said
 arrivals_from pieces number sender wire [] = []
 arrivals_from pieces number sender wire (host ∷ hosts) =
     (if not (number == sender) && bytes_eq host.wire wire then arrival_at pieces number (length host.sockets) else [])
     ++ arrivals_from pieces (number + 1) sender wire hosts
 
--- After a send, the frame is put onto the wire, and arrives at each other host on the wire, in order.
+-- The events after a send: the frame is put onto the sender's wire, and arrives at each other host on this wire, in
+-- order.
 abbrev pub behind_send : List Host → (sender pieces : ℕ) → List Said
 behind_send hosts sender pieces =
     Ticks (Step sender TxTake) ∷ Ticks (Step sender TxPut) ∷ arrivals_from pieces 0 sender (wire_name_of hosts sender) hosts
 
--- a frame is fed: sent, put and received
+-- the events by which a frame is fed: the sender sends the frame, its adapter puts it, and the other hosts on the wire
+-- receive it
 abbrev pub fed : List Host → (sender : ℕ) (frame : List ℕ) → List Said
 fed hosts sender frame = Sends sender frame [] ∷ behind_send hosts sender (pieces_for (length frame))
 
--- the next `count` words of a generator of PCG32 (XSH RR 64/32)
+-- the next `count` words of a PCG32 generator (XSH RR 64/32)
 abbrev pub words_from : (count : ℕ) → Lcg → List ℕ
 words_from zero generator = []
 words_from (suc count) generator = (pcg32 generator).0 ∷ words_from count (pcg32 generator).1
@@ -58,11 +61,11 @@ words_from (suc count) generator = (pcg32 generator).0 ∷ words_from count (pcg
 abbrev pub words_drawn : (count start : ℕ) → List ℕ
 words_drawn count start = words_from count (pcg32_of_seed (pcg32_seed 16 start))
 
--- a broadcast from this address: no data, and the type 0x88B5, which is for experiments (IEEE 802)
+-- a broadcast frame from this address, without data; its EtherType 0x88B5 is for experiments (IEEE 802)
 abbrev pub broadcast_of : (address : List ℕ) → List ℕ
 broadcast_of address = 0xFF ∷ 0xFF ∷ 0xFF ∷ 0xFF ∷ 0xFF ∷ 0xFF ∷ address ++ 0x88 ∷ 0xB5 ∷ []
 
--- the address of the host with this number
+-- the address of the host with this number; empty if there is no such host
 abbrev pub address_of : List Host → ℕ → List ℕ
 address_of hosts host = unwrap_or (option_map (λ (one : Host). address_bytes one.image) (slice_get hosts host)) []
 
@@ -70,7 +73,7 @@ address_of hosts host = unwrap_or (option_map (λ (one : Host). address_bytes on
 abbrev pub late_frame : (host : ℕ) → List Tick
 late_frame host = Go ∷ Step host RxData ∷ Step host RxDone ∷ []
 
--- the event of this kind at a host; each number from 7 on is the last kind
+-- the event of this kind at a host with this address; each number from 7 on is the last kind, a send
 abbrev pub event_of_kind : (kind host : ℕ) (address : List ℕ) → Said
 event_of_kind kind host address =
     if kind == 0 then Ticks (Step host TxTake)
@@ -82,18 +85,20 @@ event_of_kind kind host address =
     else if kind == 6 then Receives host 0 []
     else Sends host (broadcast_of address) []
 
--- A word's low three bits choose the kind, and the other bits, modulo the number of hosts, choose the host.
+-- The event that a random word draws. The word's low three bits choose the kind, and the other bits, modulo the number
+-- of hosts, choose the host.
 abbrev pub event_drawn : List Host → (word : ℕ) → Said
 event_drawn hosts word =
     let host = word / 8 % length hosts in
     event_of_kind (word % 8) host (address_of hosts host)
 
--- the events of a command, or its drain; `traces` are the traces of the scenario's `feed` lines, in order
+-- the events of a command, or its drain; `traces` are the traces of the scenario's `feed` lines, in order. A `feed`
+-- without its trace has no events.
 abbrev pub events_of : List Host → (traces : List (List (List ℕ))) → Said → List Said
 events_of hosts traces (Feeds sender trace) = flat_map (fed hosts sender) (unwrap_or (slice_get traces trace) [])
 events_of hosts traces (Draws count start) = map (event_drawn hosts) (words_drawn count start)
 events_of hosts traces said = said ∷ []
 
--- the events of all commands, in order
+-- the events and drains of all commands, in order
 abbrev pub all_events : List Host → (traces : List (List (List ℕ))) → List Said → List Said
 all_events hosts traces commands = flat_map (events_of hosts traces) commands

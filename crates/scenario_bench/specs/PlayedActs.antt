@@ -15,7 +15,8 @@ abbrev pub act_of : Act → Said
 act_of (Ran event reply) = event_of event
 act_of (Drained host buffered given) = Drains host
 
--- A host was drained, and returned these frames. Before the drain, `buffered` frames were in its receive packet buffer.
+-- Host `host` was drained, and its sockets returned the frames `given`. Before the drain, `buffered` frames were in its
+-- receive packet buffer.
 pub record DrainRuns (old : NetworkState) (host buffered : ℕ) (given : List GivenFrame) (new : NetworkState) : Type 0 where
   -- the number of frames in the host's receive packet buffer before the drain
   pub buffer : buffered ≡ length (world_at old.stations host).adapter.receiver.buffer
@@ -24,17 +25,18 @@ pub record DrainRuns (old : NetworkState) (host buffered : ℕ) (given : List Gi
   -- the effect of the drain
   pub drains : NetworkDrains old host steps [] given new
 
--- An act leads from one state of a network to the next.
+-- An act leads from the network `old` to the network `new`.
 abbrev pub ActRuns : NetworkState → Act → NetworkState → Type 0
 ActRuns old (Ran event reply) new = EventRuns old event reply new
 ActRuns old (Drained host buffered given) new = DrainRuns old host buffered given new
 
--- The acts lead from the first state to the last, with a state between each act and the next.
+-- The acts lead from the network `old` to the network `new`, with a state of the network between each act and the next.
 abbrev pub ActsRun : NetworkState → List Act → NetworkState → Type 0
 ActsRun old [] new = new ≡ old
 ActsRun old (act ∷ acts) new = (middle : NetworkState) × ActRuns old act middle × ActsRun middle acts new
 
--- These acts were done in order.
+-- These acts were done in order, from the network `old` to the network `new`. The delivery theorem holds for these
+-- acts.
 pub record ActsLead (old : NetworkState) (acts : List Act) (new : NetworkState) : Type 0 where
   -- each act leads from one state to the next
   pub states : ActsRun old acts new

@@ -57,15 +57,16 @@ pub record HasPlayedFront (said : List Said) (old new : Play) : Type 0 where
   pub some : 0 < length left
   pub played : HasPlayed first old new
 
--- Memory was refused among these events and drains. If memory was refused before an event, `done` is the number of this event in the
--- record.
+-- Memory was refused among these events and drains. After the error `Run`, only the first of them were done. Then
+-- `stopped.done` is the number of events and drains in the record.
 abbrev pub StopsWithin : List Said → (old new : Play) → BenchError → Type 0
 StopsWithin said old new (errors.Plan error) = ⊥
 StopsWithin said old new (errors.Run stopped) = HasPlayedFront said old new × (stopped.done ≡ new.record.number)
 StopsWithin said old new errors.Memory = Unit {0}
 StopsWithin said old new (errors.Write error) = ⊥
 
--- If the events after a send are made, they are those after a send of this host.
+-- If the list of `behind` is made for a number of pieces, it contains the events after a send of this host for this
+-- number.
 abbrev pub AreOfSender : List Host → (sender : ℕ) → EventsAfterSend → Type 0
 AreOfSender hosts sender behind = IfSome behind.pieces (λ made. map event_of behind.list.items ≡ behind_send hosts sender made)
 
@@ -73,7 +74,7 @@ AreOfSender hosts sender behind = IfSome behind.pieces (λ made. map event_of be
 abbrev pub frames_of : Trace → List (List ℕ)
 frames_of trace = trace.frames
 
--- The summary of a host: its name, its recorded numbers, and its counts.
+-- The summary of a host contains the host's name in the plan, the numbers recorded in the tally, and the host's counts.
 pub record TellsTally (plan : HostPlan) (tally : Tally) (host : HostState) (world : World) (told : HostSummary) : Type 0 where
   pub name : string_bytes told.name ≡ string_bytes plan.name
   pub accepted : told.accepted ≡ tally.accepted
@@ -84,7 +85,7 @@ pub record TellsTally (plan : HostPlan) (tally : Tally) (host : HostState) (worl
   pub resets : told.given_up ≡ resets_in tally
   pub counts : (told.missed ≡ missed_count host world) × (IsTrue told.exact ↔ IsExact host world) × (told.unclaimed ≡ host.unclaimed)
 
--- These are the summaries of the first hosts of a plan. `first` is their number.
+-- These are the summaries of the first `first` hosts of a plan, in order.
 pub record TellTallies (first : ℕ) (plans : List HostPlan) (play : Play) (told : List HostSummary) : Type 0 where
   pub count : length told ≡ first
   pub each : (k : ℕ) (plan : HostPlan) (tally : Tally) (host : HostState) (one : HostSummary) → slice_get plans k ≡ Some plan
@@ -93,21 +94,21 @@ pub record TellTallies (first : ℕ) (plans : List HostPlan) (play : Play) (told
 
 -- A scenario.
 
--- The commands of the scenario were played, and these are the summaries of its hosts.
+-- The commands of the scenario were played, and `hosts` are the summaries of its hosts.
 pub record HasPlayedScenario (scenario : Scenario) (traces : List (List (List ℕ))) (old new : Play) (hosts : List HostSummary)
     : Type 0 where
   pub played : HasPlayed (scenario_events scenario traces) old new
   pub tells : TellTallies (length scenario.plan.hosts.items) scenario.plan.hosts.items new hosts
 
--- Frames that adapters put are recorded if `wires`, the number of traces of wires to write, isn't 0.
+-- If `wires`, the number of traces of wires to write, isn't 0, the frames that adapters put are recorded.
 abbrev pub AreRecorded : (wires : ℕ) → Option (List KeptFrame) → Type 0
 AreRecorded wires None = wires ≡ 0
 AreRecorded wires (Some puts) = ⊤
 
--- the traces of the sockets of these hosts
+-- the traces of the sockets of these hosts, by the record
 abbrev pub socket_texts_in : List HostPlan → Play → List (List Timed)
 socket_texts_in plans play = socket_texts play.record.returned (sockets_from 0 (hosts_of plans))
 
--- the traces of the wires of these hosts
+-- the traces of the wires of these hosts, by the record; empty traces if the frames that adapters put aren't recorded
 abbrev pub wire_texts_in : List HostPlan → Play → List (List Timed)
 wire_texts_in plans play = wire_texts (hosts_of plans) (unwrap_or play.record.puts []) (wire_names (hosts_of plans))

@@ -5,7 +5,7 @@ use Rattle.run_record.specs.declared.tally.GivenUp.{GivenUp}
 use Rattle.scenario_bench.specs.declared.summary.HostSummary.{HostSummary}
 use Rattle.scenario_bench.specs.declared.summary.Summary.{Summary}
 
--- a label and a number
+-- a label, followed by a number in decimal
 abbrev pub field : List ℕ → ℕ → List ℕ
 field label number = label ++ decimal number
 
@@ -14,7 +14,8 @@ abbrev pub exact_word : Bool → List ℕ
 exact_word true = codes " exact"
 exact_word false = codes " atleast"
 
--- what resets gave up and dropped, if there was a reset
+-- the numbers of frames that resets dropped, and that arrived while the receive side was disabled; empty if there was
+-- no reset
 abbrev pub resets_text : Option GivenUp → List ℕ
 resets_text None = []
 resets_text (Some told) = field (codes " givenup ") told.sending ++ field (codes " ") told.holding ++ field (codes " off ") told.off
@@ -27,6 +28,7 @@ host_fields host =
     ++ field (codes " given ") host.given ++ field (codes " unclaimed ") host.unclaimed ++ resets_text host.given_up
     ++ codes "\n"
 
+-- the line of a host: its name, and the other parts
 abbrev pub host_line : HostSummary → List ℕ
 host_line host = string_bytes host.name ++ host_fields host
 

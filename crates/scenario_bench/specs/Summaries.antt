@@ -1,4 +1,5 @@
--- The summary of a run: of each host, and of the answers (our choice).
+-- The summary of a run: the numbers of frames and the counts of each host, and the numbers of refused calls (our
+-- choice).
 use Rattle.std.specs.Prelude.{◌≡◌, ◌↔◌, ◌-◌, ℕ, IsTrue, List, Some, length, slice_get, string_bytes}
 use Rattle.std.specs.Prelude.{Bool, None, Option, if◌then◌else◌, map, option_map}
 use Rattle.std.specs.List.{flat_map, fold, list_any}
@@ -20,7 +21,8 @@ use Rattle.run_record.specs.declared.tally.GivenUp.{GivenUp as ResetsTold}
 use Rattle.scenario_bench.specs.declared.summary.HostSummary.{HostSummary}
 use Rattle.scenario_bench.specs.declared.summary.Summary.{Summary}
 
--- The numbers of frames that resets of the k-th host gave up and dropped, if there was a reset.
+-- The numbers of frames that resets of the k-th host dropped, and that reached its adapter while its receive side was
+-- disabled. None if there was no reset. Each number saturates at the greatest u64.
 abbrev pub resets_told : (k : ℕ) → List Happening → Option ResetsTold
 resets_told k happened =
     if list_any (resets k) happened then Some (record {
@@ -29,20 +31,20 @@ resets_told k happened =
       off = as_told (length (flat_map (off_by k) happened));
     }) else None
 
--- The numbers of frames in the summary of the k-th host: frames accepted, put, reached, stored, returned, and given up
--- by resets.
+-- The numbers of frames in the summary of the k-th host: frames accepted, put, reached, stored, returned, and dropped
+-- by resets. Each number saturates at the greatest u64.
 pub record TellsFrames (k : ℕ) (happened : List Happening) (told : HostSummary) : Type 0 where
-  -- the frames that the host accepted
+  -- the number of frames that the host accepted
   pub accepted : told.accepted ≡ as_told (length (accepted k happened))
-  -- the frames that its adapter put on the wire
+  -- the number of frames that its adapter put on its wire
   pub put : told.put ≡ as_told (length (put k happened))
-  -- the frames that reached its adapter
+  -- the number of frames that reached its adapter
   pub reached : told.reached ≡ as_told (length (reached k happened))
-  -- the frames that its adapter stored
+  -- the number of frames that its adapter stored
   pub stored : told.stored ≡ as_told (length (stored k happened))
-  -- the frames that its sockets returned
+  -- the number of frames that its sockets returned
   pub given : told.given ≡ as_told (all_given k happened)
-  -- the frames that its resets gave up, and those that reached its adapter while its receive side was disabled
+  -- the numbers of frames that its resets dropped, and that reached its adapter while its receive side was disabled
   pub resets : told.given_up ≡ resets_told k happened
 
 -- The summary of the k-th host: its name, the numbers of frames, and its counts.
@@ -52,11 +54,11 @@ pub record TellsHost (k : ℕ) (plan : Host) (happened : List Happening) (host :
   pub name : string_bytes told.name ≡ plan.name
   -- the numbers of frames
   pub frames : TellsFrames k happened told
-  -- the count of misses
+  -- the count of missed frames
   pub missed : told.missed ≡ missed_count host world
   -- whether this count is exact
   pub exact : IsTrue told.exact ↔ IsExact host world
-  -- the received frames that no socket took
+  -- the number of received frames that no socket took
   pub unclaimed : told.unclaimed ≡ host.unclaimed
 
 -- The summaries of the hosts of the plan, in order.
@@ -67,7 +69,8 @@ pub record TellsHosts (plans : List Host) (happened : List Happening) (network :
   pub each : (k : ℕ) (plan : Host) (host : HostState) (one : HostSummary) → slice_get plans k ≡ Some plan → IsHost network k host
       → slice_get told k ≡ Some one → TellsHost k plan happened host (world_at network.stations k) one
 
--- The summary of the answers of these acts: the numbers of refused calls, and on request a line for each act. Each act has a line number.
+-- The summary of the answers of these acts: the numbers of refused calls and, if `events` is true, a line for each act.
+-- Each act has a line number.
 pub record TellsAnswers (plans : List Host) (events : Bool) (entries : List (ℕ × Act)) (told : Summary) : Type 0 where
   -- the numbers of refused calls
   pub refusals : told.refusals ≡ fold refusals_by no_refusals (acts_in entries)

@@ -12,13 +12,12 @@ pub enum BenchError {
     /// The scenario's plan was refused. Nothing was written.
     Plan(PlanError),
     /// Memory was refused before an event. Nothing was written. `done` is the number of events and drains that were
-    /// done before this event; it saturates at the greatest `u64`. So `done` is the time that frames of this event
-    /// would have in the traces.
+    /// done before this event; it saturates at the greatest `u64`.
     Run(Stopped),
     /// Memory was refused at another place. Nothing was written.
     Memory,
-    /// A sink failed. The sinks before this sink have their whole text. This sink has a beginning of its own text, and
-    /// the sinks after it are unchanged.
+    /// A sink failed. The sinks before this sink have their whole traces. This sink has a beginning of its own trace,
+    /// and the sinks after it are unchanged. Sinks of wires come after those of sockets.
     Write(WriteError),
 }
 

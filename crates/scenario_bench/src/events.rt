@@ -1,6 +1,6 @@
 //! The events of a scenario's commands.
 ghost use Rattle.std.specs.Prelude.{◌≡◌, ◌<◌, ◌++◌, ◌∷◌, [], IfOk, None, OnOk, length, map};
-ghost use Rattle.eeprom.specs.Image.{address_bytes};
+ghost use Rattle.eeprom_phy.specs.Image.{address_bytes};
 ghost use Rattle.run_record.specs.Puts.{wire_name_of};
 ghost use Rattle.scenario.specs.SoFar.{Interrupts, Receives, Sends, Ticks, event_of, hosts_of};
 ghost use Rattle.scenario_bench.specs.EventLists as lists;
@@ -10,13 +10,13 @@ ghost use Rattle.stations.specs.declared.tick.Tick.TheVariants as ticks;
 use adapter::StepKind;
 use descriptors::{LONGEST_LEGAL, SHORTEST_LEGAL};
 use dma_memory::RECEIVE_BUFFER_BYTES;
-use eeprom::Image;
+use eeprom_phy::Image;
 use network_plan::{Event, HostPlan};
 use run_record::wire_of;
 use stations::Tick;
 use std::alloc::{AllocError, Global};
 
-/// The number of bytes of a broadcast without data: two addresses and the type (IEEE 802.3, 3.1.1).
+/// The number of bytes of a broadcast frame without data: two addresses and the EtherType (IEEE 802.3, 3.1.1).
 const HEADER: usize = 14;
 
 /// Returns the event in which a host asks a socket for a frame, without ticks.
@@ -30,15 +30,15 @@ fn recv_event(alloc: Global, host: usize, socket: usize) -> Event
     }
 }
 
-/// Returns the event of a step outside calls.
+/// Returns the event in which a host's adapter takes a step outside calls.
 fn step_event(host: usize, kind: StepKind) -> Event
     ensures { event_of result ≡ Ticks (ticks.Step host kind) }
 {
     Event::Tick(Tick::Step(host, kind))
 }
 
-/// Returns the number of receive buffers that a frame of this size needs after it is padded. Returns 1 if the frame is
-/// too short or too long for `send` (E20, E21).
+/// Returns the number of receive buffers that a frame of this size needs after padding. Returns 1 if the frame is too
+/// short or too long for `send` (E20, E21).
 pub(crate) fn pieces_of(size: usize) -> usize
     ensures { result ≡ lists.pieces_for size }
 {
@@ -58,7 +58,7 @@ fn push_event(events: &mut Vec<Event>, event: Event) -> Result<(), AllocError>
     Ok(())
 }
 
-/// Appends the steps that move the pieces of a frame to a host's memory.
+/// Appends the steps that move this number of pieces of a frame to a host's memory: RxData and RxDone for each piece.
 fn push_moves(host: usize, pieces: usize, events: &mut Vec<Event>) -> Result<(), AllocError>
     ensures { OnOk result
         (map event_of events.new.items ≡ map event_of events.old.items ++ lists.moves_at host pieces) }
@@ -71,7 +71,7 @@ fn push_moves(host: usize, pieces: usize, events: &mut Vec<Event>) -> Result<(),
 }
 
 /// Appends the events that deliver a frame to a host, and move the frame to memory in this number of pieces. Then
-/// appends an interrupt, and a recv of each socket.
+/// appends an interrupt, and a recv of each of the host's sockets, in order.
 fn push_arrival(
     alloc: Global,
     pieces: usize,
@@ -95,8 +95,8 @@ fn push_arrival(
     Ok(())
 }
 
-/// Appends the events by which a sender's frame arrives at each other host on its wire, in order. If memory is refused,
-/// some of the events may have been appended.
+/// Appends the events by which a sender's frame arrives at each other host on the sender's wire, in order. If memory is
+/// refused, some of the events may have been appended.
 fn push_arrivals(
     alloc: Global,
     plans: &[HostPlan],
@@ -116,8 +116,9 @@ fn push_arrivals(
     Ok(())
 }
 
-/// Replaces the events by those after the send of a fed frame. The frame is put on the wire, and arrives at each other
-/// host on the wire in this number of pieces.
+/// Replaces the events by those after the send of a fed frame. The frame is put on the sender's wire, and arrives at
+/// each other host on this wire in this number of pieces. If memory is refused, the list may contain some of the
+/// events.
 fn set_behind_send(
     alloc: Global,
     plans: &[HostPlan],
@@ -180,7 +181,7 @@ impl EventsAfterSend {
     }
 }
 
-/// Returns a broadcast from this EEPROM's address, without data, with the EtherType for experiments (IEEE 802).
+/// Returns a broadcast frame from this EEPROM's address, without data, with the EtherType for experiments (IEEE 802).
 fn broadcast_of(image: &Image) -> [u8; HEADER]
     ensures { result ≡ lists.broadcast_of (address_bytes image.now) }
 {
@@ -190,8 +191,7 @@ fn broadcast_of(image: &Image) -> [u8; HEADER]
     ]
 }
 
-/// Memory for events that are run one at a time. Sends use one memory for their frame, interrupts use another for their
-/// ticks.
+/// Memory for events that are run one at a time: for the frames of sends, and for the ticks of interrupts.
 #[derive(Drop)]
 pub(crate) struct EventMemory {
     pub(crate) alloc: Global,
@@ -209,7 +209,8 @@ impl EventMemory {
         }
     }
 
-    /// Takes the memory of a send or an interrupt that was run. Other events have no memory to take.
+    /// Takes the memory of a send's frame or of an interrupt's ticks from an event that was run. Other events don't
+    /// change.
     #[inline(always)]
     pub(crate) fn take_back(&mut self, event: &mut Event) {
         match event {
@@ -256,7 +257,7 @@ impl EventMemory {
     }
 
     /// Returns the event of one of the eight kinds that `auto` draws, at a host with this EEPROM. Each number from 7 on
-    /// is the last kind, a send. A send or an interrupt uses this memory.
+    /// is the last kind, a send. A send's frame and an interrupt's ticks use this memory.
     fn event_of_kind(&mut self, kind: u32, host: usize, image: &Image) -> Result<Event, AllocError>
         ensures { IfOk result (λ event. event_of event ≡ lists.event_of_kind kind host (address_bytes image.now)) }
     {

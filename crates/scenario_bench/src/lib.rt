@@ -1,10 +1,11 @@
-//! Plays scenarios: returns the frames of each socket and of each wire, as traces, and the counts of each host.
+//! Plays scenarios: writes the frames of each socket and of each wire as traces, and returns the counts of each host.
 //!
 //! [`bench`] runs the commands of a [`Scenario`](scenario::Scenario) over hosts on wires.
 #![tactic(auto)]
 
 mod bench_error;
 mod events;
+mod file_names;
 mod play;
 mod printing;
 mod socket_list;
@@ -12,6 +13,7 @@ mod summary;
 mod wire_list;
 
 pub use bench_error::BenchError;
+pub use file_names::{socket_files, wire_files};
 pub use play::bench;
 pub use printing::print_summary;
 pub use run_record::{EventLog, GivenUp, Refusals};

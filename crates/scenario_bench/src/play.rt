@@ -47,15 +47,16 @@ struct Play {
     asked: Refusals,
 }
 
-/// Returns this number plus the difference between two later numbers. The sum saturates at the greatest `u64`.
+/// Returns `number` plus the difference `after` - `before`, or plus 0 if `after` is smaller. The sum saturates at the
+/// greatest `u64`.
 fn grown(number: u64, before: u64, after: u64) -> u64
     ensures { result ≡ grown_by (after - before) number }
 {
     number.saturating_add(after.saturating_sub(before))
 }
 
-/// Returns the numbers of refused calls without those of `auto` commands, after this command. `before` and `after`
-/// count all refused calls before and after this command.
+/// Returns the numbers of refused calls without those of `auto` commands, after this command. `asked` are these numbers
+/// before the command. `before` and `after` count all refused calls before and after the command.
 fn asked_after(asked: Refusals, command: &Command, before: Refusals, after: Refusals) -> Refusals
     ensures { result ≡ asked_after asked (said_of command.now) before after }
 {
@@ -70,8 +71,9 @@ fn asked_after(asked: Refusals, command: &Command, before: Refusals, after: Refu
 }
 
 impl Play {
-    /// Initializes the hosts of a plan. Frames that adapters put are recorded unless `wires`, the number of traces of
-    /// wires to write, is 0. If `events` is true, a line is recorded for each event and drain.
+    /// Initializes the hosts of a plan, with an empty record. If `wires`, the number of traces of wires to write, isn't
+    /// 0, the frames that adapters put are recorded later. If `events` is true, a line is recorded for each event and
+    /// drain.
     fn new(alloc: Global, plan: &Plan, wires: usize, events: bool) -> Result<Play, BenchError>
         ensures ok { IfOk result (Begins plan.now.hosts.items) }
         ensures puts { IfOk result (λ play. IsNewRecord wires play.record.puts) }
@@ -89,8 +91,9 @@ impl Play {
         })
     }
 
-    /// Runs these events, and records their outcomes and answers. If memory is refused before an event, the error
-    /// contains the number of events and drains done before the event.
+    /// Runs these events, and records their outcomes and answers. If memory is refused before an event, the error is
+    /// `Run` with the number of events and drains done before this event. If memory is refused for the record, the
+    /// error is `Memory`.
     #[inline(always)]
     fn run(&mut self, events: &[Event]) -> Result<(), BenchError>
         ensures ok { OnOk result (HasPlayed (map event_of events.now) self.old self.new) }
@@ -121,7 +124,7 @@ impl Play {
         Ok(())
     }
 
-    /// Runs an event, and takes the event's memory back.
+    /// Runs an event, and takes its memory back into `memory`.
     #[inline(always)]
     fn run_one(&mut self, memory: &mut EventMemory, event: Event) -> Result<(), BenchError>
         ensures ok { OnOk result (HasPlayed (event_of event ∷ []) self.old self.new) }
@@ -133,8 +136,8 @@ impl Play {
         ran
     }
 
-    /// Runs the events of `feed` for one frame: the send, the steps that put the frame on the wire, and the events by
-    /// which the frame arrives at the other hosts on the wire.
+    /// Runs the events of `feed` for one frame from a host: the send, the steps that put the frame on the host's wire,
+    /// and the events by which the frame arrives at the other hosts on this wire.
     fn feed_frame(
         &mut self,
         memory: &mut EventMemory,
@@ -154,7 +157,7 @@ impl Play {
         self.run(behind.list.as_slice())
     }
 
-    /// Runs the events of `feed` for each frame of a trace, in order.
+    /// Runs the events of `feed` from a host for each frame of a trace, in order.
     #[tactic(auto, using(crate::proofs::PlayedEvents::all_fed))]
     fn feed(
         &mut self,
@@ -175,7 +178,7 @@ impl Play {
         Ok(())
     }
 
-    /// Draws `count` events, and runs each of them. `start` is the seed.
+    /// Draws `count` random events one at a time, and runs each of them. `start` is the generator's seed.
     #[tactic(auto, using(crate::proofs::PlayedEvents::all_drawn, crate::proofs::PlayedEvents::none_drawn))]
     fn draw(
         &mut self,
@@ -227,8 +230,9 @@ impl Play {
         }
     }
 
-    /// Runs the events and drains of these commands, in order. `lines` contains the line number of each command. The
-    /// record has this number for the events and drains of the command; 0 if `lines` is shorter.
+    /// Runs the events and drains of these commands, in order. `lines` contains the line number of each command, for
+    /// the lines that are recorded of its events and drains. A command for which `lines` is too short has the line
+    /// number 0.
     #[tactic(auto, using(crate::proofs::PlayedEvents::none_fed, crate::proofs::PlayedEvents::all_ran))]
     fn commands(
         &mut self,
@@ -286,7 +290,7 @@ impl Play {
         })
     }
 
-    /// Returns the summaries of all hosts.
+    /// Returns the summaries of all hosts of a plan, in order.
     #[tactic(auto, using(crate::proofs::Benching::none_told))]
     fn host_summaries(
         &self,
@@ -379,7 +383,7 @@ impl Play {
         Ok(())
     }
 
-    /// Plays a scenario on the network of its plan, and writes the traces. Returns the summary.
+    /// Plays the commands of a scenario on the network of its plan, and then writes the traces. Returns the summary.
     fn bench<W: Sink>(
         &mut self,
         alloc: Global,
@@ -408,10 +412,12 @@ impl Play {
     }
 }
 
-/// Plays a scenario: makes the network of its plan, and runs its events and drains in order. Then it writes to each
-/// sink the frames that its socket returned, as a trace (libpcap, "pcap-savefile"). It writes to each of `wire_sinks`
-/// the frames that were put on its wire. The time of a frame in microseconds is the number of its event or drain. The
-/// trace has this time in `unit`. Events and drains are numbered from 0; the numbers saturate at the greatest `u64`.
+/// Plays a scenario: makes the network of its plan, and runs its events and drains in order. Then writes to each sink
+/// the frames that its socket returned, as a trace (libpcap, "pcap-savefile"). Last, writes to each of `wire_sinks` the
+/// frames that were put on its wire, as a trace.
+///
+/// The time of a frame in microseconds is the number of the frame's event or drain. The trace has this time in `unit`.
+/// Events and drains are numbered from 0; the numbers saturate at the greatest `u64`.
 ///
 /// Pass a trace for each name of [`Scenario::trace_names`], and a sink for each socket, hosts in order and the sockets
 /// of each host in order. Pass in `wire_sinks` a sink for each wire of [`wires`](crate::wires), in order, or for only
@@ -419,12 +425,15 @@ impl Play {
 ///
 /// # Errors
 ///
-/// [`Plan`](BenchError::Plan) if the plan is refused (E40 to E46). [`Run`](BenchError::Run) (E47) if memory is refused
-/// before an event: `done` is the number of events and drains before it, which were done. `done` saturates at the
-/// greatest `u64`. [`Memory`](BenchError::Memory) (E57) if memory is refused at another place. After each of these
-/// errors, nothing was written. [`Write`](BenchError::Write) (E67) if a sink failed: the sinks before it have their
-/// whole text, it has a beginning of its own, and the sinks after it are unchanged. The sinks of sockets are written
-/// before those of wires.
+/// After each of these errors except `Write`, nothing was written.
+///
+/// - [`Plan`](BenchError::Plan) if the plan is refused (E40 to E46).
+/// - [`Run`](BenchError::Run) (E47) if memory is refused before an event. `done` is the number of events and drains
+///   that were done before this event; it saturates at the greatest `u64`.
+/// - [`Memory`](BenchError::Memory) (E57) if memory is refused at another place.
+/// - [`Write`](BenchError::Write) (E67) if a sink failed. The sinks before this sink have their whole traces. This sink
+///   has a beginning of its own trace, and the sinks after it are unchanged. The sinks of sockets are written before
+///   those of wires.
 pub fn bench<W: Sink>(
     alloc: Global,
     scenario: &Scenario,

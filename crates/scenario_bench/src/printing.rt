@@ -1,4 +1,4 @@
-//! The lines that the program prints of a run.
+//! The lines that the program prints of a run, one line for each host.
 ghost use Rattle.std.specs.Prelude.{◌≡◌, ◌<◌, ◌≤◌, ◌+◌, ◌++◌, length, OnErr, OnOk};
 ghost use Rattle.std.specs.Io.KnownBytes.{Appends};
 ghost use Rattle.pcap_trace.specs.Devices.{AppendsFront, CountsFailures};
@@ -10,14 +10,14 @@ use itoa::Buffer;
 use pcap_trace::{Sink, WriteError, write_all};
 use run_record::GivenUp;
 
-/// Room in bytes for the part of a line after a name: ten labels with numbers, of at most 60 bytes each, a word of at
-/// most 8 bytes, and a line feed.
+/// Room in bytes for the part of a host's line after its name: ten labels with numbers, of at most 60 bytes each, a
+/// word of at most 8 bytes, and a line feed.
 const LONGEST_LINE: usize = 700;
 
-/// The part of a line after a name.
+/// The part of a host's line after its name.
 type Line = ArrayVec<u8, LONGEST_LINE>;
 
-/// Appends a label and a number.
+/// Appends a label of at most 20 bytes, and a number in decimal.
 fn push_field(line: &mut Line, label: &[u8], number: u64)
     requires label { length label.now ≤ 20 }
     requires room { length line.old.items + 60 ≤ 700 }
@@ -30,7 +30,7 @@ fn push_field(line: &mut Line, label: &[u8], number: u64)
     line.try_extend_from_slice(digits).unwrap();
 }
 
-/// Appends a word that states whether the number of missed frames is exact.
+/// Appends ` exact` if the number of missed frames is exact, else ` atleast`.
 fn push_exact(line: &mut Line, exact: bool)
     requires room { length line.old.items + 8 ≤ 700 }
     ensures text { line.new.items ≡ line.old.items ++ exact_word exact }
@@ -40,7 +40,8 @@ fn push_exact(line: &mut Line, exact: bool)
     line.try_extend_from_slice(word).unwrap();
 }
 
-/// Appends the numbers of frames that resets gave up, if there was a reset.
+/// Appends the numbers of frames that resets dropped, and that arrived while the receive side was disabled. Appends
+/// nothing if there was no reset.
 fn push_resets(line: &mut Line, given_up: Option<GivenUp>)
     requires room { length line.old.items + 180 ≤ 700 }
     ensures text { line.new.items ≡ line.old.items ++ resets_text given_up }
@@ -85,11 +86,12 @@ fn print_host<W: Sink>(host: &HostSummary, sink: &mut W) -> Result<(), WriteErro
 
 /// Writes the program's lines of a run to a sink, one line for each host: `NAME accepted A put P reached R stored S
 /// missed M exact given G unclaimed U`. `atleast` replaces `exact` if more frames may have been missed. The line of a
-/// host that was reset has ` givenup T R off O` at its end. Each line ends with a line feed. Allocates no memory.
+/// host that was reset has ` givenup T R off O` at its end. Each line ends with a line feed. The call allocates no
+/// memory.
 ///
 /// # Errors
 ///
-/// E67 [`Write`](WriteError::Write) if the sink fails; then it has a beginning of the text.
+/// E67 [`Write`](WriteError::Write) if the sink fails. Then the sink has taken a beginning of the text.
 pub fn print_summary<W: Sink>(summary: &Summary, sink: &mut W) -> Result<(), WriteError>
     requires { W.failures sink.old < u64.MAX }
     ensures ok { OnOk result (Appends (W.taken sink.old) (W.taken sink.new) (summary_text summary.now)) }

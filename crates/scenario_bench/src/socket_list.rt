@@ -6,8 +6,8 @@ ghost use Rattle.scenario_bench.specs.Given.{sockets_from, sockets_of_host};
 use network_plan::HostPlan;
 use std::alloc::{AllocError, Global};
 
-/// Appends a pair of numbers for each socket of a host: the host's and the socket's. If memory is refused, some of the
-/// pairs may have been appended.
+/// Appends a pair for each socket of a host: the host's number and the socket's number, in order. If memory is refused,
+/// some of the pairs may have been appended.
 fn push_sockets(
     host: usize,
     count: usize,
@@ -26,7 +26,7 @@ fn push_sockets(
 ///
 /// # Errors
 ///
-/// Only if memory was refused.
+/// Returns an error only if memory is refused.
 pub(crate) fn sockets(alloc: Global, plans: &[HostPlan]) -> Result<Vec<(usize, usize)>, AllocError>
     ensures { IfOk result (λ sockets. sockets.items ≡ sockets_from 0 (hosts_of plans.now)) }
 {

@@ -7,12 +7,12 @@ ghost use Rattle.run_record.specs.Puts.{names_in};
 use network_plan::HostPlan;
 use std::alloc::{AllocError, Global};
 
-/// Returns the names of the wires of these hosts: each name once, in the order in which it first occurs in `plans`.
-/// [`bench`](crate::bench) takes sinks for these wires.
+/// Returns the names of the wires of these hosts: each name once, in the order in which the names first occur in
+/// `plans`. [`bench`](crate::bench) takes sinks for these wires.
 ///
 /// # Errors
 ///
-/// Only if memory was refused.
+/// Returns an error only if memory is refused.
 pub fn wires<'a>(alloc: Global, plans: &'a [HostPlan]) -> Result<Vec<&'a str>, AllocError>
     ensures names { IfOk result (λ wires. names_in wires.items ≡ wire_names (hosts_of plans.now)) }
     ensures count { IfOk result (λ wires. length wires.items ≡ length (wire_names (hosts_of plans.now))) }

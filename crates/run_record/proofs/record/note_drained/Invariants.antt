@@ -5,7 +5,6 @@ use Rattle.run_record.specs.Kept.{FramesGrow, returned_in}
 use Rattle.run_record.specs.Tallies.{TalliesGrow}
 use Rattle.run_record.proofs.record.note_drained.Given as goal
 
--- the frames so far are recorded
 abbrev pub invariant-loop-one : goal.invariant-loop-one
 invariant-loop-one l =
     TalliesGrow (said_of_drain l.host 0 (map drained_frame (take l.one-index l.given))) l.fn.hosts l.hosts

@@ -41,7 +41,7 @@ returns-in_err-host c =
     rw p.1 (subst (λ (stop : Stop). IfFault stop (IsFaulty (line.Call c.args.kind) before words)) (sym p.2)
     (each-fault c.in_err-host.field-0.0 _ (IsFaulty (line.Call c.args.kind) before words)
     (λ f told. call-faulty c.args.kind before words (texts c.split_at_word.result.0.now) (texts c.split_at_word.result.1.now)
-    (hosts_of c.as_slice-hosts.result.now) c.word_at.result.now f (ap hosts_of c.as_slice-hosts.ensures.value) c.word_at.ensures
+    (hosts_of c.hosts.result.now) c.word_at.result.now f (ap hosts_of c.hosts.ensures) c.word_at.ensures
     c.split_at_word.ensures.before c.split_at_word.ensures.after count c.in_ok-asked.ensures.ok.form told)
     c.in_err-host.ensures.err))
 
@@ -52,7 +52,7 @@ returns c =
     let count = sym (ap length c.split_at_word.ensures.before) ∙ text-count c.split_at_word.result.0.now ∙ c.if-call-size_of_call.false
     ∙ c.size_of_call.ensures in
     let call = c.in_ok-host.ensures.ok in
-    let hosts = ap hosts_of c.as_slice-hosts.ensures.value in
+    let hosts = ap hosts_of c.hosts.ensures in
     let name = c.word_at.ensures ∙ ap (word 1) c.split_at_word.ensures.before in
     line-said-by (line.Call c.args.kind) before (so_far c.say.new.scenario) (saying (event_of c.event.result) before) words c.say.result
     (record {
@@ -67,7 +67,7 @@ returns c =
       order = λ late. absurd (false≢true late);
     })
     (call-said c.args.kind before words (texts c.split_at_word.result.0.now) (texts c.split_at_word.result.1.now)
-    (hosts_of c.as_slice-hosts.result.now) c.word_at.result.now (event_of c.event.result) c.in_ok-host.host c.in_ok-host.ticks.items
+    (hosts_of c.hosts.result.now) c.word_at.result.now (event_of c.event.result) c.in_ok-host.host c.in_ok-host.ticks.items
     hosts c.word_at.ensures c.split_at_word.ensures.before c.split_at_word.ensures.after
     (c.event.ensures ∙ c.in_ok-asked.ensures.ok.said c.in_ok-host.host c.in_ok-host.ticks.items) call.host call.inside)
     c.say.ensures.said c.say.ensures.memory

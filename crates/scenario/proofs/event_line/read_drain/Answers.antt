@@ -12,8 +12,7 @@ returns-then-words-ne2 c = λ two. c.if-words-ne2.true (sym (text-count c.args.w
 
 pub returns-in_default : goal.returns-in_default
 returns-in_default c =
-    let place = c.host_named.ensures.place
-    ∙ ap (λ plans. place_of c.word_at.result.now (hosts_of plans)) c.as_slice.ensures.value
+    let place = c.host_named.ensures
     ∙ ap (λ name. place_of name (hosts_of c.args.scenario.now.plan.hosts.items)) c.word_at.ensures in (
       text-count c.args.words.now ∙ c.if-words-ne2.false,
       tt,
@@ -23,8 +22,7 @@ returns-in_default c =
 pub returns : goal.returns
 returns c =
     let before = so_far c.args.scenario.now in
-    let place = c.host_named.ensures.place
-    ∙ ap (λ plans. place_of c.word_at.result.now (hosts_of plans)) c.as_slice.ensures.value
+    let place = c.host_named.ensures
     ∙ ap (λ name. place_of name (hosts_of c.args.scenario.now.plan.hosts.items)) c.word_at.ensures in
     line-said-by line.Drain before (so_far c.say.new.scenario) (saying (Drains c.in-Some.host) before) (texts c.args.words.now) c.say.result
     (record {

@@ -22,7 +22,7 @@ returns-then-not-is_tick c = (
 pub returns-in_default : goal.returns-in_default
 returns-in_default c =
     let named = c.tick_of.ensures
-    ∙ ap (λ plans. tick_named (hosts_of plans) c.word_at-word.result.now) c.as_slice.ensures.value
+    ∙ ap (λ plans. tick_named (hosts_of plans) c.word_at-word.result.now) c.hosts.ensures
     ∙ ap (tick_named (hosts_of c.args.scenario.now.plan.hosts.items)) c.word_at-word.ensures in (
       text-count c.args.words.now ∙ c.if-words-ne2.false,
       sym (ap is_tick c.word_at-word.ensures) ∙ sym c.is_tick.ensures ∙ c.if-not-is_tick.false,
@@ -34,7 +34,7 @@ returns c =
     let before = so_far c.args.scenario.now in
     let words = texts c.args.words.now in
     let named = c.tick_of.ensures
-    ∙ ap (λ plans. tick_named (hosts_of plans) c.word_at-word.result.now) c.as_slice.ensures.value
+    ∙ ap (λ plans. tick_named (hosts_of plans) c.word_at-word.result.now) c.hosts.ensures
     ∙ ap (tick_named (hosts_of c.args.scenario.now.plan.hosts.items)) c.word_at-word.ensures in
     line-said-by line.Tick before (so_far c.say.new.scenario) (saying (Ticks c.in-Some.tick) before) words c.say.result
     (record {

@@ -5,19 +5,16 @@ use Rattle.scenario.specs.declared.host_use.HostUse.{HostUse}
 use Rattle.scenario.specs.declared.host_use.OptionKind.{OptionKind}
 use Rattle.scenario.proofs.host_use.first_use.Goals as goal
 
--- a word that takes no value
 lone : (word : Text) (behind : List (Bor Text)) (option : Option OptionKind) → option_named word ≡ option → follows option ≡ false
     → uses_in (word ∷ texts behind) ≡ use_without option ∷ uses_in (texts behind)
 lone word [] option named none = rw named refl
 lone word (value ∷ behind) option named none = rw (named, none) refl
 
--- a word that no word follows
 last : (word : Text) (behind : List (Bor Text)) (option : Option OptionKind) → option_named word ≡ option → None ≡ slice_get behind 0
     → uses_in (word ∷ texts behind) ≡ use_without option ∷ uses_in (texts behind)
 last word [] option named end = rw named refl
 last word (value ∷ behind) option named end = absurd cc
 
--- an option with its value
 valued : (word : Text) (behind : List (Bor Text)) (option : Option OptionKind) (value : Bor Text) → option_named word ≡ option
     → follows option ≡ true → Some value ≡ slice_get behind 0
     → uses_in (word ∷ texts behind) ≡ use_with option value.now ∷ uses_in (texts (drop 1 behind))

@@ -6,7 +6,7 @@ use Rattle.scenario.specs.Words.{Text, texts}
 use Rattle.scenario.specs.declared.host_use.HostUse.{HostUse}
 use Rattle.scenario.proofs.host_use.uses_of.Goals as goal
 
--- one more use, and the uses of the words after it
+-- the uses so far and those of the remaining words remain all uses, after one more use was read
 use-more : (words : List (Bor Text)) (place taken : ℕ) (d : Bor Text) (one : HostUse) (used : List HostUse) (behind : List (Bor Text))
     → place < length words → behind ≡ drop (place + 1) words
     → uses_in ((get_or words place d).now ∷ texts behind) ≡ one ∷ uses_in (texts (drop taken behind))

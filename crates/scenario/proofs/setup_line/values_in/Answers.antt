@@ -26,8 +26,7 @@ returns-in_default-clause-err c = (
 
 pub returns-then-is_some-clause-err : goal.returns-then-is_some-clause-err
 returns-then-is_some-clause-err c =
-    let place = c.host_named.ensures.place
-    ∙ ap (λ plans. place_of c.word_at-2.result.now (hosts_of plans)) c.as_slice.ensures.value
+    let place = c.host_named.ensures
     ∙ ap (λ name. place_of name (hosts_of c.args.scenario.now.plan.hosts.items)) c.word_at-2.ensures in (
       host-counted c.args.words.now c.args.uses.now c.are_counted.result c.requires.least c.requires.uses c.are_counted.ensures
           c.if-not-are_counted.false,
@@ -41,8 +40,7 @@ returns-then-is_some-clause-err c =
 pub returns-then-not-is_empty-clause-err : goal.returns-then-not-is_empty-clause-err
 returns-then-not-is_empty-clause-err c =
     let free = no-place c.host_named.result c.is_some.result c.is_some.ensures c.if-is_some.false in
-    let place = c.host_named.ensures.place
-    ∙ ap (λ plans. place_of c.word_at-2.result.now (hosts_of plans)) c.as_slice.ensures.value
+    let place = c.host_named.ensures
     ∙ ap (λ name. place_of name (hosts_of c.args.scenario.now.plan.hosts.items)) c.word_at-2.ensures in (
       host-counted c.args.words.now c.args.uses.now c.are_counted.result c.requires.least c.requires.uses c.are_counted.ensures
           c.if-not-are_counted.false,
@@ -58,8 +56,7 @@ returns-then-not-is_empty-clause-err c =
 pub returns-clause-ok : goal.returns-clause-ok
 returns-clause-ok c =
     let free = no-place c.host_named.result c.is_some.result c.is_some.ensures c.if-is_some.false in
-    let place = c.host_named.ensures.place
-    ∙ ap (λ plans. place_of c.word_at-2.result.now (hosts_of plans)) c.as_slice.ensures.value
+    let place = c.host_named.ensures
     ∙ ap (λ name. place_of name (hosts_of c.args.scenario.now.plan.hosts.items)) c.word_at-2.ensures in
     record {
       good = record {

@@ -5,7 +5,7 @@ use Rattle.scenario_bench.specs.EventLists.{arrivals_from}
 use Rattle.run_record.specs.Puts.{wire_name_of}
 use Rattle.scenario_bench.proofs.events.push_arrivals.Given as goal
 
--- what is appended so far, and what the hosts that are left add
+-- the events appended so far, followed by those of the remaining hosts, are all events to append
 abbrev pub invariant-loop-number : goal.invariant-loop-number
 invariant-loop-number l = map event_of l.events.items
     ++ arrivals_from l.pieces l.number l.sender (wire_name_of (hosts_of l.plans) l.sender) (hosts_of (drop l.number l.plans))

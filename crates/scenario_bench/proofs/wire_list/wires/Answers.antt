@@ -4,7 +4,6 @@ use Rattle.std.specs.List.{list_any}
 use Rattle.scenario_bench.proofs.WireLists.{wire_more, wire_there}
 use Rattle.scenario_bench.proofs.wire_list.wires.Goals as goal
 
--- whether the name is among the others
 tested : (wires slice : List (Bor (List ℕ))) (wire name : List ℕ) (result answer : Bool) → wire ≡ name → slice ≡ wires
     → result ≡ list_any (λ (one : Bor (List ℕ)). bytes_eq one.now wire) slice → result ≡ answer
     → list_any (λ (one : Bor (List ℕ)). bytes_eq one.now name) wires ≡ answer

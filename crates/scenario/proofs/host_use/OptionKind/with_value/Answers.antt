@@ -1,14 +1,13 @@
 use Rattle.std.proofs.Common.{◌≡◌, ◌∙◌, ℕ, Option, Some, None, ap, sym}
 use Rattle.std.specs.Option.{MatchOption, option_map}
 use Rattle.text.specs.Numbers.{number_in}
-use Rattle.mdic_phy.specs.declared.phy.Link.{Link}
+use Rattle.eeprom_phy.specs.declared.phy.Link.{Link}
 use Rattle.scenario.specs.HostOptions.{link_in, use_of, use_or_unread}
 use Rattle.scenario.specs.declared.host_use.HostUse.{HostUse}
 use Rattle.scenario.specs.declared.host_use.HostUse.TheVariants as uses
 use Rattle.scenario.specs.declared.host_use.OptionKind.{OptionKind}
 use Rattle.scenario.proofs.host_use.OptionKind.with_value.Goals as goal
 
--- if the value of an option was read, the use contains this value; otherwise the use is `Unread`
 read-as : (X : Type 0) (kind : OptionKind) (make : X → HostUse) (value : Option X) (result : HostUse)
     → MatchOption value (result ≡ uses.Unread kind) (λ x. result ≡ make x) → result ≡ use_or_unread kind (option_map make value)
 read-as X kind make (Some x) result is = is
