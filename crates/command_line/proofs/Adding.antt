@@ -27,7 +27,6 @@ with_last_rule : (app : App) (rules : List Rule) (rule : Rule) → with_rules ap
 with_last_rule app [] rule = refl
 with_last_rule app (first ∷ rules) rule = with_last_rule (with_rule app first) rules rule
 
--- if the command has the rules of the first i arguments, adding the next argument adds its rule
 pub with_argument : (old new : Command) (arg : Arg) (app : App) (source : List Argument) (i : ℕ) (d : Argument) → i < length source
     → AddsArg old arg new → IsLocalArg arg → rule_of arg ≡ rule_for (get_or source i d)
     → app_of old ≡ with_rules app (map rule_for (take i source))
@@ -45,7 +44,6 @@ with_last_command : (app : App) (commands : List App) (command : App)
 with_last_command app [] command = refl
 with_last_command app (first ∷ commands) command = with_last_command (with_subcommand app first.top) commands command
 
--- if the program has the first i subcommands, adding the next subcommand gives the first i + 1
 pub with_command : (old new command : Command) (app : App) (source : List Subcommand) (i : ℕ) (d : Subcommand) → i < length source
     → AddsSubcommand old command new → IsLocal command → app_of command ≡ app_for (get_or source i d)
     → app_of old ≡ with_subcommands app (map app_for (take i source))

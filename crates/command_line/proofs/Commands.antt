@@ -274,7 +274,6 @@ drive_taken words name rows it =
     (level_checks built_drive drive_gives [] words false [] it.faultless) in
     inr (inr (inr (inr (it.named ∙ drive_is_named, subst HasTraces (sym it.rows_are) traces))))
 
--- if clap accepts the words, the subcommand is one of the program's, and its required paths are given
 pub taken : (words : List Text) (name : Text) (rows : List Row) → refusals words ≡ [] → found_in words ≡ Some (name, rows)
     → IsSubcommand name rows
 unfolding refusals found_in
@@ -310,7 +309,6 @@ pub found_is : (a : App) (words : List Text) → a ≡ program_app → subcomman
 unfolding found_in
 found_is a words e = ap (λ (x : App). subcommand_of x words) e
 
--- if clap's error is that memory was refused, or of one of these kinds, the error made from it is `Memory`, or has clap's error
 pub refused_by : (kinds : Kinds) (error : Error) (made : LineError) → HasKind kinds error → IsMadeOf error made → IsRefusedBy kinds made
 refused_by kinds error Memory h m = tt
 refused_by kinds error (Value value) h m = absurd m

@@ -11,12 +11,10 @@ use Rattle.clap.specs.Words.{Text, first_of, first_value, rows_of}
 use Rattle.clap.specs.declared.parser.matches.Found.{Found}
 use Rattle.command_line.specs.Jobs.{IsFlagOf, IsValueOr}
 
--- a getter returns the first text that the rows have for the id, if there is a text
 pub text_of : (found : Found) (id : Text) (got : Option (Bor Text)) → option_map (λ s. s.now) got ≡ first_value found id
     → first_of id (rows_of found) ≡ option_map (λ s. s.now) got
 text_of found id got e = sym (first_value-rows found id) ∙ sym e
 
--- if the getter returns a text, the rows have this text
 pub text_is : (first : Option Text) (got : Option (Bor Text)) → first ≡ option_map (λ s. s.now) got → {text : Bor Text} → got ≡ Some text
     → first ≡ Some text.now
 text_is first got e is = e ∙ ap (λ (o : Option (Bor Text)). option_map (λ s. s.now) o) is
@@ -25,18 +23,15 @@ is_some_mapped : (got : Option (Bor Text)) → IsSome (option_map (λ s. s.now) 
 is_some_mapped None h = h
 is_some_mapped (Some x) h = h
 
--- if the rows have a text, the getter returns a text
 pub got_some : (first : Option Text) (got : Option (Bor Text)) → first ≡ option_map (λ s. s.now) got → IsSome first → IsSome got
 got_some first got e has = is_some_mapped got (subst (λ (o : Option Text). IsSome o) e has)
 
--- if the default and each value that a text spells have a property, the option's value has the property
 pub of_given_or_default : {V : Type 0} (spells : Text → V → Type 0) (default : V) (P : V → Type 0) → P default
     → ((text : Text) (value : V) → spells text value → P value)
     → (first : Option Text) (value : V) → IsValueOr spells default first value → P value
 of_given_or_default spells default P base each None value h = subst P (sym h) base
 of_given_or_default spells default P base each (Some text) value h = each text value h
 
--- a flag's value is true if and only if the flag's text is "true"
 pub flag_value : (first : Option Text) (got : Option (Bor Text)) (word : Bor Text) (flag : Bool) → word.now ≡ codes "true"
     → first ≡ option_map (λ s. s.now) got → flag ≡ option_eq (λ x y. bytes_eq x.now y.now) got (Some word) → IsFlagOf first flag
 flag_value first None word flag word_is is set = (
@@ -52,13 +47,11 @@ flag_value first (Some text) word flag word_is is set =
       λ same. set ∙ decides.1 (same_Some text.now (codes "true") (sym is ∙ same) ∙ sym word_is),
     )
 
--- if the rows have this text, the getter returns a text
 pub is_there : (first : Option Text) (got : Option (Bor Text)) (text : Text) → first ≡ option_map (λ s. s.now) got → first ≡ Some text
     → IsSome got
 is_there first (Some one) text e is = refl
 is_there first None text e is = absurd cc
 
--- `text` and `here` are the same text of the rows, so `here` doesn't have a property that `text` doesn't have
 pub unspelled_here : (P : Text → Type 0) (first : Option Text) (text here : Text) → ¬ P text → first ≡ Some text → first ≡ Some here
     → ¬ P here
 unspelled_here P first text here unspelled e f =

@@ -89,7 +89,6 @@ gives_of_either : (b : Bool) (x y : Option Rule) → Gives x → Gives y → Giv
 gives_of_either true x y h k = h
 gives_of_either false x y h k = k
 
--- if `gives` is true for each argument, it is true for the argument that `find` returns, if there is one
 pub found_gives : (p : Rule → Bool) (rules : List Rule) → list_all gives rules ≡ true → Gives (find p rules)
 found_gives p [] e = tt
 found_gives p (a ∷ rest) e =
@@ -101,7 +100,6 @@ some_values_keep : (id : Text) (how : Reading) (s : ValueSource) (values : List 
 some_values_keep id how s [] rows some h = absurd (true≢false (sym some))
 some_values_keep id how s (v ∷ vs) rows some h = with_values_keeps id how s v vs rows h
 
--- if there are values for a use without values, each row has a value after the use of a flag
 flag_use_keeps : (a : Rule) (how : Reading) (s : ValueSource) (values : List Text) (rows : List Row) → nat_lt 0 (length a.missing) ≡ true
     → EachHasValue rows → EachHasValue (with_values a.id how s (values_or_missing a values) rows)
 flag_use_keeps a how s [] rows some h = some_values_keep a.id how s a.missing rows some h
@@ -188,11 +186,9 @@ first_there : (found : Option Row) → OptionHasValue found → option_map_or (�
 first_there None h e = absurd (true≢false (sym e))
 first_there (Some r) h e = first_value_there r.values h
 
--- an argument that was given has a first value
 pub given_has_first : (id : Text) (rows : List Row) → EachHasValue rows → is_given id rows ≡ true → IsSome (first_of id rows)
 given_has_first id rows h e = first_there (find (λ r. bytes_eq r.id id) rows) (found_has_value _ rows h) e
 
--- if no check fails, no required argument is missing
 pub nothing_missing : (help subcommand argument : Bool) → check_kinds help subcommand argument ≡ [] → argument ≡ false
 nothing_missing true subcommand argument e = some_kind _ _ e
 nothing_missing false true argument e = some_kind _ _ e

@@ -221,7 +221,6 @@ module _ (s : Shape) (each : list_all gives s.rules ≡ true) where
 
   -- ---- a level
 
-  -- if a level has no fault, `IsGood` holds of its walk, each of its rows has a value, and the subcommand and the last checks have no fault
   pub level_walk : (names : Names) (words : List Text) (has : Bool) (below : Kinds) → level_fault s names nothing_held words has below ≡ []
       → IsGood (walk s.rules names nothing_held words)
   level_walk names words has below f =

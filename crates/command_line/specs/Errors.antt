@@ -9,7 +9,7 @@ use Rattle.command_line.specs.declared.error.InvalidValue.{InvalidValue}
 use Rattle.command_line.specs.declared.error.LineError.{LineError}
 use Rattle.command_line.specs.declared.error.LineError.TheVariants.{Words, Value, NotUnicode, Memory}
 
--- the error of a command line that is made from an error of clap
+-- `Memory` is made from clap's error that memory was refused, and `Words` from any other error of clap
 abbrev pub IsMadeOf : Error → LineError → Type 0
 IsMadeOf error Memory = kind_of error ≡ OutOfMemory
 IsMadeOf error (Words same) = (same ≡ error) × (kind_of error ≢ OutOfMemory)

@@ -29,18 +29,18 @@ use Rattle.command_line.specs.declared.job.ValueOption.TheVariants as options
 abbrev pub text_in : ArgMatches → Text → Option Text
 text_in matches name = first_of name (rows_of (found_of matches))
 
--- the value that an option's text spells; there is none if and only if the option isn't given
+-- an option's value is what its text spells; the option has no value if and only if it has no text
 abbrev pub IsValueOf : {V : Type 0} → (Text → V → Type 0) → Option Text → Option V → Type 0
 IsValueOf spells None None = ⊤
 IsValueOf spells (Some text) (Some value) = spells text value
 IsValueOf spells _ _ = ⊥
 
--- the value that an option's text spells, and the default if the option isn't given
+-- an option's value is what its text spells, or the default if the option has no text
 abbrev pub IsValueOr : {V : Type 0} → (Text → V → Type 0) → V → Option Text → V → Type 0
 IsValueOr spells default None value = value ≡ default
 IsValueOr spells default (Some text) value = spells text value
 
--- the text of an option; there is none if and only if the option isn't given
+-- `value` is the text of an option, or `None` if the option has no text
 abbrev pub IsTextOf : Option Text → Option (Bor Text) → Type 0
 IsTextOf text value = text ≡ option_map (λ value. value.now) value
 
@@ -101,7 +101,7 @@ pub record IsDriveJobOf (rows : List Row) (job : DriveJob) : Type 0 where
   pub send : first_of (codes "send") rows ≡ Some job.send.now
   pub receive : first_of (codes "receive") rows ≡ Some job.receive.now
 
--- the job is that of the subcommand with these matches
+-- the job is the one that the subcommand with this name asks for with these rows
 abbrev pub IsJobOf : Text × List Row → Job → Type 0
 IsJobOf found (Pass job) = (found.0 ≡ codes "pass") × IsPassJobOf found.1 job
 IsJobOf found (Run job) = (found.0 ≡ codes "run") × IsRunJobOf found.1 job
@@ -113,7 +113,7 @@ IsJobOf found (Drive job) = (found.0 ≡ codes "drive") × IsDriveJobOf found.1 
 abbrev pub IsWithinBounds : PassFilter → Type 0
 IsWithinBounds filter = IfSome filter.group IsGroup × IfSome filter.vlan (λ n. n ≤ 4095)
 
--- bounds of a `serve` for any words: the receive packet buffer has an allowed size, and the link needs 1 to 65,535 ticks or is never up
+-- Bounds of a `serve` for any words: the receive packet buffer has an allowed size. The link needs 1 to 65,535 ticks, or is never up.
 abbrev pub IsServable : ServeJob → Type 0
 IsServable job = IsKilobytes job.receive_kilobytes × IsLink job.link
 

@@ -69,6 +69,7 @@ program_app =
 unfoldable pub refusals : List Text → Kinds
 refusals words = fault_of program_app words
 
--- the subcommand that clap finds in the words, and the texts of each of its options, flags and paths
+-- the subcommand that clap finds in the words, with the texts of each of its options, flags and paths; or `None` if clap finds no
+-- subcommand
 unfoldable pub found_in : List Text → Option (Text × List Row)
 found_in words = subcommand_of program_app words

@@ -19,8 +19,9 @@ const REGISTERS: u64 = 0xFEB0_0000;
 /// The address in the EEPROM of the served adapter if neither `--address` nor `--image` is given.
 const ADDRESS: [u8; 6] = [0x02, 0, 0, 0, 0, 0x01];
 
-/// Returns the contents of the served adapter's EEPROM. Fails if both `--address` and `--image` are given, or if the
-/// text of `--address` isn't an address.
+/// Returns where the served adapter's EEPROM gets its contents: from the file of `--image`, or else from an image of
+/// the address of `--address`, by default [`ADDRESS`]. Fails if both options are given, or if the text of `--address`
+/// isn't an address.
 fn image<'a>(matches: &ArgMatches<'a>) -> Result<ServeImage<'a>, ValueOption>
     ensures value { IfOk result (IsImageOf (rows_of (found_of matches.now))) }
     ensures refused { IfErr result (IsMisspelledOf (codes "serve") (rows_of (found_of matches.now))) }
@@ -35,8 +36,8 @@ fn image<'a>(matches: &ArgMatches<'a>) -> Result<ServeImage<'a>, ValueOption>
     }
 }
 
-/// Returns the value of `--link`: the ticks of the PHY after which the link of the served adapter is up, or never. If
-/// `--link` isn't given, this is one tick. Fails if the text of `--link` doesn't have the option's form.
+/// Returns the value of `--link`: the ticks of the PHY after which the link of the served adapter is up, or never.
+/// Returns one tick if `--link` isn't given. Fails if the text of `--link` doesn't have the option's form.
 fn link(matches: &ArgMatches<'_>) -> Result<ServeLink, ValueOption>
     ensures value { IfOk result (IsValueOr SpellsLink (After 1) (text_in matches.now (codes "link"))) }
     ensures refused { IfErr result (IsMisspelledOf (codes "serve") (rows_of (found_of matches.now))) }
@@ -50,7 +51,7 @@ fn link(matches: &ArgMatches<'_>) -> Result<ServeLink, ValueOption>
     }
 }
 
-/// Returns the job of a `serve` with these matches.
+/// Returns the job of a `serve` with these matches. Fails with an option whose text is invalid.
 pub(crate) fn serve_job<'a>(matches: &ArgMatches<'a>) -> Result<Job<'a>, ValueOption>
     ensures bounds { IfOk result HasBounds }
     ensures job { IfOk result (IsJobOf (codes "serve", rows_of (found_of matches.now))) }
@@ -69,7 +70,8 @@ pub(crate) fn serve_job<'a>(matches: &ArgMatches<'a>) -> Result<Job<'a>, ValueOp
     }))
 }
 
-/// Returns the job of a `drive` with these matches, which contain the paths of both traces.
+/// Returns the job of a `drive` with these matches, which contain the paths of both traces. Fails with an option whose
+/// text is invalid.
 pub(crate) fn drive_job<'a>(matches: &ArgMatches<'a>) -> Result<Job<'a>, ValueOption>
     requires { HasTraces (rows_of (found_of matches.now)) }
     ensures bounds { IfOk result HasBounds }

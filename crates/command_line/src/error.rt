@@ -81,8 +81,8 @@ impl fmt::Display for InvalidValue<'_> {
     }
 }
 
-/// Returns the end of an error's first line, after the option's name: the name of the option's value in help, and
-/// which values are valid, or for `--image` why it was refused.
+/// Returns the end of an error's first line, after the option's name: the name of the option's value in help, and which
+/// values are valid. For `--image`, returns why the option was refused.
 fn form_of(option: ValueOption) -> &'static str {
     match option {
         ValueOption::Address =>

@@ -1,13 +1,13 @@
 //! The jobs that a command line can ask for.
 
-/// A job of the program. The path `-` means standard input as an input, except for `drive` and `--schedule`, and
-/// standard output as OUT of `pass` or the file of `--events`.
+/// A job of the program. As the path of an input, `-` means standard input, except for `drive` and `--schedule`. As the
+/// path of OUT of `pass` or of the file of `--events`, `-` means standard output.
 #[derive(Clone, Copy)]
 pub enum Job<'a> {
     /// `pass`: the frames of a trace go through a receive filter and a ring to another trace.
     Pass(PassJob<'a>),
-    /// `run`: runs a scenario, and writes the frames that its sockets returned to traces, on request also the frames on
-    /// its wires.
+    /// `run`: runs a scenario, and writes the frames that its sockets returned to traces, and with `--wires` also the
+    /// frames on its wires.
     Run(RunJob<'a>),
     /// `show`: lists the frames of a trace.
     Show(ShowJob<'a>),
@@ -63,14 +63,14 @@ pub struct PassFilter {
     pub vlan: Option<u16>,
 }
 
-/// The job of `serve`. Each option that isn't given has its default here.
+/// The job of `serve`. An option that isn't given has its default here, or is `None`.
 #[derive(Clone, Copy)]
 pub struct ServeJob<'a> {
     /// The number of bytes of memory, from address 0 on (`--memory`, 1 MiB).
     pub memory: u64,
     /// The address of the first byte of registers (`--registers`, 0xFEB00000).
     pub registers: u64,
-    /// The contents of the adapter's EEPROM (`--address`, `--image`, an image of 02:00:00:00:00:01).
+    /// Where the adapter's EEPROM gets its contents (`--address`, `--image`, an image of 02:00:00:00:00:01).
     pub image: ServeImage<'a>,
     /// When the link is up (`--link`, after one tick).
     pub link: ServeLink,
@@ -82,7 +82,7 @@ pub struct ServeJob<'a> {
     pub missed: u32,
     /// The path of the schedule that is played (`--schedule`, none).
     pub schedule: Option<&'a str>,
-    /// The path of the file for a schedule of the steps that were played (`--record`, none).
+    /// The path of the file for a schedule of what was played (`--record`, none).
     pub record: Option<&'a str>,
 }
 
@@ -105,12 +105,12 @@ pub struct DriveJob<'a> {
     pub receive: &'a str,
     /// The number of received frames after which `drive` ends once it sends no more frames (`--expect`).
     pub expect: Option<u64>,
-    /// The number of calls of the handler in a row, without a frame received or passed to the driver, after which
-    /// `drive` sends no more frames, or ends if it already sends no more (`--idle`).
+    /// The number of calls of the handler in a row without a frame received or passed to the driver (`--idle`). After
+    /// these calls, `drive` sends no more frames, or ends if it already sends no more.
     pub idle: Option<u64>,
 }
 
-/// The contents of a served adapter's EEPROM.
+/// Where a served adapter's EEPROM gets its contents.
 #[derive(Clone, Copy, PartialEq, Eq)]
 pub enum ServeImage<'a> {
     /// An image of this Ethernet address, the first byte first (`--address`).
@@ -128,7 +128,8 @@ pub enum ServeLink {
     Never,
 }
 
-/// An option whose value can be refused. The name of the option is that of the variant: `Address` is `--address`.
+/// An option whose value can be refused. The option has the name of the variant in lower case: `Address` is
+/// `--address`.
 #[derive(Clone, Copy)]
 pub enum ValueOption {
     Address,

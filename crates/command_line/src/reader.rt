@@ -16,7 +16,7 @@ use clap::ArgMatches;
 use std::alloc::Global;
 use std::convert::AsStr;
 
-/// Returns the job of a command with these matches.
+/// Returns the job of the subcommand `name` with these matches. Fails with an option whose text is invalid.
 fn job_of<'a>(name: &str, matches: &ArgMatches<'a>) -> Result<Job<'a>, ValueOption>
     requires { IsSubcommand name.now (rows_of (found_of matches.now)) }
     ensures bounds { IfOk result HasBounds }
@@ -33,7 +33,8 @@ fn job_of<'a>(name: &str, matches: &ArgMatches<'a>) -> Result<Job<'a>, ValueOpti
     }
 }
 
-/// Returns the matches that clap finds in the words. They contain a subcommand.
+/// Returns the matches that clap finds in the words. They contain a subcommand. Fails if clap refuses the words, or if
+/// memory is refused.
 fn matches_of<'a, S: AsStr>(alloc: Global, words: &'a [S]) -> Result<ArgMatches<'a>, LineError<'a>>
     ensures taken { OnOk result (refusals (map S.text words.entry.now) ≡ []) }
     ensures found { IfOk result (λ matches. has_subcommand matches ≡ true
@@ -45,7 +46,7 @@ fn matches_of<'a, S: AsStr>(alloc: Global, words: &'a [S]) -> Result<ArgMatches<
     Ok(matches)
 }
 
-/// Reads the program's words. The first word is the program's name.
+/// Returns the job that the program's words ask for. The first word is the program's name.
 ///
 /// # Errors
 ///

@@ -20,7 +20,7 @@ const LEAST_KILOBYTES: u64 = 2;
 const MOST_KILOBYTES: u64 = 48;
 
 /// Returns the group address that a text spells: an address whose first byte is odd, such as `01:00:5e:00:00:01`.
-/// `None` for any other text, such as an individual address.
+/// Returns `None` for any other text, such as an individual address.
 pub(crate) fn group_of(text: &str) -> Option<[u8; 6]>
     ensures spelled { IfSome result (SpellsGroup text.now) }
     ensures refused { IfNone result ((address : List ℕ) → ¬ SpellsGroup text.now address) }
@@ -32,8 +32,8 @@ pub(crate) fn group_of(text: &str) -> Option<[u8; 6]>
     Some(address)
 }
 
-/// Returns the number up to `most` that a text spells: only decimal digits, with or without leading zeros. `None` for
-/// any other text, such as one with a sign.
+/// Returns the number up to `most` that a text spells: only decimal digits, with or without leading zeros. Returns
+/// `None` for any other text, such as a number with a sign.
 fn decimal_of(text: &str, most: u64) -> Option<u64>
     ensures spelled { IfSome result (λ n. SpellsDecimal text.now n × (n ≤ most)) }
     ensures refused { IfNone result ((n : ℕ) → SpellsDecimal text.now n → ¬ (n ≤ most)) }
@@ -45,8 +45,8 @@ fn decimal_of(text: &str, most: u64) -> Option<u64>
     Some(number)
 }
 
-/// Returns the kilobytes of a receive packet buffer that a text spells: an even number from 2 to 48, only decimal
-/// digits. `None` for any other text.
+/// Returns the kilobytes of a receive packet buffer that a text spells: an even number from 2 to 48, in decimal digits.
+/// Returns `None` for any other text.
 fn kilobytes_of(text: &str) -> Option<u64>
     ensures spelled { IfSome result (SpellsKilobytes text.now) }
     ensures refused { IfNone result ((kilobytes : ℕ) → ¬ SpellsKilobytes text.now kilobytes) }
@@ -58,8 +58,8 @@ fn kilobytes_of(text: &str) -> Option<u64>
     Some(kilobytes)
 }
 
-/// Returns the number that a text spells as a value of this option. `None` if the text isn't valid for the option, or
-/// if the option's value isn't a number.
+/// Returns the number that a text spells as a value of this option. Returns `None` if the text isn't valid for the
+/// option, or if the option's value isn't a number.
 ///
 /// The numbers of `--memory` and `--registers` are decimal, or hexadecimal after `0x`; other numbers are decimal.
 pub(crate) fn number_of(text: &str, option: ValueOption) -> Option<u64>
@@ -80,7 +80,7 @@ pub(crate) fn number_of(text: &str, option: ValueOption) -> Option<u64>
     }
 }
 
-/// Returns the time at which a link is up, as a text spells it: `never`, or ticks from 1 to 65,535 in decimal digits.
+/// Returns when a link is up, as a text spells it: `never`, or after 1 to 65,535 ticks, in decimal digits. Returns
 /// `None` for any other text.
 pub(crate) fn link_of(text: &str) -> Option<ServeLink>
     ensures spelled { IfSome result (SpellsLink text.now) }

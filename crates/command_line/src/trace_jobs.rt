@@ -9,7 +9,8 @@ use crate::values::{address, flag, number, path, text};
 use crate::{Job, PassFilter, PassJob, RunJob, ShowJob, ValueOption};
 use clap::ArgMatches;
 
-/// Returns the VLAN identifier, if `--vlan` is given. Fails if the text of `--vlan` isn't a VLAN identifier.
+/// Returns the VLAN identifier of `--vlan`, or `None` if `--vlan` isn't given. Fails if the text of `--vlan` isn't a
+/// VLAN identifier.
 fn vlan(matches: &ArgMatches<'_>) -> Result<Option<u16>, ValueOption>
     ensures value { IfOk result (IsValueOf SpellsVlan (text_in matches.now (codes "vlan"))) }
     ensures refused { IfErr result (IsMisspelledOf (codes "pass") (rows_of (found_of matches.now))) }
@@ -20,7 +21,7 @@ fn vlan(matches: &ArgMatches<'_>) -> Result<Option<u16>, ValueOption>
     }
 }
 
-/// Returns the filter of a `pass` with these matches.
+/// Returns the filter of a `pass` with these matches. Fails with an option whose text is invalid.
 fn filter(matches: &ArgMatches<'_>) -> Result<PassFilter, ValueOption>
     ensures bounds { IfOk result IsWithinBounds }
     ensures filter { IfOk result (IsPassFilterOf (rows_of (found_of matches.now))) }
@@ -33,7 +34,8 @@ fn filter(matches: &ArgMatches<'_>) -> Result<PassFilter, ValueOption>
     })
 }
 
-/// Returns the job of a `pass` with these matches, which contain the paths of both files.
+/// Returns the job of a `pass` with these matches, which contain the paths of both files. Fails with an option whose
+/// text is invalid.
 pub(crate) fn pass_job<'a>(matches: &ArgMatches<'a>) -> Result<Job<'a>, ValueOption>
     requires { HasFiles (rows_of (found_of matches.now)) }
     ensures bounds { IfOk result HasBounds }
@@ -49,7 +51,7 @@ pub(crate) fn pass_job<'a>(matches: &ArgMatches<'a>) -> Result<Job<'a>, ValueOpt
     }))
 }
 
-/// Returns the job of a `run` with these matches, which contain the paths of its file and its folder.
+/// Returns the job of a `run` with these matches, which contain the paths of the scenario and of the folder.
 pub(crate) fn run_job<'a>(matches: &ArgMatches<'a>) -> RunJob<'a>
     requires { HasScenario (rows_of (found_of matches.now)) }
     ensures { IsRunJobOf (rows_of (found_of matches.now)) result }
@@ -63,7 +65,7 @@ pub(crate) fn run_job<'a>(matches: &ArgMatches<'a>) -> RunJob<'a>
     }
 }
 
-/// Returns the job of a `show` with these matches, which contain the path of its file.
+/// Returns the job of a `show` with these matches, which contain the path of the trace.
 pub(crate) fn show_job<'a>(matches: &ArgMatches<'a>) -> ShowJob<'a>
     requires { HasTrace (rows_of (found_of matches.now)) }
     ensures { IsShowJobOf (rows_of (found_of matches.now)) result }

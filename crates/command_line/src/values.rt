@@ -65,8 +65,8 @@ pub(crate) fn invalid<'a>(matches: &ArgMatches<'a>, option: ValueOption) -> Inva
     InvalidValue { option, text }
 }
 
-/// Returns the address in the text of an option, if the option is given. Fails with the option if its text doesn't
-/// have the option's form.
+/// Returns the address in the text of an option, or `None` if the option isn't given. Fails with the option if its text
+/// doesn't have the option's form.
 pub(crate) fn address(
     matches: &ArgMatches<'_>,
     option: ValueOption,
@@ -89,8 +89,8 @@ pub(crate) fn address(
     }
 }
 
-/// Returns the number in the text of an option, if the option is given. Fails with the option if its text doesn't have
-/// the option's form.
+/// Returns the number in the text of an option, or `None` if the option isn't given. Fails with the option if its text
+/// doesn't have the option's form.
 pub(crate) fn number(
     matches: &ArgMatches<'_>,
     option: ValueOption,

@@ -1,4 +1,4 @@
--- A complete drive.
+-- A complete drive: the initialization, the sending of frames and the waiting for frames, and the trace that was written.
 use Rattle.std.proofs.Common.{◌≡◌, ◌++◌, [], ℕ, true, List, Option, refl, ap, subst, ◌∙◌}
 use Rattle.std.specs.Io.KnownBytes.{Appends, append_known}
 use Rattle.std.proofs.KnownBytes.{Appends-trans}
@@ -68,7 +68,6 @@ drives-of bus composes rings frames counts before taken after header waiting old
           };
     }
 
--- Three calls keep the bus, one after the other.
 pub keeps-three : {B : Type 0} (bus : Ghosts B) → Composes bus.happened bus.lent_stays → (a b c d : B)
     → Keeps bus a b → Keeps bus b c → Keeps bus c d → Keeps bus a d
 keeps-three bus composes a b c d one two three =

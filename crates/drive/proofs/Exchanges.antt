@@ -16,8 +16,8 @@ use Rattle.bus.specs.Pasts.{Past, joined, nothing}
 use Rattle.bus.specs.declared.bus.Bus.{Ghosts}
 use Rattle.bus.proofs.Composition.{happens_none}
 use Rattle.bus.proofs.Keeping.{keeps-here, keeps-on}
-use Rattle.driver_law.specs.Calls.{FlowsTo}
-use Rattle.driver_law.proofs.Intervals.{flows_join}
+use Rattle.bus.specs.Calls.{FlowsTo}
+use Rattle.bus.proofs.Intervals.{flows_join}
 use Rattle.driver.specs.SendSteps.{SendAnswer, accepted_by}
 use Rattle.driver.specs.declared.interrupt.Handled.{Handled}
 use Rattle.packet_socket.specs.HostActs.{OverBus, CallsOver, CallsUp, Effect, Ends, PassesStages, CallStages, Then}
@@ -32,7 +32,6 @@ use Rattle.drive.specs.Exchanging.{ExchangeMoment, Exchanges, HostFlows, exchang
 use Rattle.drive.specs.Numbering.{next_number, packets_of}
 use Rattle.drive.proofs.Numbers.{number_after-append, packets_of-append}
 
--- A host is ready after an interval.
 still-ready : {B : Type 0} (bus : Ghosts B) (accepted received : List (List ℕ)) (old new : HostMoment B)
     → HostFlows bus accepted received old new → IsReadyHost bus true new
 still-ready bus accepted received old new it =
@@ -42,7 +41,6 @@ flows-of_goes : (old new : HostInWorld) (done : HostDid) (past : Past) → HostG
     → HostFlowsTo true old new done past
 flows-of_goes old new done past goes = record { sizes = goes.sizes; driver = goes.driver.flows; accounts = goes.accounts }
 
--- Nothing was exchanged.
 pub exchanges-here : {B : Type 0} (bus : Ghosts B) → Composes bus.happened bus.lent_stays → (now : ExchangeMoment B)
     → Exchanges bus [] now now
 exchanges-here bus composes now =
@@ -80,7 +78,6 @@ flows-on bus composes a b c accepted more received later one two = record {
       (host_did two.taken (map given_of later) more) one.past two.past one.flows two.flows);
 }
 
--- Two consecutive intervals.
 pub exchanges-on : {B : Type 0} (bus : Ghosts B) → Composes bus.happened bus.lent_stays → (a b c : ExchangeMoment B)
     (accepted more : List (List ℕ)) → Exchanges bus accepted a b → Exchanges bus more b c → Exchanges bus (accepted ++ more) a c
 exchanges-on bus composes a b c accepted more one two = record {
@@ -108,7 +105,6 @@ too-short frame short = grind (arith, common_steps)
 too-long : (frame : List ℕ) → longest_frame < length frame → is_sendable frame ≡ false
 too-long frame long = grind (arith, common_steps)
 
--- The stages of a call are reported as one interval.
 passes-reports : {B : Type 0} (bus : Ghosts B) → Composes bus.happened bus.lent_stays → (stages : CallStages) (old new : B) (past : Past)
     → PassesStages bus stages old new past → bus.happened old new past
 passes-reports {B} bus composes Ends old new past it =
@@ -119,7 +115,6 @@ passes-reports {B} bus composes (Then made Holds later) old new past it =
     (composes.joins old it.middle new it.before it.behind it.reports
     (passes-reports bus composes later it.middle new it.behind it.later))
 
--- The flow of frames in a call with any effect.
 effect-flows : {B : Type 0} (bus : Ghosts B) → Composes bus.happened bus.lent_stays → (old new : HostMoment B) (received : List (List ℕ))
     (accepted : List (List ℕ)) (Does : Effect) → Maps Does → bus.honest new.bus
     → Does old.host new.host (OverBus bus true (map given_of received) accepted old new) (bus.world old.bus)
@@ -142,7 +137,7 @@ effect-flows bus composes old new received accepted Does maps honest does =
       tt,
     )) does).0
 
--- A frame is passed to the driver.
+-- A call of `send` is an interval of the exchange.
 pub exchange-sends : {B : Type 0} (bus : Ghosts B) → Composes bus.happened bus.lent_stays → (old new : HostMoment B) (frame : List ℕ)
     (result : SendAnswer) (text : Option (List ℕ)) (number : ℕ)
     → Keeps bus old.bus new.bus → new.host.driver.layout ≡ old.host.driver.layout
@@ -158,7 +153,7 @@ exchange-sends bus composes old new frame result text number keeps layout sends 
       (keeps.honest is.honest) (sends is);
 }
 
--- An interrupt is handled.
+-- A call of `interrupt` is an interval of the exchange.
 pub exchange-handles : {B : Type 0} (bus : Ghosts B) → Composes bus.happened bus.lent_stays → (old new : HostMoment B) (result : Handled)
     (text : Option (List ℕ)) (number : ℕ)
     → Keeps bus old.bus new.bus → new.host.driver.layout ≡ old.host.driver.layout
@@ -174,7 +169,7 @@ exchange-handles bus composes old new result text number keeps layout handles = 
       (handles true is);
 }
 
--- A frame is returned by the socket, and written.
+-- A call of `recv` that returned a frame, together with the write of the frame, is an interval of the exchange.
 pub exchange-receives : {B : Type 0} (bus : Ghosts B) → Composes bus.happened bus.lent_stays → (old new : HostMoment B) (size : ℕ)
     (into : List ℕ) (text text' : Option (List ℕ)) (number : ℕ)
     → Keeps bus old.bus new.bus → new.host.driver.layout ≡ old.host.driver.layout
@@ -191,7 +186,6 @@ exchange-receives bus composes old new size into text text' number keeps layout 
       (recv-map 0 (Ok (take size into))) (keeps.honest is.honest) (receives true is);
 }
 
--- The rings and buffers are still inside memory.
 pub still-fits : {B : Type 0} (bus : Ghosts B) (accepted : List (List ℕ)) (a b : ExchangeMoment B) → Exchanges bus accepted a b
     → size_of a.host.driver.layout ≤ bus.extent a.bus → size_of b.host.driver.layout ≤ bus.extent b.bus
 still-fits bus accepted a b one fits = rw (one.layout, one.keeps.extent) fits
@@ -203,7 +197,6 @@ is_done (Err TooShort) = true
 is_done (Err TooLong) = true
 is_done (Err RingFull) = false
 
--- A frame is accepted exactly if it can be sent.
 pub accepted-is : (result : SendAnswer) (frame : List ℕ) → (result ≡ Err TooShort ↔ (length frame < shortest_sent))
     → (result ≡ Err TooLong ↔ (longest_frame < length frame))
     → accepted_by result frame ≡ (if is_done result then accepted_of frame else [])

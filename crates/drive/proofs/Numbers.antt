@@ -25,6 +25,5 @@ number_after-from : (n : ℕ) (xs : List (List ℕ)) → n ≤ 2 ^ 64 - 1 → nu
 number_after-from n [] low = omega (arith, low)
 number_after-from n (x ∷ xs) low = number_after-from (next_number n) xs (omega arith) ∙ omega arith
 
--- The number after some frames is their count.
 pub number_after-count : (xs : List (List ℕ)) → number_after 0 xs ≡ saturated (length xs)
 number_after-count xs = number_after-from 0 xs (omega arith) ∙ ap saturated (zero-add (length xs))

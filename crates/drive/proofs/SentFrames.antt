@@ -21,7 +21,6 @@ count-push : (p : List ℕ → Bool) (frames : List (List ℕ)) (frame : List �
     → count_by p (frames ++ frame ∷ []) ≡ count_by p frames + cond (p frame) 1 0
 count-push p frames frame = sum_by_push (λ x. cond (p x) 1 0) frames frame
 
--- No frame was passed to the driver yet.
 pub sends-start : {B : Type 0} (bus : Ghosts B) → Composes bus.happened bus.lent_stays
     → (frames left : List (List ℕ)) (now : ExchangeMoment B)
     → left ≡ frames → SendsUpTo bus frames left 0 0 now now
@@ -33,7 +32,6 @@ sends-start bus composes frames left now is = record {
   exchanges = exchanges-here bus composes now;
 }
 
--- No further frame was passed to the driver.
 pub sends-then : {B : Type 0} (bus : Ghosts B) → Composes bus.happened bus.lent_stays → (frames left : List (List ℕ)) (sent illegal : ℕ)
     (a b c : ExchangeMoment B) → SendsUpTo bus frames left sent illegal a b → Exchanges bus [] b c
     → SendsUpTo bus frames left sent illegal a c
@@ -46,7 +44,6 @@ sends-then bus composes frames left sent illegal a b c so_far one = record {
       (exchanges-on bus composes a b c (accepted_of_all so_far.handed) [] so_far.exchanges one);
 }
 
--- A count grows by one frame.
 grown : (count old new : ℕ) (more : Bool) → old ≡ saturated count → new ≡ (if more then saturated (old + 1) else old)
     → new ≡ saturated (count + cond more 1 0)
 grown count old new true was is = omega (arith, was, is)

@@ -28,10 +28,10 @@ pub record DrivesLawfully {B : Type 0} (bus : Ghosts B) (rings : DriveRings) (ac
   pub end_is : end.bus ≡ new
   pub flows : HostFlows bus accepted received up end
 
--- The first frames of the list, `handed`, were passed to the driver, each once and in order. The frames `received` were received, and the
--- trace of exactly these frames, in order, was written. The counts `sent`, `illegal` and `received` are the numbers of these frames, and
--- saturate. Over a bus that obeys the bus law, the driver accepted the frames of `handed` that have 14 to 1,518 bytes, padded, and the
--- socket returned the frames `received`.
+-- The first frames of the list, `handed`, were passed to the driver, each once and in order. `sent` counts those that have 14 to 1,518
+-- bytes, and `illegal` the others. The frames `received` were received and counted, and the trace of exactly these frames, in order, was
+-- written. Counts saturate. Over a bus that obeys the bus law, the driver accepted the frames that `sent` counts, padded, and the socket
+-- returned the frames `received`.
 pub record Drives {B : Type 0} (bus : Ghosts B) (rings : DriveRings) (frames : List (List ℕ)) (counts : DriveCounts)
     (before after : Option (List ℕ)) (old new : B)
     : Type 0 where

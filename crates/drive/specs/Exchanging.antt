@@ -53,9 +53,11 @@ pub record ExchangeMoment (B : Type 0) : Type 0 where
   pub text : Option (List ℕ)
   pub number : ℕ
 
+-- the moment of an exchange with these parts
 abbrev pub exchange_at : {B : Type 0} → B → HostState → Option (List ℕ) → ℕ → ExchangeMoment B
 exchange_at bus host text number = record { bus = bus; host = host; text = text; number = number }
 
+-- the host on its bus, at a moment of an exchange
 abbrev pub host_moment : {B : Type 0} → ExchangeMoment B → HostMoment B
 host_moment now = record { bus = now.bus; host = now.host }
 

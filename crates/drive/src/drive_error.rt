@@ -3,9 +3,9 @@
 ghost use Rattle.std.specs.Prelude.{◌≡◌};
 ghost use Rattle.drive.specs.declared.drive_error.DriveError.TheVariants as errors;
 
+use crate::BusFault;
 use bring_up::InitError;
 use pcap_trace::WriteError;
-use qtest_bus::BusFault;
 use std::alloc::AllocError;
 use thiserror::Error;
 

@@ -10,15 +10,14 @@ ghost use Rattle.drive.specs.Exchanging.{Exchanges, exchange_at};
 ghost use Rattle.packet_socket.specs.HostCalls.{HostReady};
 
 use crate::exchange::Exchange;
-use crate::{DriveCounts, DriveError, DriveLimits, DriveRings, WatchedBus};
+use crate::{BusFault, DriveCounts, DriveError, DriveLimits, DriveRings, WatchedBus};
 use arrayvec::ArrayVec;
 use bring_up::{Config, InitError};
 use packet_socket::{Host, SocketKind};
 use pcap_trace::{Frames, RecordWriter, Sink, Unit};
-use qtest_bus::BusFault;
 use std::alloc::Global;
 
-/// Returns the configuration of a promiscuous driver with these rings.
+/// Returns the configuration of a promiscuous driver with these rings, and without groups and VLANs.
 fn config(rings: &DriveRings) -> Config
     ensures { configured_counts result ≡ counts_of rings.now }
 {
@@ -33,7 +32,7 @@ fn config(rings: &DriveRings) -> Config
     }
 }
 
-/// Initializes the adapter, and makes a host whose only socket takes all frames.
+/// Initializes the adapter, and returns a host whose only socket takes all frames. Fails as `reason` states.
 fn bring_up<B: WatchedBus>(
     alloc: Global,
     bus: &mut B,
@@ -52,8 +51,8 @@ fn bring_up<B: WatchedBus>(
     }
 }
 
-/// Returns why an initialization failed: the fault of the bus if the bus stopped, or else the error. Each read of a
-/// stopped bus returns 0, so the error doesn't state the reason.
+/// Returns why an initialization failed: the fault of the bus if the bus stopped, or else the error. The reads of a
+/// stopped bus return 0, so the error isn't the reason then.
 fn reason(fault: Option<BusFault>, error: InitError) -> DriveError {
     match (fault, error) {
         (Some(fault), _) => DriveError::Bus(fault),

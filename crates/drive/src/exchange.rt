@@ -23,8 +23,8 @@ pub(crate) struct Exchange {
     pub(crate) writer: RecordWriter,
     /// The number of frames received, which is the number of the next frame. The number saturates.
     pub(crate) received: u64,
-    /// The number of turns in a row in which no frame was received or passed to the driver. It saturates, and begins
-    /// again at 0 when no more frames are sent.
+    /// The number of turns in a row in which no frame was received or passed to the driver. This number saturates, and
+    /// is 0 again when no more frames are sent.
     pub(crate) quiet: u64,
 }
 
@@ -75,8 +75,8 @@ impl Exchange {
         Ok(())
     }
 
-    /// Makes a turn: handles an interrupt, and takes the frames that were received. Fails if the sink failed, or if the
-    /// bus has stopped.
+    /// Makes a turn: calls the interrupt handler, and takes the frames that were received. Counts the turn in `quiet`
+    /// if no frame was received, or else sets `quiet` to 0. Fails if the sink failed, or if the bus has stopped.
     pub(crate) fn turn<B: WatchedBus, S: Sink>(
         &mut self,
         bus: &mut B,

@@ -14,8 +14,10 @@ use Rattle.pcap_trace.specs.declared.fault.ReadError.{ReadError}
 use Rattle.pcap_trace.specs.declared.fault.ReadError.TheVariants as input
 use Rattle.program_files.specs.declared.file_error.FileError.{FileError}
 use Rattle.program_files.specs.declared.file_error.FileError.TheVariants as files
-use Rattle.qtest_bus.specs.declared.bus_fault.BusFault.{BusFault}
-use Rattle.qtest_bus.specs.declared.bus_fault.BusFault.TheVariants as bus
+use Rattle.program_files.specs.declared.schedule_files.ScheduleFileError.{ScheduleFileError}
+use Rattle.program_files.specs.declared.schedule_files.ScheduleFileError.TheVariants as schedule_files
+use Rattle.drive.specs.declared.bus_fault.BusFault.{BusFault}
+use Rattle.drive.specs.declared.bus_fault.BusFault.TheVariants as bus
 use Rattle.scenario.specs.declared.refusal.Refusal.{Refusal}
 use Rattle.scenario.specs.declared.refusal.Refusal.TheVariants as refusals
 use Rattle.scenario_bench.specs.declared.bench_error.BenchError.{BenchError}
@@ -24,8 +26,6 @@ use Rattle.step_schedules.specs.declared.schedule_error.ScheduleError.{ScheduleE
 use Rattle.step_schedules.specs.declared.schedule_error.ScheduleError.TheVariants as schedules
 use Rattle.nicbench.specs.declared.fault.Detail.{Detail}
 use Rattle.nicbench.specs.declared.fault.Detail.TheVariants as details
-use Rattle.nicbench.specs.declared.fault.Failure.{Failure}
-use Rattle.nicbench.specs.declared.fault.Failure.TheVariants as failures
 use Rattle.nicbench.specs.declared.fault.Fault.{Fault}
 
 abbrev pub IsFault : ℕ → Detail → Fault → Type 0
@@ -38,12 +38,12 @@ abbrev pub IsPath : List ℕ → Detail → Type 0
 IsPath path (details.Path text) = string_bytes text ≡ path
 IsPath path _ = ⊥
 
--- the fault of a file that is used twice, with its path; or memory for the path was refused
+-- the fault of a file that is used twice: status 3 with the file's path, or status 4 if memory for the path was refused
 abbrev pub IsSameFile : List ℕ → Fault → Type 0
 IsSameFile path fault =
     ((fault.code.status ≡ 3) × IsPath path fault.detail) ⊎ IsFault 4 nothing fault
 
--- the status of an input that isn't a trace or can't be read
+-- the status of an input that isn't a trace, can't be read, or for which memory was refused
 abbrev pub status_of_input : ReadError → ℕ
 status_of_input input.Memory = 4
 status_of_input input.Read = 3
@@ -96,9 +96,12 @@ status_of_schedule (schedules.Line line fault) = 1
 status_of_schedule schedules.Text = 1
 status_of_schedule schedules.Memory = 4
 
-abbrev pub detail_of_failure : Failure → Detail
-detail_of_failure failures.Options = details.Options
-detail_of_failure _ = nothing
+abbrev pub status_of_schedule_file : ScheduleFileError → ℕ
+status_of_schedule_file (schedule_files.File error) = status_of_file error
+status_of_schedule_file (schedule_files.Schedule error) = status_of_schedule error
+status_of_schedule_file schedule_files.Options = 1
+status_of_schedule_file schedule_files.Write = 3
+status_of_schedule_file schedule_files.Memory = 4
 
 abbrev pub detail_of_file : FileError → Detail
 detail_of_file (files.Open path) = details.Path path
@@ -124,3 +127,9 @@ detail_of_drive _ = nothing
 abbrev pub detail_of_schedule : ScheduleError → Detail
 detail_of_schedule schedules.Memory = nothing
 detail_of_schedule error = details.Schedule error
+
+abbrev pub detail_of_schedule_file : ScheduleFileError → Detail
+detail_of_schedule_file (schedule_files.File error) = detail_of_file error
+detail_of_schedule_file (schedule_files.Schedule error) = detail_of_schedule error
+detail_of_schedule_file schedule_files.Options = details.Options
+detail_of_schedule_file _ = nothing

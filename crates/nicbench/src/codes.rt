@@ -119,7 +119,7 @@ pub(crate) const E56: Code = Code {
 pub(crate) const E57: Code = Code {
     label: "E57 Memory",
     status: 4,
-    text: "Out of memory before anything was written. Free some, or split IN",
+    text: "Out of memory elsewhere than for E45, E47 and E65. Free some, or split IN",
 };
 
 pub(crate) const E58: Code = Code {

@@ -3,10 +3,9 @@ ghost use Rattle.std.specs.Prelude.{◌<◌};
 
 use crate::fault::{Failure, Fault};
 use command_line::DriveJob;
-use drive::{DriveCounts, DriveLimits, DriveRings, drive};
-use pcap_bench::{Frames, Sink, Trace};
-use program_files::{FileError, create, read_trace};
-use qtest_bus::QtestBus;
+use drive::{DriveCounts, DriveLimits, DriveRings, QtestBus, drive};
+use pcap_bench::{Frames, Sink};
+use program_files::{create, read_file_trace};
 use std::alloc::AllocError;
 use std::io::{self, BufReader};
 
@@ -42,17 +41,8 @@ fn drive_adapter<S: Sink>(
     }
 }
 
-/// Reads a trace from a file or a pipe with a path. The path `-` is refused, because the adapter's answers are read
-/// from standard input.
-fn read_file_trace(rt: &HostRuntime, path: &str) -> Result<Trace, FileError> {
-    if path == "-" {
-        Err(FileError::open(rt.alloc(), path))
-    } else {
-        read_trace(rt, path)
-    }
-}
-
-/// Sends the frames of IN and writes OUT. Returns the counts, and whether all frames were passed to the driver and the
+/// Sends the frames of IN and writes OUT. IN isn't `-`, because the adapter's answers are read from standard input.
+/// Returns the counts, and whether all frames were passed to the driver and the
 /// expected number, if any, was received.
 fn exchange(rt: &HostRuntime, job: &DriveJob<'_>) -> Result<(DriveCounts, bool), Fault> {
     let trace = read_file_trace(rt, job.send)?;

@@ -2,12 +2,13 @@
 ghost use Rattle.std.specs.Prelude.{◌≡◌, IfOk, IfSome};
 
 use crate::fault::Fault;
-use crate::run::{socket_files, wire_files};
+use crate::run::names_of_wires;
 use command_line::RunJob;
 use network_plan::HostPlan;
 use pcap_bench::Sink;
-use program_files::{FileSink, create, is_same_file};
+use program_files::{FileSink, create, is_in_folder, is_same_file};
 use scenario::Scenario;
+use scenario_bench::socket_files;
 use std::alloc::AllocError;
 use std::fs::File;
 
@@ -19,32 +20,6 @@ fn is_read(rt: &HostRuntime, path: &str, job: &RunJob<'_>, traces: &[String]) ->
         }
     }
     is_same_file(rt, path, job.scenario)
-}
-
-/// Returns whether a path is that of the file with this name in a folder.
-fn is_file_in(
-    rt: &HostRuntime,
-    path: &str,
-    directory: &str,
-    name: &str,
-) -> Result<bool, AllocError> {
-    let other = format!(in rt.alloc(); "{directory}/{name}")?;
-    Ok(is_same_file(rt, path, other.as_str()))
-}
-
-/// Returns whether a path is that of one of the files with these names in a folder.
-fn is_in_folder(
-    rt: &HostRuntime,
-    path: &str,
-    directory: &str,
-    names: &[String],
-) -> Result<bool, AllocError> {
-    for name in names {
-        if is_file_in(rt, path, directory, name.as_str())? {
-            return Ok(true);
-        }
-    }
-    Ok(false)
 }
 
 /// Returns whether a path is that of a file that a run writes in OUTDIR: the file of a socket, or of a wire if the job
@@ -59,7 +34,7 @@ fn is_written(
     if is_in_folder(rt, path, job.directory, sockets.as_slice())? {
         return Ok(true);
     }
-    let wires = wire_files(rt.alloc(), job, plans)?;
+    let wires = names_of_wires(rt.alloc(), job, plans)?;
     is_in_folder(rt, path, job.directory, wires.as_slice())
 }
 

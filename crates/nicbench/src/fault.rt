@@ -8,11 +8,10 @@ use crate::codes::{
 };
 use adapter_server::ServeError;
 use bring_up::InitError;
-use drive::DriveError;
+use drive::{BusFault, DriveError};
 use network_plan::PlanError;
 use pcap_bench::{PassError, ReadError, WriteError};
-use program_files::FileError;
-use qtest_bus::BusFault;
+use program_files::{FileError, ScheduleFileError};
 use scenario::{Fault as LineFault, Refusal};
 use scenario_bench::BenchError;
 use std::alloc::{AllocError, AllocFailed, Global};
@@ -54,13 +53,11 @@ pub(crate) enum Failure {
     Fewer,
     /// The image of an EEPROM doesn't have 128 bytes.
     Image,
-    /// A schedule is for an adapter with other options.
-    Options,
     /// Deviations of a schedule weren't met.
     Unmet,
 }
 
-/// Returns the code of an input that was refused or couldn't be read.
+/// Returns the code for the error of an input: it was refused, couldn't be read, or needs memory that was refused.
 fn input_code(error: ReadError) -> Code
     ensures { result.status ≡ spec.status_of_input error }
 {
@@ -90,7 +87,7 @@ fn line_code(fault: LineFault) -> Code
     }
 }
 
-/// Returns the code of an error for which no network was made from a plan.
+/// Returns the code for the reason why no network was made from a plan.
 fn plan_code(error: PlanError) -> Code
     ensures { result.status ≡ spec.status_of_plan error }
 {
@@ -133,7 +130,7 @@ impl Display for Fault {
 }
 
 impl Fault {
-    /// Returns the fault with this code, with which nothing is printed.
+    /// Returns the fault with this code, without a detail.
     fn of(code: Code) -> Fault
         ensures { spec.IsFault code.status spec.nothing result }
     {
@@ -174,16 +171,12 @@ impl Fault {
 }
 
 impl From<Failure> for Fault {
-    ghost from_gives = { λ e. spec.IsFault 1 (spec.detail_of_failure e) };
+    ghost from_gives = { λ _. spec.IsFault 1 spec.nothing };
 
     fn from(failure: Failure) -> Fault {
         match failure {
             Failure::Fewer => Fault::of(E69),
             Failure::Image => Fault::of(E58),
-            Failure::Options => Fault {
-                code: E70,
-                detail: Detail::Options,
-            },
             Failure::Unmet => Fault::of(E71),
         }
     }
@@ -287,16 +280,32 @@ impl From<DriveError> for Fault {
     }
 }
 
-impl From<ScheduleError> for Fault {
-    ghost from_gives = { λ e. spec.IsFault (spec.status_of_schedule e) (spec.detail_of_schedule e) };
+/// Returns the fault of a text that isn't a schedule for the job's adapter.
+fn schedule_fault(error: ScheduleError) -> Fault
+    ensures { spec.IsFault (spec.status_of_schedule error) (spec.detail_of_schedule error) result }
+{
+    match error {
+        ScheduleError::Memory => Fault::of(E57),
+        ScheduleError::Text | ScheduleError::Line { .. } => Fault {
+            code: E70,
+            detail: Detail::Schedule(error),
+        },
+    }
+}
 
-    fn from(error: ScheduleError) -> Fault {
+impl From<ScheduleFileError> for Fault {
+    ghost from_gives = { λ e. spec.IsFault (spec.status_of_schedule_file e) (spec.detail_of_schedule_file e) };
+
+    fn from(error: ScheduleFileError) -> Fault {
         match error {
-            ScheduleError::Memory => Fault::of(E57),
-            ScheduleError::Text | ScheduleError::Line { .. } => Fault {
+            ScheduleFileError::File(error) => Fault::from(error),
+            ScheduleFileError::Schedule(error) => schedule_fault(error),
+            ScheduleFileError::Options => Fault {
                 code: E70,
-                detail: Detail::Schedule(error),
+                detail: Detail::Options,
             },
+            ScheduleFileError::Write => Fault::of(E67),
+            ScheduleFileError::Memory => Fault::of(E57),
         }
     }
 }

@@ -9,7 +9,6 @@ mod events_file;
 mod fault;
 mod pass;
 mod run;
-mod schedules;
 mod serve;
 mod show;
 mod unit;
@@ -29,7 +28,7 @@ use std::process::ExitCode;
 /// The exit status if the words ask for help or the version, or are refused for another reason than memory.
 const USAGE: u8 = 2;
 
-/// Returns the words that the program was called with.
+/// Returns the words that the program was called with. Fails if a word isn't Unicode, or if memory was refused.
 fn words(rt: &HostRuntime) -> Result<Vec<String>, LineError<'static>> {
     match env::args(rt) {
         Ok(args) => Ok(args.collect(rt.alloc())?),

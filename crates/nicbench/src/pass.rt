@@ -13,7 +13,7 @@ use std::io;
 /// The path that means standard output.
 const STANDARD_OUTPUT: &str = "-";
 
-/// Writes to a sink the frames of a trace that pass.
+/// Writes to a sink the frames of a trace that pass the job's filter. Returns the counts.
 fn pass_trace<S: Sink>(
     rt: &HostRuntime,
     job: &PassJob<'_>,
@@ -43,7 +43,8 @@ fn finish_pass(
     Ok(())
 }
 
-/// Writes to a file the frames of a trace that pass, and to standard output the line of counts.
+/// Writes to a file the frames of a trace that pass, and to standard output the line of counts. If not all of these
+/// frames were written, abandons the file.
 fn pass_to_file(rt: &HostRuntime, job: &PassJob<'_>, trace: &Trace) -> Result<(), Fault>
     requires { HasVlanNumber job.now.filter }
 {

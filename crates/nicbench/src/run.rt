@@ -1,6 +1,6 @@
 //! The command `run`.
 ghost use Rattle.std.specs.Prelude.{◌≡◌, ◌<◌, ◌≤◌, ◌+◌, All, IfOk, IfSome, OnOk, length};
-ghost use Rattle.nicbench.specs.Sinks.{sockets_in, wires_in};
+ghost use Rattle.scenario_bench.specs.FileNames.{sockets_in, wires_in};
 
 use crate::events_file::create_events_sink;
 use crate::fault::Fault;
@@ -12,7 +12,7 @@ use program_files::{
     FileSink, StandardError, create_all, find_folder, read_bytes, read_trace, report_play,
 };
 use scenario::Scenario;
-use scenario_bench::{Refusals, Summary, bench, print_summary, wires};
+use scenario_bench::{Refusals, Summary, bench, print_summary, socket_files, wire_files};
 use std::alloc::{AllocError, Global};
 use std::fs::File;
 use std::io;
@@ -20,13 +20,13 @@ use std::io;
 /// The path that means standard output.
 const STANDARD_OUTPUT: &str = "-";
 
-/// Reads a scenario.
+/// Reads the scenario at this path.
 fn read_scenario(rt: &HostRuntime, path: &str) -> Result<Scenario, Fault> {
     let text = read_bytes(rt, path)?;
     Ok(Scenario::read(rt.alloc(), text.as_slice())?)
 }
 
-/// Reads a trace, and appends it.
+/// Reads the trace at the path `name`, and appends the trace to `traces`.
 fn push_trace(rt: &HostRuntime, name: &str, traces: &mut Vec<Trace>) -> Result<(), Fault>
     ensures { OnOk result (length traces.new.items ≡ length traces.old.items + 1) }
 {
@@ -34,7 +34,7 @@ fn push_trace(rt: &HostRuntime, name: &str, traces: &mut Vec<Trace>) -> Result<(
     Ok(())
 }
 
-/// Reads the traces of these names, in order.
+/// Reads the traces at these paths, in order.
 fn read_traces(rt: &HostRuntime, names: &[String]) -> Result<Vec<Trace>, Fault>
     ensures { IfOk result (λ traces. length traces.items ≡ length names.now) }
 {
@@ -45,82 +45,22 @@ fn read_traces(rt: &HostRuntime, names: &[String]) -> Result<Vec<Trace>, Fault>
     Ok(traces)
 }
 
-/// Appends the name of the file of a host's socket, `HOST.SOCKET.pcap`.
-fn push_socket_file(
-    alloc: Global,
-    host: &str,
-    socket: usize,
-    names: &mut Vec<String>,
-) -> Result<(), AllocError>
-    ensures { OnOk result (length names.new.items ≡ length names.old.items + 1) }
-{
-    names.push(format!(in alloc; "{host}.{socket}.pcap")?)?;
-    Ok(())
-}
-
-/// Appends the names of the files of a host's sockets.
-fn push_socket_files(
-    alloc: Global,
-    plan: &HostPlan,
-    names: &mut Vec<String>,
-) -> Result<(), AllocError>
-    ensures { OnOk result (length names.new.items ≡ length names.old.items + length plan.now.sockets.items) }
-{
-    let host = plan.name.as_str();
-    for socket in 0..plan.sockets.len() {
-        push_socket_file(alloc, host, socket, names)?;
-    }
-    Ok(())
-}
-
-/// Returns the name of the file of each socket, hosts in order and the sockets of each in order.
-pub(crate) fn socket_files(alloc: Global, plans: &[HostPlan]) -> Result<Vec<String>, AllocError>
-    ensures { IfOk result (λ names. length names.items ≡ sockets_in plans.now) }
-{
-    let mut names = Vec::new(alloc);
-    for plan in plans {
-        push_socket_files(alloc, plan, &mut names)?;
-    }
-    Ok(names)
-}
-
-/// Appends the name of the file of a wire, `WIRE.pcap`. In a valid plan, no socket's file has this name: a wire's name
-/// has no dot, and the name of a socket's file has two.
-fn push_wire_file(alloc: Global, wire: &str, names: &mut Vec<String>) -> Result<(), AllocError>
-    ensures { OnOk result (length names.new.items ≡ length names.old.items + 1) }
-{
-    names.push(format!(in alloc; "{wire}.pcap")?)?;
-    Ok(())
-}
-
-/// Returns the name of the file of each of these wires, in order.
-fn files_of_wires(alloc: Global, wires: &[&str]) -> Result<Vec<String>, AllocError>
-    ensures { IfOk result (λ names. length names.items ≡ length wires.now) }
-{
-    let mut names = Vec::new(alloc);
-    for wire in wires {
-        push_wire_file(alloc, wire, &mut names)?;
-    }
-    Ok(names)
-}
-
-/// Returns the name of the file of each wire, in the order in which the hosts first name the wires. Returns no names if
-/// the job doesn't ask for these files.
-pub(crate) fn wire_files(
+/// Returns the name of the file of each wire ([`wire_files`]) if the job asks for these files, and no names otherwise.
+pub(crate) fn names_of_wires(
     alloc: Global,
     job: &RunJob<'_>,
     plans: &[HostPlan],
 ) -> Result<Vec<String>, AllocError>
     ensures { IfOk result (λ names. length names.items ≤ wires_in plans.now) }
 {
-    if !job.wires {
-        return Ok(Vec::new(alloc));
+    if job.wires {
+        wire_files(alloc, plans)
+    } else {
+        Ok(Vec::new(alloc))
     }
-    let found = wires(alloc, plans)?;
-    files_of_wires(alloc, found.as_slice())
 }
 
-/// Opens or creates a file for each socket, in a folder that must exist.
+/// Opens or creates a file for each socket, in a folder. Fails if the folder doesn't exist.
 fn create_socket_sinks(
     rt: &HostRuntime,
     directory: &str,
@@ -146,7 +86,7 @@ fn create_wire_sinks(
     ensures countable { IfOk result (λ sinks.
         All (λ sink. ⟦<FileSink<File> as Sink>⟧.failures sink ≡ 0) sinks.items) }
 {
-    let names = wire_files(rt.alloc(), job, plans)?;
+    let names = names_of_wires(rt.alloc(), job, plans)?;
     let sinks = create_all(rt, job.directory, names.as_slice())?;
     Ok(sinks)
 }
@@ -290,7 +230,7 @@ fn play_to_file(
     print_with_file(rt, &summary, &mut file)
 }
 
-/// Plays a scenario with these traces, and writes its lines where the job asks for them.
+/// Plays a scenario with these traces, and writes its lines to standard output or to the file that the job asks for.
 fn play_scenario(
     rt: &HostRuntime,
     job: &RunJob<'_>,

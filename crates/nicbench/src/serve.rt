@@ -3,12 +3,10 @@ ghost use Rattle.std.specs.Prelude.{◌≡◌, IfOk};
 ghost use Rattle.nicbench.specs.Served.{IsImageFor, link_of, options_of};
 
 use crate::fault::{Failure, Fault};
-use crate::schedules::{player_of, record_of, report_unmet, store};
 use adapter_server::{ServeOptions, serve};
 use command_line::{ServeImage, ServeJob, ServeLink};
-use eeprom::{Image, WORDS};
-use mdic_phy::Link;
-use program_files::{LateFile, read_front};
+use eeprom_phy::{Image, Link, WORDS};
+use program_files::{LateFile, player_of, read_front, record_of, store};
 use std::alloc::AllocError;
 use std::fs::File;
 use std::io::{self, BufReader, BufWriter};
@@ -17,7 +15,7 @@ use step_schedules::Player;
 /// The number of bytes of a file with the words of an EEPROM.
 const IMAGE_BYTES: usize = 128;
 
-/// Returns the setting of the link in the options.
+/// Returns the link of a server's options, from the link that a job asks for.
 fn link_of(link: ServeLink) -> Link
     ensures { result ≡ link_of link }
 {
@@ -39,7 +37,7 @@ fn image_in(bytes: &[u8]) -> Option<Image> {
     Some(Image::from_words(words))
 }
 
-/// Returns the contents of the EEPROM that the job asks for.
+/// Returns the image of the EEPROM that the job asks for. Fails if the file can't be read, or doesn't have 128 bytes.
 fn image_of(rt: &HostRuntime, image: ServeImage<'_>) -> Result<Image, Fault>
     ensures { IfOk result (IsImageFor image.entry) }
 {
@@ -69,8 +67,8 @@ fn options_of(job: &ServeJob<'_>, image: Image) -> ServeOptions
     }
 }
 
-/// Serves: reads requests from standard input, and writes their answers to standard output. Returns the player after
-/// the last request.
+/// Reads requests from standard input, and writes their answers to standard output. Returns the player after the last
+/// request; `None` if `player` is `None`.
 fn serve_input(
     rt: &HostRuntime,
     options: &ServeOptions,
@@ -87,6 +85,18 @@ fn serve_input(
         Ok(left) => Ok(left),
         Err(error) => Err(Fault::from(error)),
     }
+}
+
+/// Reports the deviations that weren't met, on standard error. Fails if there is one.
+fn report_unmet(rt: &HostRuntime, player: &Player) -> Result<(), Fault> {
+    let unmet = player.agenda.unmet(rt.alloc())?;
+    if unmet.is_empty() {
+        return Ok(());
+    }
+    for line in unmet.lines() {
+        let _ = eprintln!(rt; "nicbench: not met: {line}");
+    }
+    Err(Fault::from(Failure::Unmet))
 }
 
 /// Stores the schedule that was recorded if there is a file for it, and reports the deviations that weren't met.

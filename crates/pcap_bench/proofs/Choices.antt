@@ -21,11 +21,12 @@ use Rattle.pcap_bench.specs.Options.{IsOpen, KeptBy, filter_for, HasVlanNumber}
 
 -- ---- the sets of each table
 
--- RAL and RAH with an address in the first entry, and 0 in the others
+-- the values of RAL: the low word of the address, if there is one, in entry 0, and 0 in the other entries
 pub low_words : Option (List ℕ) → List ℕ
 low_words None = replicate 16 0
 low_words (Some address) = slice_set (replicate 16 0) 0 (low_word address)
 
+-- the values of RAH: the high word of the address with AV, if there is an address, in entry 0, and 0 in the other entries
 pub high_words : Option (List ℕ) → List ℕ
 high_words None = replicate 16 0
 high_words (Some address) = slice_set (replicate 16 0) 0 (high_word address + 2 ^ 31)
@@ -40,7 +41,6 @@ addresses_of (Some own) address is =
       (λ e. added.1 (inl (sym (same_Some own address e)))),
     )
 
--- A word with one bit, in a table of zeros, adds the number of this bit.
 one_number : (number : ℕ) → number < 4096 → with_number (replicate 128 0) number ≡ with_bit (replicate 128 0) number
 one_number number below =
     let none : slice_index (replicate 128 0) (number / 32) ≡ 0 = get_or-replicate 128 (number / 32) 0 0 (omega arith) in
@@ -58,7 +58,7 @@ numbers_of wanted number below =
 abbrev IsGroupNumber : Option (List ℕ) → ℕ → Type 0
 IsGroupNumber o number = (group : List ℕ) × (o ≡ Some group) × (number ≡ group_number 4 group)
 
--- a table with the bit of an optional number
+-- a table of 128 words in which only the bit of this number, if there is one, is 1
 pub with_bit_of : Option ℕ → List ℕ
 with_bit_of None = replicate 128 0
 with_bit_of (Some number) = with_bit (replicate 128 0) number
@@ -87,66 +87,48 @@ vlans_of (Some wanted) number fits =
 
 -- ---- the bits of the mode
 
-pub record Modes (a g : Option (List ℕ)) (v : Option ℕ) (mode : ℕ) : Type 0 where
+pub record Modes (every tagged : Bool) (mode : ℕ) : Type 0 where
   pub shift : shift_of (group_offset_of (field mode 12 2)) ≡ 4
-  pub every_vlan : (field mode 18 1 ≡ 0) ↔ (v ≡ None)
-  pub individuals : HasBit mode 3 ↔ ((a ≡ None) × (g ≡ None))
-  pub groups : HasBit mode 4 ↔ ((a ≡ None) × (g ≡ None))
+  pub every_vlan : (field mode 18 1 ≡ 0) ↔ (tagged ≡ false)
+  pub individuals : HasBit mode 3 ↔ (every ≡ true)
+  pub groups : HasBit mode 4 ↔ (every ≡ true)
   pub broadcasts : HasBit mode 15 ↔ Unit {0}
 
-modes : (a g : Option (List ℕ)) (v : Option ℕ) → Modes a g v (mode_bits (is_none a && is_none g) (is_some v))
-modes None None None = record {
-  shift = refl;
-  every_vlan = ((λ h. refl), (λ h. refl));
-  individuals = ((λ h. (refl, refl)), (λ h. refl));
-  groups =
-      ((λ h. (refl, refl)), (λ h. refl));
-  broadcasts = ((λ h. tt), (λ h. refl));
+-- A statement that holds for both values of a Bool, and one that holds for neither.
+holds-true : {P Q : Type 0} → P → Q → P ↔ Q
+holds-true p q = (λ _. q, λ _. p)
+
+holds-not : {P Q : Type 0} → (P → ⊥) → (Q → ⊥) → P ↔ Q
+holds-not p q = (λ h. absurd (p h), λ h. absurd (q h))
+
+modes-of : (every tagged : Bool) → (field (mode_bits every tagged) 18 1 ≡ 0) ↔ (tagged ≡ false)
+    → HasBit (mode_bits every tagged) 3 ↔ (every ≡ true) → HasBit (mode_bits every tagged) 4 ↔ (every ≡ true)
+    → shift_of (group_offset_of (field (mode_bits every tagged) 12 2)) ≡ 4 → HasBit (mode_bits every tagged) 15
+    → Modes every tagged (mode_bits every tagged)
+modes-of every tagged vlan individuals groups shift broadcast = record {
+  shift = shift;
+  every_vlan = vlan;
+  individuals = individuals;
+  groups = groups;
+  broadcasts = holds-true broadcast tt;
 }
-modes None None (Some n) = record {
-  shift = refl;
-  every_vlan = ((λ h. absurd (omega arith)), (λ h. absurd cc));
-  individuals = ((λ h. (refl, refl)), (λ h. refl));
-  groups =
-      ((λ h. (refl, refl)), (λ h. refl));
-  broadcasts = ((λ h. tt), (λ h. refl));
-}
-modes None (Some y) None = record {
-  shift = refl;
-  every_vlan = ((λ h. refl), (λ h. refl));
-  individuals =
-      ((λ h. absurd (omega arith)), (λ h. absurd (none-some y (sym h.1))));
-  groups =
-      ((λ h. absurd (omega arith)), (λ h. absurd (none-some y (sym h.1))));
-  broadcasts = ((λ h. tt), (λ h. refl));
-}
-modes None (Some y) (Some n) = record {
-  shift = refl;
-  every_vlan = ((λ h. absurd (omega arith)), (λ h. absurd cc));
-  individuals =
-      ((λ h. absurd (omega arith)), (λ h. absurd (none-some y (sym h.1))));
-  groups =
-      ((λ h. absurd (omega arith)), (λ h. absurd (none-some y (sym h.1))));
-  broadcasts = ((λ h. tt), (λ h. refl));
-}
-modes (Some x) g None = record {
-  shift = refl;
-  every_vlan = ((λ h. refl), (λ h. refl));
-  individuals =
-      ((λ h. absurd (omega arith)), (λ h. absurd (none-some x (sym h.0))));
-  groups =
-      ((λ h. absurd (omega arith)), (λ h. absurd (none-some x (sym h.0))));
-  broadcasts = ((λ h. tt), (λ h. refl));
-}
-modes (Some x) g (Some n) = record {
-  shift = refl;
-  every_vlan = ((λ h. absurd (omega arith)), (λ h. absurd cc));
-  individuals =
-      ((λ h. absurd (omega arith)), (λ h. absurd (none-some x (sym h.0))));
-  groups =
-      ((λ h. absurd (omega arith)), (λ h. absurd (none-some x (sym h.0))));
-  broadcasts = ((λ h. tt), (λ h. refl));
-}
+
+modes : (every tagged : Bool) → Modes every tagged (mode_bits every tagged)
+modes true true = modes-of true true (holds-not (λ h. omega arith) (λ h. cc)) (holds-true refl refl) (holds-true refl refl) refl refl
+modes true false = modes-of true false (holds-true refl refl) (holds-true refl refl) (holds-true refl refl) refl refl
+modes false true = modes-of false true (holds-not (λ h. omega arith) (λ h. cc)) (holds-not (λ h. omega arith) (λ h. cc))
+    (holds-not (λ h. omega arith) (λ h. cc)) refl refl
+modes false false = modes-of false false (holds-true refl refl) (holds-not (λ h. omega arith) (λ h. cc))
+    (holds-not (λ h. omega arith) (λ h. cc)) refl refl
+
+every-open : (a g : Option (List ℕ)) → ((is_none a && is_none g) ≡ true) ↔ ((a ≡ None) × (g ≡ None))
+every-open None None = holds-true refl (refl, refl)
+every-open None (Some y) = holds-not (λ h. cc) (λ h. none-some y (sym h.1))
+every-open (Some x) g = holds-not (λ h. cc) (λ h. none-some x (sym h.0))
+
+none-tagged : (v : Option ℕ) → (is_some v ≡ false) ↔ (v ≡ None)
+none-tagged None = holds-true refl refl
+none-tagged (Some n) = holds-not (λ h. cc) (λ h. cc)
 
 -- The mode receives, into buffers of 2,048 bytes.
 receiving : (every tagged : Bool) → IsReceiving (mode_bits every tagged)
@@ -160,7 +142,7 @@ mode-receiving options = receiving (is_none options.address && is_none options.g
 
 -- ---- all of them
 
--- the registers, table by table
+-- The registers have the values for these options.
 pub record AreChosen (options : PassFilter) (regs : FilterRegisters) : Type 0 where
   pub ral : regs.ral ≡ low_words options.address
   pub rah : regs.rah ≡ high_words options.address
@@ -172,60 +154,24 @@ pub record AreChosen (options : PassFilter) (regs : FilterRegisters) : Type 0 wh
 abbrev written_to : Option (List ℕ) → Option (List ℕ) → Option ℕ → List ℕ → FilterRegisters
 written_to a g v words = with_vlan v (with_group g (with_address a (filter_at_reset words)))
 
-ral_is : (a g : Option (List ℕ)) (v : Option ℕ) (words : List ℕ) → (written_to a g v words).ral ≡ low_words a
-unfolding low_words
-ral_is None None None words = refl
-ral_is None None (Some n) words = refl
-ral_is None (Some y) None words = refl
-ral_is None (Some y) (Some n) words = refl
-ral_is (Some x) None None words = refl
-ral_is (Some x) None (Some n) words = refl
-ral_is (Some x) (Some y) None words = refl
-ral_is (Some x) (Some y) (Some n) words = refl
-
-rah_is : (a g : Option (List ℕ)) (v : Option ℕ) (words : List ℕ) → (written_to a g v words).rah ≡ high_words a
-unfolding high_words
-rah_is None None None words = refl
-rah_is None None (Some n) words = refl
-rah_is None (Some y) None words = refl
-rah_is None (Some y) (Some n) words = refl
-rah_is (Some x) None None words = refl
-rah_is (Some x) None (Some n) words = refl
-rah_is (Some x) (Some y) None words = refl
-rah_is (Some x) (Some y) (Some n) words = refl
-
-mta_is : (a g : Option (List ℕ)) (v : Option ℕ) (words : List ℕ) → (written_to a g v words).mta ≡ with_bit_of (number_of_group g)
-unfolding with_bit_of
-mta_is None None None words = refl
-mta_is None None (Some n) words = refl
-mta_is None (Some y) None words = refl
-mta_is None (Some y) (Some n) words = refl
-mta_is (Some x) None None words = refl
-mta_is (Some x) None (Some n) words = refl
-mta_is (Some x) (Some y) None words = refl
-mta_is (Some x) (Some y) (Some n) words = refl
-
-vfta_is : (a g : Option (List ℕ)) (v : Option ℕ) (words : List ℕ) → (written_to a g v words).vfta ≡ with_bit_of v
-unfolding with_bit_of
-vfta_is None None None words = refl
-vfta_is None None (Some n) words = refl
-vfta_is None (Some y) None words = refl
-vfta_is None (Some y) (Some n) words = refl
-vfta_is (Some x) None None words = refl
-vfta_is (Some x) None (Some n) words = refl
-vfta_is (Some x) (Some y) None words = refl
-vfta_is (Some x) (Some y) (Some n) words = refl
+tables_are : (a g : Option (List ℕ)) (v : Option ℕ) (words : List ℕ) → ((written_to a g v words).ral ≡ low_words a)
+    × ((written_to a g v words).rah ≡ high_words a) × ((written_to a g v words).mta ≡ with_bit_of (number_of_group g))
+    × ((written_to a g v words).vfta ≡ with_bit_of v)
+unfolding low_words high_words with_bit_of
+tables_are None None None words = (refl, refl, refl, refl)
+tables_are None None (Some n) words = (refl, refl, refl, refl)
+tables_are None (Some y) None words = (refl, refl, refl, refl)
+tables_are None (Some y) (Some n) words = (refl, refl, refl, refl)
+tables_are (Some x) None None words = (refl, refl, refl, refl)
+tables_are (Some x) None (Some n) words = (refl, refl, refl, refl)
+tables_are (Some x) (Some y) None words = (refl, refl, refl, refl)
+tables_are (Some x) (Some y) (Some n) words = (refl, refl, refl, refl)
 
 pub are_chosen : (options : PassFilter) (words : List ℕ)
     → AreChosen options (record (with_tables options (filter_at_reset words)) { rctl = mode_for options })
-are_chosen options words = record {
-  ral = ral_is options.address options.group options.vlan words;
-  rah = rah_is options.address options.group options.vlan words;
-  mta = mta_is options.address options.group options.vlan words;
-  vfta = vfta_is options.address options.group options.vlan words;
-  rctl = refl;
-  vet = refl;
-}
+are_chosen options words =
+    let tables = tables_are options.address options.group options.vlan words in
+    record { ral = tables.0; rah = tables.1; mta = tables.2; vfta = tables.3; rctl = refl; vet = refl }
 
 pub same_sets : (options : PassFilter) (regs : FilterRegisters) → IfSome options.address IsAddress → HasVlanNumber options
     → AreChosen options regs → SameSets (filter_of regs) (filter_for options)
@@ -234,7 +180,9 @@ same_sets options regs is fits chosen =
     let a = options.address in
     let g = options.group in
     let v = options.vlan in
-    let m = modes a g v in
+    let m = modes (is_none a && is_none g) (is_some v) in
+    let of_open = every-open a g in
+    let tagged = none-tagged v in
     record {
       addresses = λ address. subst (λ (low : List ℕ). HasEntry low regs.rah address
           ↔ (a ≡ Some address)) (sym chosen.ral) (subst (λ (high : List ℕ). HasEntry (low_words a) high address
@@ -242,13 +190,16 @@ same_sets options regs is fits chosen =
       groups = λ number below. subst (λ (t : List ℕ). HasTableBit t number ↔ IsGroupNumber g number) (sym chosen.mta) (groups_of g number);
       shift = ap (λ (r : ℕ). shift_of (group_offset_of (field r 12 2))) chosen.rctl ∙ m.shift;
       vlans = record {
-        every_vlan = subst (λ (r : ℕ). (field r 18 1 ≡ 0) ↔ (v ≡ None)) (sym chosen.rctl) m.every_vlan;
+        every_vlan = subst (λ (r : ℕ). (field r 18 1 ≡ 0) ↔ (v ≡ None)) (sym chosen.rctl)
+            ((λ h. tagged.0 (m.every_vlan.0 h)), (λ h. m.every_vlan.1 (tagged.1 h)));
         numbers = λ number below.
             subst (λ (t : List ℕ). HasTableBit t number ↔ (v ≡ Some number)) (sym chosen.vfta) (vlans_of v number fits);
         vlan_type = chosen.vet;
       };
-      all_individuals = subst (λ (r : ℕ). HasBit r 3 ↔ IsOpen options) (sym chosen.rctl) m.individuals;
-      all_groups = subst (λ (r : ℕ). HasBit r 4 ↔ IsOpen options) (sym chosen.rctl) m.groups;
+      all_individuals = subst (λ (r : ℕ). HasBit r 3 ↔ IsOpen options) (sym chosen.rctl)
+          ((λ h. of_open.0 (m.individuals.0 h)), (λ h. m.individuals.1 (of_open.1 h)));
+      all_groups = subst (λ (r : ℕ). HasBit r 4 ↔ IsOpen options) (sym chosen.rctl)
+          ((λ h. of_open.0 (m.groups.0 h)), (λ h. m.groups.1 (of_open.1 h)));
       broadcasts = subst (λ (r : ℕ). HasBit r 15 ↔ Unit {0}) (sym chosen.rctl) m.broadcasts;
     }
 

@@ -16,7 +16,6 @@ use Rattle.pcap_bench.specs.Lane.{slots, buffer_at, offered, NameBuffers}
 
 -- ---- addresses
 
--- a buffer of a slot
 pub buffer_lies : (memory frame : List ℕ) (slot : ℕ) → slot < slots → length memory ≡ 34816 → IsLegal frame
     → LiesIn memory (buffer_at slot) (length frame)
 buffer_lies memory frame slot below size legal = let most = legal.most in omega arith
@@ -24,16 +23,17 @@ buffer_lies memory frame slot below size legal = let most = legal.most in omega 
 desc_lies : (memory : List ℕ) (slot : ℕ) → slot < slots → length memory ≡ 34816 → LiesIn memory (16 * slot) 16
 desc_lies memory slot below size = omega arith
 
--- a slot is another slot
+-- The two slots differ.
 abbrev IsOther : ℕ → ℕ → Type 0
 IsOther other slot = (other < slot) ⊎ (slot < other)
 
 -- ---- a frame is written to the buffer of a slot
 
--- memory with the frame in the buffer, and with its descriptor written back
+-- memory with the frame in the buffer to which the slot's descriptor points
 abbrev pub with_frame : List ℕ → ℕ → List ℕ → List ℕ
 with_frame memory slot frame = with_bytes memory (named_address memory (16 * slot)) frame
 
+-- this memory, with the slot's descriptor written back
 abbrev pub with_finished : List ℕ → ℕ → List ℕ → List ℕ
 with_finished memory slot frame = with_bytes (with_frame memory slot frame) (16 * slot + 8) (finished_bytes (length frame) true)
 
@@ -54,14 +54,12 @@ has_room memory frame slot below size named legal =
       size = length-with_bytes memory frame (named_address memory (16 * slot)) lies ∙ size;
     }
 
--- No descriptor changes while the frame is written.
 kept_by_frame : (memory frame : List ℕ) (slot other : ℕ) → other < slots → HasRoom memory slot frame
     → descriptor_at (with_frame memory slot frame) (16 * other) ≡ descriptor_at memory (16 * other)
 kept_by_frame memory frame slot other below room =
     let behind = room.behind in
     descriptor_at-apart memory frame (16 * other) (named_address memory (16 * slot)) room.lies (inr (omega arith))
 
--- While a descriptor is written back, no other descriptor changes.
 kept_by_finish : (memory : List ℕ) (slot other n : ℕ) → slot < slots → other < slots → length memory ≡ 34816 → IsOther other slot
     → descriptor_at (with_bytes memory (16 * slot + 8) (finished_bytes n true)) (16 * other) ≡ descriptor_at memory (16 * other)
 kept_by_finish memory slot other n below other_below size apart =
@@ -99,7 +97,6 @@ length-finished memory frame slot below room =
     let size = room.size in
     length-with_bytes (with_frame memory slot frame) (finished_bytes (length frame) true) (16 * slot + 8) (omega arith) ∙ size
 
--- The descriptor is finished with the frame.
 pub frame_finished : (memory frame : List ℕ) (slot : ℕ) → slot < slots → length memory ≡ 34816 → NameBuffers memory → IsLegal frame
     → HasRoom memory slot frame → IsFinished (with_finished memory slot frame) (16 * slot) true frame
 frame_finished memory frame slot below size named legal room =
@@ -162,8 +159,6 @@ kept_by_offer memory slot other buffer below size apart =
 abbrev pub NameBelow : List ℕ → ℕ → Type 0
 NameBelow memory bound = (k : ℕ) → k < bound → named_address memory (16 * k) ≡ buffer_at k
 
--- After the buffer of a slot is offered, its descriptor points to this buffer, and the other descriptors point to the same buffers as
--- before.
 pub NameBelow-offered : (memory : List ℕ) (slot bound buffer : ℕ) → slot < slots → length memory ≡ 34816 → buffer ≡ buffer_at slot
     → ((k : ℕ) → k < bound → IsOther k slot → named_address memory (16 * k) ≡ buffer_at k)
     → NameBelow (with_offer memory slot buffer) bound

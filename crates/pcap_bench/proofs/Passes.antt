@@ -84,8 +84,8 @@ StopsAmong-same unit keeps others frames before after both stops = record {
 
 -- ---- the loop of a call
 
--- These frames are done, and the others are left. The bytes written and those that wait are the written form of the kept ones among the
--- first.
+-- The fates of the frames `done` were decided, and the frames `rest` are left. The bytes written, with those that wait, are the written
+-- form of the kept frames of `done`.
 pub record SoFar (unit : Unit) (keeps : Filter) (frames rest : List (List ℕ)) (next dropped turned_away out : ℕ)
     (before after : Option (List ℕ)) : Type 0 where
   pub done : List (List ℕ)
@@ -116,7 +116,6 @@ SoFar-start unit keeps frames rest dropped turned_away out before after all d t 
   sum = omega arith;
 }
 
--- the done frames and one more: the first one left
 more_parts : (frames done left rest : List (List ℕ)) (f : List ℕ) → left ≡ f ∷ rest → frames ≡ done ++ left
     → frames ≡ (done ++ f ∷ []) ++ rest
 more_parts frames done left rest f first parts =
@@ -185,7 +184,6 @@ SoFar-kept unit keeps frames left rest f next dropped turned_away out before mid
 
 -- ---- the end
 
--- a front of the bytes that wait was written
 pub SoFar-stops : (unit : Unit) (keeps : Filter) (frames rest : List (List ℕ)) (next dropped turned_away out : ℕ)
     (before mid after : Option (List ℕ)) (waiting : List ℕ)
     → Grows before mid → SoFar unit keeps frames rest next dropped turned_away out before (append_known mid waiting)
@@ -200,7 +198,6 @@ SoFar-stops unit keeps frames rest next dropped turned_away out before mid after
           (flushed_front before mid after waiting (written unit (kept_from 0 s.done s.fates)) grown s.went went);
     }
 
--- nothing was written
 pub StopsAmong-start : (unit : Unit) (keeps : Filter) (frames : List (List ℕ)) (before : Option (List ℕ))
     → StopsAmong unit keeps frames before before
 StopsAmong-start unit keeps frames before = record { count = 0; fates = []; right = tt; went = (0, Appends-nil before) }

@@ -6,7 +6,6 @@ use Rattle.pcap_trace.specs.Devices.{AppendsFront}
 use Rattle.pcap_trace.proofs.Sent.{AppendsFront-longer, AppendsFront-then, SentUpTo}
 use Rattle.pcap_bench.specs.Showing.{frame_line, lines_from}
 
--- the line of the next frame is written first
 pub SentUpTo-frame : (a b : Option (List ℕ)) (bytes end : List ℕ) (n : ℕ) (frames rest : List (List ℕ)) (frame : List ℕ)
     → frames ≡ frame ∷ rest → SentUpTo a b bytes (lines_from n frames ++ end)
     → SentUpTo a b bytes (frame_line n frame ++ (lines_from (n + 1) rest ++ end))
@@ -14,7 +13,6 @@ SentUpTo-frame a b bytes end n frames rest frame is sent =
     subst (SentUpTo a b bytes)
     (ap (λ (fs : List (List ℕ)). lines_from n fs ++ end) is ∙ append_assoc (frame_line n frame) (lines_from (n + 1) rest) end) sent
 
--- if no frame is left, the last line is written first
 pub SentUpTo-none : (a b : Option (List ℕ)) (bytes end : List ℕ) (n : ℕ) (frames : List (List ℕ)) → frames ≡ []
     → SentUpTo a b bytes (lines_from n frames ++ end) → SentUpTo a b bytes end
 SentUpTo-none a b bytes end n frames is sent =
@@ -32,7 +30,6 @@ pub SentUpTo-stops : (a b c : Option (List ℕ)) (bytes line : List ℕ) → Sen
     → AppendsFront a c bytes
 SentUpTo-stops a b c bytes line sent part = subst (AppendsFront a c) (sym sent.1) (AppendsFront-then a b c sent.0 line sent.2 part)
 
--- a beginning of the first line is a beginning of all lines
 pub SentUpTo-stops_within : (a b c : Option (List ℕ)) (bytes line rest : List ℕ) → SentUpTo a b bytes (line ++ rest) → AppendsFront b c line
     → AppendsFront a c bytes
 SentUpTo-stops_within a b c bytes line rest sent part =

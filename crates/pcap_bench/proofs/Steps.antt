@@ -22,11 +22,10 @@ use Rattle.pcap_bench.specs.Lane.{slots, buffer_at, ring_at, HasFrame, IsLane, I
 use Rattle.pcap_bench.proofs.Lanes.{HasRoom, frame_finished, length-finished, length-offer, with_finished, with_frame, with_offer}
 use Rattle.pcap_bench.proofs.Lanes.{NameBelow-offered, NameBuffers-finished}
 
--- an adapter that holds no frame, with the head of its ring at a slot and the driver at another
+-- an adapter that holds no frame, with its ring's head at `head` and the driver at `slot`
 abbrev pub calm : AdapterState → ℕ → ℕ → AdapterState
 calm state head slot = record state { receive_kilobytes = 48; receiver = new_receiver; receive_ring = ring_at head slot }
 
--- The adapter of a lane is calm.
 is_calm : (state : AdapterState) (head slot : ℕ) → state.receive_kilobytes ≡ 48 → state.receiver ≡ new_receiver
     → state.receive_ring ≡ ring_at head slot → state ≡ calm state head slot
 is_calm state head slot room idle ring =
@@ -47,11 +46,9 @@ pub is_stored : (lane : LaneState) (frame : List ℕ) (fate : Fate) (after : Ada
 is_stored lane frame fate after is waiting arrives stored =
     arrives ∙ ap (λ (f : Fate). after_arrive f frame lane.adapter) stored ∙ ap (after_arrive Stored frame) (calm_of lane is waiting)
 
--- The descriptors of a ring at address 0 begin at this address.
 at_slot : (slot : ℕ) → 0 + 16 * slot ≡ 16 * slot
 at_slot slot = omega arith
 
--- A buffer has room for a complete frame, so the frame is moved in one piece.
 pub one_piece : (state : AdapterState) (frame : List ℕ) (slot : ℕ) → IsReceiving state.filter.rctl → IsLegal frame
     → next_piece state.filter.rctl (with_stored state slot frame).receiver ≡ frame
 one_piece state frame slot receiving legal =
@@ -64,7 +61,6 @@ last_piece state frame slot receiving legal =
     let most = legal.most in
     ap (λ (code : ℕ). leb (length frame - 0) (buffer_size_of code)) receiving.size ∙ le-leb (length frame - 0) 2048 (omega arith)
 
--- The frame can be moved to memory.
 pub can_move : (state : AdapterState) (memory frame : List ℕ) (slot : ℕ) → IsReceiving state.filter.rctl → slot < slots
     → length memory ≡ 34816 → IsLegal frame → HasRoom memory slot frame
     → CanMovePiece memory (with_stored state slot frame)

@@ -20,7 +20,6 @@ use Rattle.adapter.specs.TableLaws.{register_at-there}
 use Rattle.pcap_bench.specs.Choosing.{mode_bits, with_address, with_bit}
 use Rattle.pcap_bench.specs.Lane.{ring_at}
 
--- A register whose rule is kept bits stores these bits of the written word.
 written : (register : Register) (value kept : ℕ) (state : AdapterState) → IsInTable register → (row_of register).kept ≡ Some kept
     → is_reset register value ≡ false
     → after_write (row_of register).offset value state ≡ with_register register (bit_and value kept) state
@@ -41,7 +40,6 @@ IsSubset-further : (a b d : ℕ) → IsSubset a b → IsSubset b d → IsSubset 
 IsSubset-further a b d in_b in_d = (IsSubset-places a d).1
     (λ place set. (IsSubset-places b d).0 in_d place ((IsSubset-places a b).0 in_b place set))
 
--- A write to RAH stores AV and two bytes.
 kept_high : (h : ℕ) → h < 2 ^ 16 → bit_and (h + 2 ^ 31) address_high_mask ≡ h + 2 ^ 31
 kept_high h small =
     let clear : bit_at h 31 ≡ 0 = omega arith in

@@ -7,7 +7,7 @@ use Rattle.command_line.specs.declared.job.PassFilter.{PassFilter}
 use Rattle.rx_engine.specs.declared.filter.TheConstants.{VLAN_TYPE}
 use Rattle.registers.specs.Places.{alone, rctl_bam, rctl_en, rctl_mpe, rctl_upe, rctl_vfe}
 
--- RAL(0) and RAH(0): the address, with AV, or 0 if none is given
+-- RAL(0) and RAH(0): the address, with AV, or 0 if no address is given
 abbrev pub with_address : Option (List ℕ) → FilterRegisters → FilterRegisters
 with_address None r = record r { ral = slice_set r.ral 0 0; rah = slice_set r.rah 0 0 }
 with_address (Some address) r = record r
@@ -32,13 +32,13 @@ with_vlan (Some number) r = record r { vfta = with_bit r.vfta number }
 abbrev pub with_tables : PassFilter → FilterRegisters → FilterRegisters
 with_tables options r = record (with_vlan options.vlan (with_group options.group (with_address options.address r))) { vet = VLAN_TYPE }
 
--- RCTL: EN and BAM; also UPE and MPE if the first argument is true (every address is accepted), and VFE if the second is true (a VLAN is
--- given)
+-- RCTL: EN and BAM; also UPE and MPE if every address is accepted (the first argument), and VFE if a VLAN is given (the second).
 abbrev pub mode_bits : Bool → Bool → ℕ
 mode_bits true false = alone rctl_en + alone rctl_bam + alone rctl_upe + alone rctl_mpe
 mode_bits true true = alone rctl_en + alone rctl_bam + alone rctl_upe + alone rctl_mpe + alone rctl_vfe
 mode_bits false false = alone rctl_en + alone rctl_bam
 mode_bits false true = alone rctl_en + alone rctl_bam + alone rctl_vfe
 
+-- RCTL for these options
 abbrev pub mode_for : PassFilter → ℕ
 mode_for options = mode_bits (is_none options.address && is_none options.group) (is_some options.vlan)

@@ -12,6 +12,7 @@ use Rattle.rx_engine.specs.Finishing.{IsFinished}
 use Rattle.adapter.specs.declared.ring.RingRegisters.{RingRegisters}
 use Rattle.adapter.specs.State.{AdapterState}
 
+-- the number of descriptors of the ring
 abbrev pub slots : ℕ
 slots = 8
 
@@ -19,7 +20,7 @@ slots = 8
 abbrev pub buffer_at : ℕ → ℕ
 buffer_at slot = 18432 + 2048 * slot
 
--- a descriptor that offers a buffer
+-- the descriptor that offers the buffer at address `buffer`; its status is 0
 abbrev pub offered : ℕ → RxDesc
 offered buffer = record { address = buffer; length = 0; checksum = 0; status = status_of 0; errors = 0; special = 0 }
 
@@ -59,10 +60,11 @@ pub record IsLane (lane : LaneState) : Type 0 where
 abbrev pub IsWaiting : LaneState → Type 0
 IsWaiting lane = lane.adapter.receive_ring.head ≡ lane.slot
 
--- the descriptor at the driver's slot; the bytes at the descriptor's address, of the descriptor's length
+-- the descriptor at the driver's slot
 abbrev pub slot_desc : LaneState → RxDesc
 slot_desc lane = descriptor_at lane.memory (16 * lane.slot)
 
+-- the bytes at the address of the descriptor at the driver's slot, of the descriptor's length
 abbrev pub slot_bytes : LaneState → List ℕ
 slot_bytes lane = bytes_at lane.memory (slot_desc lane).address (slot_desc lane).length
 

@@ -28,7 +28,7 @@ IsFate keeps frame illegal = is_sendable frame ≡ false
 IsFate keeps frame filtered = (is_sendable frame ≡ true) × (keeps (padded frame) → ⊥)
 IsFate keeps frame kept = (is_sendable frame ≡ true) × keeps (padded frame)
 
--- There are as many fates as frames, and each frame has the fate at its place.
+-- The number of fates is the number of frames, and each frame has the fate at its index.
 abbrev pub HaveFates : Filter → List (List ℕ) → List Fate → Type 0
 HaveFates keeps [] [] = ⊤
 HaveFates keeps [] (t ∷ ts) = ⊥
@@ -68,7 +68,7 @@ pub record WritesKept (unit : Unit) (keeps : Filter) (frames : List (List ℕ)) 
     : Type 0 where
   -- the fate of each frame
   pub fates : List Fate
-  -- each frame has the right fate
+  -- these are the fates of the frames, in order
   pub right : HaveFates keeps frames fates
   -- the kept frames were written, padded, each with its number
   pub went : Appends before after (written unit (kept_from 0 frames fates))
@@ -81,13 +81,13 @@ pub record WritesKept (unit : Unit) (keeps : Filter) (frames : List (List ℕ)) 
   -- the frames that are written are counted
   pub written_is : counts.written ≡ count_by is_kept fates
 
--- The fates of some first frames, perhaps of all, were decided. A beginning of the written form of the kept frames among them was written.
+-- The fates of the first `count` frames were decided. A beginning of the written form of the kept frames among them was written.
 pub record StopsAmong (unit : Unit) (keeps : Filter) (frames : List (List ℕ)) (before after : Option (List ℕ)) : Type 0 where
   -- the number of frames whose fate was decided
   pub count : ℕ
   -- their fates
   pub fates : List Fate
-  -- each of these frames has the right fate
+  -- these are the fates of the first `count` frames, in order
   pub right : HaveFates keeps (take count frames) fates
   -- a beginning of the written form of the kept frames was written
   pub went : AppendsFront before after (written unit (kept_from 0 (take count frames) fates))

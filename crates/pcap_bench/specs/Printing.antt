@@ -7,10 +7,12 @@ use Rattle.pcap_bench.specs.declared.counts.PassCounts.{PassCounts}
 abbrev pub field : List ℕ → ℕ → List ℕ
 field label number = label ++ decimal number
 
+-- the end of a line: whether the trace is cut off, and LF
 abbrev pub cut_word : Bool → List ℕ
 cut_word true = codes " cut yes\n"
 cut_word false = codes " cut no\n"
 
+-- the line of a pass over this trace, with these counts
 abbrev pub pass_line : Trace → PassCounts → List ℕ
 pass_line trace counts =
     field (codes "read ") counts.read ++ field (codes " skipped ") trace.skipped ++ field (codes " illegal ") counts.illegal

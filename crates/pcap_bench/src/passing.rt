@@ -25,7 +25,8 @@ fn is_sendable(frame: &[u8]) -> bool
     SHORTEST_SENDABLE <= frame.len() && frame.len() <= LONGEST_SENDABLE
 }
 
-/// Writes the frame of the finished descriptor at the driver's slot, and offers its buffer again.
+/// Writes the frame of the finished descriptor at the driver's slot with this number as time. Then offers the slot's
+/// buffer again.
 fn write_received<W: Sink>(
     lane: &mut ReceiveLane,
     writer: &mut RecordWriter,
@@ -50,8 +51,8 @@ fn write_received<W: Sink>(
     Ok(())
 }
 
-/// Sends the frames of a trace to a lane, and writes the frames that its receive filter accepts. Before the call, only
-/// the file header waits in the writer.
+/// Sends the frames of 14 to 1,518 bytes, padded, to a lane, and writes the frames that its receive filter accepts.
+/// Returns the counts. Before the call, only the file header waits in the writer.
 fn pass_frames<W: Sink>(
     lane: &mut ReceiveLane,
     writer: &mut RecordWriter,

@@ -24,7 +24,6 @@ asked_answer given words asked job answer are is_asked same =
     let P : List Text → Type 0 = λ these. IsAnswer these job answer in
     subst P are (asked_so given asked job answer is_asked same)
 
--- a list of kinds that contains a kind isn't empty
 some_among : (kind : ErrorKind) (kinds : Kinds) → IsAmong kind kinds → kinds ≢ []
 some_among kind [] among empty = among
 some_among kind (first ∷ rest) among empty = absurd (cc)

@@ -15,6 +15,7 @@ use Rattle.command_line.specs.declared.job.ServeJob.{ServeJob}
 abbrev pub texts : List (Bor Text) → List Text
 texts words = map (λ (word : Bor Text). word.now) words
 
+-- the words of the program that run `serve` with these options
 abbrev pub serve_words : List Text → List Text
 serve_words options = codes "nicbench" ∷ codes "serve" ∷ options
 

@@ -4,19 +4,20 @@ use Rattle.std.specs.List.{before_first, position_or_len}
 use Rattle.std.specs.Str.{bytes_eq}
 use Rattle.clap.specs.Words.{Text}
 
--- whether a word is an option of `serve` that isn't one of the adapter; its value is the next word
+-- whether a word is an option of `serve` that isn't an option of the adapter, and whose value is the next word
 abbrev pub is_run_option : Text → Bool
 is_run_option word = bytes_eq word (codes "--schedule") || bytes_eq word (codes "--record") || bytes_eq word (codes "--seed")
 
 abbrev pub is_equals_sign : ℕ → Bool
 is_equals_sign byte = byte == 0x3D
 
--- whether a word is an option that isn't one of the adapter, and its value, joined by `=`
+-- whether a word is an option of `serve` that isn't an option of the adapter, and the option's value, joined by `=`
 abbrev pub has_run_option : Text → Bool
 has_run_option word =
     if nat_lt (position_or_len is_equals_sign word) (length word) then is_run_option (before_first is_equals_sign word) else false
 
--- the word, or nothing if it is an option that isn't one of the adapter, or the value of such an option
+-- A list of the word. The list is empty if the word is or contains an option that isn't one of the adapter, or is the value of such an
+-- option.
 abbrev pub option_in : (is_value : Bool) → Text → List Text
 option_in is_value word =
     if not is_value && not (is_run_option word) && not (has_run_option word) then word ∷ [] else []

@@ -17,13 +17,13 @@ pub enum FileError {
     TraceMemory,
     /// Standard input or a pipe has more than 1 GiB.
     Pipe,
-    /// Memory was refused at another place.
+    /// Memory was refused, but not while a trace was read.
     Memory,
 }
 
 impl FileError {
-    /// Returns the error for a path whose file can't be opened or created. It is `Memory` if there is no memory for the
-    /// path.
+    /// Returns the error for a path whose file can't be opened or created. The error is `Memory` if there is no memory
+    /// for the path.
     pub fn open(alloc: Global, path: &str) -> FileError {
         match String::from_str(alloc, path) {
             Ok(path) => FileError::Open(path),
@@ -31,8 +31,8 @@ impl FileError {
         }
     }
 
-    /// Returns the error for a path whose input isn't a trace, or can't be read. It is `TraceMemory` if memory was
-    /// refused while the trace was read, and `Memory` if there is no memory for the path.
+    /// Returns the error for a path whose input isn't a trace, or can't be read. The error is `TraceMemory` if memory
+    /// was refused while the trace was read, and `Memory` if there is no memory for the path.
     pub(crate) fn input(alloc: Global, error: ReadError, path: &str) -> FileError {
         match (error, String::from_str(alloc, path)) {
             (ReadError::Memory, _) => FileError::TraceMemory,

@@ -5,7 +5,7 @@ use crate::file_error::FileError;
 use crate::late_file::LateFile;
 use crate::progress::{ReportingReader, Watched};
 use pcap_trace::{ReadError, ReaderSource, Sink, SliceSource, Trace, WriterSink};
-use std::alloc::Global;
+use std::alloc::{AllocError, Global};
 use std::fs::{self, Metadata, OpenFile, OpenOptions};
 use std::io::{self, ErrorKind, Input, Read};
 use std::os::unix::fs::{FileTypeExt, MetadataExt};
@@ -160,6 +160,32 @@ pub fn read_front<R: Files + Input + AllocGlobal>(
     }
 }
 
+/// Refuses the path `-`, for a job that reads something else from standard input.
+fn refuse_standard_input<R: AllocGlobal>(rt: &R, path: &str) -> Result<(), FileError> {
+    if path == STANDARD_INPUT {
+        return Err(FileError::open(rt.alloc(), path));
+    }
+    Ok(())
+}
+
+/// Reads a trace from a file or a pipe with a path. The path `-` is refused.
+pub fn read_file_trace<R: Files + Input + Watched + AllocGlobal>(
+    rt: &R,
+    path: &str,
+) -> Result<Trace, FileError> {
+    refuse_standard_input(rt, path)?;
+    read_trace(rt, path)
+}
+
+/// Reads all bytes of a file or a pipe with a path. The path `-` is refused.
+pub fn read_file_bytes<R: Files + Input + AllocGlobal>(
+    rt: &R,
+    path: &str,
+) -> Result<Vec<u8>, FileError> {
+    refuse_standard_input(rt, path)?;
+    read_bytes(rt, path)
+}
+
 /// Opens a file for writing. A file that doesn't exist is created; an existing file keeps its bytes until the first new
 /// byte is written.
 pub fn create_file<R: Files + AllocGlobal>(
@@ -213,7 +239,7 @@ pub fn create_all<R: Files + AllocGlobal>(
     Ok(sinks)
 }
 
-/// Checks that a path is that of a folder.
+/// Checks that a path is the path of a folder. Fails if it isn't.
 pub fn find_folder<R: Files + AllocGlobal>(rt: &R, path: &str) -> Result<(), FileError> {
     match fs::metadata(rt, path) {
         Ok(metadata) if metadata.is_dir() => Ok(()),
@@ -229,10 +255,37 @@ fn metadata_of<R: Files>(rt: &R, path: &str) -> io::Result<Metadata> {
     fs::metadata(rt, path)
 }
 
-/// Returns whether the path of an output and another path lead to the same plain file.
+/// Returns whether the path of an output and another path lead to the same plain file. As the other path, `-` means
+/// standard input.
 pub fn is_same_file<R: Files>(rt: &R, output: &str, other: &str) -> bool {
     match (fs::metadata(rt, output), metadata_of(rt, other)) {
         (Ok(one), Ok(two)) => one.is_file() && one.dev() == two.dev() && one.ino() == two.ino(),
         _ => false,
     }
+}
+
+/// Returns whether a path is that of the file with this name in a folder.
+fn is_file_in<R: Files + AllocGlobal>(
+    rt: &R,
+    path: &str,
+    directory: &str,
+    name: &str,
+) -> Result<bool, AllocError> {
+    let other = format!(in rt.alloc(); "{directory}/{name}")?;
+    Ok(is_same_file(rt, path, other.as_str()))
+}
+
+/// Returns whether a path is that of one of the files with these names in a folder.
+pub fn is_in_folder<R: Files + AllocGlobal>(
+    rt: &R,
+    path: &str,
+    directory: &str,
+    names: &[String],
+) -> Result<bool, AllocError> {
+    for name in names {
+        if is_file_in(rt, path, directory, name.as_str())? {
+            return Ok(true);
+        }
+    }
+    Ok(false)
 }

@@ -20,7 +20,7 @@ impl<F: OpenFile> LateFile<F> {
         }
     }
 
-    /// Drops the file's old bytes. A device or a pipe has nothing to drop.
+    /// Truncates a plain file. Doesn't change a device or a pipe.
     fn drop_old_bytes(&mut self) -> io::Result<()> {
         if self.file.metadata()?.is_file() {
             self.file.set_len(0)?;

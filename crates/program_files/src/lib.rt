@@ -1,5 +1,5 @@
-//! The inputs and outputs of the program: files, pipes and standard input; and the options in the first line of a
-//! schedule's file.
+//! The inputs and outputs of the program: files, pipes and standard input, among them the files of
+//! schedules. The crate also writes to standard error, and reports the progress of long jobs there.
 #![tactic(auto)]
 
 mod file_error;
@@ -7,18 +7,20 @@ mod files;
 mod late_file;
 mod progress;
 mod schedule_adapters;
+mod schedule_files;
 mod schedule_words;
 mod standard_error;
 mod whole_file;
 
 pub use file_error::FileError;
 pub use files::{
-    FileSink, create, create_all, create_file, find_folder, is_same_file, read_bytes, read_front,
-    read_trace,
+    FileSink, create, create_all, create_file, find_folder, is_in_folder, is_same_file, read_bytes,
+    read_file_bytes, read_file_trace, read_front, read_trace,
 };
 pub use late_file::LateFile;
 pub use progress::{Watched, report_play};
 pub use schedule_adapters::is_for;
+pub use schedule_files::{ScheduleFileError, player_of, record_of, store};
 pub use schedule_words::adapter_options;
 pub use standard_error::StandardError;
 pub use whole_file::{WholeFile, create_whole};

@@ -18,7 +18,7 @@ fn is_same_adapter(job: &ServeJob<'_>, other: &ServeJob<'_>) -> bool
         && job.missed == other.missed
 }
 
-/// Returns whether a job is one of `serve` with the adapter of this job.
+/// Returns whether `asked` is a job of `serve` with the adapter of `job`.
 fn has_adapter_of(asked: &Job<'_>, job: &ServeJob<'_>) -> bool
     ensures { IsTrue result ↔ spec.HasAdapterOf job.now asked.now }
 {

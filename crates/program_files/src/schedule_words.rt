@@ -4,14 +4,16 @@ ghost use Rattle.program_files.specs.Words as spec;
 
 use std::alloc::{AllocError, Global};
 
-/// Returns whether a word is an option of `serve` that isn't an option of the adapter, with its value in the next word.
+/// Returns whether a word is an option of `serve` that isn't an option of the adapter, and whose value is the next
+/// word.
 fn is_run_option(word: &str) -> bool
     ensures { result ≡ spec.is_run_option word.now }
 {
     word == "--schedule" || word == "--record" || word == "--seed"
 }
 
-/// Returns whether a word is an option of `serve` that isn't an option of the adapter, and its value, joined by `=`.
+/// Returns whether a word is an option of `serve` that isn't an option of the adapter, and the option's value, joined
+/// by `=`.
 fn has_run_option(word: &str) -> bool
     ensures { result ≡ spec.has_run_option word.now }
 {
@@ -40,7 +42,7 @@ fn options_in(alloc: Global, words: &[String]) -> Result<Vec<String>, AllocError
 }
 
 /// Returns the words that are options of the adapter or their values, in order. The first two words are the program and
-/// `serve`.
+/// `serve`. Returns no words if there are fewer than two.
 pub fn adapter_options(alloc: Global, words: &[String]) -> Result<Vec<String>, AllocError>
     ensures { IfOk result (λ options. map string_bytes options.items
         ≡ spec.adapter_options (map string_bytes words.now)) }

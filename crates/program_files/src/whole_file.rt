@@ -15,14 +15,14 @@ const MOST_PARTS: u32 = 100;
 
 /// An output that was opened.
 ///
-/// If it can be replaced, its new bytes are written to a part, which is another file in the same folder.
+/// If the output can be replaced, its new bytes are written to a part, which is another file in the same folder.
 /// [`finish`](WholeFile::finish) renames the part to the output. So the output has its old bytes or all new bytes, even
 /// if the program is killed.
 #[derive(Drop)]
 pub struct WholeFile<F> {
     /// The sink for the new bytes.
     pub sink: FileSink<F>,
-    /// The path of the part; `None` if the output is written in place.
+    /// The path of the part, or `None` if the output is written in place.
     part: Option<String>,
 }
 

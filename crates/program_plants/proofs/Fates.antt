@@ -26,7 +26,6 @@ fates_are_one keeps (frame ∷ later) (x ∷ xs) (y ∷ ys) p q =
     let rest = fates_are_one keeps later xs ys p.1 q.1 in
     cc (first, rest)
 
--- The counts of two passes are equal.
 pub counts_are_one : (unit : Unit) (keeps : Filter) (frames : List (List ℕ)) (counts others : PassCounts)
     (before after before' after' : Option (List ℕ)) → WritesKept unit keeps frames counts before after
     → WritesKept unit keeps frames others before' after' → counts ≡ others
@@ -34,7 +33,6 @@ counts_are_one unit keeps frames counts others before after before' after' p q =
     let fates = fates_are_one keeps frames p.fates q.fates p.right q.right in
     grind (arith, fates, p.read_is, q.read_is, p.illegal_is, q.illegal_is, p.filtered_is, q.filtered_is, p.written_is, q.written_is)
 
--- The bytes that two passes write are equal.
 pub written_is_one : (unit : Unit) (keeps : Filter) (frames : List (List ℕ)) (counts others : PassCounts) (bytes : List ℕ)
     (after after' : Option (List ℕ)) → WritesKept unit keeps frames counts (Some bytes) after
     → WritesKept unit keeps frames others (Some bytes) after' → after ≡ after'

@@ -28,7 +28,7 @@ use Rattle.command_line.specs.declared.job.ServeLink.TheVariants.{After, Never}
 use Rattle.program_files.specs.Adapters.{AreSameImage, HasAdapterOf, HaveSameAdapter, IsAnswer}
 use Rattle.program_plants.specs.SameJobs.{AreSameDrives, AreSameImages, AreSameJobs, AreSamePasses, AreSameRuns, AreSameServes}
 
--- Texts spell one value.
+-- A text spells at most one value of each form.
 
 abbrev IsOneSpelling : {V : Type 0} → (List ℕ → V → Type 0) → Type 0
 IsOneSpelling {V} spells = (text : List ℕ) (a b : V) → spells text a → spells text b → a ≡ b
@@ -71,7 +71,7 @@ address_one text a b p q =
 group_one : IsOneSpelling SpellsGroup
 group_one text a b p q = address_one text a b p.0 q.0
 
--- Options have one value.
+-- An option has at most one value.
 
 value_one : {V : Type 0} (spells : List ℕ → V → Type 0) → IsOneSpelling spells → (text : Option (List ℕ)) (a b : Option V)
     → IsValueOf spells text a → IsValueOf spells text b → a ≡ b
@@ -106,7 +106,7 @@ image_one rows (File path) (Address address) p q = absurd (not_both _ path.now p
 image_one rows (Address address) (File path) p q = absurd (not_both _ path.now q.0 p.0)
 image_one rows (Address address) (Address other) p q = default_one SpellsAddress _ address_one _ address other p.1 q.1
 
--- Jobs.
+-- Two jobs of the same words are the same.
 
 filter_one : (rows : List Row) (a b : PassFilter) → IsPassFilterOf rows a → IsPassFilterOf rows b → a ≡ b
 filter_one rows a b p q =
@@ -192,11 +192,9 @@ found_one : (found : Option (Text × List Row)) (a b : Job) → IsSomeAnd found 
 found_one None a b p q = absurd p
 found_one (Some found) a b p q = job_one found a b p q
 
--- Two jobs that words ask for are the same.
 pub asked_one : (words : List Text) (a b : Job) → IsAskedBy words a → IsAskedBy words b → AreSameJobs a b
 asked_one words a b p q = found_one (found_in words) a b p.1 q.1
 
--- Words that ask for a job aren't refused.
 pub asked_not_refused : (words : List Text) (job : Job) (error : Error) → IsAskedBy words job → IsRefusalOf words error → ⊥
 asked_not_refused words job error asked refused = subst (λ (kinds : Kinds). IsAmong (kind_of error) kinds) asked.0 refused
 
@@ -223,7 +221,6 @@ same_adapter_one (Serve a) (Serve b) job other same p q = record {
 same_adapter_one (Serve a) _ job other same p q = absurd same
 same_adapter_one _ b job other same p q = absurd p
 
--- Jobs that the same options are for have one adapter.
 pub adapter_one : (words : List Text) (job other : ServeJob) → IsAnswer words job true → IsAnswer words other true
     → HaveSameAdapter job other
 adapter_one words job other p q = same_adapter_one p.0 q.0 job other (asked_one words p.0 q.0 p.1 q.1) p.2 q.2

@@ -58,13 +58,11 @@ times_one Happens one count = in_order_one (λ (turn : ℕ). Happens) (λ turn. 
 happens_one : (event : Event) (of_it : List Told) (next : PlayedAdapter) → IsOne (Happens event of_it next)
 happens_one event of_it next a b c told other p q = (p.after ∙ sym q.after, p.told_is ∙ sym q.told_is)
 
--- A step has one outcome.
 pub outcome_is_one : (kind : StepKind) (a b c : PlayedAdapter) (outcome another : Outcome (Unit {0})) (told other : List Told)
     → Steps kind outcome a b told → Steps kind another a c other → outcome ≡ another
 outcome_is_one kind a b c outcome another told other p q =
     one_answer kind _ a.machine.world.memory a.machine.world.adapter outcome another p.occurs.1 q.occurs.1
 
--- A step leads to one state, and one list is told.
 pub steps_one : (kind : StepKind) (a b c : PlayedAdapter) (outcome another : Outcome (Unit {0})) (told other : List Told)
     → Steps kind outcome a b told → Steps kind another a c other → (b ≡ c) × (told ≡ other)
 steps_one kind a b c outcome another told other p q =
@@ -75,13 +73,11 @@ steps_one kind a b c outcome another told other p q =
 pub step_one : (kind : StepKind) (outcome : Outcome (Unit {0})) → IsOne (Steps kind outcome)
 step_one kind outcome a b c told other p q = (p.after ∙ sym q.after, p.told_is ∙ sym q.told_is)
 
--- A frame that arrives has one fate.
 pub arrives_one : (frame : List ℕ) (a b c : PlayedAdapter) (fate another : Fate) (told other : List Told)
     → Arrives frame fate a b told → Arrives frame another a c other → fate ≡ another
 arrives_one frame a b c fate another told other p q =
     one_fate a.machine.world.adapter frame fate another p.occurs.1 q.occurs.1
 
--- A frame that arrives with this fate leads to one state, and one list is told.
 pub arrival_one : (frame : List ℕ) (fate : Fate) → IsOne (Arrives frame fate)
 arrival_one frame fate a b c told other p q = (p.after ∙ sym q.after, p.told_is ∙ sym q.told_is)
 
@@ -92,7 +88,7 @@ plays_one kind a b c told other p q =
     let counts : b.1 ≡ c.1 = p.count ∙ ap (λ (x : Outcome (Unit {0})). a.1 + moved_by x) outcomes ∙ sym q.count in
     (ap (λ (x : PlayedAdapter). (x, b.1)) same.0 ∙ ap (λ (n : ℕ). (c.0, n)) counts, same.1)
 
--- Accesses.
+-- The ticks and the scheduled steps before an access.
 
 ticks_one : IsOne Ticks
 ticks_one a b c told other p q =
@@ -102,7 +98,7 @@ ticks_one a b c told other p q =
 scheduled_one : (step : ScheduledStep) → IsOne (PlaysScheduled step)
 scheduled_one step a b c told other p q = steps_one step.kind (without_next a) b c p.0 q.0 told other p.1 q.1
 
--- Offered frames, choices and moves.
+-- Offered frames, choices, moves and accesses.
 
 frame_one : (frame : List ℕ) (later : List (List ℕ)) (a b c : PlayedAdapter) (fate another : Fate) (told other : List Told)
     → FrameArrives frame later fate a b told → FrameArrives frame later another a c other → (b ≡ c) × (told ≡ other)
@@ -118,7 +114,6 @@ oldest_one (frame ∷ later) a b c told other p q = frame_one frame later a b c 
 next_one : IsOne NextArrives
 next_one a b c told other p q = oldest_one a.offered a b c told other p q
 
--- All offered frames arrive.
 pub all_one : IsOne AllArrive
 all_one a b c told other p q = times_one NextArrives next_one (length a.offered) a b c told other p q
 
@@ -147,7 +142,6 @@ makes_one (Tick kind) a b c told other p q = steps_one kind a b c p.0 q.0 told o
 makes_one (Hold action) a b c told other p q = (p.0 ∙ sym q.0, p.1 ∙ sym q.1)
 makes_one (Play choice) a b c told other p q = chosen_one choice a b c told other p q
 
--- Moves are played.
 pub moves_one : (moves : List Move) → IsOne (InOrder Makes moves)
 moves_one moves = in_order_one Makes makes_one moves
 
@@ -165,7 +159,6 @@ prepares_one a b c told other p q =
     (λ k l. in_order_one PlaysScheduled scheduled_one (due_in m) m k l) draws_one d e x y)
     b c told other p q
 
--- From one state, reads of one register have one answer, and lead to one state, and one list is told.
 pub reads_one : (offset value another : ℕ) (a b c : PlayedAdapter) (told other : List Told)
     → Accessed (Reads offset value) a b told → Accessed (Reads offset another) a c other → value ≡ another
 reads_one offset value another a b c told other p q =
@@ -173,13 +166,11 @@ reads_one offset value another a b c told other p q =
     let again = subst (λ (m : PlayedAdapter). HappensAlone (Reads offset another) m c q.rest) (sym firsts.0) q.goes_on in
     p.goes_on.occurs ∙ sym again.occurs
 
--- One access leads to one state, and one list is told.
 pub accessed_one : (access : Access) → IsOne (Accessed access)
 accessed_one access a b c told other p q =
     joins_one (Prepares a) (λ middle d rest. HappensAlone access middle d rest) (λ m n. prepares_one a m n)
     (λ m d e x y p q. (p.after ∙ sym q.after, p.told_is ∙ sym q.told_is)) b c told other p q
 
--- Loads of the same bytes have one answer, fill equal buffers equally, and lead to one state, and one list is told.
 pub loads_one : (address : ℕ) (old new another : List ℕ) (yes no : Bool) (a b c : PlayedAdapter) (told other : List Told)
     → AnswersLoad address old new yes a b told → AnswersLoad address old another no a c other
     → (yes ≡ no) × (new ≡ another) × (b ≡ c) × (told ≡ other)
@@ -197,7 +188,6 @@ loads_one address old new another false false a b c told other p q =
     let two = q.refused refl in
     (refl, one.0 ∙ sym two.0, one.1 ∙ sym two.1, one.2 ∙ sym two.2)
 
--- Stores of the same bytes have one answer, and lead to one state, and one list is told.
 pub stores_one : (address : ℕ) (bytes : List ℕ) (yes no : Bool) (a b c : PlayedAdapter) (told other : List Told)
     → AnswersStore address bytes yes a b told → AnswersStore address bytes no a c other → (yes ≡ no) × (b ≡ c) × (told ≡ other)
 stores_one address bytes true true a b c told other p q =
@@ -210,7 +200,6 @@ stores_one address bytes false false a b c told other p q =
     let two = q.refused refl in
     (refl, one.0 ∙ sym two.0, one.1 ∙ sym two.1)
 
--- Both observers were told the same list.
 pub one_told : {O S : Type 0} (heard : O → O → List Told → Type 0) (Happens : S → S → List Told → Type 0) → IsOne Happens → (a b c : S)
     (before after before' after' : O) → Tells heard before after (Happens a b) → Tells heard before' after' (Happens a c)
     → (b ≡ c) × ((told : List Told) × heard before after told × heard before' after' told)

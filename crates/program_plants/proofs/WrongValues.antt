@@ -84,7 +84,6 @@ drive_spelled rows job option.Expect text has is given = of_form SpellsDecimal _
 drive_spelled rows job option.Idle text has is given = of_form SpellsDecimal _ job.idle text is.idle given
 drive_spelled rows job _ text has is given = absurd (true≢false (sym has))
 
--- The other subcommands have no option of `ValueOption`.
 has_none : (name : Text) (one : ValueOption) → bytes_eq name (codes "pass") ≡ false → bytes_eq name (codes "serve") ≡ false
     → bytes_eq name (codes "drive") ≡ false → has_option name one ≡ false
 has_none name option.Address pass serve drive = ap₂ (λ (a b : Bool). a || b) pass serve
@@ -113,7 +112,6 @@ not_both_found : (found : Option (Text × List Row)) (job : Job) (value : Invali
 not_both_found None job value is refused = is
 not_both_found (Some found) job value is refused = not_invalid found job value is refused.0 refused.1
 
--- Words that ask for a job aren't refused for a value.
 asked_not_invalid : (words : List Text) (job : Job) (value : InvalidValue) → IsAskedBy words job → IsRefusedIn words value → ⊥
 asked_not_invalid words job value asked refused = not_both_found (found_in words) job value asked.1 refused.1
 
@@ -154,7 +152,6 @@ not_both_answers words job asked (inr (inl invalid)) = asked_not_invalid words a
 not_both_answers words job asked (inr (inr other)) =
     other.2 (adapter_moved asked.0 other.0 job (asked_one words asked.0 other.0 asked.1 other.1) asked.2)
 
--- There is one answer.
 pub answer_one : (words : List Text) (job : ServeJob) (one two : Bool) → IsAnswer words job one → IsAnswer words job two → one ≡ two
 answer_one words job true true p q = refl
 answer_one words job true false p q = absurd (not_both_answers words job p q)

@@ -1,4 +1,4 @@
--- Jobs with the same values, whatever the addresses of their texts.
+-- Jobs with the same values, whatever the addresses of their texts in memory are.
 use Rattle.std.specs.Prelude.{◌≡◌, List, Option, ℕ}
 use Rattle.std.specs.Borrow.{Bor}
 use Rattle.std.specs.Option.{option_map}

@@ -9,8 +9,8 @@ use command_line::{Job, LineError};
 use std::alloc::Global;
 use std::convert::AsStr;
 
-/// [`command_line::line`] twice: words request only one job, and words that request a job are refused neither by clap
-/// nor for the value of an option.
+/// Calls [`command_line::line`] twice: words request only one job, and words that request a job are refused neither by
+/// clap nor for the value of an option.
 #[tactic(auto, using(crate::proofs::OneJob::asked_one, crate::proofs::OneJob::asked_not_refused))]
 pub fn line<'a, S: AsStr>(
     alloc: Global,

@@ -1,4 +1,4 @@
-//! The call of `pcap_bench` that passes the frames of a trace.
+//! The call of `pcap_bench` that passes the frames of a trace, made twice.
 
 ghost use Rattle.std.specs.Prelude.{◌≡◌, ◌<◌, IfOk, IfSome, OnOk};
 ghost use Rattle.pcap_bench.specs.Options.{HasVlanNumber};
@@ -6,7 +6,8 @@ ghost use Rattle.pcap_bench.specs.Options.{HasVlanNumber};
 use pcap_bench::{PassCounts, PassError, PassFilter, Sink, Trace, Unit};
 use std::alloc::Global;
 
-/// [`pcap_bench::pass`] twice. The contract leaves open when memory is refused, and when a write fails.
+/// Calls [`pcap_bench::pass`] twice, with two sinks of the same bytes. The contract leaves open when memory is refused,
+/// and when a write fails.
 #[tactic(auto, using(crate::proofs::Fates::counts_are_one, crate::proofs::Fates::written_is_one))]
 pub fn pass<W: Sink>(
     alloc: Global,

@@ -1,4 +1,4 @@
-//! The calls of `pcap_trace` that read and write traces.
+//! The calls of `pcap_trace` that read and write traces, each made twice.
 
 ghost use Rattle.std.specs.Prelude.{◌≡◌, ◌<◌, ◌≤◌, ◌↔◌, IfOk, IfSome, OnOk, Err, length, true};
 ghost use Rattle.std.specs.Io.KnownBytes.{append_known};
@@ -9,8 +9,8 @@ use descriptors::Frame;
 use pcap_trace::{ReadError, RecordWriter, Sink, Source, Trace, Unit, WriteError};
 use std::alloc::{AllocError, Global};
 
-/// [`Trace::read`] of two sources with the same bytes. The contract leaves open when memory is refused, and when a read
-/// fails.
+/// Calls [`Trace::read`] with two sources of the same bytes. The contract leaves open when memory is refused, and when
+/// a read fails.
 pub fn read_trace<S: Source>(
     alloc: Global,
     one: &mut S,
@@ -26,7 +26,7 @@ pub fn read_trace<S: Source>(
     (Trace::read(alloc, one), Trace::read(alloc, other))
 }
 
-/// [`Trace::write`] to two sinks with the same bytes. The contract leaves open when a write fails.
+/// Calls [`Trace::write`] with two sinks of the same bytes. The contract leaves open when a write fails.
 pub fn write_trace<W: Sink>(
     one: &mut W,
     other: &mut W,
@@ -46,7 +46,7 @@ pub fn write_trace<W: Sink>(
     )
 }
 
-/// [`RecordWriter::new`] twice.
+/// Calls [`RecordWriter::new`] twice. The contract leaves open when memory is refused.
 pub fn new_writer(
     alloc: Global,
     unit: Unit,
@@ -62,8 +62,8 @@ pub fn new_writer(
     )
 }
 
-/// [`RecordWriter::write`] twice. The contract leaves open when a write fails, and how many of its bytes a writer
-/// keeps.
+/// Calls [`RecordWriter::write`] twice, of two equal writers, with two sinks of the same bytes. The contract doesn't
+/// state when a write fails, and how many of its bytes a writer keeps.
 pub fn write_record<W: Sink>(
     one: &mut RecordWriter,
     other: &mut RecordWriter,

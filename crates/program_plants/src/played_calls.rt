@@ -7,7 +7,7 @@ use adapter::{Fate, Outcome, StepKind};
 use played_adapter::{Observer, PlayedAdapter};
 use step_schedules::{Agenda, Before};
 
-/// [`PlayedAdapter::step`] twice.
+/// Calls [`PlayedAdapter::step`] twice, of two equal adapters.
 pub fn step<O: Observer>(
     one: &mut PlayedAdapter,
     other: &mut PlayedAdapter,
@@ -23,7 +23,7 @@ pub fn step<O: Observer>(
     (one.step(kind, observer), other.step(kind, another))
 }
 
-/// [`PlayedAdapter::arrive`] twice.
+/// Calls [`PlayedAdapter::arrive`] twice, of two equal adapters.
 pub fn arrive<O: Observer>(
     one: &mut PlayedAdapter,
     other: &mut PlayedAdapter,
@@ -39,7 +39,7 @@ pub fn arrive<O: Observer>(
     (one.arrive(frame, observer), other.arrive(frame, another))
 }
 
-/// [`PlayedAdapter::deliver_all`] twice.
+/// Calls [`PlayedAdapter::deliver_all`] twice, of two equal adapters.
 pub fn deliver_all<O: Observer>(
     one: &mut PlayedAdapter,
     other: &mut PlayedAdapter,
@@ -54,7 +54,7 @@ pub fn deliver_all<O: Observer>(
     other.deliver_all(another);
 }
 
-/// [`PlayedAdapter::meet_request`] twice.
+/// Calls [`PlayedAdapter::meet_request`] twice, of two equal adapters, with equal agendas.
 pub fn meet_request<O: Observer>(
     one: &mut PlayedAdapter,
     other: &mut PlayedAdapter,
@@ -74,7 +74,7 @@ pub fn meet_request<O: Observer>(
     other.meet_request(same_agenda, Before::Request, name, another);
 }
 
-/// [`PlayedAdapter::read`] twice.
+/// Calls [`PlayedAdapter::read`] twice, of two equal adapters.
 pub fn read<O: Observer>(
     one: &mut PlayedAdapter,
     other: &mut PlayedAdapter,
@@ -90,7 +90,7 @@ pub fn read<O: Observer>(
     (one.read(offset, observer), other.read(offset, another))
 }
 
-/// [`PlayedAdapter::write`] twice.
+/// Calls [`PlayedAdapter::write`] twice, of two equal adapters.
 pub fn write<O: Observer>(
     one: &mut PlayedAdapter,
     other: &mut PlayedAdapter,
@@ -107,7 +107,7 @@ pub fn write<O: Observer>(
     other.write(offset, value, another);
 }
 
-/// [`PlayedAdapter::load`] twice.
+/// Calls [`PlayedAdapter::load`] twice, of two equal adapters, with buffers of equal bytes.
 pub fn load<O: Observer>(
     one: &mut PlayedAdapter,
     other: &mut PlayedAdapter,
@@ -130,7 +130,7 @@ pub fn load<O: Observer>(
     )
 }
 
-/// [`PlayedAdapter::store`] twice.
+/// Calls [`PlayedAdapter::store`] twice, of two equal adapters.
 pub fn store<O: Observer>(
     one: &mut PlayedAdapter,
     other: &mut PlayedAdapter,
@@ -150,7 +150,7 @@ pub fn store<O: Observer>(
     )
 }
 
-/// [`PlayedAdapter::take_put`] twice.
+/// Calls [`PlayedAdapter::take_put`] twice, of two equal adapters, with buffers of equal bytes.
 pub fn take_put(
     one: &mut PlayedAdapter,
     other: &mut PlayedAdapter,

@@ -8,7 +8,7 @@ ghost use Rattle.step_schedules.specs.Schedules.{option_texts};
 use std::alloc::{AllocError, Global};
 use step_schedules::{Action, Agenda, Before, Event, Held, Place, Recorder};
 
-/// [`Agenda::coming`] twice.
+/// Calls [`Agenda::coming`] twice, of two equal agendas.
 pub fn coming<'a>(
     one: &Agenda,
     other: &Agenda,
@@ -21,7 +21,7 @@ pub fn coming<'a>(
     (one.coming(before, name), other.coming(before, name))
 }
 
-/// [`Agenda::held`] twice.
+/// Calls [`Agenda::held`] twice, of two equal agendas.
 pub fn held(one: &Agenda, other: &Agenda, event: &Event<'_>) -> (Held, Held)
     requires { one.now ≡ other.now }
     ensures { result.0 ≡ result.1 }
@@ -29,7 +29,7 @@ pub fn held(one: &Agenda, other: &Agenda, event: &Event<'_>) -> (Held, Held)
     (one.held(event), other.held(event))
 }
 
-/// [`Agenda::chosen`] twice.
+/// Calls [`Agenda::chosen`] twice, of two equal agendas.
 pub fn chosen(one: &Agenda, other: &Agenda, event: &Event<'_>) -> (u32, u32)
     requires { one.now ≡ other.now }
     ensures { result.0 ≡ result.1 }
@@ -37,7 +37,7 @@ pub fn chosen(one: &Agenda, other: &Agenda, event: &Event<'_>) -> (u32, u32)
     (one.chosen(event), other.chosen(event))
 }
 
-/// [`Agenda::count`] twice.
+/// Calls [`Agenda::count`] twice, of two equal agendas.
 pub fn count(one: &mut Agenda, other: &mut Agenda, event: &Event<'_>)
     requires { one.old ≡ other.old }
     ensures { one.new ≡ other.new }
@@ -46,7 +46,7 @@ pub fn count(one: &mut Agenda, other: &mut Agenda, event: &Event<'_>)
     other.count(event);
 }
 
-/// [`Agenda::unmet`] twice.
+/// Calls [`Agenda::unmet`] twice, of two equal agendas.
 pub fn unmet(
     one: &Agenda,
     other: &Agenda,
@@ -58,7 +58,7 @@ pub fn unmet(
     (one.unmet(alloc), other.unmet(alloc))
 }
 
-/// [`Recorder::begin`] twice.
+/// Calls [`Recorder::begin`] twice, of two equal recorders, with equal names.
 pub fn begin(
     one: &mut Recorder,
     other: &mut Recorder,
@@ -75,7 +75,7 @@ pub fn begin(
     other.begin(place, before, same_name);
 }
 
-/// [`Recorder::note`] twice.
+/// Calls [`Recorder::note`] twice, of two equal recorders.
 pub fn note(
     one: &mut Recorder,
     other: &mut Recorder,
@@ -87,7 +87,7 @@ pub fn note(
     (one.note(action), other.note(action))
 }
 
-/// [`Recorder::recorded`] twice.
+/// Calls [`Recorder::recorded`] twice, of two equal recorders, with equal options.
 pub fn recorded(
     one: &Recorder,
     other: &Recorder,

@@ -3,10 +3,10 @@
 ghost use Rattle.std.specs.Prelude.{◌≡◌, IfSome, None};
 
 use bus::Bus;
-use qtest_bus::QtestBus;
+use drive::QtestBus;
 use std::io::{BufRead, Write};
 
-/// [`Bus::write`] of `QtestBus` twice. The contract leaves open when the other program fails.
+/// Calls [`Bus::write`] of `QtestBus` twice, of two equal buses. The contract leaves open when the other program fails.
 pub fn write<R: BufRead, W: Write>(
     one: &mut QtestBus<R, W>,
     other: &mut QtestBus<R, W>,

@@ -6,7 +6,8 @@ ghost use Rattle.program_files.specs.Adapters.{HaveSameAdapter};
 use command_line::ServeJob;
 use std::alloc::{AllocError, Global};
 
-/// [`program_files::is_for`] of two jobs: options are for both jobs only if both jobs have the same adapter.
+/// Calls [`program_files::is_for`] twice, for two jobs: options are for both jobs only if both jobs have the same
+/// adapter.
 pub fn is_for(
     alloc: Global,
     options: &[String],
@@ -22,7 +23,7 @@ pub fn is_for(
     )
 }
 
-/// [`program_files::is_for`] twice.
+/// Calls [`program_files::is_for`] twice for one job.
 #[tactic(auto, using(crate::proofs::WrongValues::answer_one))]
 pub fn is_for_one_job(
     alloc: Global,

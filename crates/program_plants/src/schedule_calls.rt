@@ -8,7 +8,7 @@ ghost use Rattle.step_schedules.specs.declared.schedule_error.ScheduleError.TheV
 use std::alloc::{AllocError, Global};
 use step_schedules::{Deviation, Schedule, ScheduleError};
 
-/// [`Schedule::parse`] twice.
+/// Calls [`Schedule::parse`] twice.
 pub fn parse(
     alloc: Global,
     text: &[u8],
@@ -23,7 +23,7 @@ pub fn parse(
     (Schedule::parse(alloc, text), Schedule::parse(alloc, text))
 }
 
-/// `to_string` of two equal deviations.
+/// Calls `to_string` of two equal deviations.
 pub fn line_of(
     alloc: Global,
     one: &Deviation,

@@ -1,10 +1,10 @@
-//! The call of `program_files` that finds the options of an adapter among words.
+//! The call of `program_files` that finds the options of an adapter among words, made twice.
 
 ghost use Rattle.std.specs.Prelude.{◌≡◌, IfOk, map, string_bytes};
 
 use std::alloc::{AllocError, Global};
 
-/// [`program_files::adapter_options`] twice.
+/// Calls [`program_files::adapter_options`] twice.
 pub fn adapter_options(
     alloc: Global,
     words: &[String],

@@ -13,7 +13,7 @@ use server_requests::{Request, Stop};
 use std::alloc::{AllocError, Global};
 use std::io::Write;
 
-/// [`access_names::fault_of`] twice.
+/// Calls [`access_names::fault_of`] twice, with two equal machines.
 pub fn fault_of(
     one: &Machine,
     other: &Machine,
@@ -28,7 +28,7 @@ pub fn fault_of(
     )
 }
 
-/// [`access_names::memory_target`] twice.
+/// Calls [`access_names::memory_target`] twice, with two equal machines.
 pub fn memory_target(one: &Machine, other: &Machine, address: u64) -> (Target, Target)
     requires { one.now ≡ other.now }
     ensures { result.0 ≡ result.1 }
@@ -39,7 +39,7 @@ pub fn memory_target(one: &Machine, other: &Machine, address: u64) -> (Target, T
     )
 }
 
-/// `to_string` of a target twice.
+/// Calls `to_string` of a target twice.
 pub fn name_of(
     alloc: Global,
     target: Target,
@@ -59,7 +59,7 @@ pub fn read_line(alloc: Global, line: &[u8]) -> Result<Request, Stop>
     }
 }
 
-/// [`server_output::say`] twice.
+/// Calls [`server_output::say`] twice, with two writers of the same bytes.
 pub fn say<W: Write>(
     one: &mut W,
     other: &mut W,
@@ -75,7 +75,7 @@ pub fn say<W: Write>(
     )
 }
 
-/// [`server_output::say_answer`] twice.
+/// Calls [`server_output::say_answer`] twice, with two writers of the same bytes.
 pub fn say_answer<W: Write>(
     alloc: Global,
     one: &mut W,

@@ -10,20 +10,28 @@ fn has_name(alloc: Global, target: Target, name: &str) -> Result<bool, AllocErro
     Ok(text.as_str() == name)
 }
 
+/// A target of each kind, and its name.
+const NAMES: [(Target, &str); 7] = [
+    (Target::Register(TDT), "TDT"),
+    (Target::Register(MTA_LAST), "MTA[127]"),
+    (Target::Register(RAH_LAST), "RAH[15]"),
+    (Target::Register(VFTA), "VFTA[0]"),
+    (Target::Register(0x1FFF0), "register[0x1fff0]"),
+    (
+        Target::Descriptor {
+            ring: Engine::Transmit,
+            index: 12,
+            byte: 0,
+        },
+        "tx[12]",
+    ),
+    (Target::Memory(0x10000), "0x10000"),
+];
+
 #[test]
 fn names_of_each_kind(rt: HostRuntime) -> Result<(), Fail> {
-    let alloc = rt.alloc();
-    assert!(rt; has_name(alloc, Target::Register(TDT), "TDT")?);
-    assert!(rt; has_name(alloc, Target::Register(MTA_LAST), "MTA[127]")?);
-    assert!(rt; has_name(alloc, Target::Register(RAH_LAST), "RAH[15]")?);
-    assert!(rt; has_name(alloc, Target::Register(VFTA), "VFTA[0]")?);
-    assert!(rt; has_name(alloc, Target::Register(0x1FFF0), "register[0x1fff0]")?);
-    let first = Target::Descriptor {
-        ring: Engine::Transmit,
-        index: 12,
-        byte: 0,
-    };
-    assert!(rt; has_name(alloc, first, "tx[12]")?);
-    assert!(rt; has_name(alloc, Target::Memory(0x10000), "0x10000")?);
+    for (target, name) in NAMES {
+        assert!(rt; has_name(rt.alloc(), target, name)?, "{name}");
+    }
     Ok(())
 }

@@ -11,14 +11,13 @@ fn the_code_of_the_readme_of_scenario(rt: HostRuntime) -> Result<(), Fail> {
         feed a frames.pcap\n\
         drain b\n";
     let scenario = Scenario::read(rt.alloc(), text.as_bytes())?;
-    assert_eq!(rt; scenario.plan.hosts.len(), 2);
-    assert_eq!(rt; scenario.commands.len(), 2);
-    assert_eq!(rt; scenario.trace_names().len(), 1); // frames.pcap
+    assert!(rt; scenario.plan.hosts.len() == 2 && scenario.commands.len() == 2);
+    assert!(rt; scenario.trace_names().len() == 1); // frames.pcap
     let refusal = Refusal::Line {
         line: 2,
         fault: Fault::Name,
     };
     let refused = Scenario::read(rt.alloc(), b"# no host\ndrain b\n");
-    assert_eq!(rt; refused.err(), Some(refusal));
+    assert!(rt; refused.err() == Some(refusal));
     Ok(())
 }

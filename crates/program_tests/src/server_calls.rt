@@ -5,7 +5,7 @@ use std::io;
 use std::io::{BufReader, Read};
 use std::test::Fail;
 
-/// A reader of a text. Every other read is interrupted, and a read after the end of the text fails.
+/// A reader of a text. Every other read is interrupted, from the first one on. A read after the end of the text fails.
 #[derive(Drop)]
 struct Failing<'a> {
     text: &'a [u8],

@@ -16,7 +16,6 @@ use Rattle.pcap_bench.proofs.passing.pass_frames.Goals as goal
 abbrev keeps_by : FilterRegisters → Filter
 keeps_by regs = Passes (filter_of regs)
 
--- the filter didn't change, so its answer is that of the first filter
 passed : (regs first : FilterRegisters) (frame : List ℕ) (b : Bool) → regs ≡ first → IsTrue b ↔ keeps_by regs frame → b ≡ true
     → keeps_by first frame
 passed regs first frame b same asked is = subst (λ (r : FilterRegisters). keeps_by r frame) same (asked.0 is)

@@ -11,7 +11,6 @@ use Rattle.driver.specs.declared.transmit.SendError.TheVariants.{RingFull, TooLo
 use denote.Enum.Bare.{sameb}
 use Rattle.drive.proofs.exchange.Exchange.hand.Goals as goal
 
--- The driver is done with a frame unless its ring is full.
 done-as : (error : SendError) → is_done (Err error) ≡ not (sameb the_type error RingFull)
 done-as TooShort = refl
 done-as TooLong = refl

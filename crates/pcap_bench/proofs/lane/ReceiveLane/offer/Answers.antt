@@ -10,7 +10,6 @@ use Rattle.pcap_bench.proofs.Steps.{IsLane-offered, with_tail}
 use Rattle.pcap_bench.proofs.Writes.{wrote-tail}
 use Rattle.pcap_bench.proofs.lane.ReceiveLane.offer.Goals as goal
 
--- the buffer that is offered is the one of the slot
 buffer_is : (c : goal.After-self-1) → c.descriptor-buffer.result.address ≡ buffer_at c.self.inside.slot
 buffer_is c =
     let desc = rw (← c.self.view_is) at c.descriptor-buffer.ensures in

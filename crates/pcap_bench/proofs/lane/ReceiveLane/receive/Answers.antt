@@ -6,7 +6,6 @@ use Rattle.rx_engine.specs.Registers.{filter_of}
 use Rattle.pcap_bench.specs.Lane.{HasFrame}
 use Rattle.pcap_bench.proofs.lane.ReceiveLane.receive.Goals as goal
 
--- the frame and what is left of the zeros
 padded_is : (c : goal.After-arrive)
     → c.copy_from_slice.new.self ++ drop (length c.args.frame.now) (replicate {A = ℕ} 60 0) ≡ padded c.args.frame.now
 padded_is c =

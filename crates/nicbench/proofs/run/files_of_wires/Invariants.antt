@@ -1,5 +1,0 @@
-use Rattle.std.proofs.Common.{◌≡◌, length}
-use Rattle.nicbench.proofs.run.files_of_wires.Given as goal
-
-abbrev pub invariant-loop-wire : goal.invariant-loop-wire
-invariant-loop-wire l = length l.names.items ≡ l.wire-index

@@ -1,5 +1,0 @@
-use Rattle.std.proofs.Common.{◌≡◌, ◌+◌, length}
-use Rattle.nicbench.proofs.run.push_socket_files.Given as goal
-
-abbrev pub invariant-loop-socket : goal.invariant-loop-socket
-invariant-loop-socket l = length l.names.items ≡ length l.fn.names.items + l.socket

@@ -1,6 +1,0 @@
-use Rattle.bus.specs.declared.event.Access.TheVariants.{Reads}
-use Rattle.qtest_bus.specs.QtestLaws.{keeps_one}
-use Rattle.qtest_bus.proofs.qtest_bus.QtestBusBus.read.Goals as goal
-
-pub returns-clause-keeps : goal.returns-clause-keeps
-returns-clause-keeps g c = keeps_one (Reads c.args.offset c.read_register.result) _ _ c.read_register.ensures

@@ -1,6 +1,0 @@
-use Rattle.bus.specs.declared.event.Access.TheVariants.{Stores}
-use Rattle.qtest_bus.specs.QtestLaws.{keeps_one}
-use Rattle.qtest_bus.proofs.qtest_bus.QtestBusBus.store.Goals as goal
-
-pub returns-clause-keeps : goal.returns-clause-keeps
-returns-clause-keeps g c = keeps_one (Stores c.args.address c.args.bytes.now) _ _ c.store_bytes.ensures

@@ -1,6 +1,0 @@
-use Rattle.bus.specs.declared.event.Access.TheVariants.{Writes}
-use Rattle.qtest_bus.specs.QtestLaws.{keeps_one}
-use Rattle.qtest_bus.proofs.qtest_bus.QtestBusBus.write.Goals as goal
-
-pub returns-clause-keeps : goal.returns-clause-keeps
-returns-clause-keeps g c = keeps_one (Writes c.args.offset c.args.value) _ _ c.write_register.ensures

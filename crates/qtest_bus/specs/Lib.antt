@@ -1,4 +1,0 @@
-pub mod Lines
-pub mod QtestLaws
-pub mod QtestState
-pub mod Requests
