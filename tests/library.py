@@ -215,7 +215,7 @@ def states_by_contents(library):
 
 
 def steps_by_ticks(library):
-    """With ticks on, an access has the effect of a step eeprom, a step phy, and then the access."""
+    """With ticks on, an access has the effect of a step eeprom, a step phy and the access, in this order."""
     ticked, stepped = InProcess(library.shared, MEMORY), InProcess(library.shared, MEMORY)
     ticked.nic.ticks(True)
     differ = None

@@ -1,4 +1,6 @@
-"""The examples of the C library, compiled and run; the library as other build systems find it; and refused memory."""
+"""Compiles and runs the examples of the C library. Also tests the library in other build systems, and with refused
+memory.
+"""
 
 import os
 import re
@@ -14,6 +16,45 @@ SANITIZERS = "-fsanitize=address,undefined"
 # faults
 FUZZ_RUNS = 20000
 RACES = (("LATE", "was never received"), ("PREFETCH", "has other bytes"))
+# The bindings by the ending of their examples. Each has the path, the line before the methods, and the patterns of a
+# method, a call and a comment.
+BINDINGS = {
+    ".py": (("python", "nic82540em", "__init__.py"), "class Nic:\n", r"^    def (\w+)\((.*?)(?=^    def |^\S)",
+            r'self\.call\("(\w+)"', r'""".*?"""|#[^\n]*'),
+    ".rs": (("rust", "src", "lib.rs"), "impl Nic {\n", r"^    (?:pub )?fn (\w+)\((.*?)^    \}",
+            r"nic82540em_(\w+)\(", r"//[^\n]*"),
+}
+# How an example calls the methods that it doesn't name
+UNNAMED = {"__init__": r"\bNic\(", "free": r"\bwith Nic\(", "drop": r"\bNic::new\(", "new": r"\bNic::new\("}
+
+
+def examples(ending):
+    """Returns the names of the examples with this ending, without the ending."""
+    return sorted(name[:-len(ending)] for name in os.listdir(EXAMPLES) if name.endswith(ending))
+
+
+def output_of(name):
+    return text_of("examples", "library", f"{name}.txt")
+
+
+def code_of(ending, comment):
+    """Returns the examples with this ending as one text, without comments."""
+    text = "\n".join(text_of("examples", "library", name + ending) for name in examples(ending))
+    return re.sub(comment, "", text, flags=re.S)
+
+
+def calls_in_examples(library):
+    """In each language, each call of the library is made by an example."""
+    header, code = text_of("bindings", "c", "nic82540em.h"), code_of(".c", r"/\*.*?\*/")
+    calls = set(re.findall(r"\bnic82540em_(\w+)\(struct nic82540em \*nic", header))
+    missing = [name for name in sorted(calls) if f"nic82540em_{name}(" not in code]
+    library.check("calls without an example *.c", missing, [])
+    calls.remove("print")  # an inline function of the header
+    for ending, (path, before, method, call, comment) in BINDINGS.items():
+        code, methods = code_of(ending, comment), text_of("bindings", *path).partition(before)[2]
+        made = {one for name, body in re.findall(method, methods, re.S | re.M)
+                if re.search(UNNAMED.get(name, rf"\.{name}\("), code) for one in re.findall(call, body)}
+        library.check(f"calls without an example *{ending}", sorted(calls - made), [])
 
 
 def has_fuzzer(library):
@@ -29,22 +70,20 @@ def has_fuzzer(library):
 def examples_in_c(library):
     if not library.is_there("cc", "the examples in C"):
         return
-    alone = ["-DALONE"]
-    for name, extra in (("first", []), ("frames", []), ("state", []), ("schedule", []), ("fuzz", alone),
-                        ("fuzz_driver", alone)):
-        source, wanted = os.path.join(EXAMPLES, f"{name}.c"), text_of("examples", "library", f"{name}.txt")
+    for name in examples(".c"):
+        source, extra = os.path.join(EXAMPLES, f"{name}.c"), ["-DALONE"] if name.startswith("fuzz") else []
         for how, words in ("", []), ("_sanitized", [SANITIZERS, "-g"]):
             target = library.path(name + how)
             flags = ["-std=c99", "-O1", *WARNINGS, *extra, *words]
             if library.compiles(name + how, "cc", *flags, "-o", target, source, *library.flags):
-                library.prints(f"{name}{how}: runs", [target], wanted)
+                library.prints(f"{name}{how}: runs", [target], output_of(name))
     library.put("page.c", re.search(r"```c\n(.*?)```", text_of("docs", "LIBRARY.md"), re.S)[1].encode())
     if library.compiles("the code of LIBRARY.md", "cc", "-std=c99", *WARNINGS, "-o", "page", "page.c", *library.flags):
         library.prints("the code of LIBRARY.md: runs", [library.path("page")], "00000080\n")
     if library.is_there("valgrind", "the examples in C by valgrind"):
-        for name in "first", "frames", "state", "schedule":
+        for name in (name for name in examples(".c") if not name.startswith("fuzz")):
             library.prints(f"{name}: by valgrind", ["valgrind", "-q", "--leak-check=full", "--error-exitcode=9",
-                                                    library.path(name)], text_of("examples", "library", f"{name}.txt"))
+                                                    library.path(name)], output_of(name))
 
 
 def fails(library, name, words, fault):
@@ -82,10 +121,6 @@ def fuzzers(library):
 
 # The library as other build systems find it
 
-def first_output():
-    return text_of("examples", "library", "first.txt")
-
-
 def by_pkg_config(library):
     """The line of docs/LIBRARY.md makes a program that runs without LD_LIBRARY_PATH."""
     if not all([library.is_there(tool, "the line for pkg-config") for tool in ("cc", "pkg-config")]):
@@ -96,7 +131,7 @@ def by_pkg_config(library):
     how = {"cwd": TOP, "env": env, "capture_output": True, "text": True}
     ran = subprocess.run(["sh", "-c", f"{line} && mv first '{library.folder}'"], **how)
     library.check("the line for pkg-config", (ran.returncode, ran.stderr), (0, ""))
-    library.prints("the program by pkg-config: runs", [library.path("first")], first_output())
+    library.prints("the program by pkg-config: runs", [library.path("first")], output_of("first"))
     ran = subprocess.run(["pkg-config", "--variable=proved", "nic82540em"], **how)
     if library.proved is not None:
         library.check("whether it was proved", ran.stdout.strip(), library.proved)
@@ -134,11 +169,13 @@ def by_cmake(library):
         ran = subprocess.run(["cmake", "--build", f"{folder}/made"], capture_output=True, text=True)
         library.check("CMake builds", (ran.returncode, ran.returncode and ran.stderr[-2000:]), (0, 0))
         for kind in "nic82540em", "shared":
-            library.prints(f"CMake, {kind}: runs", [f"{folder}/made/first_{kind}"], first_output())
+            library.prints(f"CMake, {kind}: runs", [f"{folder}/made/first_{kind}"], output_of("first"))
 
 
 def by_pip(library):
-    """pip installs the Python package without the internet, with the library in it. The page's code runs with it."""
+    """pip installs the Python package without the internet, with the library in it. The code of docs/LIBRARY.md runs
+    with it. Without the library, pip fails, and names the file.
+    """
     pip = [sys.executable, "-m", "pip", "--disable-pip-version-check"]
     if subprocess.run([*pip, "--version"], capture_output=True).returncode != 0:
         print("not played, because there is no pip: the package for Python")
@@ -162,7 +199,8 @@ def by_pip(library):
 
 
 def refused_memory(library):
-    """Each allocation fails in turn, with a heap that counts its blocks."""
+    """In library_refused.c, each allocation of four calls fails in turn, and no block of the heap is left at the end.
+    """
     if library.is_there("cc", "refused memory"):
         target = library.path("refused")
         source = os.path.join(TOP, "tests", "library_refused.c")
@@ -180,23 +218,24 @@ def examples_in_other_languages(library):
         source = os.path.join(EXAMPLES, "first.c")
         if library.compiles("first as C++", "c++", "-x", "c++", *WARNINGS, "-o", target, source, "-x", "none",
                             *library.flags):
-            library.prints("first as C++: runs", [target], text_of("examples", "library", "first.txt"))
+            library.prints("first as C++: runs", [target], output_of("first"))
     env = ["env", f"PYTHONPATH={os.path.join(TOP, 'bindings', 'python')}",
            f"NIC82540EM_LIB={os.path.join(library.root, 'lib')}"]
-    library.prints("events.py: runs", [*env, sys.executable, "-B", os.path.join(EXAMPLES, "events.py")],
-                   text_of("examples", "library", "events.txt"))
-    library.prints("schedule.py: runs", [*env, sys.executable, "-B", os.path.join(EXAMPLES, "schedule.py")],
-                   text_of("examples", "library", "schedule.txt").replace("2 is faulty", "2 of the schedule"))
-    if library.is_there("rustc", "the crate and the example in Rust"):
+    for name in examples(".py"):
+        library.prints(f"{name}.py: runs", [*env, sys.executable, "-B", os.path.join(EXAMPLES, f"{name}.py")],
+                       output_of(name))
+    if library.is_there("rustc", "the crate and the examples in Rust"):
         rustc = ["rustc", "--edition", "2021", "-O", "-D", "warnings"]
         path = ["-L", f"native={os.path.join(library.root, 'lib')}"]
         if library.compiles("the crate in Rust", *rustc, "--crate-type", "rlib", "--crate-name", "nic82540em", "-o",
                             "libnic82540em.rlib", os.path.join(TOP, "bindings", "rust", "src", "lib.rs"), *path,
                             "-l", "static=nic82540em"):
-            target = library.path("two_steps")
-            if library.compiles("two_steps", *rustc, "-o", target, os.path.join(EXAMPLES, "two_steps.rs"),
-                                "--extern", "nic82540em=libnic82540em.rlib", *path):
-                library.prints("two_steps: runs", [target], text_of("examples", "library", "two_steps.txt"))
+            for name in examples(".rs"):
+                target = library.path(f"{name}_rs")
+                if library.compiles(f"{name}.rs", *rustc, "-o", target, os.path.join(EXAMPLES, f"{name}.rs"),
+                                    "--extern", "nic82540em=libnic82540em.rlib", *path):
+                    library.prints(f"{name}.rs: runs", [target], output_of(name))
 
 
-PARTS = (refused_memory, examples_in_c, fuzzers, examples_in_other_languages, by_pkg_config, by_cmake, by_pip)
+PARTS = (calls_in_examples, refused_memory, examples_in_c, fuzzers, examples_in_other_languages, by_pkg_config,
+         by_cmake, by_pip)

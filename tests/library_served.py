@@ -25,7 +25,7 @@ class InProcess:
         self.nic = nic82540em.Nic(library, memory=memory, **options)
 
     def register(self, address, size):
-        """The offset of the register that an access goes to, or None."""
+        """The offset of the register that an access goes to, or None if it isn't an access of one register."""
         offset = address - adapter.REGISTERS
         return offset if size == REGISTER_BYTES and 0 <= offset < AREA and offset % REGISTER_BYTES == 0 else None
 
@@ -225,8 +225,8 @@ def schedules_as_served(library):
 
 
 def schedules(library):
-    """A schedule by names of accesses; a copy of an adapter that plays one; a second schedule, with a choice; and texts
-    that aren't schedules.
+    """Plays a schedule by names of accesses, also in a copy of the adapter, and then a second schedule, with a choice.
+    Texts that aren't schedules are refused.
     """
     with nic82540em.Nic(library.shared) as nic:
         nic.write(RDBAL, 0x1000), nic.write(RDLEN, 128), nic.write(RCTL, EN | BAM), nic.write(RDT, 7)

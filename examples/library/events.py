@@ -28,4 +28,4 @@ with Nic() as nic:
     nic.offer(b"\xff" * SIZE)
     nic.settle()
     for event in nic.take_events():
-        print(*event)
+        print(" ".join(map(str, event)).lower())

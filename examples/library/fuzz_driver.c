@@ -103,8 +103,8 @@ static void interrupt(struct driver *driver)
         take_frames(driver);
 }
 
-/* Schedules a step for each byte: bit 0 chooses the step, and bits 1 to 3 how many accesses it comes after the last
- * scheduled step. */
+/* Schedules a step for each byte. Bit 0 chooses the step. Bits 1 to 3 are the number of accesses between it and the step
+ * before; for the first step, between it and now. */
 static void schedule(struct driver *driver, const uint8_t *data, size_t size)
 {
     uint64_t access = nic82540em_accesses(&driver->nic);

@@ -15,7 +15,7 @@ static unsigned head_after_arrival(const char *schedule)
         return NIC_REFUSED;
     line = schedule ? nic82540em_play(&nic, schedule, strlen(schedule)) : 0;
     if (line)
-        printf("line %u is faulty\n", line);
+        printf("line %u of the schedule is faulty\n", line);
     nic82540em_write(&nic, NIC_RDBAL, 0x1000);
     nic82540em_write(&nic, NIC_RDLEN, 128);
     nic82540em_write(&nic, NIC_RCTL, NIC_RCTL_EN | NIC_RCTL_BAM);

@@ -18,7 +18,7 @@ def head_after_arrival(schedule=b""):
         try:
             nic.play(schedule)
         except Refused as error:
-            print(error)
+            print(error, "is faulty")
         for register, value in (RDBAL, 0x1000), (RDLEN, 128), (RCTL, EN | BAM), (RDT, 7):
             nic.write(register, value)
         nic.begin_round("arrive")
