@@ -29,8 +29,8 @@ OFFERS, EXCHANGE, CUTS, HELD = (108, 6_306), 286, 210, 586
 # For each bug, how many schedules with up to one and with up to two deviations fail. A search that plays each schedule
 # counted them.
 FAILING = ("late", 3, 130), ("freed", 112, 39_220)
-# For each bug: the test and the driver, options, and of the failing schedules with one deviation, that at the earliest
-# place
+# For each bug: the test and the driver, options, and a deviation. Of the failing schedules with one deviation, that
+# with this deviation is at the earliest place.
 BUGS = [("late", "", "4.6 rxdone before read ICR"), ("length", "", "4.8 rxdone before read rx[1]+12"),
         ("freed", "", "63.4 txtake before read TDH"), ("rdt", "", "58.5 rxdata before write rx[2]"),
         ("tdt", "", "63.3 txtake before write tx[0]"), ("masks-late", "", "4.7 rxdone before read ICR"),
@@ -196,8 +196,8 @@ class Explorer(Program):
         return self.execute(*words, env=env, given=data, limit=LIMIT)
 
     def none_of(self, *words):
-        """How many schedules a search covers that finds no failure; otherwise the status, the output and the errors of
-        the search.
+        """If a search finds no failure, the number of schedules that it covers. Otherwise the status, the output and
+        the errors of the search.
         """
         status, out, errors = self.run(*words)
         found = re.search(r": none of (\S+) fails\n", out)
@@ -373,16 +373,19 @@ def ends(bench):
 
 
 def arguments(bench):
-    """Wrong words and wrong schedules; environment variables in place of words."""
+    """Wrong words and wrong schedules are refused. Environment variables can stand for words."""
     for words, wanted in [(["--fly"], "--fly: there is no such option"), (["--runs"], "--runs: it has no value"),
                           (["--explore", "x"], "--explore: its value isn't a number, or is too great"),
                           (["--explore", "17"], "--explore: its value isn't a number, or is too great")]:
         got = bench.run(bench.stages, "right", *words)
         bench.check(f"arguments: {words}", got,
                     (USAGE, "", f"explore: {wanted}\nFor more information, try '--help'.\n"))
-    bad = bench.source("bad.txt", "4.6 rz before read ICR\n")
-    bench.check("arguments: a schedule", bench.run(bench.stages, "right", "--replay", bad),
-                (USAGE, "", f"explore: {bad}: line 1: it has no deviation, such as rx\n"))
+    for lines, wanted in [("4.6 rz before read ICR\n", "line 1: it has no deviation, such as rx"),
+                          ("4.6 rx before read ICR\n4.5 rx before read ICR\n", "line 2: sort the lines by place"),
+                          ("4.6 rx before read ICR\n3.7 rx before read ICR\n", "line 2: sort the lines by place")]:
+        bad = bench.source("bad.txt", lines)
+        bench.check(f"arguments: a schedule: {wanted}", bench.run(bench.stages, "right", "--replay", bad),
+                    (USAGE, "", f"explore: {bad}: {wanted}\n"))
     bench.check("arguments: a folder in place of a schedule", bench.run(bench.stages, "right", "--replay", "/"),
                 (USAGE, "", "explore: /: it can't be read\n"))
     served = bench.run(bench.stages, "right", "--replay", "/dev/null", "--serve", "nonesuch")
@@ -438,7 +441,9 @@ def lab(bench):
 
 
 def rust(bench):
-    """The crate of bindings/rust_explore: a test with a heap, whose panics are failures."""
+    """The crate of bindings/rust_explore runs a test with a heap, whose panics are failures. Without rustc, nothing is
+    tested.
+    """
     if not shutil.which("rustc"):
         print("rust: there is no rustc, so the crate isn't built")
         return
@@ -468,7 +473,7 @@ def every(bench):
 
 
 def results(bench):
-    """How a test ends, and what is printed."""
+    """Tests that end by a signal or make no access, and what the explorer prints (explorer_results.py)."""
     check_results(bench, bench.stages, ends(bench))
 
 

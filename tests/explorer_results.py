@@ -1,5 +1,5 @@
-"""What the explorer prints: results and JSON, ends by signals, progress, and where a handler cuts in. tests/explore.py
-runs these tests.
+"""Tests what the explorer prints: results and JSON, ends by signals, progress, and where a handler cuts in.
+tests/explore.py runs these tests.
 """
 
 import json
@@ -204,7 +204,7 @@ def lengths(bench, stages):
 
 def handlers(bench, stopped, looks):
     """The template passes every schedule. With `x_touch`, no line reports that the handler cut in only after accesses
-    and requests. A race of two variables is found in less than 3 processor seconds.
+    and requests, and `serve` can't play a schedule. A race of two variables is found in less than 3 processor seconds.
     """
     mine = template(bench)
     status, out, _ = bench.run(looks, "--explore", "every")
@@ -215,6 +215,10 @@ def handlers(bench, stopped, looks):
     got = status, result["schedule"], result["search"]["smallest"], took < 3
     bench.check(f"handlers: the race of two variables, {took:.1f} s", got,
                 (FOUND, ["0.25 tx before write 0"] * 5, True, True))
+    out = bench.run(stopped, "--explore", "5", "--serve", bench.program)[1].splitlines()
+    bench.check("handlers: x_touch and --serve",
+                [line for line in out if line.startswith(f"{bench.program} serve")],
+                [f"{bench.program} serve can't play it: the test calls x_touch"])
     schedule = bench.source("frames.txt", "2.1 rx before write 0x20000\n")
     out = bench.run(mine, "--replay", schedule, "--log")[1]
     wanted = ("         the line is raised\n  2.1    write 0x20000, 60 bytes: ffffffffffff00000000000000000000..\n"
@@ -277,7 +281,7 @@ def listen():
 
 
 def ended_by(number, after, *words):
-    """The exit status and the output of a program that a signal ends after some seconds."""
+    """The exit status and the output of a program that gets this signal `after` seconds after its start."""
     process = subprocess.Popen(words, stdout=subprocess.PIPE, text=True, preexec_fn=listen)
     time.sleep(after)
     process.send_signal(number)
@@ -330,7 +334,7 @@ def progress(stages):
 
 
 def words(bench, stages):
-    """The help, the groups of schedules that fail, and the progress on a terminal."""
+    """Checks the help, the groups of schedules that fail, and the progress on a terminal."""
     helps = bench.run(stages, "-h")
     bench.check("words: -h", (helps[0], helps[1].startswith("Searches the schedules")), (PASSES, True))
     out = bench.run(stages, "late", "--explore", "2", "--all")[1]
@@ -342,7 +346,9 @@ def words(bench, stages):
 
 
 def sanitized(bench):
-    """With AddressSanitizer, no state is saved, and the same race is found."""
+    """A program with AddressSanitizer, for which no state is saved, finds the same race. If it can't be built, nothing
+    is tested.
+    """
     program, files = os.path.join(bench.folder,
                                   "sanitized"), [os.path.join(EXAMPLES, name) for name in ("stages.c", "driver.c")]
     archive, include = os.path.join(bench.library, "lib",

@@ -1,6 +1,6 @@
 /* A run: the adapter, the calls of the test, and the places at which deviations may be played.
  *
- * Before each access and request, the test changes places with the explorer, which plays steps and then goes on.
+ * Before each access and request, control switches from the test to the explorer, which plays steps and switches back.
  */
 #include "inside.h"
 #include <stdio.h>
@@ -47,7 +47,7 @@ static void end(const char *fault)
         at_place(ENDED, 0);
 }
 
-/* A run from its start: with a new adapter, or as it was at xi_track. */
+/* Begins a run: with a new adapter if `is_new` is true or states aren't saved, or else in the state at xi_track. */
 void xi_begin(bool is_new)
 {
     if (is_new || !xi_saves) {
@@ -73,7 +73,8 @@ void xi_next_place(void)
     B->last = 0, B->stage = B->event < ARRIVE ? 0 : STAGES;
 }
 
-/* What a run writes and is answered is compared by --check, and at the start of a search. */
+/* Adds a value that the run writes or reads to its history, if answers are compared: with --check, and at the start of
+ * a search. Returns the value. */
 uint64_t xi_answer(uint64_t value)
 {
     if (xi_compares)
@@ -96,7 +97,7 @@ static void answer_bytes(const uint8_t *at, size_t count)
     xi_answer(hash);
 }
 
-/* What a run that has ended has shown */
+/* Returns what a run that has ended has shown: whether it fails, why, and its history. */
 struct outcome xi_outcome(void)
 {
     struct outcome outcome = { .fails = S->fault };
@@ -111,7 +112,8 @@ struct outcome xi_outcome(void)
 
 /* Frames */
 
-static void add(struct frames *frames, const void *bytes, size_t count, uint32_t fate)
+/* Appends a frame with its fate. The program ends if there is no room. */
+void xi_add_frame(struct frames *frames, const void *bytes, size_t count, uint32_t fate)
 {
     uint32_t at = frames->begin[frames->count];
 
@@ -133,7 +135,7 @@ static size_t take(const struct frames *frames, unsigned number, void *into, siz
     return count;
 }
 
-/* As at the start of a run */
+/* Removes all frames, as at the start of a run. */
 static void clear(struct frames *frames)
 {
     memset(frames->bytes, 0, frames->begin[frames->count]);
@@ -144,7 +146,7 @@ static void clear(struct frames *frames)
 
 /* What the adapter does */
 
-/* The adapter has changed, or may have. */
+/* Notes that the adapter may have changed. */
 static void change(void)
 {
     B->knows_possible = B->knows_digest = false;
@@ -182,7 +184,7 @@ unsigned xi_play(uint32_t kind)
         xi_log_step(xi_actions[kind], xi_outcomes[outcome], is_deviation);
     }
     while (outcome == NIC_PUT && (count = nic82540em_take_put(&S->nic, frame, sizeof frame)) != 0)
-        add(&S->put, frame, count, 0);
+        xi_add_frame(&S->put, frame, count, 0);
     return outcome;
 }
 
@@ -191,7 +193,7 @@ static uint32_t deliver(const void *frame, size_t count)
     uint32_t fate = nic82540em_arrive(&S->nic, frame, count);
 
     change();
-    add(&S->arrived, frame, count, fate);
+    xi_add_frame(&S->arrived, frame, count, fate);
     return fate;
 }
 
@@ -204,7 +206,7 @@ static void deliver_offered(void)
     xi_log_step("arrive", xi_fates[deliver(frame, count)], is_deviation);
 }
 
-/* The default steps of a place that are left. */
+/* Plays the default steps of this place that weren't played yet. */
 void xi_tick(void)
 {
     unsigned possible = B->stage < STAGES ? xi_possible() : 0;
@@ -241,7 +243,7 @@ bool xi_deviate(int action)
 
 /* The calls of the test */
 
-/* The handler cuts in while the line is asserted, if it may. */
+/* Calls the handler, if there is one, while the line is asserted, unless the handler runs already or is kept out. */
 void xi_cut_in(void)
 {
     while (S->handler && !S->takes_none && x_line()) {
@@ -253,7 +255,7 @@ void xi_cut_in(void)
     }
 }
 
-/* The rings, for the names of places */
+/* Keeps the base and the length of a ring that a write sets, for the names of places. A reset sets all to 0. */
 static void know(uint32_t offset, uint32_t value)
 {
     static const uint32_t kept[] = { 0xFFFFFFF0, 0xFFFFFFFF, 0x000FFF80 };
@@ -361,14 +363,14 @@ uint32_t x_arrive(const void *frame, size_t count)
 
 void x_offer(const void *frame, size_t count)
 {
+    if (count > LONGEST)
+        xi_die("x_offer: a frame has more than 1,518 bytes");
     if (xi_is_piped) {
         xi_pipe_request(OFFER, 0, frame, count);
         return;
     }
     at_place(OFFER, 0);
-    if (count > LONGEST)
-        xi_die("x_offer: a frame has more than 1,518 bytes");
-    add(&S->offers, frame, count, 0);
+    xi_add_frame(&S->offers, frame, count, 0);
     xi_log_request(NULL);
     xi_cut_in();
 }

@@ -1,4 +1,4 @@
-/* What a run leaves behind, and nobody should use again. Otherwise, states that differ only in it would be different.
+/* Clears what a run leaves behind and nobody should use again: states that differ only in such bytes become the same.
  *
  * A search sets to 0 the counters of frames, and the buffers of offered receive descriptors. It also sets to 0 the
  * transmit descriptors that are done, but for their addresses and statuses, and the buffers of their frames. The search
@@ -64,14 +64,15 @@ static void insert_area(unsigned n, uint64_t from, uint64_t to)
     S->dead[n] = (struct area){ (uint32_t)from, (uint32_t)(to - from) };
 }
 
-/* Bytes are read, by the driver or by the adapter. */
+/* Notes in xi_reads_dead if the driver or the adapter reads a noted byte. */
 void xi_dead_read(uint64_t address, uint64_t count)
 {
     for (unsigned n = 0; n < S->dead_count; n++)
         xi_reads_dead |= meets(&S->dead[n], address, count);
 }
 
-/* Bytes are written, and aren't noted any more. If the table has no room to split an area, the area stays noted. */
+/* Removes written bytes from the noted areas. If the table has no room to split an area, the whole area remains noted.
+ */
 void xi_dead_written(uint64_t address, uint64_t count)
 {
     uint64_t end = address + count;
@@ -160,8 +161,7 @@ static unsigned length_in(const uint8_t *descriptor)
     return descriptor[8] | (unsigned)descriptor[9] << 8;
 }
 
-/* The end of a buffer at an address: the least address above it that a descriptor of this ring names, but at most `end`
- */
+/* The end of a buffer at an address: the least higher address in a descriptor of this ring, but at most `end` */
 static uint64_t end_of_buffer(const struct ring *ring, uint64_t address, uint64_t end)
 {
     for (unsigned slot = 0; slot < ring->slots; slot++) {
@@ -194,7 +194,7 @@ static void note_transmit(void)
         uint64_t at = ring.at + DESCRIPTOR * slot, address;
         const uint8_t *descriptor = bytes_at(at, DESCRIPTOR);
         if (!descriptor || is_offered(&ring, slot) || !(descriptor[STATUS] & NIC_TXD_DD) || is_noted(at + 8))
-            continue; /* of one that is noted already, the driver may fill the buffer again */
+            continue; /* if it is noted already, the driver may fill the buffer again */
         address = address_in(descriptor);
         if (!is_to_be_sent(&ring, address))
             note(address, end_of_buffer(&ring, address, address + LONGEST) - address);

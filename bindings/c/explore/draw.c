@@ -34,8 +34,8 @@ static unsigned possible_here(void)
     return engines | (unsigned)(S->offered < S->offers.count) << ARRIVAL;
 }
 
-/* Plays each step of an engine, and an arrival of an offered frame, with probability 1/2, in a random order, if
- * possible then */
+/* Plays each step of an engine, and an arrival of an offered frame, with probability 1/2, in a random order, if it is
+ * possible then. */
 static void uniform(void)
 {
     int order[5];
@@ -110,7 +110,7 @@ static void to_first_round(bool with_holds)
             xi_tick();
 }
 
-/* From now on, runs are drawn by PCT. */
+/* From now on, runs are drawn by PCT of this depth. Counts the actors, and the events of the run without deviations. */
 void xi_set_pct(unsigned depth)
 {
     unsigned before;
@@ -123,8 +123,8 @@ void xi_set_pct(unsigned depth)
 }
 
 /* Plays the run of a seed. With --pct, deviations are drawn by priorities. Otherwise, an even seed draws steps before
- * each access, and an odd seed draws a burst before one access of 16. Before a request, both draw only one time in 8.
- * */
+ * each access, and an odd seed draws a burst before an access with probability 1/16. Before a request, both draw with
+ * an eighth of their probability. */
 void xi_draw(uint64_t seed, bool with_holds, bool is_new)
 {
     random_state = seed * 0x2545F4914F6CDD1D;
@@ -204,8 +204,8 @@ void xi_replay(const struct deviation *path, unsigned count, bool is_new, char *
     }
 }
 
-/* Plays a schedule, and keeps its run's deviations if the run fails with fewer than were kept. Returns whether it did.
- * */
+/* Plays a schedule. If the run fails with fewer deviations than were kept, keeps these deviations. Returns whether they
+ * were kept. */
 static bool keep_shorter(struct found *found, const struct deviation *path, unsigned count)
 {
     xi_replay(path, count, false, NULL, 0);
@@ -215,8 +215,8 @@ static bool keep_shorter(struct found *found, const struct deviation *path, unsi
     return true;
 }
 
-/* Leaves out each run of deviations without which the schedule still fails: first halves, and in the end single ones.
- * */
+/* Leaves out each sequence of deviations without which the schedule still fails: first halves, and in the end single
+ * deviations. */
 static void leave_out(struct found *found)
 {
     static struct deviation less[MOST_PATH];
@@ -231,7 +231,8 @@ static void leave_out(struct found *found)
         }
 }
 
-/* Plays two deviations as one of their pair, at the place of the first or of the second. Returns whether it is kept. */
+/* Plays two deviations as their pair, at the place of the first one or of the second one. Returns whether the shorter
+ * schedule is kept. */
 static bool join(struct found *found, unsigned first, unsigned second, int pair)
 {
     static struct deviation less[MOST_PATH];

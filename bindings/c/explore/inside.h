@@ -18,8 +18,7 @@ struct digest {
 };
 
 /* An access or a request. For an access of memory in a ring, `address` counts from the ring's first byte, and `ring` is
- * 1 (receive) or 2 (transmit). Otherwise, `ring` is 0. A place of a schedule that was read from a file has only `text`.
- * */
+ * 1 (receive) or 2 (transmit). Otherwise, `ring` is 0. A place of a schedule from a file has only `text`. */
 struct place {
     enum event event;
     int ring;
@@ -62,7 +61,7 @@ struct area {
     uint32_t at, size;
 };
 
-/* What is saved and compared beside the memory of the test and of the adapter. */
+/* What is saved and compared, in addition to the memory of the test and of the adapter. */
 struct state {
     struct nic82540em nic;
     size_t heap_used, memory_used, last_block, before_last; /* last_block: where the last one begins */
@@ -130,6 +129,7 @@ bool xi_deviate(int action);
 void xi_tick(void);
 uint64_t xi_answer(uint64_t value);
 void xi_cut_in(void);
+void xi_add_frame(struct frames *frames, const void *bytes, size_t count, uint32_t fate);
 struct outcome xi_outcome(void);
 
 /* dead.c: what nobody uses again */
@@ -175,7 +175,7 @@ void xi_explore(int depth, bool with_holds, bool finds_all, size_t most_states, 
 void xi_keep(struct found *found);
 unsigned xi_below(unsigned end);
 extern struct pct {
-    unsigned depth, actors, events; /* of PCT, or 0; events of a run without deviations, from round 1 on */
+    unsigned depth, actors, events; /* the depth of PCT, or 0; events of a run without deviations, from round 1 on */
 } xi_pct;
 void xi_set_pct(unsigned depth);
 void xi_draw(uint64_t seed, bool with_holds, bool is_new);
@@ -215,9 +215,9 @@ uint64_t xi_failed(void);
 /* result.c: the result of the command */
 enum { NONE = -1 };
 extern struct result {
-    uint64_t runs, states, seed; /* drawn runs; of the last search; of the first run that fails, or 0 */
+    uint64_t runs, states, seed; /* drawn runs; states of the last search; the seed of the first run that fails, or 0 */
     int is_complete, is_smallest; /* or NONE */
-    double first, schedules, tried[DEEPEST + 1]; /* schedules: before drawing, or NONE; of the last search */
+    double first, schedules, tried[DEEPEST + 1]; /* schedules tried before drawing, or NONE; those of the last search */
     unsigned widths; /* of `tried` */
     struct found found;
 } xi_result;

@@ -125,7 +125,7 @@ static bool contains(const char *kind, const char *part)
     return true;
 }
 
-/* The smallest kinds first, and of these, the most frequent ones */
+/* The order of kinds: the smallest ones first, and of the same size, the most frequent ones first */
 static int by_size(const void *one, const void *two)
 {
     const struct kind *a = one, *b = two;

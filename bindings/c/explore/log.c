@@ -53,7 +53,7 @@ void xi_log_bytes(const void *bytes, size_t count)
     log_line();
 }
 
-/* A line for x_touch. If the driver loads, the line has up to 8 bytes of memory from the address on. */
+/* Adds a line for x_touch. If the driver loads, the line has up to 8 bytes of memory from the address on. */
 void xi_log_touch(uint64_t address)
 {
     uint64_t size;
@@ -79,7 +79,7 @@ void xi_log_request(const char *result)
     log_line();
 }
 
-/* The handler cuts in, or returns. */
+/* Adds a line: the handler cuts in, or returns. */
 void xi_log_handler(bool begins)
 {
     if (xi_is_piped)
@@ -88,7 +88,7 @@ void xi_log_handler(bool begins)
         printf("         the handler %s\n", begins ? "cuts in" : "returns");
 }
 
-/* The adapter has taken a step, or an offered frame has arrived. */
+/* Adds a line: the adapter has taken a step, or an offered frame has arrived. */
 void xi_log_step(const char *action, const char *result, bool is_deviation)
 {
     if (!xi_given.log)

@@ -115,6 +115,11 @@ static const char *read_deviation(char *line, struct deviation *into)
     return NULL;
 }
 
+static bool is_before(const struct deviation *one, const struct deviation *other)
+{
+    return one->round < other->round || (one->round == other->round && one->access < other->access);
+}
+
 /* Skips the rest of a line. Only the first 255 bytes of a line are read. */
 static void skip_line(FILE *file)
 {
@@ -129,7 +134,7 @@ static _Noreturn void refuse_file(const char *path)
 }
 
 /* Reads the deviations of a schedule. Returns their number. The program ends if the file can't be read, a line is
- * wrong, or there are more than 1,024 deviations. */
+ * wrong, lines aren't sorted by place, or there are more than 1,024 deviations. */
 int xi_read_schedule(const char *path, struct deviation *into)
 {
     FILE *file = fopen(path, "r");
@@ -151,8 +156,11 @@ int xi_read_schedule(const char *path, struct deviation *into)
             continue;
         if (count == MOST_PATH)
             refuse(path, number, "there are more than 1,024 deviations");
-        if ((wrong = read_deviation(line, &into[count++])) != NULL)
+        if ((wrong = read_deviation(line, &into[count])) != NULL)
             refuse(path, number, wrong);
+        if (count && is_before(&into[count], &into[count - 1]))
+            refuse(path, number, "sort the lines by place");
+        count++;
     }
     if (ferror(file))
         refuse_file(path);

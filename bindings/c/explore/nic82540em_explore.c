@@ -31,7 +31,7 @@ static const char *searched(int depth)
 
 /* Ends of a search */
 
-/* Plays the schedule that was found from nothing */
+/* Plays from nothing the schedule that was found */
 static struct outcome play_found(void)
 {
     return xi_fresh_play(found->path, found->count);
@@ -73,7 +73,7 @@ static struct outcome shorten(const struct found *first)
     return outcome;
 }
 
-/* A search of all schedules has ended before its end. Returns the exit status. */
+/* Reports a search of all schedules that was ended before it was complete. Returns the exit status. */
 static int ended(void)
 {
     static struct found first;
@@ -98,7 +98,7 @@ static int ended(void)
     return found_status();
 }
 
-/* After a search that passes */
+/* Reports a search in which no run fails. Returns the exit status. */
 static int passes(void)
 {
     if (compared)

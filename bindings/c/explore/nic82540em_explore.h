@@ -12,8 +12,8 @@
  * Rules for the test and its driver:
  *   - All that they change and use again is on the stack of the test, or in memory of x_memory, and not in a static
  *     variable. A static pointer is right if the test sets the pointer at its start, such as `t = x_memory(sizeof *t)`:
- *     by this pointer, a handler finds the driver. A search first compares some runs with those from nothing, to find
- *     what is kept elsewhere, such as a counter.
+ *     by this pointer, a handler finds the driver. A search first compares some runs from saved states with runs from
+ *     nothing, to find what is kept elsewhere, such as a counter.
  *   - They use no clock, no threads, no random numbers, and no input.
  *   - The test passes without deviations, so it calls x_step or x_settle itself.
  *   - A driver that shares variables with its handler calls x_touch before it uses one. Without x_touch, the handler
@@ -60,7 +60,7 @@ uint32_t x_step(uint32_t kind);                     /* a step of the adapter; re
 uint64_t x_settle(void); /* all offered frames arrive, and then cycles are played until one does nothing; returns the
                           * number of steps with another outcome than NIC_NOTHING or NIC_WIREFULL */
 
-/* Whether the interrupt line is asserted. */
+/* Returns whether the interrupt line is asserted. */
 bool x_line(void);
 
 /* The frames that were put on the wire, and those that arrived, with any fate, each from number 0 on. x_put and
@@ -73,7 +73,8 @@ size_t x_arrived(unsigned number, uint32_t *fate, void *into, size_t room);
 
 /* Forgets the frames that were put and those that arrived: the next ones have the numbers from 0 on. Call x_forget
  * after the frames were compared: then runs that put the same frames in another order come to the same state. Between
- * two calls of x_forget, at most 256 frames may be put, and as many may arrive, each at most 128 KiB in all. */
+ * two calls of x_forget, at most 256 frames may be put, and at most 256 may arrive. The frames that are put have at
+ * most 128 KiB together, and so have the frames that arrive. */
 void x_forget(void);
 
 /* From now on, this handler cuts in after each access, request and x_touch that leaves the line asserted, unless it
@@ -86,7 +87,8 @@ bool x_interrupts(bool is_on);
 /* Returns `size` bytes of zeros, which are a part of the test's state. Call x_memory in the test, and not in main. */
 void *x_memory(size_t size);
 
-/* Whether the test runs now, on its own stack. An allocator of the test's language takes x_memory while it does. */
+/* Returns whether the test runs now, on its own stack. While the test runs, an allocator of the test's language must
+ * return memory from x_memory. */
 bool x_inside(void);
 
 #ifdef __cplusplus

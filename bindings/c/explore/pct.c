@@ -1,8 +1,8 @@
 /* Draws schedules by probabilistic concurrency testing: the actor with the highest priority goes first.
  *
- * The priorities are random. At some random events of a run, one fewer than the depth, the actor of the event gets a
- * priority below all first priorities. A driver that polls doesn't starve the others: before every fourth read or load
- * of one place in a row, another actor takes a step, if one can.
+ * The first priorities are random. At up to `depth` - 1 random events of a run, the actor of the event gets a priority
+ * below all first priorities. A driver that polls doesn't starve the other actors: before every fourth read or load of
+ * one place in a row, another actor takes a step, if one of them can.
  */
 #include "inside.h"
 
@@ -28,7 +28,7 @@ static int step_of(int actor)
     return possible >> step & 1 ? step : DEFAULT;
 }
 
-/* Counts an event of an actor. At a change, the actor's priority becomes lower. */
+/* Counts an event of an actor. At a change, the actor gets a priority below all first priorities. */
 static void count(int actor)
 {
     events++;
@@ -37,8 +37,8 @@ static void count(int actor)
             priorities[actor] = n + 1;
 }
 
-/* Whether a driver that polls must wait before this access: whether it is the fourth, eighth and so on of equal reads
- * */
+/* Counts this access, and returns whether a driver that polls must wait before it: whether it is the fourth, eighth and
+ * so on of equal reads or loads in a row. */
 static bool polls(void)
 {
     bool is_read = B->event == READ || B->event == LOAD;
@@ -49,7 +49,7 @@ static bool polls(void)
     return reads && reads % PATIENCE == 0;
 }
 
-/* What PCT promises: each run finds a race of this depth with a probability of at least 1 by this number. */
+/* The bound of PCT: each run finds a race of this depth with a probability of at least 1 divided by this number. */
 double xi_bound(void)
 {
     double bound = xi_pct.actors;

@@ -148,12 +148,8 @@ uint32_t xi_pipe_request(enum event event, uint32_t kind, const void *frame, siz
         print_hex(frame, count);
         result = fate_of(answer());
     }
-    if (event == ARRIVE) {
-        struct frames *all = &S->arrived;
-        uint32_t at = all->begin[all->count];
-        memcpy(all->bytes + at, frame, count <= LONGEST ? count : LONGEST);
-        all->fate[all->count++] = (uint8_t)result, all->begin[all->count] = at + (uint32_t)count;
-    }
+    if (event == ARRIVE)
+        xi_add_frame(&S->arrived, frame, count, result);
     xi_cut_in();
     return result;
 }

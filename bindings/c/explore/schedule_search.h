@@ -20,50 +20,52 @@ struct schedule_place {
     uint32_t possible;
 };
 
-/* What is taken at a place: the number of a deviation, or `place.possible` for none. `left` is how much the deviations
- * from here on may cost. */
+/* What a run takes at a place: the number of a deviation, or `place.possible` for no deviation. `left` is the maximum
+ * total cost of the deviations at this place and after it. */
 struct schedule_choice {
     struct schedule_place place;
     uint32_t left, taken;
 };
 
-/* An entry of the table: a state from which all schedules pass whose deviations cost at most `left`, or an empty entry
- * */
+/* An entry of the table: a state from which all schedules pass whose deviations cost at most `left`. If `key.one` is 0,
+ * the entry is empty. */
 struct schedule_known {
     struct schedule_key key;
     uint32_t left;
 };
 
-/* A search of the schedules whose deviations cost at most `depth`. Each deviation costs `cost`: 1, or 0 if there may be
- * any number of them. `count` is the number of choices in the path. A run below the first `failing` of them has failed,
- * so their states don't become known. */
+/* A search of the schedules whose deviations cost at most `depth` in total. Each deviation costs `cost`: 1, or 0 if
+ * there may be any number of them. `count` is the number of choices in the path. From the place of each of the first
+ * `failing` choices, a schedule has failed, so the states of these places don't become known. */
 struct schedule_search {
     uint32_t depth, cost;
     size_t count, failing;
 };
 
-/* What is to be done at a place: the newest choice of the path is taken, all that follows passes, or the path has no
- * room. */
+/* What the explorer does at a place. GOES: it takes the newest choice of the path. PASSES: all schedules that begin
+ * with the path pass. FULL: the path has no room for another choice. */
 enum { SCHEDULE_GOES, SCHEDULE_PASSES, SCHEDULE_FULL };
-/* What is to be done after a run. ANOTHER: the newest choice of the path has changed, and is taken. REMOVED: the path
- * has one choice less, and all that follows it was tried. ENDED: the search has come to its end. */
+/* What the explorer does after a step back. ANOTHER: the newest choice of the path has changed, and the next run takes
+ * it. REMOVED: the newest choice was removed, and all schedules that begin with the shorter path were tried. ENDED: all
+ * schedules were tried. */
 enum { SCHEDULE_ANOTHER, SCHEDULE_REMOVED, SCHEDULE_ENDED };
 
 /* Begins a search, with an empty path of at most `most` choices. Empties a table of `room` entries. */
 void schedule_search_begin(struct schedule_search *search, const struct schedule_choice *path, size_t most,
                            struct schedule_known *known, size_t room, uint32_t depth, uint32_t cost);
-/* The run of the path comes to a place. */
+/* The run of the path is at this place. Returns SCHEDULE_GOES, SCHEDULE_PASSES or SCHEDULE_FULL. */
 uint32_t schedule_search_meet(struct schedule_search *search, struct schedule_choice *path, size_t most,
                               const struct schedule_known *known, size_t room, const struct schedule_place *place);
-/* All schedules that begin with the path pass, or the run has failed. */
+/* Makes a step back: all schedules that begin with the path were tried. Returns SCHEDULE_ANOTHER, SCHEDULE_REMOVED or
+ * SCHEDULE_ENDED. */
 uint32_t schedule_search_back(struct schedule_search *search, struct schedule_choice *path, size_t most,
                               struct schedule_known *known, size_t room);
-/* The run has failed: the states of the path aren't known. */
+/* Notes that the run of the path has failed, so that the states of the path don't become known. */
 void schedule_search_fail(struct schedule_search *search);
-/* The index of the first entry that is empty or has this key, in a circle from entry `one` modulo `room` on. Without
- * one, `room`. */
+/* Returns the index of the first entry that is empty or has this key. Begins at entry `key->one` modulo `room`, and
+ * continues at entry 0 after the last entry. Returns `room` if there is no such entry. */
 size_t schedule_search_find(const struct schedule_known *known, size_t room, const struct schedule_key *key);
-/* Notes all entries of a table that aren't empty in another table, as far as there is room. */
+/* Notes the entries of the table `from` that aren't empty in the table `known`, as far as there is room. */
 void schedule_search_grow(const struct schedule_known *from, size_t count, struct schedule_known *known, size_t room);
 
 #endif

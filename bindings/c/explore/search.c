@@ -79,7 +79,7 @@ static void enlarge(void)
     free(old), free(old_counts);
 }
 
-/* A search begins, with an empty table. */
+/* Begins a search, with an empty table. */
 static void begin(int depth)
 {
     free(table), free(table_counts);
@@ -135,7 +135,7 @@ static void go_on(void)
     xi_next_place();
 }
 
-/* Goes on up to the next choice. Returns the number of its options beside the default; 0 at the end of the run. */
+/* Goes on up to the next choice. Returns the number of its options without the default; 0 at the end of the run. */
 static int next_choice(int *actions)
 {
     for (;;) {
@@ -180,7 +180,7 @@ static void take_newest(void)
     take(newest->taken == newest->place.possible ? DEFAULT : actions[newest->taken]);
 }
 
-/* A choice is new. If it has options that are tried later, its state is saved. */
+/* Begins the newest choice of the path. If the choice has options that are tried later, saves its state. */
 static void begin_newest(const int *actions)
 {
     struct extra *extra = &extras[search.count - 1];
@@ -191,7 +191,7 @@ static void begin_newest(const int *actions)
         xi_save(&extra->saved);
 }
 
-/* The run fails. Returns whether the search goes on. */
+/* Notes that the run fails. Returns whether the search goes on. */
 static bool fail(struct found *found, double *counts)
 {
     memset(counts, 0, width() * sizeof *counts);
@@ -264,7 +264,7 @@ static void add(const double *counts)
         sum[n] += counts[n - by];
 }
 
-/* The next step back. If it makes the state of the newest choice known, stores the numbers of schedules below it. */
+/* Makes a step back. If this makes the state of the newest choice known, stores the numbers of schedules below it. */
 static uint32_t step_back(void)
 {
     const struct extra *extra = &extras[search.count - 1];

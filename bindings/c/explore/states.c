@@ -117,7 +117,7 @@ void xi_track(void)
     mprotect(ARENA, size, PROT_READ);
 }
 
-/* Back to the arena as it was at xi_track */
+/* Restores the arena as it was at xi_track. */
 void xi_to_base(void)
 {
     for (int n = 0; n < own_count; n++)

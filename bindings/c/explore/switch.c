@@ -1,4 +1,4 @@
-/* The test runs on a stack of its own, and changes places with the explorer.
+/* The test runs on a stack of its own, and control switches between the test and the explorer.
  *
  * On x86-64 and on aarch64, the registers that a function keeps are pushed to the stack that is left. So only the used
  * part of the stack must be saved. xi_switch ends with a jump: a return would be predicted to go to the caller. On
@@ -59,8 +59,8 @@ static size_t depth_of_calls(size_t most)
 }
 
 /* Clears what earlier calls have left below the top of the stack. Otherwise, it would be in the frames of later calls,
- * and make states different. Clears as far down as calls were seen to go, and a quarter more, at most 32 KiB. One call
- * of 64 looks how far they go. */
+ * and make states different. Clears as far down as calls were seen to go, and a quarter more, at most 32 KiB. One of 64
+ * calls of this function measures how far they go. */
 void xi_clear_stack(void)
 {
     static size_t depth;

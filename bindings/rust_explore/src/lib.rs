@@ -111,12 +111,12 @@ impl Explored {
         unsafe { x_settle() }
     }
 
-    /// Whether the interrupt line is asserted.
+    /// Returns whether the interrupt line is asserted.
     pub fn line(&self) -> bool {
         unsafe { x_line() }
     }
 
-    /// The frames that were put on the wire since the last `forget`, the oldest first.
+    /// Returns the frames that were put on the wire since the last `forget`, the oldest first.
     pub fn put(&self) -> Vec<Vec<u8>> {
         let one = |number| {
             let mut frame = vec![0; 1518];
@@ -137,7 +137,7 @@ impl Explored {
 /// memory. Memory of the test's state isn't used again after it is freed.
 pub struct Arena;
 
-/// The first address of the explorer's arena, where all memory of the test's state is, and of the test's stack after it
+/// The first address of the explorer's arena, where all memory of the test's state is; and that of the test's stack.
 const BEGIN: usize = 0x2000_0000_0000;
 const END: usize = 0x2010_0000_0000;
 
