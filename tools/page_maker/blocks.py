@@ -14,7 +14,7 @@ LEFT_OUT = ("pub", "abbrev", "unfoldable", "record", "data")
 
 
 def bare(tokens: list, definition) -> list:
-    """Tokens without the words that the page shows by its layout, and with the own name in bold."""
+    """Tokens without the words that the page shows by its layout, and with the definition's name in bold."""
     begin = 0
     while begin < len(tokens) and (tokens[begin][0] in LEFT_OUT or not tokens[begin][0].strip()):
         begin += 1
@@ -28,7 +28,7 @@ def bare(tokens: list, definition) -> list:
 
 
 def bare_rust(tokens: list, definition) -> list:
-    """Tokens of Rust with the own name in bold, and doc comments without their marks."""
+    """Tokens of Rust with the definition's name in bold, and doc comments without their marks."""
     return [(text, None, "own") if found is definition else (re.sub("^/// ?", "", text), found, kind)
             for text, found, kind in tokens]
 

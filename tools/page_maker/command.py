@@ -58,8 +58,8 @@ def make_site(out: str, kit: str) -> Site:
 
 
 def clear(out: str):
-    """Makes an empty folder. If it has the file MARK, removes all that is in it. If it has only other files, ends with
-    an error.
+    """Makes an empty folder. If the folder contains the file MARK, removes all that is in the folder. If it contains
+    only other files, ends with an error.
     """
     if os.path.isdir(out) and os.listdir(out) and not os.path.isfile(os.path.join(out, MARK)):
         sys.exit(f"tools/pages: {out} isn't empty and contains no site; name another folder")

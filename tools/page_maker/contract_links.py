@@ -120,8 +120,8 @@ class ContractLinker(Linker):
         return self.rust(function.text, function), rows
 
     def argument_types(self, function):
-        """The types that the arguments and `result` of a function have in contracts, by name. Also the text of the
-        result's type, and the texts of that type's arguments.
+        """The types that the arguments and `result` of a function have in contracts, by name. Also returns the text of
+        the result's type, and the texts of that type's arguments.
         """
         repository, module, self_type = self.repository, function.module, function.scope.self_type
         rest = function.text[re.search(r"\bfn\s+\w+", function.text).end():]

@@ -32,7 +32,7 @@ class Definition:
     # The clauses of a word of specs, each as (line, comment, text).
     parts: list = field(default_factory=list)
     public: bool = True
-    # The definitions that use this one, each with the number of its uses.
+    # The definitions that use this definition, each with the number of its uses.
     used: dict = field(default_factory=dict)
     scope: object = None
     # The clauses of a contract, each as (keyword, name, text, line).
@@ -44,22 +44,23 @@ class Definition:
     # What a type is in contracts: the text of its `ghost Value`, and the scope of this text.
     value: object = None
     impl_of: object = None
-    # The place on its page, and its address in the site; None if the site doesn't show it.
+    # The definition's place on its page, and its address in the site; None if the site doesn't show it.
     id: object = None
     url: object = None
 
     @property
     def crate(self) -> str:
-        """The crate that defines it; empty for what the prover has built in."""
+        """The crate of the definition; empty if the prover has it built in."""
         return self.module.crate if self.module else ""
 
     @property
     def kit(self) -> bool:
-        """Whether it isn't of this repository."""
+        """Whether the toolchain or the prover defines it, and not this repository."""
         return self.module is None or self.module.kit
 
     def full(self) -> str:
-        """Its name. That of a function, a variant, a constant or a ghost follows the name of its type."""
+        """The definition's name. The name of a function, a variant, a constant or a ghost follows the name of its type.
+        """
         if self.owner is not None and self.kind in ("fn", "variant", "const", "ghost"):
             return f"{self.owner.full()}::{self.name}"
         return self.name
@@ -95,7 +96,7 @@ class Module:
 
     @property
     def name(self) -> str:
-        """Its path below specs or src."""
+        """The module's path below specs or src."""
         return self.path.split(".", 2)[2].replace(".", "/")
 
     def add(self, definition: Definition, chunk: bool = False):

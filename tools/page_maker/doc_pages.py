@@ -68,7 +68,8 @@ class DocPages:
 
     def word(self, text: str, crate: str):
         """The definition that a name in backticks means, or None. `Type::name` means a member of the type. Another name
-        means a definition of the page's crate or below it, or else the only public one or variant of all crates."""
+        means a definition of the page's crate or below it, or else the only public definition or variant of all crates.
+        """
         name = text.rstrip("()").replace(".", "::") if re.fullmatch(r"[A-Z]\w*\.\w+", text) else text.rstrip("()")
         if not re.fullmatch(r"[\w:]+", name) or not (re.search(r"[a-z]", name) and re.search(r"[A-Z_]", name)):
             return None

@@ -8,8 +8,9 @@ import os
 import re
 from dataclasses import dataclass, field
 
-# The beginning of the comment of a function that makes calls twice: the calls, such as [`Ring::next`], and `twice`.
-TWICE = re.compile(r"((?:\[`[^`]+`\](?:, | and )?)+),?(?: each)? twice\b")
+# The beginning of the comment of a function that makes calls twice: `Calls` or nothing, the calls, such as
+# [`Ring::next`], and `twice`.
+TWICE = re.compile(r"(?:Calls )?((?:\[`[^`]+`\](?:, | and )?)+),?(?: each)? twice\b")
 
 
 @dataclass

@@ -15,7 +15,7 @@ MARKS = re.compile(r"\b(?:pub|abbrev|unfoldable) ")
 
 
 def found(repository, names: str) -> list[tuple[str, object]]:
-    """The definitions of a list of names, each with its file."""
+    """The definitions of a list of names, each with its file. Raises ValueError for a name that isn't there."""
     out, file = [], ""
     for word in names.split():
         if word.endswith(":"):

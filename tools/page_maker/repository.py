@@ -39,8 +39,8 @@ class Repository:
         self.layers = read_layers(root)
         self.crates = {name: uses for _, crates in self.layers for name, uses in crates.items()}
         self.modules, self.primitives, self.below_of = {}, {}, {}
-        # `counts`: how many names were linked, by the way, and how many weren't, by the reason. `missing`: how often
-        # each name wasn't linked. `ambiguous`: how often each field's name wasn't.
+        # `counts`: how many names were linked, by how they were linked, and how many weren't, by the reason. `missing`:
+        # how often each name wasn't linked. `ambiguous`: how often each field's name wasn't linked.
         self.counts, self.missing, self.ambiguous = Counter(), Counter(), Counter()
         self.by_name, self.fields, self.rust_names = {}, {}, {}
         self.read_crates()
@@ -255,7 +255,7 @@ class Repository:
         return self.find(alias, rest) if alias else None
 
     def head_of(self, text: str, scope: Scope):
-        """What the first name of a type in specs means."""
+        """What the first name of a type in specs means in contracts (`value_type`), or None."""
         word = next((word for kind, word in tokens_of(text) if kind == "word"), None)
         found = self.dotted(word, scope) if word else None
         return self.value_type(found) if found else None
@@ -335,7 +335,7 @@ class Repository:
         return None
 
     def traits_above(self, trait: Definition):
-        """Yields the traits above a trait."""
+        """Yields the traits that a trait requires by its bounds."""
         for name in re.findall(r"\b[A-Z]\w*", trait.text.partition(":")[2]):
             above = self.rust_name(trait.module, name)
             if above is not None and above is not trait:

@@ -36,7 +36,7 @@ class Page:
 
 
 class Site:
-    """All pages. `linked` keeps the tokens of each definition."""
+    """All pages. `linked` makes the tokens of each definition once."""
 
     def __init__(self, repository, out: str):
         self.repository, self.out = repository, out
@@ -97,7 +97,7 @@ class Site:
 
     def assign(self, module):
         """Sets the address of a module's page, and those of its definitions. A definition of the kit that nothing uses
-        has none if its kind is in HIDDEN_UNUSED.
+        has no address if its kind is in HIDDEN_UNUSED.
         """
         taken = set()
         module.url = self.address(module)

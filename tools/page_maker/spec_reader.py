@@ -138,7 +138,7 @@ class SpecReader:
                 current.text += "\n" + line[(indent or 0):]
 
     def member(self, definition: Definition, name: str, line: int, text: str, comment: str) -> Definition:
-        """Adds a field, or all cases that a line names, to their definition. Returns the one with the given name."""
+        """Adds a field, or all cases that a line names, to their definition. Returns the member with the given name."""
         kind = "field" if definition.kind == "record" else "case"
         current = Definition(kind, name, self.module, line, comment=comment, text=text.strip(), owner=definition)
         definition.members[name] = current
