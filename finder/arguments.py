@@ -35,7 +35,9 @@ class UsageError(Exception):
 
 
 def arguments_of(words: Iterable[str]) -> tuple[Options, list[str]]:
-    """The values of all options, and the words of COMMAND. Raises UsageError."""
+    """The values of all options, and the words of COMMAND. Raises UsageError for an invalid argument or a missing
+    COMMAND.
+    """
     given: dict[str, Any] = {**NUMBERS, **TEXTS, **dict.fromkeys(FLAGS, False)}
     words = list(words)
     while words and words[0] != "--":
@@ -105,7 +107,7 @@ def window_of(*texts: Optional[str]) -> Window:
 
 
 def shard_of(text: str) -> tuple[int, int]:
-    """The pair (K, N) of a text K/N. Raises UsageError unless K is from 1 to N."""
+    """The pair (K, N) of a text K/N. Raises UsageError for any other text, and unless K is from 1 to N."""
     found = re.fullmatch("([0-9]{1,9})/([0-9]{1,9})", text)
     shard = (int(found[1]), int(found[2])) if found else (0, 0)
     if not 1 <= shard[0] <= shard[1]:

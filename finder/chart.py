@@ -16,29 +16,34 @@ if TYPE_CHECKING:
     from finder.rings import Both
     from finder.run import Run
 
-# How many rows are shown: before a deviation, from it on, at the end, of later uses of a slot, without a deviation.
+# The most rows that are shown: before a deviation, from the deviation on, and at the end of a run. The last two
+# numbers are those of later uses of a slot, and of a run without deviations.
 BEFORE, AFTER, LAST, LATER, ALONE = 4, 6, 6, 3, 20
 COLUMNS = ("", "place", "driver", "registers", "memory", "adapter", "wire", "line")
 STAR, BAR = "*", "|"
 SHORT = 24  # the most digits of a value in memory that is shown completely
-ROOM = 5  # between columns that an arrow may connect: the arrow has at least three characters
+ROOM = 5  # characters between columns that an arrow may connect: the arrow has at least three of them
 NARROW = 2
 
 
 class ChartRow(NamedTuple):
-    """A row of a chart: its texts by column, and the columns where its arrow begins and ends (None if it has none)."""
+    """A row of a chart: its texts by column, and the columns where its arrow begins and ends (None without an arrow).
+    """
     cells: Dict[str, str]
     arrow: Optional[Tuple[str, str]] = None
 
 
 def bytes_in(value: int, size: int) -> str:
-    """Bytes in hexadecimal, in the order of memory; of more than 12 bytes, the first 8."""
+    """The `size` bytes of a value in hexadecimal, in the order of memory; of more than 12 bytes, the first 8 and `..`.
+    """
     text = value.to_bytes(size, "little").hex()
     return text if len(text) <= SHORT else text[:SHORT - 8] + ".."
 
 
 def memory_text(name: str, size: int, value: int | None) -> str:
-    """An access of memory: its name, and the fields of a descriptor, or the number of bytes and the bytes."""
+    """The text of an access of memory: the memory's name, and the fields if it is a descriptor. For other memory, the
+    number of bytes, and the bytes if `value` is given.
+    """
     fields = fields_of(name, size, value) if value is not None else None
     shown = f" {bytes_in(value, size)}" if value is not None and size else ""
     return f"{name} {fields}" if fields else f"{name}, {size} bytes{':' if shown else ''}{shown}"
@@ -53,7 +58,8 @@ def access_in(row: LogRow) -> tuple[Access, str, str]:
 
 
 def of_access(row: LogRow) -> ChartRow:
-    """The row of an access: what the driver does, and a register, or memory."""
+    """The row of an access: its place, whether the driver reads or writes, and the register or memory with its value.
+    """
     access, _, name = access_in(row)
     is_write = access.kind == "write"
     value = access.value if is_write else number_in(access, row.answer)
@@ -81,7 +87,7 @@ def of_step(row: LogRow, head: str | None) -> ChartRow:
 
 
 def frame_text(digits: str) -> str:
-    """A frame: its size, and its last bytes, by which frames can be told apart."""
+    """The text of a frame: its number of bytes, and its last two bytes."""
     return f"{len(digits) // 2} bytes, ..{digits[-4:]}"
 
 
@@ -99,7 +105,9 @@ def chart_row_of(row: Row, head: str | None) -> ChartRow | None:
 
 
 def of_event(row: Row, head: str | None) -> ChartRow | None:
-    """The row of what is neither an access nor a `choose`, or None if there is nothing to show."""
+    """The row of a chart for a row of the log that is neither an access nor a `choose`. None if there is nothing to
+    show.
+    """
     words = row.line.split(" ")
     if words[0] == "IRQ":
         return ChartRow({"adapter": "raises the line" if words[1] == "raise" else "lowers the line"})
@@ -117,7 +125,9 @@ def of_event(row: Row, head: str | None) -> ChartRow | None:
 
 
 def moved_head(row: LogRow, before: Both) -> str | None:
-    """The head that a step moves, such as `RDH 0x2`, or None. The rings before it are given."""
+    """The head that the step of a row moves, such as `RDH 0x2`. None if the row is no step, or no head moves. `before`
+    are both rings before the row.
+    """
     if not row.line.startswith("# step "):
         return None
     both = zip(("RDH", "TDH"), row.rings, before)
@@ -140,14 +150,14 @@ def rows_of(run: Run) -> list[ChartRow]:
 
 
 def slot_of(row: ChartRow) -> str | None:
-    """The slot of a ring in a row, or None."""
+    """The slot of a ring that the memory column of a row names, or None."""
     found = SLOT.search(row.cells.get("memory", ""))
     return found[0].partition("+")[0] if found else None
 
 
 def later_rows(rows: list[ChartRow], star: int) -> list[int]:
     """The indices of at most LATER later rows in which a slot is used in another way than near a deviation. The slot is
-    that of the next access after the deviation.
+    that of the first access from the row `star` on.
     """
     access = next((row for row in rows[star:] if "place" in row.cells), None)
     slot = access and slot_of(access)
@@ -159,16 +169,16 @@ def later_rows(rows: list[ChartRow], star: int) -> list[int]:
 
 
 def last_rows(rows: list[ChartRow]) -> list[int]:
-    """The indices of the last rows. Of consecutive rows that differ only in their places, only the last one is among
-    them.
+    """The indices of the last LAST rows. Of consecutive rows that differ only in their places, only the last one is
+    among them.
     """
     texts = [{**row.cells, "place": ""} for row in rows]
     return [at for at in range(max(0, len(rows) - LAST), len(rows)) if texts[at:at + 1] != texts[at + 1:at + 2]]
 
 
 def cut(rows: list[ChartRow]) -> list[ChartRow]:
-    """The rows from shortly before the first deviation to the end. Of a long part without a deviation, only a few rows
-    remain, and a row `..` has the number of the others. Without any deviation, only the last rows remain.
+    """The rows from BEFORE rows before the first deviation to the end. Of a long part without a deviation, only a few
+    rows remain, and a row `..` states the number of the others. Without any deviation, only the last rows remain.
     """
     stars = [at for at, row in enumerate(rows) if row.cells[""]]
     first = stars[0] - BEFORE if stars else len(rows) - ALONE
@@ -191,7 +201,7 @@ def chart_of(run: Run, is_whole: bool = False) -> list[ChartRow]:
 
 
 def end_of(run: Run) -> str:
-    """The line after the rows of a chart."""
+    """The line after the rows of a chart: the run's fault, or that the test passes."""
     return run.fault or "The test passes."
 
 
@@ -209,7 +219,7 @@ def layout(rows: list[ChartRow], columns: Sequence[str] = COLUMNS) -> tuple[dict
 
 
 def arrow_ends(row: ChartRow, starts: dict[str, int]) -> tuple[int, int, bool]:
-    """The characters from which to which the arrow of a row goes, and whether it points to the right."""
+    """The position where the arrow of a row begins, the position after its end, and whether it points to the right."""
     assert row.arrow
     left, right = sorted(row.arrow, key=lambda column: starts[column])
     text = row.cells.get(left, "")
@@ -217,7 +227,7 @@ def arrow_ends(row: ChartRow, starts: dict[str, int]) -> tuple[int, int, bool]:
 
 
 def line_of(row: ChartRow, starts: dict[str, int]) -> str:
-    """The line of a row."""
+    """The line of a row in a text chart whose columns begin at `starts`."""
     line = ""
     for column in starts:
         line = line.ljust(starts[column]) + row.cells.get(column, "")

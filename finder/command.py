@@ -57,8 +57,8 @@ def lack_of(run: Run, deviation: Deviation) -> str:
 
 
 def progress(line: str) -> None:
-    """Shows a line on a terminal until the next line is printed. Raises Unprinted if nobody reads the output any
-    more.
+    """If standard error is a terminal, shows a line there until the next line is printed. Raises Unprinted if nobody
+    reads standard output any more.
     """
     check_output()
     if sys.stderr.isatty():
@@ -107,7 +107,9 @@ class Finder:
         return Pct(seed, self.given["pct"], self.events, self.offers_frames)
 
     def measure(self, depth: int) -> Run | None:
-        """Prints the bound of PCT, by the events of a run without deviations. Returns that run if it fails."""
+        """Plays a run without deviations, and prints the bound of PCT for its number of events. Returns this run if it
+        fails, or None.
+        """
         run = self.target.run()
         self.events, self.offers_frames = run.events, run.offers > 0
         count, bound = len(actors_of(self.offers_frames)), bound_of(depth, self.events, self.offers_frames)
@@ -117,8 +119,9 @@ class Finder:
         return run if run.fault else None
 
     def try_first(self) -> int | None:
-        """Before drawing, tries the empty schedule. Then, if they are few, those of one deviation, and those with all
-        work of the adapter at one place. Returns the exit status if one of them fails, and otherwise None.
+        """Before drawing, tries the empty schedule. If it passes, tries the schedules of one deviation, in the shard.
+        If these pass, the first shard tries those with all work of the adapter at one place. Both kinds are tried only
+        if there are at most --first of them together. Returns the exit status if a schedule fails, and otherwise None.
         """
         given = self.given
         whole: tuple[int, Optional[Run]] = (0, None)
@@ -144,7 +147,7 @@ class Finder:
         return None
 
     def draw(self) -> int:
-        """Draws schedules up to the first one that fails, or all with --all. Returns the exit status."""
+        """Plays drawn schedules up to the first one that fails, or all with --all. Returns the exit status."""
         failed = self.measure(self.given["pct"]) if self.given["pct"] is not None else None
         if failed:
             return self.report(failed)
@@ -188,7 +191,8 @@ class Finder:
         return f"other searches: {', '.join(words if given['holds'] else [*words, '--holds (a slow EEPROM and PHY)'])}"
 
     def list_seeds(self, found: list[tuple[int, str]], count: int) -> None:
-        """Prints the seeds that fail, each with its fault."""
+        """Prints and keeps the seeds that fail, each with its fault. With --all, also prints the number of these seeds.
+        """
         self.result["seed"] = found[0][0]
         if self.given["all"]:
             self.say(f"{len(found)} of {count} runs {fails(len(found))}")
@@ -213,7 +217,9 @@ class Finder:
         return self.report(search.found, is_smallest=True)
 
     def note_tried(self, search: Search) -> None:
-        """Keeps how many schedules a search has tried for --json."""
+        """For --json, keeps how many schedules a search has tried, and how many it left out because others lead to the
+        same run.
+        """
         self.search.update(tried=search.counts, same=search.same)
 
     def searched(self, depth: int) -> str:
@@ -225,7 +231,7 @@ class Finder:
         return f"{part}all schedules of up to {deviations(depth)}, {places}{holds}"
 
     def note_failed(self, run: Run, kinds: Kinds) -> None:
-        """Prints a line for a schedule that fails, and keeps the schedule."""
+        """Prints a line for a schedule that fails, and keeps the schedule for --json."""
         schedule = self.shown(run)
         kinds.add(schedule)
         self.say(f"{'; '.join(map(str, schedule)) or 'no deviation'}: {run.fault}")
@@ -258,7 +264,7 @@ class Finder:
         return FOUND
 
     def passing(self, count: int, with_holds: bool) -> str:
-        """A text: no schedule with fewer deviations than this number fails, among those that were searched."""
+        """A text that states that no searched schedule with fewer deviations than this number fails."""
         if count == 1:
             return "no schedule with fewer deviations fails"  # only the schedule without deviations has fewer
         window = f" {self.given['window']}" if any(self.given["window"]) else ""
@@ -273,12 +279,13 @@ class Finder:
         return small
 
     def smallest(self, shrinker: Shrinker, run: Run, with_holds: bool) -> tuple[Run, bool]:
-        """Looks for a schedule with few deviations. Returns its run, and whether none with fewer fails.
+        """Looks for a schedule that fails with few deviations. Returns its run, and whether surely no schedule with
+        fewer deviations fails.
 
         Schedules with one deviation are tried first: this takes fewer runs than to shrink a long schedule.
         """
         search = self.first
-        small = self.shrink(shrinker, run) if search else None  # with `search`, those of one deviation pass
+        small = self.shrink(shrinker, run) if search else None  # with `search`, the schedules with one deviation pass
         if not search or small and len(small.met) > len(search.counts):
             search = Search(self.target, with_holds, self.given["smaller"], self.progress, shrinker.seen)
             search.up_to(1, is_last=False)
@@ -292,14 +299,14 @@ class Finder:
             self.say(f"{tried}, and pass" + ("" if is_smallest else "; another one may fail"))
             return small, is_smallest
         self.say(f"{tried}: one with {deviations(len(search.found.met))} fails")
-        return shrinker.shrink(search.found), True  # this moves or lowers deviations, but drops none
+        return shrinker.shrink(search.found), True  # `shrink` moves or lowers the deviations here, but drops none
 
     def chart(self, run: Run) -> str:
         """The text of a run's chart."""
         return chart(run, self.given["rows"] == "all")
 
     def show(self, run: Run) -> None:
-        """Prints a run's schedule, the end of its log, and its chart; and stores the run if this is wanted."""
+        """Prints a run's schedule, the end of its log, and its chart; and stores the run if --out is given."""
         text = self.text_of(run)
         lines = [row.line for row in run.rows][-LOG_LINES:]
         shown = "".join(f"{line if len(line) <= LONGEST_LINE else line[:LONGEST_LINE] + '..'}\n" for line in lines)
@@ -317,7 +324,7 @@ class Finder:
         return text_of(self.shown(run), self.target.options, [" ".join(self.target.command), end_of(run)])
 
     def store(self, run: Run, text: str) -> bool:
-        """Stores a run, if this is wanted. Returns False, after a message, if this isn't possible."""
+        """Stores a run, if --out is given. Returns False, after a message, if the run can't be stored."""
         try:
             if self.given["out"]:
                 store(self.given["out"], run, text, self.given["rows"] == "all")
@@ -327,8 +334,8 @@ class Finder:
         return True
 
     def end(self, status: int) -> int:
-        """Prints what the runs reached, if a search found nothing or on request; or everything as JSON. Returns the
-        status.
+        """Prints what the runs reached, after a search that passes or finds nothing to play, or with --reached. With
+        --json, prints the whole result as JSON instead. Returns the status.
         """
         reached = self.target.reached
         if self.given["json"]:
@@ -361,7 +368,8 @@ class Finder:
         self.end(PASSES)
 
     def play(self, schedule: Sequence[Deviation]) -> Run | None:
-        """Plays a schedule, and prints what did nothing and what the run didn't reach. Returns the run.
+        """Plays a schedule. Prints the deviations that did nothing, and those whose access the run didn't reach.
+        Returns the run.
 
         Returns None if the schedule meets another access than it expects, and --any-access isn't given.
         """
@@ -436,7 +444,7 @@ def call(words: Sequence[str]) -> int:
 
 
 def run(finder: Finder, schedule: Sequence[Deviation]) -> int:
-    """Does what is asked for, with the schedule that is given. Returns the exit status."""
+    """Replays the schedule, shrinks it, or searches, as the options ask. Returns the exit status."""
     given = finder.given
     if given["replay"]:
         return finder.end(finder.replay(schedule))
@@ -447,7 +455,7 @@ def run(finder: Finder, schedule: Sequence[Deviation]) -> int:
 
 
 def answer(words: Sequence[str]) -> int:
-    """Does what the arguments ask for. Returns the exit status."""
+    """Prints the help, or calls the finder with these arguments. Returns the exit status."""
     prepare_output()
     if words == ["--help"]:
         say(HELP.strip())

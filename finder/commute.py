@@ -1,4 +1,4 @@
-"""Steps that commute with the access or the request after them: before it and after it, they do the same.
+"""Steps that commute with the access or the request after them: the order of the two doesn't change their effects.
 
 So the test gets the same answers, except that the event of a fault is reported one access later. The rules use what
 the adapter's steps read and write: `docs/ADAPTER.md#steps`. The test can see where a step is played if the step may
@@ -20,7 +20,7 @@ if TYPE_CHECKING:
 RECEIVE = ("RDBAL", "RDBAH", "RDLEN", "RDH", "RDT", "RCTL", "MPC", "RNBC", "GPRC", "RAL", "RAH", "MTA", "VFTA", "VET")
 TRANSMIT = ("TDBAL", "TDBAH", "TDLEN", "TDH", "TDT", "TCTL", "GPTC")
 OFFER = "offer"  # changes nothing in the adapter
-SIZE, START = 16, 8  # of a descriptor; of the part that a step writes back, its first byte
+SIZE, START = 16, 8  # the bytes of a descriptor; the offset of the first byte that a step writes back
 
 
 class Before:
@@ -55,7 +55,9 @@ class Before:
         return address + size <= descriptor + START or descriptor + SIZE <= address
 
     def txtake(self) -> bool:
-        """The step reads the descriptor and the frame. For the last offered frame, it may raise the line, by TXQE."""
+        """The step reads the descriptor and the frame. For the last descriptor before the tail, it may raise the line,
+        by TXQE.
+        """
         reads = self.access is not None and self.is_of_memory() and self.access.kind == "read"
         return (self.is_raised or self.rings.transmit.left() > 1) and (reads or self.misses_transmit())
 
@@ -66,8 +68,8 @@ class Before:
         return self.is_raised and not self.tells_frames and self.misses_transmit()
 
     def rxdata(self) -> bool:
-        """The step writes to a buffer whose address isn't known here. If half of the ring is left then, RXDMT0 may
-        raise the line.
+        """The step writes to a buffer whose address isn't known here. If half of the ring's descriptors is left after
+        the step, RXDMT0 may raise the line.
         """
         ring = self.rings.receive
         is_half = 2 * (ring.left() - 1) == ring.size()
@@ -80,8 +82,8 @@ class Before:
         return self.name == ARRIVE or self.misses_receive() or self.misses(self.rings.piece_at)
 
     def pair(self, first: str, second: str) -> bool:
-        """Whether both steps surely commute. If the line isn't raised yet, this isn't known: the second step may raise
-        it after the first one.
+        """Whether both steps surely commute. Returns False if the line isn't raised yet, because the second step may
+        raise the line after the first step.
         """
         if not self.is_raised or not getattr(self, first)():
             return False

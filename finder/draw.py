@@ -1,8 +1,8 @@
 """Draws schedules, and answers to `choose`.
 
 `actions(name, enabled, has_frames)` returns what is played before the access or the request with this name: steps, and
-arrivals of offered frames, one by one. `enabled()` returns those that would do something after all that were returned
-so far. With `has_frames`, an offered frame waits.
+arrivals of offered frames, one by one. `enabled()` returns the actions that would do something after all actions that
+were returned so far. With `has_frames`, an offered frame waits.
 """
 
 from __future__ import annotations
@@ -15,7 +15,8 @@ from finder.schedule import ARRIVE, ENGINES, PAIRS, ROUNDS
 
 # Returns the actions that would do something now
 Enabled = Callable[[], Tuple[str, ...]]
-# For each step of a pair, the other one, which this step may make possible. An arrival may make rxdata possible.
+# For each step of a pair, the step that it may make possible: the other one of the pair. An arrival may make rxdata
+# possible.
 PARTNERS = {step: other for one, two in PAIRS.values() for step, other in ((one, two), (two, one))}
 PARTNERS[ARRIVE] = "rxdata"
 DRIVER = "driver"
@@ -23,9 +24,9 @@ DRIVER = "driver"
 ACTORS = {DRIVER: (), "receive": PAIRS["rx"], "fetch": ("txtake",), "put": ("txput",)}
 WIRE = {"wire": (ARRIVE,)}  # one more actor if the test offers frames
 OFFERED = *ENGINES, ARRIVE
-PATIENCE = 4  # reads of one register or address in a row
-# Before a request that begins a round, a step has this part of its probability before an access. With more steps there,
-# less work is left for the accesses after the request.
+PATIENCE = 4  # the driver must wait at each Nth read in a row of the same register or address
+# Before a request that begins a round, the probability of a step is this part of the probability before an access. With
+# more steps before such requests, less work is left for the accesses after them.
 ROUND = 1 / 8
 OTHER = 1 << 64  # the seed of a second generator is greater by this number
 MOST_IN_BURST = 64  # steps and arrivals before one access
@@ -37,7 +38,8 @@ def actors_of(offers_frames: object) -> dict[str, tuple[str, ...]]:
 
 
 class Uniform:
-    """Before each access, draws each step of an engine with some probability, in a random order. The seed decides.
+    """Before each access, draws each step of an engine with some probability, in a random order. The seed determines
+    all that is drawn.
 
     Before a request that begins a round, the probability is lower.
     While an offered frame waits, its arrival is drawn like a step.
@@ -77,8 +79,8 @@ class Uniform:
 
     @staticmethod
     def those_possible(drawn: list[str], possible: tuple[str, ...]) -> list[str]:
-        """The drawn actions that do something if they are played one after the other. `possible` has those that would
-        do something at first.
+        """The drawn actions that do something if they are played one after the other. `possible` are the actions that
+        do something before any of them is played.
         """
         found = []
         for action in drawn:
@@ -92,13 +94,13 @@ class Uniform:
         return self.draws_holds and self.random() < 0.5
 
     def choose(self, limit: int) -> int:
-        """A number below the limit, which answers `choose`."""
+        """Draws a number below the limit, the answer to `choose`."""
         return int(self.random() * limit)
 
 
 class Bursts:
     """Before few accesses, some of the actors do all their work (at most MOST_IN_BURST steps), in a random order. The
-    seed decides.
+    seed determines all that is drawn.
 
     So the adapter is often idle for long, and may finish several frames between two accesses. Before a request that
     begins a round, the probability is lower.
@@ -143,11 +145,12 @@ def drawing_of(seed: int, draws_holds: bool = False) -> Bursts | Uniform:
 
 
 class Pct:
-    """Probabilistic concurrency testing: the actor with the highest priority goes first. The seed decides.
+    """Probabilistic concurrency testing: the actor with the highest priority goes first. The seed determines all that
+    is drawn.
 
-    The priorities of the actors are random. At up to `depth` - 1 random events, the actor of the event gets a priority
-    below all those of the start. Before every fourth read of one register or address in a row, another actor goes first
-    if possible. Otherwise, a driver that polls could starve it.
+    The first priorities of the actors are random. At up to `depth` - 1 random events, the actor of the event gets a
+    priority below all first priorities. Before every fourth read of one register or address in a row, another actor
+    takes a step first if possible. Otherwise, a driver that polls could starve this actor.
     """
 
     draws_holds = is_rare = False
@@ -171,7 +174,7 @@ class Pct:
         return "pct", *self.given
 
     def count(self, actor: str) -> None:
-        """Counts an event of an actor. At a change point, the actor's priority becomes lower."""
+        """Counts an event of an actor. At a change point, the actor gets a priority below all first priorities."""
         self.events += 1
         self.priorities[actor] = self.changes.get(self.events, self.priorities[actor])
 
@@ -214,5 +217,5 @@ def with_words(kind: str, *words: Any) -> Drawing:
 
 
 def bound_of(depth: int, events: int, offers_frames: bool = False) -> int:
-    """One divided by this is the least probability that a run finds a race of this depth, by the events of a run."""
+    """The reciprocal of the least probability that a run of at most `events` events finds a race of this depth."""
     return len(actors_of(offers_frames)) * max(1, events) ** (depth - 1)

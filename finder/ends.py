@@ -13,7 +13,7 @@ from types import FrameType
 from typing import IO, Callable, Iterator, NoReturn, Optional
 
 SIGNALS = (signal.SIGINT, signal.SIGTERM, signal.SIGHUP)
-BY_SIGNAL = 128  # plus the number of the signal: an exit status
+BY_SIGNAL = 128  # the exit status after a signal is this number plus the signal's number
 PATIENCE = 1  # seconds: a signal that comes later than this after `hold` ends the finder at once
 
 
@@ -57,8 +57,8 @@ def listen() -> None:
 
 
 def hold() -> None:
-    """From now on, SIGNALS don't interrupt, because processes are being ended. A signal that comes later than PATIENCE
-    ends the finder at once.
+    """From now on, SIGNALS don't interrupt the finder, which is ending processes. A signal that comes later than
+    PATIENCE ends the finder at once.
     """
     begun = time.monotonic()
 
@@ -102,7 +102,9 @@ def say(*words: object, sep: str = " ", end: str = "\n") -> None:
 
 
 def check_output() -> None:
-    """Raises Unprinted if standard output is a pipe that nobody reads any more: then a search needn't go on."""
+    """Raises Unprinted if standard output is a pipe that nobody reads any more. Without a reader, a search needn't go
+    on.
+    """
     poll = select.poll()
     poll.register(sys.stdout, 0)
     if any(events & select.POLLERR for _, events in poll.poll(0)):
@@ -118,6 +120,6 @@ def tell(text: str, end: str = "\n") -> None:
 
 
 def discard(stream: IO[str]) -> None:
-    """Drops what a stream still has, and what is printed later."""
+    """Drops what a stream hasn't written yet, and what is printed on it later."""
     with suppress(OSError):
         os.dup2(os.open(os.devnull, os.O_WRONLY), stream.fileno())

@@ -37,7 +37,7 @@ class Parser(argparse.ArgumentParser):
 
 
 def text_of(path: str) -> str:
-    """The text of a file, or of standard input."""
+    """The text of the file at this path, or of standard input for `-`. Raises UsageError if it can't be read."""
     try:
         with open(0 if path == "-" else path, encoding="utf-8", errors="replace") as file:
             return file.read()
@@ -46,7 +46,7 @@ def text_of(path: str) -> str:
 
 
 def wires_in(path: str) -> dict[str, str]:
-    """The wire of each host, by the `host` lines of a scenario."""
+    """The wire of each host, by the `host` lines of a scenario. Raises UsageError if there is no such line."""
     words = (line.split() for line in text_of(path).splitlines())
     wires = {line[1]: line[3] for line in words if line and line[0] == "host" and len(line) > 3}
     if not wires:
@@ -104,7 +104,7 @@ def rows_of(line: str, wires: dict[str, str]) -> list[ChartRow]:
 
 
 def end_of(drawn: list[int], count: int) -> str:
-    """The last line of a chart of the events with these numbers. The number of all events is given."""
+    """The last line of a chart of the events with these numbers. `count` is the number of all events."""
     events = f"{count} event" + ("" if count == 1 else "s")
     if len(drawn) == count:
         return f"{events}."

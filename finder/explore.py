@@ -16,7 +16,7 @@ if TYPE_CHECKING:
     from finder.run import Run
     from finder.target import Target
 
-# Before one access, deviations of different actors can be exchanged; so they are tried in this order of actors.
+# Before one access, deviations of different actors can be exchanged; so only this order of actors is tried.
 ACTORS = {"hold eeprom": 0, "hold phy": 1, "txtake": 2, "txput": 2, "tx": 2, "rxdata": 3, "rxdone": 3, "rx": 3,
           "arrive": 3}
 # Takes a line for the user
@@ -25,7 +25,7 @@ Say = Callable[[str], None]
 OnFault = Callable[["Run"], None]
 Schedule = Sequence[Deviation]
 MANY = 40  # from this number of schedules on, the runs are prepared
-WHOLE = (1, 1)  # the only shard
+WHOLE = (1, 1)  # the shard of a search that isn't divided
 
 
 class Window(NamedTuple):
@@ -47,7 +47,8 @@ def children(run: Run, with_holds: bool, window: Window = EVERYWHERE) -> Iterato
     """Yields three items for each deviation that would do something as a new last deviation of a run's schedule.
 
     The first item is the number of places from the schedule's first deviation to the new one, or 0 without a first one.
-    The second item is the new deviation. The third is whether it leads to the same run one place later.
+    The second item is the new deviation. The third item is whether the same action at the next place leads to the same
+    run.
     """
     last, first = (run.met[-1], run.met[0].place) if run.met else (None, None)
     after = last.place if last else None
@@ -62,13 +63,15 @@ def children(run: Run, with_holds: bool, window: Window = EVERYWHERE) -> Iterato
 
 
 def actions_at(met: Met, with_holds: bool) -> list[str]:
-    """The actions that would do something at a place, holds only if they are wanted."""
+    """The actions that would do something at a place. Holds are among them only if `with_holds`."""
     pairs = (pair for pair, steps in PAIRS.items() if steps[0] in met.enabled)
     return [*met.enabled, *pairs, *(hold for hold in met.holds if with_holds and hold in HOLDS)]
 
 
 def whole_works(run: Run, window: Window = EVERYWHERE) -> list[list[Deviation]]:
-    """For each place in the window at which the engines have work: the schedule in which they do all of it there."""
+    """For each place in the window at which the engines have work: the schedule in which the engines do all their work
+    at this place.
+    """
     return [[Deviation(met.place, ALL, met.name)] for met in run.places
             if window.has(met.place) and any(step in ENGINES for step in met.enabled)]
 
@@ -84,7 +87,7 @@ def same_as_next(places: Sequence[Met], at: int, with_holds: bool, window: Windo
 def is_after(last: str, action: str) -> bool:
     """Whether `action` is tried after `last` at the same place. Both steps of a pair are tried as a pair."""
     if CHOOSE in (last[:len(CHOOSE)], action[:len(CHOOSE)]):
-        return False  # there is one answer to a request
+        return False  # a request has only one answer
     return ACTORS[last] <= ACTORS[action] and (last, action) not in PAIRS.values()
 
 
@@ -92,17 +95,18 @@ class Level:
     """Schedules with the same number of deviations. They are tried in the order of the number of places from the first
     deviation to the last one.
 
-    There may be millions, so each takes 8 bytes. These are the number of its last deviation, and that of its parent:
-    the schedule without this deviation. A schedule is "the same" as another one if both lead to the same run. With
-    `is_last`, longer schedules aren't tried, so a schedule that is the same as a later one is only counted.
+    There may be millions of schedules, so each takes 8 bytes: the number of its last deviation, and the number of its
+    parent. The parent is the schedule without this deviation. A schedule is "the same" as another one if both lead to
+    the same run. With `is_last`, longer schedules aren't tried, so a schedule that is the same as a later one is only
+    counted.
     """
 
     def __init__(self, is_last: bool = False) -> None:
         self.is_last, self.same = is_last, 0
         self.parents: list[tuple[Deviation, ...]] = []
         self.ends: dict[Deviation, int] = {}  # a deviation has the same number in all schedules that end with it
-        # For each distance, two numbers for each schedule: that of its parent, and that of its last deviation. The
-        # second one is doubled, and 1 more if the schedule is the same as a later one.
+        # For each distance, two numbers for each schedule: its parent's number, and its last deviation's number. The
+        # second number is doubled, and 1 more if the schedule is the same as a later one.
         self.parts: dict[int, tuple[array[int], array[int]]] = {}
 
     def add(self, parent: tuple[Deviation, ...], found: Iterable[tuple[int, Deviation, bool]]) -> None:
@@ -149,9 +153,9 @@ class Root:
 class Search:
     """Tries all schedules by their number of deviations, up to the first one that fails, or until `most` were tried.
 
-    Of those of one size, schedules with deviations close together are tried first: a race is a matter of few accesses.
-    With `on_fault`, goes on after one that fails, and calls `on_fault` with the run of each one that fails. But if
-    the empty schedule fails, this is no race, and nothing else is tried.
+    Of the schedules of one size, those with deviations close together are tried first, because a race depends on few
+    accesses. With `on_fault`, goes on after a schedule that fails, and calls `on_fault` with the run of each schedule
+    that fails. If the empty schedule fails, the fault is no race, and no other schedule is tried.
     """
 
     def __init__(self, target: Target, with_holds: bool = False, most: int | None = None,
@@ -160,14 +164,15 @@ class Search:
                  on_fault: OnFault | None = None) -> None:
         self.target, self.with_holds, self.most, self.progress = target, with_holds, most, progress
         self.window, self.on_fault = window, on_fault
-        self.seen = seen  # if given, gets by the keys of each schedule its run if it fails, and otherwise None
+        self.seen = seen  # if given: by the keys of each schedule, its run if it fails, and otherwise None
         self.counts: list[int] = []
         self.answers: set[bytes] = set()
         self.level: Union[Root, Level] = Root()
         self.same = 0  # how many schedules of the last size aren't tried, as each is the same as a later one (`Level`)
         self.failed: list[int] = []  # for each size, the number of schedules that failed
         self.whole: list[list[Deviation]] = []  # the schedules in which the adapter does all its work at one place
-        # The run of the first schedule that fails, and its number among the tried ones of its size, from 1
+        # The run of the first schedule that fails, and the number of this schedule among the tried ones of its size,
+        # from 1
         self.found: Optional[Run] = None
         self.number: Optional[int] = None
         self.is_complete = True  # whether all schedules of the sizes in `counts` were tried, up to the one that fails
@@ -223,7 +228,7 @@ class Search:
         return count, None
 
     def keep(self, schedule: Schedule, run: Run) -> None:
-        """Keeps what is needed of a run."""
+        """Keeps in `seen` whether a run fails. Counts the runs that fail, keeps the first one, and calls `on_fault`."""
         if self.seen is not None:
             self.seen[keys_of(schedule)] = run if run.fault else None
         if run.fault:
@@ -234,7 +239,7 @@ class Search:
                 self.on_fault(run)
 
     def played(self, schedules: Iterable[Schedule], has_places: bool) -> Generator[tuple[Schedule, Run], None, None]:
-        """Plays schedules in their order, until the search is over. Yields each with its run, when its turn comes."""
+        """Plays schedules in their order, until the search is over. Yields each with its run."""
         begun: deque[Schedule] = deque()
 
         def calls() -> Iterator[dict[str, object]]:
@@ -251,7 +256,7 @@ class Search:
     def up_to(self, depth: int, is_last: bool = True) -> None:
         """Tries all schedules with up to this number of deviations, until the search is over or `most` were tried.
 
-        If `is_last`, longer ones aren't tried later.
+        If `is_last`, longer schedules aren't tried later.
         """
         while len(self.counts) <= depth and not self.is_over() and self.is_complete:
             self.next_size(depth if is_last else None)
@@ -260,7 +265,7 @@ class Search:
 def explore(target: Target, depth: int, with_holds: bool = False, say: Say = lambda line: None,
             progress: Say = lambda line: None, shard: tuple[int, int] = WHOLE,
             window: Window = EVERYWHERE, on_fault: OnFault | None = None) -> Search:
-    """Tries all schedules with up to `depth` deviations, and returns the search.
+    """Tries all schedules with up to `depth` deviations, until the search is over. Returns the search.
 
     With a shard (K, N), tries only each Nth of the schedules with `depth` deviations, from the Kth on.
     """

@@ -34,7 +34,7 @@ PYTHON = re.compile(r"python(3(\.[0-9]+)?)?")
 FLAGS = re.compile(r"-[bBEIOPqsSu]+")
 FIRST, ROUND_1 = Place(0, 0), Place(1, 0)
 SPACING, MOST_HOSTS = 16, 40  # the least number of places from one host to the next; the most hosts after ROUND_1
-MOST_SERVERS = 256  # of the hosts after ROUND_1 together
+MOST_SERVERS = 256  # the most servers of all hosts after ROUND_1 together
 MOST_MEMORY = 512 << 20  # bytes of all servers: there are no more hosts than this allows
 OTHER_MEMORY = 512 << 10  # bytes of a server besides its memory and the saved one
 END = 5  # seconds until the first host, or a player, that hasn't ended by itself is killed
@@ -81,14 +81,14 @@ class Child:
             while len(self.data) < len(MARK) + SIZE:
                 self.read()
         except Late:
-            raise Lost from None  # the host is late, and not a run
+            raise Lost from None  # the host is late, not a run
         mark, self.data = self.data[:len(MARK) + SIZE], self.data[len(MARK) + SIZE:]
         if not mark.startswith(MARK):
             raise Lost
         self.number = int.from_bytes(mark[len(MARK):], "little")
 
     def message(self) -> bytes:
-        """The bytes of the result."""
+        """Waits for the result, and returns its bytes."""
         while len(self.data) < SIZE or len(self.data) < SIZE + int.from_bytes(self.data[:SIZE], "little"):
             self.read()
         return self.data[SIZE:]
@@ -146,7 +146,7 @@ class Forks:
     def __init__(self, command: tuple[list[str], list[str]], settings: Settings, seconds: float, jobs: int,
                  wake: int) -> None:
         self.command, self.settings, self.seconds = command, settings, seconds
-        self.wake = wake  # can be read while runs must end
+        self.wake = wake  # a file descriptor: while it can be read, runs must end
         self.jobs = jobs
         self.slots: queue.LifoQueue[int] = queue.LifoQueue()  # numbers of servers that no run uses
         for slot in range(jobs):
@@ -269,7 +269,7 @@ class Forks:
 
     def warm(self, run: Run) -> None:
         """Sends the accesses of the first run, from round 1 on until a ring gets another base or length, to the last
-        host. Most of these accesses are those of later runs, too.
+        host. Later runs make most of these accesses, too.
         """
         with self.lock:
             if not self.is_warm and run.rows:
@@ -306,7 +306,8 @@ def begin(host: socket.socket, kind: int, message: object, slot: int = 0, is_los
 
 
 def is_ready(control: socket.socket, seconds: float, wake: int) -> bool:
-    """Waits until a host has reached its place, and returns whether it has. Ends a host that hasn't in time."""
+    """Waits until a host has reached its place, and returns whether it has. Ends a host that hasn't reached it in time.
+    """
     number, end = None, time.monotonic() + seconds
     try:
         while select.select([control, wake], [], [], max(0, end - time.monotonic()))[0] == [control]:

@@ -41,10 +41,10 @@ if TYPE_CHECKING:
     from finder.schedule import Deviation
     from finder.server import Server, Settings
 
-# A child writes this and its number first. Anything else in its place was written by the test itself.
+# A child writes this and the number of its process first. Anything else in its place was written by the test itself.
 MARK = b"\0race"
-# A message to a host begins with its kind, a slot, and whether the server in this slot is lost. A socket comes with it,
-# which has the rest of the message, and takes the answers.
+# A message to a host begins with its kind, a slot, and whether the server in this slot is lost. A socket comes with it:
+# the rest of the message is read from this socket, and the answers are written to it.
 HEAD, WITH_SOCKET = 3, socket.CMSG_SPACE(4)
 RUN, HOST, WARM = range(3)
 # The kinds of results
@@ -257,7 +257,7 @@ class Host:
         self.check_host()
         play = self.playing()
         self.servers.keep(play.server)
-        play.digest()  # otherwise, each run would do this
+        play.digest()  # otherwise, each run would compute the digest
         end_with(self.control.fileno(), False)  # from now on, `serve` notices the end
         send(self.control.fileno(), READY)
         self.serve(play.begun)
@@ -279,7 +279,7 @@ class Host:
             self.leave()
 
     def has_few(self, files: set[str]) -> bool:
-        """Whether no more files are open than before the test ran. In a child, its server has two more."""
+        """Whether no more files are open than before the test ran. In a child, its server has two more open files."""
         return len(files) <= self.files + (2 if self.play else 0)
 
     def was_read(self) -> bool:
@@ -290,7 +290,7 @@ class Host:
         self.end(DOUBT, None)
 
     def end(self, kind: str, value: object) -> NoReturn:
-        """Ends this process. If it plays a run, sends the result before."""
+        """Ends this process. If the process plays a run, sends the result first."""
         if self.result is None or os.getpid() != self.number:
             os._exit(1)
         end_with(self.result, False)
@@ -302,7 +302,7 @@ class Host:
         self.leave()
 
     def leave(self) -> NoReturn:
-        """Ends this process, and those that the test may have started."""
+        """Ends this process. If the run is doubtful, ends its group, too: the test may have started processes."""
         if self.is_doubtful:
             os.killpg(0, signal.SIGKILL)
         os._exit(1)
@@ -372,7 +372,7 @@ def reap(children: set[int], options: int) -> None:
 
 
 def join_threads(threading: Any) -> None:
-    """Waits for the threads of the test, as the interpreter does at its end."""
+    """Waits for the test's threads that aren't daemons, as the interpreter does at its end."""
     for thread in threading.enumerate():
         if thread is not threading.current_thread() and not thread.daemon:
             thread.join()
@@ -410,7 +410,7 @@ def run_script(path: str) -> int:
 
 
 def status_of(code: object) -> int:
-    """The exit status for the value of SystemExit."""
+    """The exit status for the value of SystemExit. Prints a value that is neither None nor a number, as Python does."""
     if code is None:
         return 0
     if isinstance(code, int):

@@ -1,7 +1,8 @@
 """Kinds of schedules that fail. Schedules of one kind have the same actions before the same accesses, apart from
 rounds, indices (of slots and in tables) and addresses of memory.
 
-A kind that contains all deviations of a smaller kind belongs to the smaller one, which fails by itself.
+A kind that contains all deviations of a smaller kind belongs to the smaller kind, which fails without the other
+deviations.
 """
 
 from __future__ import annotations

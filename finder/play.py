@@ -26,7 +26,7 @@ if TYPE_CHECKING:
 
 # Requests that begin a round and have a line of the log
 LOGGED = ("arrive", "step")
-# Requests that only the finder sends, to save and restore states for its runs. A test gets the answer `FAIL unknown`.
+# Requests that only the finder sends, to save and restore states. A test that sends one gets the answer `FAIL unknown`.
 OURS = ["save"], ["restore"]
 LOG, EVENTS = (["log", "on"], ["log", "off"]), (["events", "on"], ["events", "off"])
 PORTS = ["outb"], ["outw"], ["outl"]
@@ -58,7 +58,7 @@ class Play(Talk):
         # By address and size: the name of what an access goes to, or None if the server refuses the access
         self.names: dict[tuple[int, int], Optional[str]] = {}
         self.base = None  # the address of the first register, if it is known
-        self.rest = b""  # of the test's output, a line that isn't complete
+        self.rest = b""  # a line of the test's output that isn't complete
         self.waiting, self.size = [], 0  # requests that aren't sent yet, and the number of their bytes
         self.untold = 0  # the number of these requests that aren't TOLD (talk.py)
         self.round = self.access_number = 0
@@ -85,7 +85,7 @@ class Play(Talk):
         self.tells_events = None  # whether the test gets lines `frame`, `arrived` and `fault`; None before `begin`
         self.kept = Kept()  # the frames and faults of lines that the test didn't get, until it fetches them
         self.is_raised = False  # whether the interrupt line is asserted
-        self.counts: Counter[str] = Counter()  # of accesses and requests, by their names, while `named` has some
+        self.counts: Counter[str] = Counter()  # accesses and requests by their names, while `named` isn't empty
 
     def copy(self) -> Play:
         """Returns another run in the same state."""
@@ -100,7 +100,7 @@ class Play(Talk):
               is_strict: bool = True, has_places: bool = True, has_rows: bool = True, has_script: bool = True) -> None:
         """Plays this schedule, or what `draw` draws, from the next request on. The log of the server must be off.
 
-        From now on, places (also for rows), rows and the script are recorded if this is wanted.
+        From now on, places (also for rows), rows and the script are recorded if their arguments are True.
         """
         self.server, self.draw, self.is_strict = server, draw, is_strict
         self.has_places, self.has_rows, self.has_script = has_places or has_rows, has_rows, has_script
@@ -120,7 +120,7 @@ class Play(Talk):
         self.look_ahead()
 
     def look_ahead(self) -> None:
-        """Sets `is_direct`: from now on, nothing is due, drawn or awaited, and neither places nor a log are wanted."""
+        """Sets `is_direct`: whether nothing more is due, drawn or awaited, and neither places nor a log are wanted."""
         has_more = self.left or self.named or self.draw or self.stop or self.checkpoint
         self.is_direct = not (has_more or self.has_places or self.is_logged)
         # Whether only few requests need to know which steps would do something
@@ -256,7 +256,7 @@ class Play(Talk):
             self.rows.append(Row(f"# {' '.join(words)}", TEST, self.rings.both()))
 
     def cut(self) -> None:
-        """Before a request that begins no round: it may change what steps do, so none commutes with the last place."""
+        """Notes that no step commutes with the last place, since the next request may change what steps do."""
         self.flush()
         self.places[-1] = self.places[-1]._replace(commuting=())
 
@@ -265,7 +265,7 @@ class Play(Talk):
         return len(self.offered), self.kept.digest()
 
     def learn(self, request: bytes, name: str | None = None) -> Known | None:
-        """Keeps and returns the access of a request. Returns None if it makes none or is refused."""
+        """Keeps and returns the access of a request. Returns None if the request makes no access, or is refused."""
         access = access_of(text_of(request[:-1])) if len(request) <= LONGEST + 1 else None
         if not access:
             return None
@@ -278,8 +278,9 @@ class Play(Talk):
         return known
 
     def target(self, access: Access) -> str | None:
-        """The name of what an access goes to, or None if it is refused. If neither the addresses of the registers nor
-        the size of memory decide this, the server is asked, once for each address and size."""
+        """The name of what an access goes to, or None if it is refused. If the registers' addresses and the size of
+        memory don't decide the name, the server is asked, once for each address and size.
+        """
         if self.base is not None:
             if access.size == REGISTER and access.address - self.base in REGISTERS:
                 return REGISTERS[access.address - self.base]
@@ -325,7 +326,7 @@ class Play(Talk):
         self.begins = None
 
     def settle(self, request: bytes) -> None:
-        """Takes a request that plays cycles. The offered frames arrive first. The log is on, so the steps are heard."""
+        """Takes a request that plays cycles. The offered frames arrive first. The log reports the steps."""
         self.flush()
         while self.offered:
             self.arrive(DEFAULT)
@@ -428,16 +429,16 @@ class Play(Talk):
         return self.possible()
 
     def arrive(self, owner: str, drawn: Deviation | None = None) -> None:
-        """The oldest offered frame that waits arrives."""
+        """Lets the oldest offered frame that waits arrive."""
         frame = self.offered.pop(0)
         self.queue(b"arrive %b\n" % frame, owner, drawn=drawn, frame=frame)
 
     def step(self, kind: str, owner: str, drawn: Deviation | None = None) -> None:
-        """The adapter takes a step."""
+        """Lets the adapter take a step of this kind."""
         self.queue(STEP[kind], owner, None, None, drawn, None, None if self.has_log else OUTCOMES[kind])
 
     def tick(self, name: str, due: Sequence[Deviation]) -> tuple[str, ...]:
-        """Plays the default steps before an access, except held ones. Returns the holds of those that did something."""
+        """Plays the default steps before an access, except held ones. Returns the holds of steps that did something."""
         held = {deviation.action for deviation in due}
         found = []
         for hold, kind in HOLDS.items():

@@ -24,7 +24,7 @@ ALL = {
     "written": tuple(name for name in NAMES if name not in ("STATUS", "MPC", "GPRC", "GPTC", "RNBC")),
     "causes": tuple(CAUSES.values()),
     "steps": tuple(f"{kind} {outcome}" for kind, outcomes in OF_STEPS.items() for outcome in outcomes),
-    "fates": FATES[::-1],  # the best one first
+    "fates": FATES[::-1],  # the best fate first
     "rings": ("receive", "transmit"),
     "played": PLAYED,
 }

@@ -42,7 +42,7 @@ sys.path.insert(0, sys.argv[1])
 from finder.recall import main
 main(int(sys.argv[2]))
 """
-FAR = 16  # with this many batches of requests up to a schedule's first deviation, the state is saved again
+FAR = 16  # the state is saved again if a schedule's first deviation is this many batches after the saved state
 MOST = 400_000  # answers for which the requests are kept, by all players: each takes about 1 kB
 # A run that was played, and its rests by its states
 Ended = Tuple["Run", List[Tuple["State", "Rest"]]]
@@ -158,7 +158,7 @@ class Player:
         return server, run
 
     def advance(self, server: Server, run: Play, script: Script) -> None:
-        """Plays this part of the script of the run, and saves its state."""
+        """Plays this part of the script of the run, and saves the state of the server after it."""
         if self.is_saved:
             server.restore()
         run.begin(server, (), None, False, True, False)
@@ -205,7 +205,7 @@ class Recall:
         found: Any = None
         try:
             if control is None:
-                return None  # this takes the place of a player that didn't answer
+                return None  # in `free`, None takes the place of a player that didn't answer
             scripts, self.scripts[control] = self.scripts[control], []
             rests, self.rests[control] = self.rests[control], []
             send(control.fileno(), (scripts, rests, [deviation.words() for deviation in schedule], has_places))

@@ -17,8 +17,9 @@ MOST_INTERLEAVED = 65535
 MOST_CHOICES = 2**32 - 1
 DIGITS = re.compile("[0-9a-fA-F]+")
 LONGEST = 131_200  # the most bytes of a request, without its newline
-# What a request may change, so that it is asked then. STEPS: which steps of engines would do something. TICKS: which
-# steps of all actors would. RINGS: the same, and where the rings are.
+# What the finder asks the server after a request, because the request may have changed it. STEPS: which steps of
+# engines would do something. TICKS: which steps of all actors would do something. RINGS: the same as TICKS, and where
+# the rings are.
 STEPS, TICKS, RINGS = 1, 2, 3
 # A write of an index up to MOST_INDEX to one of these registers is valid, and never changes the interrupt line.
 TAILS, MOST_INDEX = ("RDT", "TDT"), 65535
@@ -29,7 +30,7 @@ ASKED = {**dict.fromkeys((*TAILS, "RCTL", "TCTL"), STEPS), **dict.fromkeys(("EER
 
 
 class Met(NamedTuple):
-    """An access or a `choose` of a run, or a request that began a round. It has its place and its name.
+    """An access or a `choose` of a run, or a request that began a round: its place and its name.
 
     `enabled` has the steps, arrivals and answers to `choose` that would do something before it, and `holds` the holds.
     `commuting` has the steps and pairs that would do the same after it.
@@ -79,7 +80,7 @@ class Row:
         self.rings = rings
 
     def has_same_rings(self, other: Row) -> bool:
-        """Whether no ring has moved between two rows: then accesses have the same names."""
+        """Whether both rings have the same base and length in two rows: then accesses have the same names."""
         return [ring[:2] for ring in self.rings] == [ring[:2] for ring in other.rings]
 
 
@@ -90,8 +91,8 @@ class Known:
     def __init__(self, access: Access, target: str) -> None:
         is_write, register = access.kind == "write", target if is_register(target) else None
         self.access, self.register, self.name = access, register, f"{access.kind} {target}"
-        self.bit = access_bit(access.kind, register)  # what it reaches in round 0
-        self.bits = self.bit | bit_made(self.name)  # what it reaches in later rounds
+        self.bit = access_bit(access.kind, register)  # what the access reaches in round 0
+        self.bits = self.bit | bit_made(self.name)  # what the access reaches in later rounds
         self.is_tail = is_write and register in TAILS and (access.value or 0) <= MOST_INDEX
         self.is_quiet = is_write and (register is None or self.is_tail)
         self.is_causes = register == "ICR" and not is_write

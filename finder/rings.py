@@ -36,7 +36,7 @@ Both = Tuple[Ring, Ring]
 
 
 def name_in(rings: Both, address: int) -> str:
-    """The name of a byte of memory, by the rings, as the server has it: a byte of a descriptor, or an address."""
+    """The name of a byte of memory, by the rings, as the server names it: a byte of a descriptor, or an address."""
     for name, ring in zip(("rx", "tx"), rings):
         if 0 <= address - ring.base < ring.length:
             slot, byte = divmod(address - ring.base, DESCRIPTOR)
@@ -79,14 +79,14 @@ class Rings:
         return before != (*self.receive[:2], *self.transmit[:2])
 
     def set_tail(self, transmits: bool, tail: int) -> None:
-        """A tail was written, of the transmit ring or of the receive ring."""
+        """Takes over a tail that was written: of the transmit ring if `transmits`, and else of the receive ring."""
         if transmits:
             self.transmit = Ring(*self.transmit[:3], tail)
         else:
             self.receive = Ring(*self.receive[:3], tail)
 
     def step(self, kind: str, outcome: str) -> str | None:
-        """A step was taken. Returns the slot that it used, such as rx[3], or None."""
+        """Takes over what a step with this outcome changed. Returns the slot that it used, such as rx[3], or None."""
         slot = None
         if outcome in ("part", "moved"):
             ring, self.receive = self.receive, self.receive.advanced()

@@ -12,7 +12,7 @@ if TYPE_CHECKING:
     from finder.schedule import Deviation
 
 # For each batch of requests, as it was passed to `Play.feed`: the batch, what the test was told, and where the run was
-# then. This is the round, and the number of accesses (and `choose` requests) made in it so far.
+# then. This place is the round, and the number of accesses (and `choose` requests) made in the round so far.
 Script = List[Tuple[bytes, bytes, Tuple[int, int]]]
 # A run as a built-in value: pickled, or a tuple of the arguments of `Run`
 Packed = Union[bytes, Tuple[bytes, int, int, int]]

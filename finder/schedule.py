@@ -1,7 +1,8 @@
 """Schedules: what happens otherwise than by default, and before which accesses and requests.
 
 By default, the EEPROM and the PHY each take one step before each access while they have work. Everything else happens
-at the test's own requests. A schedule is a list of deviations from this. The finder and `nicbench serve` play it alike.
+at the test's own requests. A schedule is a list of deviations from the default. The finder and `nicbench serve` play a
+schedule alike.
 """
 
 from __future__ import annotations
@@ -12,7 +13,7 @@ from typing import Any, Container, Iterable, NamedTuple, Optional, Sequence, Tup
 
 from finder.names import ENGINES
 
-# The whole way of a frame, or of a piece of it, counts as one deviation.
+# Two steps that count as one deviation: the whole way of a frame that is sent, or of a piece of a received frame.
 PAIRS = {"tx": ("txtake", "txput"), "rx": ("rxdata", "rxdone")}
 # The oldest offered frame that waits arrives.
 ARRIVE = "arrive"
@@ -21,7 +22,7 @@ ARRIVE = "arrive"
 ALL = "all"
 # The default step of an actor is left out.
 HOLDS = {"hold eeprom": "eeprom", "hold phy": "phy"}
-# One step more of such an actor, after its default step. Such steps are neither drawn nor explored.
+# One more step of the EEPROM or the PHY, after its default step. Such steps are neither drawn nor explored.
 TICKS = tuple(HOLDS.values())
 ACTIONS = (*ENGINES, *PAIRS, ARRIVE, *TICKS, *HOLDS)
 # A round of the test begins with each of these requests.
@@ -37,9 +38,11 @@ COMMENT = re.compile(r"(^|\s)#.*")
 
 
 class Place(NamedTuple):
-    """Before an access or a `choose`: the number of the round, and its number among those of the round, from 1.
+    """A place before an access or a `choose`: the number of the round, and the access's or `choose`'s number in it,
+    from 1.
 
-    With access 0, before the request that begins the round. Round 0 begins with the run, and has no such place.
+    With access 0, the place is before the request that begins the round. Round 0 begins with the run, and has no such
+    place.
     """
     round: int
     access: int
@@ -51,8 +54,8 @@ class Place(NamedTuple):
 class Deviation(NamedTuple):
     """An action, the access or the request before which it happens, and the name of this access or request.
 
-    The access or request is given by its place. Without a place, it is given by its number among those of the run with
-    this name, from 1.
+    The access or request is given by its place. Without a place, it is given by its number, from 1, among the run's
+    accesses or requests with this name.
     """
     place: Optional[Place]
     action: str
@@ -77,7 +80,7 @@ def with_words(place: Optional[tuple[int, int]], *words: Any) -> Deviation:
 
 
 def chosen(action: str) -> int | None:
-    """The number that an action `choose K` answers, or None for another action."""
+    """The number K of an action `choose K`, or None for another action."""
     found = CHOICE.fullmatch(action)
     return int(found[1]) if found else None
 
@@ -88,7 +91,7 @@ def choice(number: object) -> str:
 
 
 def keys_of(schedule: Iterable[Deviation]) -> Keys:
-    """What decides the run of a schedule with places: the places and actions. The names of accesses don't."""
+    """What decides the run of a schedule with places: the places and actions. The names of accesses don't decide it."""
     return tuple(deviation.key() for deviation in schedule)
 
 
@@ -120,7 +123,8 @@ def place_of(word: str, others: Container[str] = ()) -> Place | None:
 
 
 def check_place(place: Place, name: str) -> None:
-    """Checks that ROUND.0 is before a request that begins a round, and every other place before an access or a choice.
+    """Raises ScheduleError unless ROUND.0 is before a request that begins a round, and every other place before an
+    access or a `choose`.
     """
     if place.access and name in ROUNDS:
         raise ScheduleError(f"{place} is before an access: use ROUND.0 for the request that begins a round")
@@ -130,7 +134,7 @@ def check_place(place: Place, name: str) -> None:
 
 
 def deviation_of(line: str) -> Deviation:
-    """The deviation in a line without comment. Raises ScheduleError with what is wrong."""
+    """The deviation in a line without comment. Raises ScheduleError, whose text states what is wrong."""
     words = line.split()
     place = place_of(words[0], {action.split()[0] for action in (*ACTIONS, CHOOSE)})
     words = words[place is not None:]
@@ -156,7 +160,7 @@ def deviation_of(line: str) -> Deviation:
 
 def parse(text: str) -> tuple[list[str] | None, list[Deviation]]:
     """The options of the server (None if there is no line `options`), and the deviations of a schedule. Raises
-    ScheduleError.
+    ScheduleError if the text isn't a schedule.
     """
     options: Optional[list[str]] = None
     deviations: list[Deviation] = []

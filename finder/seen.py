@@ -64,7 +64,7 @@ class States:
 
 
 class Checks:
-    """The checks of a run, from its last deviation on. `ends` is whether it ends at a state that is known."""
+    """The checks of a run, from its last deviation on. `ends` is whether the run ends at a state that is known."""
 
     def __init__(self, states: States, play: Play, server: Server, ends: bool) -> None:
         self.states, self.play, self.server, self.ends = states, play, server, ends

@@ -14,7 +14,7 @@ Settings = Tuple[str, Tuple[str, ...], int]
 
 
 class ServerEnded(Exception):
-    """The server couldn't be started, has ended, or doesn't know a request that is needed. Or a process of the finder
+    """The server couldn't be started, has ended, or doesn't know a request that is needed; or a process of the finder
     has ended.
     """
 
@@ -89,7 +89,7 @@ class Server:
         return name if word == "OK" else None
 
     def save(self) -> bool:
-        """Keeps the state. Returns whether the server can do this."""
+        """Lets the server save its state. Returns whether the server can do this."""
         return self.ask(b"save\n") == b"OK"
 
     def restore(self) -> None:
@@ -120,14 +120,15 @@ class Server:
 
 
 class Servers:
-    """The servers of a host, in the state at its place. Of several runs at once, each uses one of them, by its slot.
+    """The servers of a host, in the state at its place. Each run in progress has a slot, and uses the server with this
+    slot.
 
     If servers can't save their state, each run starts a new one, which repeats the requests so far.
     """
 
     def __init__(self, settings: Settings) -> None:
         self.program, self.options = settings[:2]
-        self.saved: dict[int, Server] = {}  # by slots
+        self.saved: dict[int, Server] = {}  # servers with a saved state, by slots
         self.can_save = True
         self.spare: Optional[Server] = None  # a server in this state that has no slot yet
         self.others: list[Server] = []  # servers of another host

@@ -11,12 +11,12 @@ if TYPE_CHECKING:
     from finder.run import Run
     from finder.target import Target
 
-LONGEST_MOVE = 16  # in places
+LONGEST_MOVE = 16  # the most places by which a deviation is moved at once
 
 
 class Shrinker:
-    """Shrinks the schedule of a run that failed. A method that takes such a run returns a run that fails, too. Its
-    schedule has fewer or later deviations, has lower numbers, or is the same.
+    """Shrinks the schedule of a run that failed. A method that takes such a run returns a run that fails, too. The
+    schedule of the returned run has fewer or later deviations or lower numbers, or is the same schedule.
     """
 
     def __init__(self, target: Target) -> None:
@@ -40,7 +40,7 @@ class Shrinker:
         return next((self.seen[key] for key in keys if self.seen.get(key)), None)
 
     def again(self, schedule: Sequence[Deviation]) -> Run | None:
-        """The run of the empty schedule if it fails; or else that of the given one, or None if it passes.
+        """The run of the empty schedule if it fails. Otherwise, the run of the given schedule, or None if it passes.
 
         A schedule is played here also if it was played before, because the test may behave otherwise this time.
         """

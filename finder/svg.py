@@ -11,7 +11,7 @@ from finder.chart import BAR, COLUMNS, ChartRow, arrow_ends, chart_of, end_of, l
 if TYPE_CHECKING:
     from finder.run import Run
 
-# Sizes in pixels: a character of a monospace font of this size is at most CHAR wide.
+# Sizes in pixels. A character of a monospace font of size FONT is at most CHAR wide.
 FONT, CHAR, HEIGHT, MARGIN, TIP, BAR_WIDTH = 13, 8, 20, 12, 5, 4
 UP = 4  # the middle of a line of text is this far above its base
 LONGEST = 160  # the most characters of the last line that are shown

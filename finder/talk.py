@@ -27,11 +27,11 @@ Waiting = Tuple[bytes, str, "Optional[Known]", "Optional[Met]", "Optional[Deviat
                 Optional[Outcomes]]
 
 # The most bytes of requests that are sent before answers are read, without what ASK adds: every pipe holds at least
-# this many. A longer request is sent by itself.
+# this many bytes. A longer request is sent by itself.
 MOST_AT_ONCE = 4096
 # Who made a request. The test was told the answer to a request that is TOLD before it was sent.
 TEST, TOLD, DEFAULT, DEVIATION = "test", "told", "default", "deviation"
-# How the answers OK, ERR and FAIL begin, and the first one of these
+# The first bytes of the answers OK, ERR and FAIL, and the first byte of OK
 ANSWERS, OK = b"OEF", b"O"[0]
 # Answers to steps that changed nothing
 NOTHING, IDLE = b"OK nothing", (b"OK nothing", b"OK wirefull")
@@ -60,10 +60,11 @@ class Talk:
     """Sends requests, and hears what the server reports.
 
     Requests and answers are bytes, as they come from the test and from the server. A request ends with its newline. A
-    request on its way to the server is a tuple. It begins with its text, who made it, its access if it is one
-    (`Known`), and what is recorded of the access (`Met`). Then follow the drawn deviation that it plays, and the digits
-    of an offered frame. The last item has the outcomes of a step by its answer if the server doesn't log the step. The
-    log is on while rows or the test need it, and during requests that play cycles. `Play` sets all attributes.
+    request on its way to the server is a tuple. It begins with the request's text, who made the request, its access if
+    it makes one (`Known`), and what is recorded of the access (`Met`). Then follow the drawn deviation that the request
+    plays, and the digits of an offered frame. The last item has the outcomes of a step by its answer if the server
+    doesn't log the step. The log is on while rows or the test need it, and during requests that play cycles. `Play`
+    sets all attributes.
 
     What the server reported last: the rings, and the steps that would do something, of engines (`steps`), the EEPROM
     and the PHY (`ticks`). A new report follows each batch of requests that may change it. If `is_lazy`, no report
@@ -145,8 +146,7 @@ class Talk:
         return answers
 
     def look(self, asks: int) -> None:
-        """Reads what the server answers to the question: the steps that would do something, and the rings if these were
-        asked for.
+        """Reads the server's report: the steps that would do something, and the rings if these were asked for.
         """
         self.asks = 0
         self.steps, self.ticks = steps_in(self.server.line())
@@ -163,14 +163,14 @@ class Talk:
             self.mark_rings()
 
     def mark_rings(self) -> None:
-        """The row of the last request, and those of events after it, get the rings."""
+        """Stores the rings in the row of the last request, and in those of the events after it."""
         for row in reversed(self.rows):
             row.rings = self.rings.both()
             if row.line.startswith("#"):
                 return
 
     def forget_names(self) -> None:
-        """From now on, accesses may have other names."""
+        """Forgets the names of accesses, because accesses may have other names from now on."""
         self.known, self.names = {}, {}
 
     def answer(self, _: bytes, owner: str, known: Known | None, met: Met | None, drawn: Deviation | None,
@@ -202,7 +202,7 @@ class Talk:
         return line
 
     def hear_all(self, line: bytes, owner: str, met: Met | None) -> bytes:
-        """Hears this line and those after it, up to an answer, which is returned."""
+        """Hears this line and the lines after it, up to an answer. Returns the answer."""
         row = None
         while line[0] not in ANSWERS:
             if line in LOGGED_STEPS:
@@ -223,7 +223,7 @@ class Talk:
             self.note_rings()
 
     def take_step(self, bit: int, kind: str, outcome: str, is_idle: bool) -> str | None:
-        """The adapter took a step. Returns the slot that it used, or None."""
+        """Takes over a step of the adapter. Returns the slot that the step used, or None."""
         self.reached |= bit
         if not is_idle and self.round and kind in ENGINES:
             self.others += 1

@@ -42,7 +42,9 @@ def memory_of(options: tuple[str, ...]) -> int:
 
 
 class Target:
-    """The command that is tested. Its runs are forked if `is_forked`, and it is a script in Python that can be."""
+    """The command that is tested. Its runs are forked with `is_forked`, if the command is a script in Python that can
+    be forked.
+    """
 
     def __init__(self, server: str, command: list[str], options: Sequence[str] = (), seconds: float = 10.0,
                  jobs: int = 1, is_forked: bool = True, has_digest: bool = True) -> None:
@@ -57,7 +59,7 @@ class Target:
         self.recall: Optional[Recall] = None
 
     def start(self) -> None:
-        """Before several runs at once, and before there are threads: starts workers if runs aren't forked."""
+        """Starts workers if runs aren't forked. Called before several runs at once, and before there are threads."""
         if not self.workers and not (self.forks and self.forks.is_usable):
             self.workers = Workers(self.play_reduced, self.jobs, self.wake[1])
 
@@ -120,8 +122,8 @@ class Target:
         return run
 
     def confirm(self, forks: Forks, run: Run) -> None:
-        """After a forked run had no result, and `run` was played in a process of its own. If `run` is late, too, late
-        children may be trusted. Otherwise, runs aren't forked any more.
+        """Called after a forked run had no result, and `run` was played in a process of its own instead. If `run` is
+        late, too, late children may be trusted. Otherwise, runs aren't forked any more.
         """
         if run.fault == late(self.seconds):
             forks.trusts_late = forks.trusts_late is not False
@@ -201,7 +203,9 @@ def wait(reads: list[int], writes: list[int], end: float, wake: int) -> None:
 
 
 def serve(test: subprocess.Popen[bytes], play: Play, end: float, wake: int) -> None:
-    """Answers the requests of a test until its output ends, or it no longer reads. Raises TooLong or Stopped."""
+    """Answers the requests of a test until its output ends, or until the test no longer reads. Raises TooLong or
+    Stopped.
+    """
     given, told = streams_of(test)
     source, sink = told.fileno(), given.fileno()
     os.set_blocking(sink, False)

@@ -22,9 +22,10 @@ and a chart.
                        adapter does all its work before one access, if these are at most N (default
                        800). --pct and --all begin without them
   --jobs N             N runs at once, at most 64 (default: the number of processors)
-  --pct DEPTH          draws by PCT instead: the actor with the highest priority goes first, and
-                       DEPTH - 1 times, the one that goes gets the lowest priority. The actors are
-                       the driver, the receive engine, the fetching and the putting of frames to be
+  --pct DEPTH          draws by PCT instead: the actors get random priorities, and the actor with
+                       the highest priority goes first. At up to DEPTH - 1 random events, the actor
+                       of the event gets a priority below all first priorities. The actors are the
+                       driver, the receive engine, the fetching and the putting of frames to be
                        sent, and the wire if COMMAND offers frames. Prints the least probability
                        with which a run finds a race of this depth
   --explore DEPTH      tries all schedules of up to DEPTH deviations instead

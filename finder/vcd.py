@@ -54,7 +54,7 @@ def registers_of(rows: Sequence[Row]) -> list[str]:
 
 
 def scope_of(name: str) -> str:
-    """The scope of a register; each table of registers has its own one."""
+    """The scope of a register; each table of registers has a scope of its own."""
     return name.partition("[")[0] if name in ORDER and "[" in name else "registers"
 
 
@@ -100,7 +100,7 @@ class Dump:
         self.lines.append("$end")
 
     def declare(self, scope: str, variables: dict[str, str]) -> None:
-        """The variables of a scope."""
+        """Adds the declarations of a scope and its variables."""
         self.lines.append(f"$scope module {scope} $end")
         for name, kind in variables.items():
             self.codes[name], self.kinds[name] = code_of(len(self.codes)), kind
@@ -109,13 +109,15 @@ class Dump:
         self.lines.append("$upscope $end")
 
     def begin(self) -> None:
-        """The first values are 0. An event has none, and a register isn't known before its first access."""
+        """Adds the first values, which are 0. An event has no value, and a register's value isn't known before an
+        access to it.
+        """
         for name, kind in self.kinds.items():
             if kind != "event":
                 self.change(name, None if kind == "register" else 0)
 
     def change(self, name: str, value: int | None) -> None:
-        """A variable has this value from now on (None if it isn't known), if it hasn't already."""
+        """Adds that a variable has this value from now on (None if it isn't known), unless it already has the value."""
         if self.values.get(name, ()) != value:
             self.values[name] = value
             text = "x" if value is None else f"{value:b}"
@@ -132,7 +134,7 @@ class Dump:
 
 
 def dump_access(dump: Dump, row: Row) -> None:
-    """An access, and the value of its register, unless this is a head or a tail: `dump_row` writes these."""
+    """Adds an access, and the value of its register, unless this is a head or a tail: `dump_row` adds these."""
     dump.now = (dump.now // UNITS + 1) * UNITS
     access, kind, name = access_in(row)
     dump.happen(f"{kind}_{'register' if is_register(name) else 'memory'}")
@@ -147,7 +149,7 @@ def dump_access(dump: Dump, row: Row) -> None:
 
 
 def dump_row(dump: Dump, row: Row) -> None:
-    """A row of the log. A step with the outcome `nothing` takes no time."""
+    """Adds a row of the log. A step with the outcome `nothing` takes no time."""
     words, event = row.line.split(" "), event_of(row)
     if row.place:
         dump_access(dump, row)

@@ -17,7 +17,7 @@ if TYPE_CHECKING:
 
 
 class Workers:
-    """Children of the finder. It starts them while it has one thread."""
+    """Children of the finder, which starts them while it has only one thread."""
 
     def __init__(self, play: Callable[..., Run], count: int, wake: int) -> None:
         """`play` is called in a worker, with what `Workers.play` is called with.
@@ -64,7 +64,7 @@ class Workers:
 def work(play: Callable[..., Run], control: socket.socket, others: list[socket.socket], wake: int) -> None:
     """Plays what is asked for until the finder closes the socket, and then ends this process."""
     try:
-        handle(nothing)  # the finder decides when its runs end
+        handle(nothing)  # the finder decides when the worker's runs end
         os.setsid()
         os.close(wake)
         for other in others:

@@ -21,7 +21,7 @@ LKRN = "/usr/lib/ipxe/ipxe.lkrn"
 ROM, UEFI_ROM = "/usr/lib/ipxe/qemu/pxe-e1000.rom", "/usr/lib/ipxe/qemu/efi-e1000.rom"
 FIRMWARE, VARIABLES = "/usr/share/OVMF/OVMF_CODE_4M.fd", "/usr/share/OVMF/OVMF_VARS_4M.fd"
 UBOOT = "/usr/lib/u-boot/qemu-x86/u-boot.rom"
-# What each guest needs besides QEMU, and the packages that have it
+# The files that each guest needs besides QEMU, and the packages that contain them
 FILES = {
     "kernel": {LKRN: "ipxe"},
     "rom": {ROM: "ipxe-qemu"},
@@ -87,7 +87,7 @@ def ipxe(board: list[str], way: str, folder: str, log: str, command: str = FETCH
 
 
 def run_ipxe(words: Namespace, board: list[str], tell: Callable[[str], None]) -> bool:
-    """Boots iPXE in the given ways, or in all. Returns whether it had an address, and fetched all bytes, each time."""
+    """Boots iPXE in the given ways, or in all. Returns whether iPXE got an address and fetched all bytes each time."""
     passed = 0
     ways = words.stages or WAYS
     for way in ways:

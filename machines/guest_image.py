@@ -27,7 +27,7 @@ class Archive:
         self.names: set[str] = set()
 
     def add(self, name: str, mode: int, data: builtins.bytes = b"", device: tuple[int, int] = (0, 0)) -> None:
-        """Adds an entry, after the folders that it is in."""
+        """Adds an entry, after the folders that it is in, unless there is an entry with this name."""
         folder = os.path.dirname(name)
         if folder and folder not in self.names:
             self.add(folder, FOLDER)

@@ -23,7 +23,7 @@ COLOUR = re.compile(rb"\x1b\[[0-9;?]*[A-Za-z]")
 
 
 class Ended(Exception):
-    """The guest or the board has ended too early; the text has what is known."""
+    """The guest has ended too early, or has printed nothing for QUIET seconds. The text states which."""
 
 
 def output_of(process: Popen[bytes]) -> int:

@@ -18,7 +18,7 @@ QEMU = {"qemu-system-x86_64": "qemu-system-x86", "gcc": "gcc", "ldd": "libc-bin"
 PROGRAMS = {**QEMU, "ethtool": "ethtool"}
 BUSYBOX, HEADER = "/bin/busybox", "/usr/include/stdio.h"
 TUN = "/dev/net/tun"
-# Runs a command in a network namespace of its own
+# The words that run a command in a network namespace of its own
 NAMESPACE = ["unshare", *([] if os.geteuid() == 0 else ["--map-root-user"]), "--net"]
 # The modules that pass a PCI function to user space, in the order in which they can be loaded. A kernel may lack some.
 VFIO = ("irqbypass", "iommufd", "vfio", "vfio_virqfd", "vfio_iommu_type1", "vfio-pci-core", "vfio-pci")
@@ -27,7 +27,7 @@ KERNEL = ("vmlinuz", "e1000.ko", "release")
 
 
 class Missing(Exception):
-    """Something isn't there, or can't be used. The text has the reason, or the command that helps."""
+    """Something isn't there, or can't be used. The text states the reason, or the command that helps."""
 
 
 def is_static(path: str) -> bool:
@@ -61,7 +61,9 @@ def check_tap(what: str) -> None:
 
 
 def kernel_of(cache: str) -> str:
-    """Returns the path of the folder with the kernel and its modules. Raises Missing if it lacks a file of KERNEL."""
+    """Returns the path of the folder with the kernel and its modules. Raises Missing if the folder lacks a file of
+    KERNEL.
+    """
     folder = os.path.join(cache, "kernel")
     if not all(os.path.exists(os.path.join(folder, name)) for name in KERNEL):
         raise Missing("there is no kernel: run `machines/boot --get-kernel`, which downloads it")
@@ -112,7 +114,7 @@ def files_of(package: str) -> Iterator[tuple[str, IO[bytes]]]:
 
 def unpack_kernel(package: str, folder: str) -> Optional[str]:
     """Stores the kernel and the modules that guests need in a folder. Returns the kernel's release, or None if the
-    package has no kernel.
+    package contains no kernel.
     """
     wanted = {f"{name}.ko" for name in ("e1000", *VFIO, *UIO)}
     release = None

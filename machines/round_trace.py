@@ -15,7 +15,7 @@ from finder.rings import Both, Ring, name_in  # noqa: E402
 from finder.schedule import Deviation, Place, text_of  # noqa: E402
 
 PAGE = 0x1000
-PREFIX = "e1000_"  # most functions of the driver begin with it; charts don't show it
+PREFIX = "e1000_"  # the names of most functions of the driver begin with this, and charts don't show it
 ALL_BITS = "0xffffffff"
 
 
@@ -29,7 +29,9 @@ class Symbols:
         self.names = sorted([*self.names, (int(address, 16), name)])
 
     def name_of(self, address: int) -> str:
-        """The function that an instruction is in, and its place there; its address if it is in none."""
+        """The function that contains the instruction at this address, and the place in it; the address if no function
+        does.
+        """
         below = [one for one in self.names if one[0] <= address]
         if not below or address - below[-1][0] >= 16 * PAGE:
             return f"{address:#x}"
@@ -54,7 +56,7 @@ class Trace:
         self.symbols = symbols
         self.rows: list[Row] = []
         self.deviations: list[Deviation] = []
-        self.rings = self.begun = Ring(), Ring()  # now, and when the round began
+        self.rings = self.begun = Ring(), Ring()  # the rings now, and the rings when the round began
         self.waiting: list[str] = []  # deviations whose access isn't known yet
         self.place = Place(0, 0)
         self.settings = ""

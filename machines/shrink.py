@@ -18,7 +18,7 @@ if TYPE_CHECKING:
 
 BOOT = os.path.join(os.path.dirname(os.path.abspath(__file__)), "boot")
 NUMBERS = "numbers.txt"
-OWN_FILES = ("console", "image")  # a guest writes them into the cache
+OWN_FILES = ("console", "image")  # files that a guest writes into the cache
 FAILED = 1
 # Takes parts of the steps' numbers. Returns the first part with which the round fails, or None
 FirstFailing = Callable[["list[list[int]]"], "Optional[list[int]]"]

@@ -152,7 +152,9 @@ class Report:
         tell(f"  after {', '.join(shown[:12])}{', ..' if len(shown) > 12 else ''}")
 
     def end(self, error: Optional[str] = None, with_reached: bool = True) -> bool:
-        """Prints the rest. Returns whether all rounds passed. `error` is why the guest has ended too early."""
+        """Prints the round that failed, and with `with_reached` what the rounds reached. Returns whether all rounds
+        passed. `error` is why the guest has ended too early, or None.
+        """
         if self.played is None:
             self.fault = error or "the rounds have not ended"
             tell(self.fault)

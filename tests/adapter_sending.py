@@ -1,4 +1,4 @@
-"""Frames that the adapter sends, and transmit descriptors that it rejects, in sessions of `nicbench serve`."""
+"""Tests frames that the adapter sends, and transmit descriptors that it rejects, in sessions of `nicbench serve`."""
 
 from adapter_sessions import CTRL, EVENTS, GPTC, ICR, RESET, RING, TCTL, TDBAH, TDBAL, TDH, TDLEN, TDT, loads, reads
 from adapter_sessions import slot, steps, stores, writes
@@ -10,7 +10,7 @@ def put(frame, told=""):
 
 
 def sending(server):
-    """The transmit engine, step by step."""
+    """Each step of the transmit engine has the expected outcome and effects."""
     two = [*RING, slot(14, 0x0B), slot(14, 0x03, 1), writes(TDT, 2)]
     padded = ("07" * 14).ljust(120, "0")
     server.talks("adapter: frames are taken and put", [

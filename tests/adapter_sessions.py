@@ -1,7 +1,7 @@
 """Sessions of `nicbench serve` that test the adapter: registers, causes, EEPROM, PHY, filter, receive engine and packet
 buffer.
 
-The expected values are written by hand, from the manual. A row has a request, and all lines that the server prints for
+The expected values are written by hand, from the manual. A row is a request, and all lines that the server prints for
 it. The last of these lines is the answer.
 """
 
@@ -56,8 +56,8 @@ def loads(address, data):
 
 
 def registers(server):
-    """All registers at power-on, and some after writes and after a reset. An offset without a register reads 0, also
-    after a write.
+    """Registers have the expected values at power-on, after writes, and after a reset. An offset without a register
+    reads 0, also after a write.
     """
     places = range(0, 0x5810, 4)
     server.talks("adapter: registers at power-on",
@@ -103,8 +103,8 @@ def causes(server):
 
 
 def eeprom(server):
-    """Reads of the EEPROM. The sum of its 64 words is 0xBABA modulo 2^16; words from 64 on read 0xFFFF. A request
-    replaces a pending request, and a write without START doesn't.
+    """The EEPROM answers reads of its words. The sum of its 64 words is 0xBABA modulo 2^16; words from 64 on read
+    0xFFFF. A request replaces a pending request, and a write without START doesn't.
     """
     ticked, nothing = steps(("eeprom", "ticked"), ("eeprom", "nothing"))
     rows = [nothing]
@@ -134,7 +134,7 @@ def command(written, answered, causes_after=0):
 
 
 def phy(server):
-    """MDIC commands, negotiation, the link and its latch."""
+    """The PHY answers commands of MDIC, ends a negotiation, and latches the status of the link."""
     server.talks("adapter: commands of MDIC", [row for words in [
         (0x08410000, 0x58410000), (0x08220000, 0x18220141), (0x08230000, 0x18230C20), (0x28210000, 0x38210000, 0x200),
         (0x08200000, 0x18201000),
@@ -168,7 +168,7 @@ def fate(passes, destination, behind="08000000"):
 
 
 def filters(server):
-    """The receive filter: exact addresses, the group table with each value of RCTL.MO, modes, and VLANs."""
+    """The filter passes the right frames, by exact addresses, the group table with each RCTL.MO, modes, and VLANs."""
     groups = {0x341: 0, 0x682: 1, 0xD04: 2, 0x412: 3}
     for bit in groups:
         server.talks(f"adapter: number {bit:#x} of the group table", [
@@ -211,7 +211,7 @@ RECEIVED = [arrives("stored"), *steps(("rxdata", "moved"), ("rxdone", "done"))]
 
 
 def arrivals(server):
-    """The fates of arriving frames, and the counters MPC and RNBC."""
+    """Each arriving frame has the first fate that applies, and MPC and RNBC have the expected values."""
     server.talks("adapter: misses are counted", [
         writes(PBA, 2), writes(RCTL, RECEIVE), *(arrives(fate, LONG) for fate in ("stored", "missed", "missed")),
         reads(MPC, 2), reads(MPC, 0),
@@ -224,7 +224,7 @@ def arrivals(server):
 
 
 def receiving(server):
-    """The receive engine, step by step."""
+    """Each step of the receive engine has the expected outcome and effects."""
     server.talks("adapter: frames go into memory", [
         *SLOTS, *OFFERED, *steps(("rxdata", "nothing")), *RECEIVED, reads(ICR, 0x80), *RECEIVED, reads(ICR, 0x80),
         *RECEIVED, reads(ICR, 0x90),
@@ -444,8 +444,8 @@ def came(fate, *lengths):
 
 
 def packet_buffer(server):
-    """The room of the receive packet buffer. A frame takes up its length, rounded up to a multiple of 16 bytes, and 16
-    bytes more.
+    """A frame for which the receive packet buffer has no room is missed. A frame takes up its length, rounded up to a
+    multiple of 16 bytes, and 16 bytes more.
     """
     for kilobytes, stored, missed in [
         (2, [60] * 25, 60), (2, [1518, *[60] * 6], 60), (2, [1518], 497), (2, [1518, 496], 60), (2, [1008, 1008], 60),

@@ -1,4 +1,6 @@
-"""Scenarios and traces of any bytes: each answer of the built program is the one that scenario_reader.py computes."""
+"""Tests scenarios and traces of any bytes: each answer of the built program is the one that scenario_reader.py
+computes.
+"""
 
 import os
 import random
@@ -101,8 +103,8 @@ def fed_fault(bench, path, given):
 
 
 def answer(bench, text, given=b"", options=()):
-    """The status, the fault or None, the files in OUTDIR, and a list. Without a fault, the list has the names of the
-    hosts. It has the path of a refused trace, and is empty after other faults.
+    """The status, the fault or None, the files in OUTDIR, and a list. Without a fault, the list contains the names of
+    the hosts. If a trace is refused, the list contains its path. After another fault, the list is empty.
     """
     scenario = Scenario(text)
     if scenario.fault:
@@ -129,8 +131,8 @@ def held_bytes(path):
 
 
 def runs(bench, met, name, text, given=b"", options=()):
-    """Runs a scenario, compares the answer with the computed one, and adds a fault to `met`. Of each file, only the
-    header is compared.
+    """Runs a scenario, compares the answer with the computed one, and adds its fault, if any, to `met`. If the scenario
+    is valid, only the headers of the files are compared.
     """
     path = folder(bench)
     bench.put("s.scenario", text)
@@ -185,7 +187,7 @@ def moved_lines(bench, met):
 
 
 def random_bytes(bench, met):
-    """Texts of random bytes from several alphabets, also after the valid text."""
+    """Runs texts of random bytes from several alphabets, in turn after BASE and by themselves."""
     drawn = random.Random(3)
     for alphabet in [bytes(range(256)), bytes(range(128)), SPECIAL, b"\n\r #/", b"host ab\n\t:/01"]:
         for number in range(120):
@@ -238,7 +240,7 @@ def random_line(drawn, kind, hosts):
 
 
 def random_lines(bench, met):
-    """Scenarios of random lines, whose words are mostly drawn from the tables."""
+    """Runs scenarios of random lines, whose words are mostly drawn from the tables."""
     drawn = random.Random(4)
     setup, events = sorted(SETUP), sorted(set(WORDS) - SETUP)
     begin = [line.decode() for line in BASE.split(b"\n")[1:5]]
@@ -254,8 +256,8 @@ def random_lines(bench, met):
 
 
 def each_word(bench, met):
-    """Each word of the tables, in a line whose other words are valid; and calls with too few or too many words or
-    ticks.
+    """Runs each word of the tables in a line whose other words are valid, also with an invalid line after this line.
+    Also runs calls with too few or too many words or ticks.
     """
     begin = [line.decode() for line in BASE.split(b"\n")[1:3]]
     host = "host f 02:00:00:00:00:06 w"
@@ -284,7 +286,9 @@ def each_word(bench, met):
 
 
 def full_hosts(bench, met):
-    """Hosts with the most sockets, groups and VLANs, and one less or more; and plans of 0 to 19 hosts."""
+    """Runs scenarios whose hosts have the most sockets, groups or VLANs, or one less or more. Also runs plans of 0 to
+    19 hosts.
+    """
     for kind, value, most in [("socket", "all", 8), ("group", "01:00:5e:00:00:01", 32), ("vlan", "5", 32)]:
         for host in "ab":
             lines = BASE.split(b"\n")[1:3] + [f"{kind} {host} {value}".encode()] * (most + 1)
@@ -297,7 +301,9 @@ def full_hosts(bench, met):
 
 
 def long_lines(bench, met):
-    """Lines of about 8,192 bytes, and of 2 and 20 times this length, with different ends of the line."""
+    """Runs lines of about 8,192 bytes, and of 2 and 20 times this length, with different ends of the line, and before
+    an invalid line.
+    """
     begin = b"\n".join(BASE.split(b"\n")[1:3]) + b"\n"
     for first, fill in LONG_LINES:
         for size in [*range(MOST_BYTES - 3, MOST_BYTES + 4), 2 * MOST_BYTES, 20 * MOST_BYTES]:
@@ -306,7 +312,9 @@ def long_lines(bench, met):
 
 
 def other_texts(bench, met):
-    """Bytes that aren't UTF-8, and characters that aren't ASCII, at each place of a line of each kind."""
+    """Runs BASE with bytes that aren't UTF-8, or a character that isn't ASCII, at each place of each line. Also runs
+    such texts by themselves, in comments, and before and after BASE.
+    """
     drawn = random.Random(5)
     lines = BASE.split(b"\n")
     for number, line in enumerate(lines):
@@ -333,8 +341,8 @@ def passes(bench, name, data):
 
 
 def traces(bench):
-    """Traces with a frame of about the least or most bytes; a trace of which each byte is replaced in turn; and random
-    traces.
+    """Passes traces with a frame of about the least or most bytes, a trace of which each byte is replaced in turn, and
+    random traces.
     """
     drawn = random.Random(6)
     data = trace(packet(bytes.fromhex(FRAME)), packet(bytes(range(70)), time=1))

@@ -1,6 +1,6 @@
-"""The text that the program prints on standard error if it fails, from the table of codes in its source.
+"""Returns the text that the program prints on standard error if it fails, and checks the table of codes in its source.
 
-tests/helps.py has the same meanings word for word, as the help prints them.
+tests/helps.py contains the same meanings word for word, as the help prints them.
 """
 
 from typing import Iterator, Optional
@@ -30,8 +30,8 @@ def failure(fault: str, path: Optional[str] = None) -> bytes:
 
 
 def second_lines(bench: Program) -> None:
-    """The second line names the refused input, also if a run feeds several, and has a command that can be copied. The
-    helps list exactly the codes of the table.
+    """If an input is refused, a second line names it, also if a run feeds several. For a pcapng file, this line
+    contains a command that can be copied. The helps list exactly the codes of the table.
     """
     bench.put("old.pcapng", b"\x0a\x0d\x0d\x0a" + bytes(100))
     told = (b"nicbench: E61 Magic\n"

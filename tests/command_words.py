@@ -1,4 +1,4 @@
-"""Words of the command line: versions, helps, and words that are refused."""
+"""Tests words of the command line: versions, helps, and words that are refused."""
 
 import os
 
@@ -20,7 +20,9 @@ VLAN_FORM = b"a VLAN is a decimal number from 0 to 4095, such as 5"
 
 
 def words(bench):
-    """Helps, versions and invalid arguments: status 2, and the text on standard error. No file is created."""
+    """A call for a help or a version, or with invalid arguments, ends with status 2. The expected text is on standard
+    error. No file is created.
+    """
     texts = [
         ([], HELP),
         (["--help"], HELP),

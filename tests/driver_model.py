@@ -20,7 +20,7 @@ GREATEST_COUNT, GREATEST_SUM = 2**32 - 1, 2**64 - 1
 
 
 class Refused(Exception):
-    """The adapter isn't initialized: the code and the name of the error."""
+    """Raised if the adapter can't be initialized. Its text is the code and the name of the error."""
 
 
 def read(register):

@@ -1,4 +1,6 @@
-"""Resets of the drivers in examples/drivers: their accesses, the slots that they offer, and runs with random steps."""
+"""Tests resets of the drivers in examples/drivers: their accesses, the slots that they offer, and runs with random
+steps.
+"""
 
 import resets
 import sweep
@@ -49,8 +51,8 @@ def reset_with(server, name, held):
 
 
 def all_accesses(server):
-    """Each driver without a bug makes the accesses of ORDER. The last write of RDT is the number of slots that are
-    offered. `queue` clears the descriptors of the other slots.
+    """Each driver without a bug makes the accesses of ORDER. The last write of RDT writes the number of offered slots.
+    `queue` clears the descriptors of the other slots.
     """
     for name, held, offered in [*((name, 3, SLOTS - 1) for name in RIGHT),
                                 *(("queue", held, min(SLOTS - 1, BUFFERS - held))
@@ -66,7 +68,9 @@ def all_accesses(server):
 
 
 def random_steps(server):
-    """With random steps before each access, the drivers without a bug pass, and both bugs in resets are found."""
+    """With random steps before each access, the drivers without a bug pass. Each of the two bugs in resets is first
+    found by the expected seed.
+    """
     for name, wanted in [*((name, None) for name in (*RIGHT, *QUEUE)), ("mpc", 9), ("offers-queued", 1)]:
         failed = sweep.first_to_fail(server.program, SEEDS, name, resets.resets, False)
         server.check(f"resets: random steps, {name}", failed and failed[0], wanted)

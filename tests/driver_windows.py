@@ -1,5 +1,5 @@
-"""The tests with windows of examples/drivers: which seed finds which bug, and whether the tests have the windows that
-its README describes.
+"""Checks which seed of the tests of examples/drivers finds which bug, and whether the tests have the windows that the
+README there describes.
 
 The tables of examples/drivers/README.md state the first seed that fails: for each bug and test, and for each bug and
 window that is left out. The runs are deterministic, so the seeds must be exactly these. `Seen` computes from the log of
@@ -26,8 +26,8 @@ from adapter import REGISTERS
 SEEDS = 200
 # With how many seeds a driver without a bug must pass each test
 RIGHT_SEEDS = 20
-# How many frames arrive in the stage `work`. After later frames, the window `work` isn't noted: in the stage `dry`,
-# too, work is left when the handler is called.
+# How many frames arrive in the stage `work`. After more frames, the window `work` isn't noted, because the stage `dry`
+# also has work left when the handler is called.
 FRAMES_OF_WORK = 12
 # The headings of the two tables
 TESTS_HEADING = f"| Name | Bug | {' | '.join(f'`{test}`' for test in sweep.TESTS)} |"
@@ -78,8 +78,8 @@ def table_of_windows(server):
 
 
 def right_drivers(server):
-    """The drivers without a bug pass all tests, and the test `stages` without each of its windows. To save time, only
-    the first of the table's seeds are played.
+    """The drivers without a bug pass all tests, and the test `stages` without each of its windows. To save time, few
+    seeds are played: RIGHT_SEEDS for a test, and 2 without a window.
     """
     for name in RIGHT:
         for test, play in sweep.TESTS.items():
@@ -101,7 +101,7 @@ class Seen:
         # how many frames the adapter has taken, the driver has offered, and the adapter has put on the wire
         self.taken, self.tx_tail, self.put = 0, 0, 0
         self.arrived = 0
-        self.sending = None  # the newest store of a frame to be sent, until TDT is written
+        self.sending = None  # what the newest store for a frame to be sent wrote, until TDT is written
         self.line = False  # whether the interrupt line is asserted
         self.had = set()
         self.slots = set()
@@ -233,8 +233,8 @@ def swept(server, *words):
 
 
 def sweeps(server):
-    """The options of sweep.py: a test for all drivers, one run, and a window that is left out. Invalid words are
-    refused.
+    """With its options, sweep.py plays a test for all drivers, a single run, or a run without a window. Invalid words
+    are refused.
     """
     for test, missed in [("exchange", {"late", "length", "rdt", "masks-late", "cuts"}), ("stages", {"cuts"})]:
         status, out, errors = swept(server, "1", "--test", test)
@@ -258,7 +258,7 @@ def sweeps(server):
 
 
 def printed_tables(server):
-    """With one seed, sweep.py prints the tables of the page, with `none` where the page has another seed."""
+    """With one seed, sweep.py prints the tables of the page, with `none` where the page states another seed."""
     status, out, errors = swept(server, "1", "--tables")
     wanted = [[*row[:2], *(cell if cell == "1" else "none" for cell in row[2:])] for row in cells_of(TESTS_HEADING)]
     wanted += [[row[0], *(cell if cell == "1" else "none" for cell in row[1:])] for row in cells_of(WINDOWS_HEADING)]

@@ -6,7 +6,7 @@
      count as calls on one descriptor.
    - If a call fails, the library creates a file with the name in FAILED.
    - If SHORT_READ is set, each read transfers at most one byte. If SHORT_WRITE is set, each write does.
-   - END_AT has the number of a read, from 1. From this read on, all reads report the end of the file, as if the file
+   - END_AT is the number of a read, from 1. From this read on, all reads report the end of the file, as if the file
      had been cut after it was opened.
    The program calls no other functions for input and output than those below, close, lseek, isatty, unlink and fchmod:
    failing_devices.py checks this. */
@@ -26,7 +26,8 @@
     if (!next) \
         next = dlsym(RTLD_NEXT, __func__)
 
-/* Whether this call of a function fails. If so, sets errno. `file` is the descriptor that the call is for, or -1. */
+/* Whether this call of a function fails. If so, creates the file FAILED and sets errno. `file` is the descriptor that
+ * the call is for, or -1. */
 static int fails(const char *function, int file)
 {
     static long left = -1;

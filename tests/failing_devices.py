@@ -1,5 +1,5 @@
-"""Files and standard streams that fail, that transfer one byte at a time, or that end earlier than when they were
-opened.
+"""Runs the program with files and standard streams that fail, transfer one byte at a time, or end earlier than when
+they were opened.
 """
 
 import os
@@ -282,8 +282,8 @@ def cut_inputs(failing, job, data):
 
 
 def errors(failing):
-    """Commands that print only on standard error. If their writes transfer one byte, the answer is the same. If a write
-    fails, the status is the same, and standard output is empty.
+    """Runs commands that print only on standard error. If their writes transfer one byte, the answer is the same. If a
+    write fails, the status is the same, and standard output is empty.
     """
     failing.bench.put("bad.pcap", b"x" * 24)
     failing.bench.put("bad.scenario", b"fly\n")
@@ -352,8 +352,8 @@ def answered(size):
 
 
 def server_reads(failing):
-    """Each read of standard input fails in turn: the server answers the requests whose lines it has read, and ends. It
-    repeats an interrupted read.
+    """Each read of standard input fails in turn: the server answers the requests whose lines it has read, and ends. The
+    server repeats an interrupted read.
     """
     bench, error, possible = failing.bench, b"nicbench: E66 Read\n", [answers(count) for count in range(len(TALK) + 1)]
     counts = []
@@ -367,7 +367,8 @@ def server_reads(failing):
                     failing.run(["serve"], REQUESTS, FAIL="read", FAIL_AT=str(number), FAIL_INTERRUPTED="1"),
                     (0, possible[-1], b"", True))
     bench.check("serve: reads failed", (len(counts) > 3, counts[:1], counts), (True, [0], sorted(counts)))
-    # the last line ends at the end of the input; a read after this end fails, too
+    # The last line has no LF: the server answers it after the read that returns the end of the input. If the read after
+    # that one fails, all answers are written before the error.
     size = len(REQUESTS)
     for place in places([request.encode() + b"\n" for request, _ in TALK], size):
         if 0 <= place <= size + 1:
@@ -379,7 +380,7 @@ def server_reads(failing):
 
 def server_writes(failing):
     """Each write of an answer fails in turn: only this write, or this and all later writes. The server reports E67, and
-    its output is a beginning of the answers. It repeats an interrupted write.
+    its output is a beginning of the answers. The server repeats an interrupted write.
     """
     bench, error, whole = failing.bench, b"nicbench: E67 Write\n", answers(len(TALK))
     lengths = []

@@ -1,5 +1,5 @@
-"""`nicbench run` from outside: groups that are joined and left in a run, between the accesses of a call and the
-deliveries of frames.
+"""Tests `nicbench run` with groups that are joined and left between the accesses of a call and the deliveries of
+frames.
 """
 
 import random
@@ -147,8 +147,8 @@ def changed(line, joined):
 
 
 def drawn(bench):
-    """Random joins and leaves. A frame is delivered before the access of each call, and another after the access, or
-    after a call without access.
+    """Plays random joins and leaves. A frame is delivered before the access of each call, and another after the access,
+    or after a call without access.
     """
     addresses = [GROUP, SAME_NUMBER, SAME_WORD, OTHER_WORD, INDIVIDUAL, BROADCAST]
     for seed in SEEDS:

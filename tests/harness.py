@@ -54,7 +54,7 @@ class Checks:
         self.is_stopped = False
 
     def stop(self) -> None:
-        """No part that follows is run."""
+        """From now on, no further part is run."""
         self.is_stopped = True
 
     def check(self, name: str, got: object, wanted: object) -> bool:
@@ -225,7 +225,8 @@ def processor_seconds() -> float:
 
 
 def more_env(env: Env) -> Optional[Mapping[str, str]]:
-    """The environment with these variables, too. None, which stands for the unchanged environment, if `env` is None."""
+    """The environment with these variables added. None, which stands for the unchanged environment, if `env` is None.
+    """
     return None if env is None else {**os.environ, **env}
 
 

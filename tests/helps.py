@@ -37,7 +37,7 @@ first, up to 1 GiB. OUT is any output: of pass and drive, each file in the OUTDI
 FILE of --events. E68 and E73 are followed by the path. Codes E40 to E56 come from run only (E46
 from drive, too): nicbench run --help. For E57, E66, E67 and E68 of serve: nicbench serve --help
 
-  E57 Memory    Out of memory before anything was written. Free some, or split IN
+  E57 Memory    Out of memory elsewhere than for E45, E47 and E65. Free some, or split IN
   E58 Image     The file of --image of serve doesn't have 128 bytes. Name another file
   E59 Answer    A line isn't the answer to a request of drive. Check the program that answers
   E60 Header    IN has fewer than 24 bytes, so it isn't a trace. Name another file, or check the
@@ -87,8 +87,9 @@ input: tcpdump -w - | nicbench pass - OUT writes OUT when tcpdump ends. If OUT i
 to standard output, and the line of counts to standard error.
 
 A file OUT gets all new frames at once: they are written beside it, into OUT.part0, and then this
-file is renamed. So after an error or a kill OUT is unchanged. This doesn't hold for a link, a file
-with several names, a device or a pipe, or if no such file can be made: then OUT is overwritten.
+file is renamed. Until then OUT doesn't change, even after an error or a kill. This doesn't hold for
+a link, a file with several names, a device or a pipe, or if no such file can be made: then OUT is
+overwritten.
 
 Run this example from the top of the repository:
 
@@ -147,8 +148,8 @@ First come the lines that set up hosts:
                           until its link is up (1), or link never; promiscuous
   group HOST ADDRESS      a multicast group that it has joined from the start: it also receives
                           its frames
-  vlan HOST N             a VLAN. The host receives tagged frames of this VLAN only; without a vlan
-                          line, it receives those of any VLAN
+  vlan HOST N             a VLAN. Of tagged frames, the host receives only those of the VLANs in its
+                          vlan lines; without a vlan line, those of any VLAN
   socket HOST N           a socket for an EtherType, four hexadecimal digits such as 88b5; or 'all',
                           for the frames that no other socket takes. A host's sockets are numbered
                           from 0

@@ -1,5 +1,5 @@
-"""The server with clients that send any lines, close their ends at any time or are killed; ten million requests; and
-tests/published_faults.txt.
+"""Tests the server with clients that send any lines, close their ends at any time, or are killed. Also tests ten
+million requests, and the sessions of tests/published_faults.txt.
 """
 
 import os
@@ -29,7 +29,7 @@ def joined(texts):
 
 
 def started(server, **streams):
-    """The server, with its standard error in a pipe."""
+    """Starts the server, with its standard error in a pipe. Returns the process."""
     return subprocess.Popen([server.program, "serve"], stderr=subprocess.PIPE, **streams)
 
 
@@ -62,8 +62,8 @@ def read_exactly(end, size):
 
 
 def closes_answers(server):
-    """The client closes the end of answers after each number of bytes, while the server has more to write: status 3, no
-    signal.
+    """The client closes the end of answers after each number of bytes, while the server has more to write. The server
+    ends with status 3, and not by a signal.
     """
     asked = joined([line for line, _ in ACTIVE] + MANY)
     told = b"".join(answer for _, answer in ACTIVE)
@@ -166,8 +166,8 @@ def answered(asks, answers, count):
 
 
 def kills(server):
-    """The client is killed: after each answered request, in a line, and while the server waits until its answers are
-    read.
+    """The client is killed: after each answered request, inside a line, and while the server waits until its answers
+    are read.
     """
     for count in range(len(ACTIVE) + 1):
         server.check(f"killed: after {count} requests",
@@ -268,8 +268,8 @@ def is_answered(talk, asked, told, count):
 
 
 def many_requests(server):
-    """Ten million requests: each has its answer. After the first hundred thousand, the most memory that the server has
-    had grows by at most ROOM kilobytes.
+    """Each of ten million requests has its answer. After the first hundred thousand, the most memory that the server
+    has had grows by at most ROOM kilobytes.
     """
     asked, told, count = block()
     server.check("many requests: their number", (count, asked.count(b"\n"), count * BLOCKS), (BLOCK, BLOCK, 10_000_000))

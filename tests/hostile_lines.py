@@ -1,5 +1,5 @@
-"""Request lines of any bytes and lengths. A model of the server (request_model.py) has the answer to each line, and
-what the line changes.
+"""Sends the server request lines of any bytes and lengths. A model of the server (request_model.py) computes the answer
+to each line, and what the line changes.
 """
 
 import base64
@@ -119,7 +119,7 @@ def of_an_access(draw, name):
 
 
 def of_a_form(draw):
-    """A request with a number of words that it may have. Most words have the right form."""
+    """A request with as many words as requests of its name may have, most of them of the right form."""
     name = draw.choice(list(FORMS))
     if name in ONE_WORD:
         return joined(draw, [name, ONE_WORD[name](draw)])
@@ -204,8 +204,8 @@ def plays(server, name, talk, *words):
 
 
 def short_lines(server):
-    """Random lines. After each line that is rejected, memory, two registers and the interrupt line are as before. At
-    the end, all registers are compared.
+    """Sends random lines. After each line that is rejected, memory, two registers and the interrupt line are as before.
+    At the end, all registers are compared.
     """
     counts = {}
     for seed in SEEDS:
@@ -246,8 +246,8 @@ def long_forms(size):
 
 
 def long_lines(server):
-    """Lines of about LONGEST bytes, and of a million bytes, also as the last line without LF. The valid requests after
-    each line are answered, and show that no rejected line has changed anything.
+    """Sends lines of about LONGEST bytes, and of a million bytes, also as the last line without LF. The valid requests
+    after each line are answered, and show that no rejected line has changed anything.
     """
     probe = [b"read 0 256", b"read 65281 256", b"readl 0xFEB05400"]
     for size in [*range(LONGEST - 2, LONGEST + 3), 1_000_000]:

@@ -1,4 +1,4 @@
-"""Runs of examples/drivers/hostile.py: ten seeds find nothing, and each fault of an adapter is found.
+"""Tests examples/drivers/hostile.py: ten seeds find nothing, and each fault of an adapter is found.
 
 An adapter with a fault is a script between hostile.py and the server. The script passes lines on in both directions. At
 one answer, or at each of a kind, the script changes the answer or the adapter, or ends, or waits.
@@ -368,7 +368,7 @@ def recounted(rows):
 
 
 def requests(bench):
-    """The requests of a seed: always the same, of all kinds, and counted rightly."""
+    """The requests of a seed are always the same, of all kinds, and counted correctly."""
     bench.check("hostile: random words", subprocess.run(
         [sys.executable, "-B", "-c",
          "from random_requests import Words; w = Words(7); print([w.next() for _ in range(9)])"], cwd=DRIVERS,
@@ -412,7 +412,7 @@ def requests(bench):
 
 
 def used(bench):
-    """How hostile.py is used: sizes of memory, seed after seed until Ctrl-C, and arguments that are invalid."""
+    """hostile.py runs with several sizes of memory, and seed after seed until Ctrl-C. Invalid arguments are refused."""
     for size in ["0", "1", "128", "3000", "0x10000"]:
         status, lines, errors = hostile(bench, bench.program, "--seed", "5", "--steps", "400", "--memory", size)
         bench.check(f"hostile: {size} bytes of memory", (status, len(lines), lines[0][-13:], errors),

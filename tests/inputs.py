@@ -1,4 +1,4 @@
-"""Standard input, named pipes and devices as inputs of the program."""
+"""Tests standard input, named pipes and devices as inputs of the program."""
 
 import os
 import subprocess
@@ -76,7 +76,7 @@ def all_cases(bench):
 
 
 def ends_of_input(bench):
-    """Standard input that isn't a pipe, that can't be read, or that has about 1 GiB or more."""
+    """Checks standard input that isn't a pipe, can't be read, or has about 1 GiB or more."""
     bench.put("good.pcap", trace(packet(b"")))
     for name, line, out, err in [
         ("a file", "{} show - <good.pcap", b"0 0 short\nframes 1 skipped 0 cut no\n", (0, b"")),

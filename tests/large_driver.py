@@ -1,5 +1,5 @@
-"""The driver in Python with rings of 4,096 descriptors, over `nicbench serve` and over the C library: both rings are
-filled, and wrap.
+"""Tests the driver in Python with rings of 4,096 descriptors, over `nicbench serve` and over the C library: both rings
+are filled, and wrap.
 """
 
 from driver import RDBAL, RDH, RDLEN, RDT, TDBAL, TDH, TDLEN, driver_of
@@ -22,8 +22,8 @@ def handle(adapter, driver):
 
 
 def settle(adapter):
-    """Lets the adapter do all its work: calls `settle` until it does nothing. In process, one call ends when the wire
-    is full.
+    """Lets the adapter do all its work: calls `settle` until it does nothing. In process, a call of `settle` also ends
+    when the wire is full.
     """
     while adapter.settle():
         pass
@@ -100,7 +100,9 @@ def wanted():
 
 
 def all_cases(check, place, adapter_of, *names):
-    """Plays each of these drivers on an adapter of its own, which `adapter_of` makes with these options of `serve`."""
+    """Plays each of these drivers on an adapter of its own, which `adapter_of` makes with the options OPTIONS of
+    `serve`.
+    """
     for name in names:
         with adapter_of(*OPTIONS) as adapter:
             check(f"{place}: the driver {name} with rings of {SLOTS}",

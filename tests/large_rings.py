@@ -1,5 +1,5 @@
-"""`nicbench run` from outside: hosts with the greatest rings, of 4,096 descriptors and 8,192 receive buffers, and a
-soak of such hosts.
+"""Tests `nicbench run` with the greatest rings, of 4,096 descriptors, and with 8,192 receive buffers. A soak plays many
+events on such hosts.
 
 A model of two hosts (reset_model.py) states the frames of each socket and the counts. The rows also state the answers
 that lines of events have.
@@ -211,7 +211,8 @@ class Soak:
                             for kind in ("rxdata", "rxdone")))
 
     def end(self, host):
-        """What the receiver of a burst does after it."""
+        """Plays what the receiver of a burst does next: an interrupt, a drain, receives, or a reset with steps inside.
+        """
         kinds = {"interrupt": 3, "drain": 3, "recv": 2, "reset": 1}
         kind = self.drawing.choices(list(kinds), kinds.values())[0]
         if kind == "recv":

@@ -1,4 +1,4 @@
-"""`nicbench run` from outside: frames over several receive buffers of 256 bytes, and races between their pieces and
+"""Tests `nicbench run` with frames that take several receive buffers of 256 bytes, and races between their pieces and
 calls.
 """
 
@@ -11,7 +11,7 @@ def long_frame(mark, length=1518):
 
 
 def handled_early(bench, one):
-    """An interrupt is handled while some of a frame isn't finished."""
+    """An interrupt is handled while some pieces of a frame aren't finished."""
     for done in range(6):
         row(bench, f"an interrupt after {done} of six pieces takes no frame",
             Schedule().does(bring(one), FINISH * done, INTERRUPT, RECV, FINISH * (6 - done),

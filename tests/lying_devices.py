@@ -1,4 +1,5 @@
-"""`nicbench drive` on devices that lie: each access, each error of initialization, and the frames that are received.
+"""Tests `nicbench drive` on devices that lie: each access, each error of initialization, and the frames that are
+received.
 
 A device answers the requests of `drive`, and may answer anything. A model (driver_model.py) predicts each access from
 the answers before it. At the end, it predicts the received frames, the text on standard error and the exit status.
@@ -27,7 +28,7 @@ FULL = 256, 1, 0
 
 class Device:
     """A device that can be initialized, has no cause recorded, and finishes no slot. Its memory keeps nothing: each
-    byte depends only on its address. A method answers each kind of access.
+    byte outside the rings depends only on its address. A method answers each kind of access.
     """
 
     # The words of an EEPROM with the address 02:00:00:00:00:01, whose sum is 0xBABA
@@ -106,7 +107,7 @@ def slot(length, status, errors):
 
 def parsed(request):
     """A request as an access of the model, and the bytes that it stores, or None. The access of a store has its bytes
-    only if their number is wrong.
+    if their number is right, and otherwise None.
     """
     word, *numbers = request.split()
     first, *rest = (int(number, 0) for number in numbers[:2])
@@ -195,8 +196,8 @@ def numbers_of(made):
 
 
 def refused(bench, name, device, error, reads, writes):
-    """An initialization that fails: its error, and the numbers of its reads and writes of registers. It doesn't access
-    memory.
+    """Checks an initialization that fails: its error, the numbers of its reads and writes of registers, and that it
+    doesn't access memory.
     """
     made, drive = play(bench, name, device)
     bench.check(f"{name}: the error", (drive.error, *numbers_of(made)), (error, reads, writes, 0))
@@ -289,8 +290,8 @@ RUNS = [
 
 def runs(bench):
     """A frame's pieces fill their buffers, except the last, which has 1 to 256 bytes. A frame has 60 to 1,518 bytes,
-    and no slot of it has errors. A run of slots that isn't a frame is dropped. Slots that aren't followed by one with
-    EOP stay in the ring.
+    and no slot of it has errors. A run of slots that isn't a frame is dropped. Fewer than six slots that no slot with
+    EOP follows stay in the ring.
     """
     for slots, lengths in RUNS:
         _, drive = play(bench, f"slots {slots}", Device(causes=[RXT0], received=list(slots)))
@@ -299,7 +300,7 @@ def runs(bench):
 
 def always_finished(bench):
     """If every descriptor is always finished, a call takes each slot once, and the transmit ring never runs full. If no
-    descriptor ever is, the transmit ring runs full.
+    descriptor is ever finished, the transmit ring runs full.
     """
     frames = [frame(mark) for mark in range(9)]
     for name, descriptor, count in [("ones", bytes([0xFF] * DESCRIPTOR), 0), ("no bytes", slot(0, 3, 0), 0),
@@ -360,7 +361,8 @@ class Drawn(Device):
 
 
 def drawn(bench):
-    """Devices that answer at random, with rings of three sizes."""
+    """Over devices that answer at random, with rings of three sizes, the driver gets enough frames of possible lengths.
+    """
     for seed, (rx, tx, buffers) in enumerate([(8, 8, 8), (8, 8, 16), (16, 24, 40)] * 4):
         draw = random.Random(seed)
         frames = [draw.randbytes(draw.choice([13, 14, 60, 61, 1518, 1519])) for _ in range(120)]

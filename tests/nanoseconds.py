@@ -1,4 +1,6 @@
-"""`--nanos` of `nicbench pass` and `nicbench run`: traces of nanoseconds, with the times that traces otherwise have."""
+"""Tests `--nanos` of `nicbench pass` and `nicbench run`: traces of nanoseconds, with the times that traces otherwise
+have.
+"""
 
 from pcap_files import packet, trace, trace_in, written
 from scenarios import EXAMPLE, EXAMPLE_FRAME, EXAMPLE_LINES, TO_SOCKET, folder, held, plays
@@ -67,8 +69,8 @@ EMPTIED = b"tick txtake:a\ntick txput:a\ntick deliver:b\n" * 12 + b"tick deliver
 
 
 def late(bench):
-    """Events about one and two seconds after the start. b's socket takes only the last frame, as random frames have
-    another EtherType.
+    """Events about one and two seconds after the start have the right times, with --nanos and without. b's socket takes
+    only the last frame, as random frames have another EtherType.
     """
     end = EMPTIED + EXAMPLE.partition(b"b all\n")[2].partition(b"tick rxdata")[0] + b"drain b\n"
     after = end.count(b"\n") - 1

@@ -1,4 +1,4 @@
-"""Links of the site and of Markdown pages, and the edits that pages name."""
+"""Checks links of the site and of Markdown pages, and the edits that pages name."""
 
 import glob
 import html

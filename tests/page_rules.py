@@ -1,4 +1,4 @@
-"""Rules that pages may state in at most three places each, and words that neither pages nor comments may have.
+"""Checks rules that pages may state in at most three places each, and words that neither pages nor comments may have.
 
 A rule is written once, in Rust or in `specs/`; a page links to it or quotes it. A place is a paragraph, an item of a
 list or a row of a table, of Markdown that is written by hand. Generated parts, quotes and blocks of code don't count.
@@ -108,7 +108,7 @@ def check_rules(check, texts):
 
 
 def words_in(text):
-    """Yields the words of the list that a text has outside of backticks, each with its line."""
+    """Yields the words of the list that a text contains outside of backticks, each with its line."""
     for line in SPAN.sub("", text).split("\n"):
         for word, pattern in WORDS.items():
             for _ in re.finditer(rf"\b(?:{pattern})\b", line, re.I):

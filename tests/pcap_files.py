@@ -1,4 +1,4 @@
-"""Traces, and runs of `nicbench pass` on them."""
+"""Makes traces, and runs `nicbench pass` on them."""
 
 import os
 import struct

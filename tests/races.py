@@ -1,4 +1,4 @@
-"""`nicbench run` from outside: schedules of hosts, step by step, with races between the accesses of their drivers.
+"""Tests `nicbench run` with schedules of hosts, step by step, with races between the accesses of their drivers.
 
 A schedule is a list of lines. A row states which line returns which frame. The line `recv` after an interrupt shows
 whether the interrupt took a frame: it returns this frame, or none.
@@ -117,7 +117,7 @@ def receiving(bench):
 
 
 def misses(bench, one, two, three):
-    """Frames for which a packet buffer of 2 KB has no room, also while the handler counts them."""
+    """Frames for which a packet buffer of 2 KB has no room are missed, also while the handler counts misses."""
     a = {"accepted": 3, "put": 3}
     row(bench, "two of three frames are missed",
         Schedule().does(bring(one, two, three), INTERRUPT, RECV, finish(one), INTERRUPT).gives(one), a,
@@ -131,7 +131,7 @@ def misses(bench, one, two, three):
 
 
 def refills(bench):
-    """Rings that run dry, and buffers that are held."""
+    """Rings that run dry are refilled, also while buffers are held."""
     frames = [frame(mark) for mark in range(20)]
     dry = Schedule().does(receive(*frames[:7]), bring(frames[7]), FINISH, INTERRUPT)
     for data in frames[:7]:
@@ -176,7 +176,7 @@ def held(bench, frames):
 
 
 def sending(bench):
-    """The transmit ring: which frames it accepts while slots are freed between the driver's accesses."""
+    """The transmit ring accepts the right frames while slots are freed between the driver's accesses."""
     frames = [frame(mark) for mark in range(16)]
     fill = [line for data in frames[:7] for line in send(data)]
     refused = send(frame(50))
@@ -214,7 +214,7 @@ def sending(bench):
 
 
 def lengths(bench):
-    """Frames of the shortest, the longest and other lengths; frames whose lengths are rejected; and padding."""
+    """Frames of legal lengths are delivered, and short ones are padded. Frames of other lengths are rejected."""
     for length in (14, 15, 59, 60, 61, 255, 256, 257, 511, 512, 513, 1280, 1281, 1517, 1518):
         data = frame(7, length=length)
         row(bench, f"a frame of {length} bytes",
@@ -231,7 +231,7 @@ def lengths(bench):
 
 
 def filters(bench):
-    """Which frames the filter passes: to the host, broadcast, multicast, and with VLAN tags."""
+    """The filter passes the right frames: to the host, broadcast, multicast, and with VLAN tags."""
     to = {"b": B_ADDRESS, "all": EVERYONE, "another": "020000000009", "the group": "01005e000001",
           "a group of the same number": "01005f000001",
           "another group": "01005e000002", "an address like the group's": "02005e000001"}
@@ -257,7 +257,7 @@ def filters(bench):
 
 
 def sockets(bench):
-    """Which socket gets a frame, in which order, and which frames have no socket."""
+    """Each frame goes to the right socket, in order. Frames without a socket are counted."""
     arp, second, other = frame(1, kind="0806"), frame(2, kind="0806"), frame(3, kind="0800")
     late, odd = frame(4, kind="86dd"), frame(5, kind="0608")
     row(bench, "of two sockets of one EtherType the first gets its frames",
@@ -284,7 +284,7 @@ def sockets(bench):
 
 
 def wires(bench):
-    """Frames on the wire: their order at three ends, and a full wire."""
+    """Three ends get frames in the same order, and a full wire takes no frame."""
     one, two, three = (frame(mark, EVERYONE) for mark in (1, 2, 3))
     third = b"host c 02:00:00:00:00:03 w\n"
     order = Schedule().does(send(one), send(three), send(two, host="b"), ["tick txtake:a"] * 2,

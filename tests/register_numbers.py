@@ -130,14 +130,14 @@ def bit_places():
                  "tctl": "transmit_control", "": "interrupts"}
     others = {
         "rah_av": ("rx_engine", "address", "ADDRESS_VALID"),
-        "control_reset": ("mdic_phy", "bits", "RESET"),
-        "control_enable": ("mdic_phy", "bits", "ENABLE"),
-        "control_restart": ("mdic_phy", "bits", "RESTART"),
-        "status_complete": ("mdic_phy", "bits", "NEGOTIATED"),
-        "status_link": ("mdic_phy", "bits", "LINK"),
-        "mdic_r": ("mdic_phy", "mdic", "READY"),
-        "mdic_i": ("mdic_phy", "mdic", "INTERRUPT"),
-        "mdic_e": ("mdic_phy", "mdic", "ERROR"),
+        "control_reset": ("eeprom_phy", "bits", "RESET"),
+        "control_enable": ("eeprom_phy", "bits", "ENABLE"),
+        "control_restart": ("eeprom_phy", "bits", "RESTART"),
+        "status_complete": ("eeprom_phy", "bits", "NEGOTIATED"),
+        "status_link": ("eeprom_phy", "bits", "LINK"),
+        "mdic_r": ("eeprom_phy", "mdic", "READY"),
+        "mdic_i": ("eeprom_phy", "mdic", "INTERRUPT"),
+        "mdic_e": ("eeprom_phy", "mdic", "ERROR"),
         "mdic_regadd": ("bring_up", "link", "STATUS_REGISTER"),
         "mdic_phyadd": ("bring_up", "link", "PHY_ADDRESS"),
         "mdic_op": ("bring_up", "link", "OP_WRITE"),
@@ -149,7 +149,8 @@ def bit_places():
         "tx_dext": ("descriptors", "tx_command", "DEXT"),
         "tx_dd": ("descriptors", "tx_status", "DD"),
     }
-    files = [("registers", "Places"), ("mdic_phy", "Places"), ("descriptors", "RxStatus"), ("descriptors", "TxFields")]
+    files = [("registers", "Places"), ("eeprom_phy", "Places"), ("descriptors", "RxStatus"),
+             ("descriptors", "TxFields")]
     for crate, file in files:
         for name, place in re.findall(r"^(\w+) = (\d+)$", text_of(os.pardir, crate, "specs", file + ".antt"), re.M):
             if name == "mdic_reserved":
@@ -164,9 +165,9 @@ def bit_places():
 def kept_of_mdic():
     """The bits of MDIC that a write keeps: by the specification, all except those that it names; and by the constant.
     """
-    specification = text_of(os.pardir, "mdic_phy", "specs", "Mdic.antt")
-    code = text_of(os.pardir, "mdic_phy", "src", "mdic.rt")
-    places = dict(re.findall(r"^(\w+) = (\d+)$", text_of(os.pardir, "mdic_phy", "specs", "Places.antt"), re.M))
+    specification = text_of(os.pardir, "eeprom_phy", "specs", "Mdic.antt")
+    code = text_of(os.pardir, "eeprom_phy", "src", "mdic.rt")
+    places = dict(re.findall(r"^(\w+) = (\d+)$", text_of(os.pardir, "eeprom_phy", "specs", "Places.antt"), re.M))
     rule = re.search(r"^kept value = difference value (.*)$", specification, re.M).group(1)
     cleared = sum(1 << number(places[name]) for name in re.findall(r"alone (\w+)", rule))
     return 0xFFFFFFFF - cleared, number(re.search(r"^const KEPT: u32 = (0x[0-9A-F_]+);$", code, re.M).group(1))

@@ -88,7 +88,7 @@ def limit_in(word):
     return limit
 
 
-# The words after the name of each request: how each is read. `clock_step` may lack its word.
+# For each request, how the words after its name are read. `clock_step` may lack its word.
 FORMS = {
     **{f"read{letter}": [ADDRESS] for letter in WIDTHS},
     **{f"write{letter}": [ADDRESS, at_most((1 << 8 * size) - 1)] for letter, size in WIDTHS.items()},
@@ -142,7 +142,7 @@ def access_in(name, values):
 
 
 def answer_of(name, data):
-    """The answer to an access that has read these bytes, or written."""
+    """The answer to an access: a read has read these bytes, and a write has done its work."""
     if name == "read":
         return f"OK 0x{data.hex()}"
     if name == "b64read":

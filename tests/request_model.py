@@ -128,7 +128,7 @@ class Model:
     # The lines before an answer. Those that begin with # are printed only if the log is on.
 
     def line_changes(self, before):
-        """The line that reports a change of the interrupt line."""
+        """The line that reports the change of the interrupt line, or no line if it hasn't changed."""
         after = self.is_asserted()
         return [] if before == after else ["IRQ raise 0" if after else "IRQ lower 0"]
 
@@ -200,7 +200,9 @@ class Model:
         return ([*self.arrivals(), *ROUND], ZERO) if name == "settle" else (["# {}", *self.paced()], "OK off")
 
     def does_look(self, name, values):
-        """The name of a target, and the registers of both rings. Nothing changes."""
+        """Answers `target` by the name of what the access goes to, and `rings` by the registers of both rings. Nothing
+        changes.
+        """
         if name == "target":
             return [], f"OK {self.target(*values)}"
         words = [(RDBAL, RDBAH), (RDLEN,), (RDH,), (RDT,), (TDBAL, TDBAH), (TDLEN,), (TDH,), (TDT,)]
@@ -230,7 +232,7 @@ class Model:
 
     def answer(self, line):
         """The bytes of the lines up to the answer, and whether the line is refused. A refused line doesn't change the
-        model.
+        model. Raises Unknown if the model has no answer.
         """
         try:
             told, answer = self.does(*request_in(line))

@@ -1,5 +1,4 @@
-"""`nicbench run` from outside: resets in a run, with what they give up, and with steps and deliveries between their
-accesses.
+"""Tests `nicbench run` with resets in a run: what they give up, and steps and deliveries between their accesses.
 
 Each row states what the resets of a host give up: the number of frames to be sent, of frames held, and of fates Off. A
 model (reset_model.py) states the frames of each socket and the other counts.
@@ -41,7 +40,7 @@ def reset(host, *ticks):
 
 
 def line_of(wire, name):
-    """The line of a host that `run` prints."""
+    """The line that `run` must print for a host, by the model."""
     counts, given_up = wire.numbers(name)
     line = told(name, **counts)
     return line if given_up is None else line.replace(b"\n", " givenup {} {} off {}\n".format(*given_up).encode())
@@ -248,7 +247,7 @@ class Drawn:
 
 
 def drawn(bench):
-    """Random runs of two hosts."""
+    """Random runs of two hosts have the results of the model."""
     for seed in SEEDS:
         drawing = random.Random(seed)
         options = {host: {option: drawing.choice(values) for option, values in OPTIONS.items()} for host in "ab"}

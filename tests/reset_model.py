@@ -37,7 +37,7 @@ class Host:
         self.is_on = self.sends = True
 
     def reset_adapter(self):
-        """What RST does, and what the driver forgets then."""
+        """Does what RST does, and forgets what the driver forgets at this access."""
         self.is_on = self.sends = False
         self.causes = self.mpc = 0
         # the frames in the receive packet buffer, and how many bytes of the oldest one were moved
@@ -166,7 +166,7 @@ class Host:
     # A reset
 
     def reset_access(self, number):
-        """What the access with this number, from 1, changes in a reset."""
+        """Changes what the access with this number, from 1, changes in a reset."""
         enabled = BEFORE_STORES + self.rx + 2
         if number == STOPPED:
             self.is_on = False

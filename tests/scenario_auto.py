@@ -1,4 +1,6 @@
-"""Random events of scenarios: the words of `auto`, and runs that are the same as runs of the lines of these events."""
+"""Tests random events of scenarios: the words of `auto`, and runs that are the same as runs of the lines of these
+events.
+"""
 
 import re
 

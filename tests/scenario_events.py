@@ -1,4 +1,4 @@
-"""The lines of events that `nicbench run --events` writes, the warning about refused calls, and the charts of
+"""Tests the lines of events that `nicbench run --events` writes, the warning about refused calls, and the charts of
 tools/run_chart.
 """
 
@@ -75,7 +75,7 @@ def events_of(bench, name, text, options=(), warned=b""):
 
 
 def lines(bench):
-    """The lines of known events."""
+    """Known events have the expected lines."""
     wanted = ACCESSES.sub(b"", EXAMPLE_EVENTS)
     bench.check("events: the example", events_of(bench, "events: the example", EXAMPLE), (wanted, EXAMPLE_LINES))
     files = held(bench.path("outdir"))
@@ -163,7 +163,7 @@ def counts(bench):
 
 
 def faults(bench):
-    """A file of events that can't be made or written. If the plan is refused, the file is empty."""
+    """A file of events that can't be made or written is reported. If the plan is refused, the file is empty."""
     bench.put("s.scenario", EXAMPLE)
     folder(bench)
     ran = bench.run("run", "--events", "none/events.txt", "s.scenario", "outdir")
@@ -222,7 +222,7 @@ def same_files(bench):
 
 
 def charts(bench):
-    """The chart of the example, as a text and as a picture."""
+    """The chart of the example is right, as a text and as a picture."""
     bench.put("s.scenario", EXAMPLE)
     bench.put("events.txt", ACCESSES.sub(b"", EXAMPLE_EVENTS))
     words = [sys.executable, "-S", "-E", CHART, bench.path("s.scenario"), bench.path("events.txt")]
@@ -266,7 +266,7 @@ def places(bench):
 
 
 def refused_charts(bench):
-    """Wrong words, files that aren't there, and texts that are no scenario or no log."""
+    """Wrong words, files that aren't there, and texts that are no scenario or no log are refused."""
     bench.put("s.scenario", EXAMPLE)
     bench.put("events.txt", EXAMPLE_EVENTS)
     bench.put("others.txt", EXAMPLE_EVENTS.replace(b":b stored", b":c stored"))

@@ -1,4 +1,4 @@
-"""Valid and invalid lines of scenarios for `nicbench run`."""
+"""Tests valid and invalid lines of scenarios for `nicbench run`."""
 
 from scenarios import TWO_HOSTS, refused
 
@@ -68,7 +68,7 @@ LINES = [
     ("drain a\nhost c 02:00:00:00:00:03 w", "E54 Order"),
 ]
 COMMENT = b"#" + b"x" * 8191
-# Whole texts without hosts, each with its fault. If all lines are valid, it is that of a plan without hosts.
+# Whole texts without hosts, each with its fault. If all lines are valid, the fault is that of a plan without hosts.
 TEXTS = [
     *((text, "E42 Hosts") for text in [b"", b"\n", b"\r\n", b"auto 0 0\r\n", b"auto 0 0", b"#\r\r\n\n", COMMENT,
                                        COMMENT + b"\n", COMMENT + b"\r\n"]),

@@ -57,7 +57,7 @@ def require(condition, fault):
 
 
 def number(word, most):
-    """The decimal number of a word."""
+    """The decimal number of a word. Raises Fault if the word is no such number, or a greater one than `most`."""
     digits = word.lstrip("0") or "0"
     require(re.fullmatch("[0-9]+", word) and len(digits) <= len(str(most)) and int(digits) <= most, VALUE)
     return int(digits)

@@ -1,4 +1,4 @@
-"""Scenarios for `nicbench run`, their outputs and their errors."""
+"""Runs scenarios by `nicbench run`, and checks their outputs and their errors."""
 
 import os
 import re
@@ -60,8 +60,8 @@ def held(path):
 
 
 def warning(sends, recvs=0, groups=0):
-    """What a run prints on standard error if calls were refused: sends, recvs of sockets that don't exist, joins, and
-    calls that leave a group.
+    """What a run prints on standard error if it refused these numbers of sends, of recvs, and of joins and leaves. A
+    recv is refused if its socket doesn't exist.
     """
     return b"nicbench: refused: sends %d, joins and leaves %d, recvs %d; --events lists them\n" % (sends, groups, recvs)
 
@@ -97,7 +97,7 @@ def refused(bench, name, text, fault, status=1, files=(), options=(), given=None
 
 
 def played(bench):
-    """Scenarios with known outcomes."""
+    """Scenarios print the expected lines, and write the expected files."""
     files = {"b.0.pcap": written([(7, EXAMPLE_FRAME)])}
     plays(bench, "run: the example", EXAMPLE, EXAMPLE_LINES, files)
     bench.check("run: the example: size", len(files["b.0.pcap"]), 100)
@@ -142,7 +142,7 @@ def played(bench):
 
 
 def feeds(bench):
-    """Traces that are fed."""
+    """Each frame of a fed trace is sent, and delivered to the other hosts on the wire."""
     frames = [EXAMPLE_FRAME + bytes([n]) * n for n in range(20)]
     bench.put("twenty.pcap", trace(*map(packet, frames)))
     lines = told("a", accepted=20, put=20) + told("b", reached=20, stored=20, given=20)
@@ -184,7 +184,7 @@ def feeds(bench):
 
 
 def faults(bench):
-    """Traces that can't be fed: no file is created."""
+    """Traces that can't be fed are reported, and no file is created."""
     feed = TO_SOCKET + b"feed a %s\n"
     for name, data, fault in [
         ("no header", b"", "E60 Header"),
@@ -207,7 +207,7 @@ def faults(bench):
 
 
 def lines(bench):
-    """Invalid lines, with their numbers. No file is created."""
+    """Invalid lines are reported with their numbers, and no file is created."""
     long = b"#" + b"x" * 8192
     for name, text, fault in [
         ("an unknown word", EXAMPLE + b"fly b\n", "line 12: E50 Word"),
@@ -258,7 +258,7 @@ def lines(bench):
 
 
 def plans(bench):
-    """Invalid plans: new files in OUTDIR are created, empty; existing files don't change."""
+    """Invalid plans are reported. New files in OUTDIR are created, empty; existing files don't change."""
     hosts = [b"host h%d 02:00:00:00:00:%02x w%d\n" % (n, n, n // 8) for n in range(17)]
     socket = b"socket b all\n"
     made = ["b.0.pcap"]
@@ -288,7 +288,7 @@ def plans(bench):
 
 
 def places(bench):
-    """Files and folders that are missing or can't be created."""
+    """Files and folders that are missing or can't be created are reported."""
     folder(bench)
     bench.put("s.scenario", EXAMPLE)
     bench.put("none.scenario", TWO_HOSTS)
@@ -332,7 +332,7 @@ def replaced(bench):
 
 
 def full(bench):
-    """Files that can't be created or written, and outputs that accept no bytes."""
+    """Files that can't be created or written, and outputs that accept no bytes, are reported."""
     path = folder(bench)
     os.mkdir(os.path.join(path, "b.0.pcap"))
     taken = refusal("E68 Open: outdir/b.0.pcap")
@@ -378,7 +378,7 @@ WIRE_FILES = {"w.pcap": written([(4, OF_A[0]), (8, OF_A[1])]), "v.pcap": written
 
 
 def wires(bench):
-    """The traces of wires: the frames that were put, in order, with the numbers of their events."""
+    """The traces of wires have the frames that were put, in order, with the numbers of their events."""
     plays(bench, "wires: the example", EXAMPLE, EXAMPLE_LINES,
           {"b.0.pcap": written([(7, EXAMPLE_FRAME)]), "w.pcap": written([(2, EXAMPLE_FRAME)])}, ["--wires"])
     plays(bench, "wires: two wires, and frames that no host receives", TWO_WIRES + TRAFFIC, TRAFFIC_LINES,
@@ -436,8 +436,8 @@ def drawn_wires(bench):
 
 
 def wire_places(bench):
-    """Files of wires that can't be created or written. The files of wires follow those of sockets, in the order in
-    which hosts name the wires.
+    """Files of wires that can't be created or written are reported. The files of wires follow those of sockets, in the
+    order in which hosts name the wires.
     """
     made = ["b.0.pcap", "d.0.pcap"]
     option = ["--wires"]

@@ -39,7 +39,7 @@ class Server(Program):
         self.check(name, self.serve(data, *words), (0, wanted, b""))
 
     def talks(self, name, talk, *words):
-        """Sends the request of each pair in one run, and compares the lines up to its answer."""
+        """Sends the requests of all pairs in one run, and compares the lines up to each answer."""
         got = self.serve(lines(request for request, _ in talk), *words)
         if got != (0, lines(line for _, told in talk for line in told.split("\n")), b""):
             self.talk_apart(name, talk, got)

@@ -1,5 +1,5 @@
-"""Frames and faults that the server reports as they happen or keeps, cycles after accesses, the clock, and requests of
-qtest's clients.
+"""Tests frames and faults that the server reports as they happen or keeps, cycles after accesses, the clock, and
+requests of qtest's clients.
 """
 
 import base64
@@ -186,7 +186,7 @@ class Memory:
 
 
 def replayed(server):
-    """The log has the steps of all cycles. If a client requests these steps, the same happens."""
+    """The log contains the steps of all cycles. If a client requests these steps, the same happens."""
     for seed, count, steps_before in (1, 1, 0), (2, 3, 0), (3, 65_535, 0), (5, 2, 3):
         drawn, asked = RandomRequests(Words(seed), Memory(8192)), []
         while len(asked) < 2000:
@@ -242,7 +242,7 @@ def restored(server):
 
 
 def compatible(server):
-    """Requests of qtest's clients: bytes in base64, and requests to report interrupts."""
+    """The server answers requests of qtest's clients: bytes in base64, and requests to report interrupts."""
     whole = base64.b64encode(bytes.fromhex("fbffbf") + bytes(13) + bytes(range(1, 7)) + bytes(65_514)).decode()
     server.talks("qtest: bytes in base64", [
         ("b64write 0x10 1 AQ==", "OK"), ("b64write 17 2 AgM=", "OK"), ("b64write 19 3 BAUG", "OK"),

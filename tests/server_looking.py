@@ -1,4 +1,4 @@
-"""Requests of the server that change nothing: the steps that would do something, names of targets, and rings."""
+"""Tests requests of the server that change nothing: the steps that would do something, names of targets, and rings."""
 
 from adapter_sessions import (
     BASE, CTRL, EERD, ICR, MDIC, MTA, OFFERED, RAH, RDBAH, RDBAL, RDH, RDLEN, RDT, RESET, RING, SLOTS, TDBAL, TDLEN,
@@ -62,7 +62,7 @@ def outcomes(server):
 
 
 def names(server):
-    """The names of registers, of descriptors in both rings, and of other memory."""
+    """`target` returns the names of registers, of descriptors in both rings, and of other memory."""
     server.talks("target: registers", [
         target(BASE + ICR, 4, "ICR"), target(BASE + MTA + 20, 4, "MTA[5]"), target(BASE + RAH + 8, 4, "RAH[1]"),
         target(BASE + 0x10, 4, "register[0x10]"), target(BASE + 0x1FFFC, 4, "register[0x1fffc]")])
@@ -89,7 +89,7 @@ def ring(base, size, head, tail):
 
 
 def rings(server):
-    """The registers of both rings, as their reads return them, while a frame is sent and one is received."""
+    """`rings` returns the registers of both rings, as reads do, while a frame is sent and another is received."""
     none = ring(0, 0, 0, 0)
     sent, received = ring(0x80, 128, 1, 1), ring(0, 128, 1, 7)
     server.talks("rings: their registers", [

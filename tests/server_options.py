@@ -1,4 +1,4 @@
-"""The options of `nicbench serve`: their effects, their defaults, and arguments that are invalid."""
+"""Tests the options of `nicbench serve`: their effects, their defaults, and arguments that are invalid."""
 
 import re
 
@@ -14,7 +14,7 @@ DEFAULTS = ["--memory", "1048576", "--registers", "0xFEB00000", "--address", "02
 
 
 def options(server):
-    """The effects of options, and their defaults."""
+    """Each option has its effect, and without an option its default applies."""
     asked = lines(["readl 0xFEB05400", "readl 0xFEB05404", "readl 0xFEB01000", "readb 0xFFFFF", "readb 0x100000"])
     wanted = lines([number(0x00000002), number(0x80000100), number(0x00100030), ZERO, "ERR address"])
     server.answers("options: none", asked, wanted)
@@ -54,7 +54,7 @@ def options(server):
 
 
 def images(server):
-    """The words of the EEPROM from a file, with any checksum; and files that aren't an image."""
+    """The words of the EEPROM may come from a file, with any checksum. A file that isn't an image is refused."""
     data = bytes(range(128))
     server.put("words", data)
     asked = [(f"writel 0xFEB00014 {1 | place << 8}", "step eeprom", "readl 0xFEB00014") for place in range(64)]
@@ -99,7 +99,7 @@ VALUES = {
 
 
 def words(server):
-    """Invalid arguments: status 2, and the text on standard error. No request is read."""
+    """After invalid arguments, the status is 2, and the expected text is on standard error. No request is read."""
     for name, (form, values) in VALUES.items():
         option = name.split()[0]
         for value in values:
@@ -118,7 +118,7 @@ def words(server):
 
 
 def defaults_shown(server):
-    """The help has the defaults that `options` tests."""
+    """The help states the defaults that `options` tests."""
     told = re.findall(r"^ +(--[a-z]+) .*\[(.*)\]$", server.run("serve", "--help").stderr.decode(), re.M)
     server.check("defaults: of the help", [word for pair in told for word in pair], DEFAULTS)
 

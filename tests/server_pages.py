@@ -1,4 +1,4 @@
-"""The sessions, the drivers and the code that pages and the help of `nicbench serve` show."""
+"""Runs the sessions, the drivers and the code that pages and the help of `nicbench serve` show."""
 
 import os
 import re
@@ -42,14 +42,17 @@ def commands(server):
         server.check(f"commands: {command}", (follow(got, wanted), ran.returncode, ran.stderr), (True, 0, b""))
 
 
-# The sessions with an answer next to each request: the page, the first word of each, and the column of the answers
+# The sessions with an answer next to each request: the page, the first word of each session, and the column of the
+# answers
 SESSIONS = [
     (("crates", "adapter_server", "README.md"), ["readl"], 30),
     (("docs", "REQUESTS.md"), ["memset", "writel", "line", "outl"], 48)]
 
 
 def columns(server):
-    """The requests in two pages have the answers next to them. `...` at the end of a line means any text."""
+    """The server answers the requests in two pages as the pages show next to them. `...` at the end of a line means any
+    text.
+    """
     for names, firsts, width in SESSIONS:
         blocks = re.findall(r"^```\n(.*?)^```$", read_page(*names), re.M | re.S)
         server.check(f"columns: {names[-1]}: its sessions", [block.split()[0] for block in blocks], firsts)
@@ -88,7 +91,7 @@ def page(server):
 
 
 def shown_in_help(server):
-    """The example in the help has the answers in the help."""
+    """The example in the help prints the answers in the help."""
     text = server.run("serve", "--help").stderr.decode()
     found = re.search(r"^  \$ (.*) \| nicbench serve\n((?:  .*\n)+)", text, re.M)
     server.check("help: there is an example", found is not None, True)

@@ -1,4 +1,6 @@
-"""I/O ports, PCI configuration space, and the registers that it places. The values are those of docs/REQUESTS.md."""
+"""Tests I/O ports, PCI configuration space, and the registers whose address it determines. The values are those of
+docs/REQUESTS.md.
+"""
 
 from adapter_sessions import BASE, ICR, ICS, IMS, VET, reads, writes
 from server import ONE, ZERO, number
@@ -26,7 +28,7 @@ def sets(offset, word):
 
 
 def space(server):
-    """Configuration space at the start, and the bits that can be written."""
+    """Configuration space has the expected values at the start, and some of its bits can be written."""
     server.talks("ports: configuration space at the start", [
         row for offset in range(0, 256, 4) for row in shows(offset, FIRST.get(offset, 0))])
     kept = {COMMAND: 0x02200157, BAR0: 0xFFFE0000, LINE: 0x00FF01FF}
@@ -43,7 +45,7 @@ def space(server):
 
 
 def lanes(server):
-    """Bytes and words of a double word."""
+    """Bytes and words of a double word can be read and written."""
     server.talks("ports: reads of bytes and words", [
         selects(0), *((f"inb {0xCFC + lane:#x}", number(0x100E8086 >> 8 * lane & 0xFF)) for lane in range(4)),
         *((f"inw {0xCFC + lane:#x}", number(0x100E8086 >> 8 * lane & 0xFFFF)) for lane in range(3)),
@@ -129,7 +131,7 @@ def places(server):
 
 
 def refusals(server):
-    """Accesses that are refused: with `ERR register` if they touch a register, otherwise with `ERR address`."""
+    """Accesses are refused with `ERR register` if they touch a register, and otherwise with `ERR address`."""
     wrong = [("readb 0xFEB00000", 1), ("readw 0xFEB00002", 2), ("readq 0xFEB00000", 8), ("readl 0xFEB00001", 4),
         ("readl 0xFEB1FFFD", 4), ("readb 0xFEB1FFFF", 1),
              ("readl 0xFEAFFFFD", 4), ("readq 0xFEAFFFF9", 8), ("read 0xFEB05400 3", 3), ("read 0xFEB05400 8", 8),

@@ -1,4 +1,4 @@
-"""Schedules that `nicbench serve` plays and records."""
+"""Tests schedules that `nicbench serve` plays and records."""
 
 import refusing
 from adapter_sessions import BASE, ICR, IMS, RCTL, RDLEN, RDT
@@ -20,7 +20,7 @@ def put(server, *deviations):
 
 
 def plays(server, name, deviations, talk, *words):
-    """A session in which a schedule is played."""
+    """Checks a session in which a schedule is played."""
     put(server, *deviations)
     server.talks(f"schedules: {name}", talk, "--schedule", "schedule", *words)
 
@@ -68,7 +68,7 @@ def held(server):
 
 
 def unmet(server):
-    """Deviations that weren't met are reported at the end, as the file has them."""
+    """Deviations that weren't met are reported at the end, in the words and the order of the file."""
     for name, deviation, asked in [
             ("another register", "1.1 rx before read ICR", ["settle", "readl 0xFEB00008"]),
             ("a write", "1.1 rx before read ICR", ["settle", "writel 0xFEB000C0 0"]),
@@ -88,8 +88,8 @@ def unmet(server):
 
 
 def refused(server):
-    """Files that aren't schedules, can't be opened, or have other options than the server: no request is read. Only the
-    seed may differ.
+    """If a file isn't a schedule, can't be opened, or names other options than those of the server, no request is read.
+    Only the seed may differ.
     """
     for text, told in [("4.6 rx", "line 1: no access or request is named"),
                        ("# x\n4.6 fly before read ICR", "line 2: no deviation"),

@@ -1,4 +1,4 @@
-"""States that are saved and restored, their digests, and frames that are offered to the server."""
+"""Tests states that are saved and restored, their digests, and frames that are offered to the server."""
 
 from adapter_sessions import BASE, ICR, IMS, MPC, RCTL, RDLEN, RDT
 from server import ONE, ZERO, lines, number

@@ -23,7 +23,9 @@ class AnyOrder(Adapter):
         self.random, self.settles, self.longest, self.differences = random.Random(seed), 0, 0, []
 
     def state(self):
-        """The digest of the state, and what the test was told since the last `save`."""
+        """The digest of the state, whether the interrupt line is asserted, and the frames and faults that were reported
+        since the last `save`.
+        """
         return self.ask("digest")[0], self.line, self.wire[self.seen:], self.faults[self.fault:]
 
     def settle(self):
@@ -48,7 +50,7 @@ class AnyOrder(Adapter):
         return wanted[0]
 
     def settle_by_steps(self):
-        """Plays steps in a random order until no step does anything. Returns how many did something."""
+        """Plays steps in a random order until no step does anything. Returns how many steps did something."""
         count, left = 0, set(KINDS)
         while left:
             kind = self.random.choice(sorted(left))

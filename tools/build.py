@@ -86,7 +86,7 @@ def build_proved(crates: dict[str, str], checksum: str) -> None:
 
 
 def build_quick(crates: dict[str, str], checksum: str) -> None:
-    """Makes the quick build. If it fails, makes the proved one."""
+    """Makes the quick build. If the quick build fails, makes the proved program."""
     tell("making a quick build without proof: about three minutes on an idle machine")
     try:
         quick.build(shutil.which(RT) or RT, QUICK, quick.Steps(tell, len(crates), 3))
@@ -103,8 +103,8 @@ def is_there(with_proof: bool, checksum: str) -> bool:
 
 
 def build(with_proof: bool, crates: dict[str, str], checksum: str) -> None:
-    """Builds the program, or takes that of BUILT if it is newer than all sources. If another call builds, waits until
-    that build ends. If it has made the wanted program, does nothing else.
+    """Builds the program, or takes the program that BUILT names if it is newer than all sources. If another call
+    builds, waits until that build ends. If the wanted program is there then, does nothing else.
     """
     if not shutil.which(RT):
         stop(f"the program must be built, and `{RT}` isn't on the PATH: it is the command of the Rattle toolchain, "

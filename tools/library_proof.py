@@ -36,12 +36,12 @@ GATE = os.path.join(sources.BUILD, "ci-proved")
 
 
 class LibraryFailed(Exception):
-    """There is no library; the text has the reason."""
+    """There is no library; the text states the reason."""
 
 
 def run(*words: str, cwd: Optional[str] = None) -> str:
-    """Runs a command. Returns its output. Raises LibraryFailed if the command can't start, or if it fails; then the
-    text has the end of the output.
+    """Runs a command. Returns its output. Raises LibraryFailed if the command can't start, or if it fails. After a
+    failure, the text ends with the end of the output.
     """
     try:
         ran = subprocess.run(words, cwd=cwd, stdin=subprocess.DEVNULL, stdout=subprocess.PIPE, stderr=subprocess.STDOUT,
@@ -102,7 +102,7 @@ def note_passed() -> None:
 
 def proved_here(rt: str, crates: dict[str, str]) -> dict[str, str]:
     """Returns the paths of the libraries in crates/*/out that the noted `rt ci` made, by crate. There are none if that
-    run has proved other sources. A library is left out if one below it is.
+    run has proved other sources. A library is left out if a library below it is left out.
     """
     noted, found = json.loads(prove.text_of(GATE) or "{}"), {}
     if noted.get("stamp") != prove.stamp(rt, crates):

@@ -1,7 +1,7 @@
 """Proves and builds the program, by `rt ci` over a copy of the crates that it depends on, without tests and must-fail
 edits.
 
-What one run proves is kept by `rt` for the next one, also if it is interrupted. The copy is removed at the end: `rt ci`
+`rt` keeps what a run proves for the next run, also if the run is interrupted. The copy is removed at the end: `rt ci`
 refuses a repository that has another one in it. The proved crates that the C library uses are kept for `tools/library`.
 """
 
@@ -27,7 +27,7 @@ QUIET_SECONDS = 30
 
 
 class ProofFailed(Exception):
-    """There is no proved program; the text has the reason."""
+    """There is no proved program; the text states the reason."""
 
 
 def text_of(path: str) -> str:
@@ -86,7 +86,7 @@ def copy_sources(crates: dict[str, str]) -> None:
 
 class Progress:
     """Prints each crate when `rt` reports that it is proved now, or was before. Also prints a line after each half
-    minute without one. Each line has the number of proved crates and the time since the start.
+    minute without one. Each line states the number of proved crates and the time since the start.
     """
 
     def __init__(self, crates: dict[str, str], tell: Callable[[str], None]) -> None:

@@ -36,7 +36,7 @@ exec "{kit}/toolchain/bin/clang" "$@"
 
 
 class QuickBuildFailed(Exception):
-    """There is no quick build; the text has the reason."""
+    """There is no quick build; the text states the reason."""
 
 
 class Steps:

@@ -76,7 +76,8 @@ def exports(text: str) -> dict[str, list[str]]:
 
 
 def values_of(types: list[str]) -> list[str]:
-    """Returns a value for each of these types of parameters. The first handle is `nic`, and each other one is `other`.
+    """Returns a value for each of these types of parameters. The first handle is `nic`, and each other handle is
+    `other`.
     """
     return ["&mut other" if kind == HANDLE and HANDLE in types[:place] else VALUES[kind]
             for place, kind in enumerate(types)]

@@ -15,7 +15,7 @@ LIBRARY = "nic82540em"
 SEARCH = "schedule_search"
 # The processor on which the toolchain runs
 HOST = "x86_64"
-# The source that has the version, as a constant.
+# The source file that defines the version, as a constant.
 VERSIONED = os.path.join(CRATES, "command_line", "src", "help.rt")
 # Folders of a crate that no build reads.
 UNREAD = ("out", "must-fail")
@@ -67,7 +67,7 @@ def checksum(names: Iterable[str]) -> str:
 
 
 def version() -> str:
-    """The program's version, as its sources have it."""
+    """The program's version, as its sources state it."""
     with open(VERSIONED) as file:
         found = re.search(r'^pub\(crate\) const VERSION: &str = "(\d+\.\d+\.\d+)";$', file.read(), re.M)
     assert found, f"{VERSIONED} has no version"

@@ -127,7 +127,7 @@ struct nic82540em_event {
  * adapter, a number of the options is out of range, or memory is refused. */
 bool nic82540em_new(struct nic82540em *nic, const struct nic82540em_options *options);
 
-/* Frees the adapter. The handle may be used for another one. */
+/* Frees the adapter of the handle. The handle may then be used for another adapter. */
 void nic82540em_free(struct nic82540em *nic);
 
 /* Accesses of a driver: nic82540em_read, _write, and each nic82540em_load and _store that returns true. An access is
@@ -148,13 +148,13 @@ bool nic82540em_load(struct nic82540em *nic, uint64_t address, void *into, size_
  * of memory; then nothing changed, and no access is counted. */
 bool nic82540em_store(struct nic82540em *nic, uint64_t address, const void *bytes, size_t count);
 
-/* The number of accesses so far, up to UINT64_MAX. This is the number of the next access; the first access has number
- * 0. nic82540em_recount sets the number. */
+/* Returns the number of accesses so far, up to UINT64_MAX. This is the number of the next access; the first access has
+ * number 0. nic82540em_recount sets this number. */
 uint64_t nic82540em_accesses(struct nic82540em *nic);
 void nic82540em_recount(struct nic82540em *nic, uint64_t accesses);
 
-/* The numbers of frames in the packet buffer. A received frame is there until its last piece is written to memory, and
- * a frame to be sent until it is put on the wire. */
+/* Return the numbers of received frames and of frames to be sent in the packet buffer. A received frame is there until
+ * its last piece is written to memory, and a frame to be sent until it is put on the wire. */
 uint32_t nic82540em_waiting_received(struct nic82540em *nic);
 uint32_t nic82540em_waiting_transmit(struct nic82540em *nic);
 
@@ -172,8 +172,8 @@ bool nic82540em_peek(struct nic82540em *nic, uint32_t offset, uint32_t *into);
 /* Makes the adapter take a step of this kind. Returns the outcome, or NIC_REFUSED if there is no such kind. */
 uint32_t nic82540em_step(struct nic82540em *nic, uint32_t kind);
 
-/* The kinds of steps that have something to do. Bit `kind` is set if and only if a step of this kind would not have the
- * outcome NIC_NOTHING now. Nothing changes. */
+/* Returns the kinds of steps that have something to do now. Bit `kind` is set if and only if the outcome of a step of
+ * this kind would not be NIC_NOTHING. Nothing changes. */
 uint32_t nic82540em_possible(struct nic82540em *nic);
 
 /* Delivers a frame of `count` bytes, without its checksum, to the adapter. Cycles may follow (nic82540em_pace). Returns
@@ -195,7 +195,7 @@ void nic82540em_fill_wire(struct nic82540em *nic, bool full);
  * wire, and `into` is unchanged. A frame has at most 1,518 bytes. */
 size_t nic82540em_take_put(struct nic82540em *nic, void *into, size_t room);
 
-/* Whether the interrupt line is asserted. */
+/* Returns whether the interrupt line is asserted. */
 bool nic82540em_line(struct nic82540em *nic);
 
 /* Lets all offered frames arrive, and plays cycles, each with one step of each kind. Stops after a cycle in which no
@@ -256,29 +256,29 @@ bool nic82540em_begin_round(struct nic82540em *nic, uint32_t request);
 /* Events: what happened in calls, also in steps before and after accesses. */
 
 /* From now on, new events are kept if `on` is true, and aren't kept if `on` is false. While 4,096 events wait, a
- * further event isn't kept. A new adapter keeps none. */
+ * further event isn't kept. A new adapter keeps no events. */
 void nic82540em_events(struct nic82540em *nic, bool on);
 
-/* Removes the oldest event, stores it in `into`, and returns true. Returns false, and changes nothing, if none waits.
- * */
+/* Removes the oldest event that waits, stores it in `into`, and returns true. Returns false, and changes nothing, if no
+ * event waits. */
 bool nic82540em_take_event(struct nic82540em *nic, struct nic82540em_event *into);
 
 /* States of an adapter. */
 
-/* Makes a copy of the adapter in the handle `into`, which has no adapter. The copy has the same memory, wire, offered
- * frames, schedules, settings, generator, events and number of accesses. The same calls on both have the same results,
- * except that nic82540em_memory returns other addresses. Returns false, and changes nothing, if `nic` has no adapter,
- * if `into` has one, or if memory is refused. */
+/* Copies the adapter of `nic` into the handle `into`, which must have no adapter. The copy has the same memory, wire,
+ * offered frames, schedules, settings, generator, events and number of accesses. The same calls on both adapters have
+ * the same results, except that nic82540em_memory stores other addresses. Returns false, and changes nothing, if `nic`
+ * has no adapter, if `into` has one, or if memory is refused. */
 bool nic82540em_copy(struct nic82540em *nic, struct nic82540em *into);
 
-/* A digest of the adapter's state and of its host's memory, as `digest` of `nicbench serve`. The digest doesn't cover
+/* Returns a digest of the adapter's state and of its host's memory, as `digest` of `nicbench serve`. It doesn't cover
  * the EEPROM's words, the wire, offered frames, events, schedules, the generator, settings, or the number of accesses.
  * Equal states have equal digests, and different states nearly always have different ones. The call takes time in
  * proportion to the size of memory. */
 uint64_t nic82540em_digest(struct nic82540em *nic);
 
-/* A digest of the adapter's state: its registers, the frames in its packet buffer, and its work in progress. Adapters
- * with the same state have equal digests for each seed. The digest covers neither the host's memory nor what
+/* Returns a digest of the adapter's state: its registers, PHY, frames in packet buffers, and work in progress.
+ * Adapters with the same state have equal digests for each seed. The digest covers neither the host's memory nor what
  * nic82540em_digest doesn't cover. */
 uint64_t nic82540em_state_digest(struct nic82540em *nic, uint64_t seed);
 

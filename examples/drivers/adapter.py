@@ -4,8 +4,8 @@ from contextlib import contextmanager
 
 # Where the registers begin.
 REGISTERS = 0xFEB00000
-# The most bytes of requests that are sent before answers are read. Every pipe holds at least this many. So sending them
-# never waits for the server, which may itself wait until its answers are read.
+# The most bytes of requests that are sent before answers are read. Every pipe holds at least this many bytes. So
+# sending them never waits for the server, which may itself wait until its answers are read.
 MOST_AT_ONCE = 4096
 
 
@@ -21,7 +21,7 @@ class Adapter:
         self.requests, self.answers = self.start(program, options)
         self.line = False  # whether the interrupt line is asserted
         self.wire = []  # the frames that were put onto the wire
-        self.told = []  # the lines of the log
+        self.told = []  # the lines before answers: events, and the log
         self.arrived = []  # the frames that arrived, each as a pair with its fate
         self.faults = []  # the faults of engines, each as the words after `fault`
         self.handler = None  # if set, it is called as soon as the line is asserted, between any two requests
@@ -105,8 +105,8 @@ class Adapter:
     # Interrupts
 
     def cut_in(self):
-        """Calls the handler while the line is asserted, if the processor takes interrupts. During a call, it takes
-        none.
+        """Calls the handler while the line is asserted, if the processor takes interrupts. During a call, the processor
+        takes no interrupt.
         """
         while self.line and self.handler and self.takes_interrupts:
             self.takes_interrupts = False
@@ -115,7 +115,9 @@ class Adapter:
 
     @contextmanager
     def interrupts_off(self):
-        """In this block, the processor takes no interrupt. At its end, the handler cuts in if the line is asserted."""
+        """In this block, the processor takes no interrupt. At its end, the handler cuts in if the line is asserted,
+        unless interrupts were off before.
+        """
         before, self.takes_interrupts = self.takes_interrupts, False
         yield
         self.takes_interrupts = before
@@ -156,7 +158,8 @@ class Adapter:
         self.ask(f"offer {frame.hex()}")
 
     def settle(self):
-        """Delivers offered frames, and plays steps until nothing is left to do. Returns how many did something."""
+        """Delivers offered frames, and plays steps until nothing is left to do. Returns how many steps did something.
+        """
         return int(self.ask("settle")[0], 0)
 
     def choose(self, limit):
@@ -164,7 +167,7 @@ class Adapter:
         return int(self.ask(f"choose {limit}")[0], 0)
 
     def interleave(self, count):
-        """From now on plays up to `count` random steps before each access."""
+        """From now on, plays up to `count` random steps and arrivals of offered frames before each access."""
         self.ask(f"interleave {count}")
 
     def log(self, on):

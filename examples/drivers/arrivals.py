@@ -9,7 +9,7 @@ from driver import PBA
 from stages import Fault, Traffic
 from traffic import OTHER, SELF, fault_of, frame_of
 
-# Two groups whose bit of MTA is the same, and another one
+# Two groups whose bit of MTA is the same, and another group
 GROUPS = bytes.fromhex("01005e001001"), bytes.fromhex("01005e011001"), bytes.fromhex("01005e001002")
 # A group whose bit is in the same word of MTA as that of the last group
 NEIGHBOR = bytes.fromhex("01005e002002")
@@ -27,7 +27,7 @@ class Arrivals(Traffic):
     def __init__(self, adapter, driver, is_offered=True):
         super().__init__(adapter, driver)
         self.is_offered = is_offered
-        self.missed = driver.missed  # before the test
+        self.missed = driver.missed  # the number of missed frames before the test
 
     def offer(self, slots):
         """Offers a frame, or lets it arrive at once if frames aren't offered."""
@@ -52,10 +52,10 @@ class Arrivals(Traffic):
 
 
 def offers(adapter, driver, is_offered=True):
-    """When the handler is called, frames are on their way. Returns the first fault, or None.
+    """When the handler is called, some offered frames may not have arrived yet. Returns the first fault, or None.
 
-    In the first rounds, the packet buffer has room for them; in the last rounds, there is too little room after a long
-    frame. Without `is_offered`, the frames arrive before the call.
+    In the first rounds, the packet buffer has room for these frames; in the last rounds, there is too little room after
+    a long frame. Without `is_offered`, the frames arrive before the call.
     """
     run = Arrivals(adapter, driver, is_offered)
     try:
@@ -89,14 +89,14 @@ class GroupFrames(Arrivals):
             raise Fault(f"frame {self.number} to {group.hex(':')} was {fate} instead of {wanted}")
 
     def arrive_to(self, wanted, *groups):
-        """A frame to each of these groups must have this fate."""
+        """Lets a frame to each of these groups arrive. Each must have this fate."""
         for group in groups:
             self.check_fate(group, self.adapter.arrive(self.next_to(group)), wanted)
         self.finish()
 
     def offer_to(self, group, change):
-        """A frame to a joined group arrives at any time during a change of other groups, or after it. The frame must be
-        stored.
+        """Offers a frame to a joined group, and changes other groups. The frame arrives at any time during the change,
+        or after it, and must be stored.
         """
         self.adapter.offer(self.next_to(group))
         change()
@@ -105,7 +105,7 @@ class GroupFrames(Arrivals):
 
 
 def groups(adapter, driver):
-    """Groups are joined and left. Returns the first fault, or None."""
+    """Joins and leaves groups, and checks which frames to groups are stored. Returns the first fault, or None."""
     run = GroupFrames(adapter, driver)
     first, second, other = GROUPS
     try:

@@ -4,7 +4,7 @@
 usage: exchange_test.py [NAME]
 
 Requests go to standard output, and answers come from standard input. The exit status is 0 if the driver passes.
-Otherwise it is 1, and standard error has the fault. NAME is a driver or a bug of driver.py (default: right).
+Otherwise it is 1, and the fault is on standard error. NAME is a driver or a bug of driver.py (default: right).
 """
 
 import sys

@@ -79,14 +79,14 @@ class Expected:
         self.text = None  # memory in the form of an answer, or None if it has changed
         self.registers = {}  # the last answers to reads of registers
         self.kind = None  # the kind of the last step
-        self.heads = {}  # what RDH and TDH must be after it
+        self.heads = {}  # what RDH and TDH must be after that step
         self.counts = Counter()
         self.forget()
 
     def forget(self):
-        """What a reset does: packet buffers are empty, no piece is in progress, and no engine is stopped."""
+        """Does what a reset does: packet buffers are empty, no piece is in progress, and no engine is stopped."""
         self.waiting = deque()  # the frames in the receive packet buffer
-        self.moved = 0  # the number of bytes of the oldest one that were moved to memory
+        self.moved = 0  # the number of bytes of the oldest frame that were moved to memory
         self.piece = None  # the descriptor of the piece in progress, and its bytes from the length on
         self.is_ring_moved = False  # whether RDBAL or RDBAH was written since that piece was moved
         self.taken = deque()  # the frames in the transmit packet buffer, each with its descriptor and its command
@@ -257,7 +257,7 @@ class Expected:
         return struct.unpack("<QHxB", self.bytes_at(descriptor, 12))
 
     def move(self, ring, transmit):
-        """A piece goes into the buffer of the descriptor at the head, and is in progress."""
+        """Moves a piece into the buffer of the descriptor at the head. After this, the piece is in progress."""
         piece, is_last = self.next_piece()
         buffer = self.buffer_at(ring.at_head)
         status = DONE | FRAME_ENDS if is_last else DONE
@@ -273,7 +273,7 @@ class Expected:
         self.heads[RDH] = ring.next_head()
 
     def finish(self, ring):
-        """The descriptor of the piece in progress is written back, at the address where it was read."""
+        """Writes back the descriptor of the piece in progress, at the address where the descriptor was read."""
         descriptor, data = self.piece
         self.put(descriptor + LENGTH_PLACE, data)
         self.piece = None
@@ -281,7 +281,7 @@ class Expected:
         self.counts["write-backs outside the receive ring"] += not ring.has(descriptor)
 
     def take(self, receive, ring):
-        """The frame of the descriptor at the head goes into the transmit packet buffer."""
+        """Moves the frame of the descriptor at the head into the transmit packet buffer."""
         address, length, command = self.transmit_descriptor(ring.at_head)
         frame = self.bytes_at(address, length)
         if self.registers[TCTL] & PSP:

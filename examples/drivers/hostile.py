@@ -42,7 +42,9 @@ class CheckedAdapter(Adapter):
         self.checks = iter([])
 
     def start(self, *words):
-        """Starts the server. Ctrl-C is blocked meanwhile. The server inherits this, so Ctrl-C doesn't end it."""
+        """Starts the server. Ctrl-C is blocked meanwhile. The server inherits the blocked signal, so Ctrl-C doesn't end
+        the server.
+        """
         signal.pthread_sigmask(signal.SIG_BLOCK, {signal.SIGINT})
         try:
             return super().start(*words)

@@ -7,7 +7,7 @@ The driver is that of driver.py, with a handler that cuts in. While few slots ar
 no frame is sent until the handler wakes it. With `prefetch`, the driver loads a buffer before the status of its slot,
 as a processor may do without a barrier. With `txstop`, it doesn't look again for free slots after it has stopped the
 queue. Requests go to standard output, and answers come from standard input. The exit status is 0 if the driver passes.
-Otherwise it is 1, and standard error has the fault.
+Otherwise it is 1, and the fault is on standard error.
 """
 
 import sys

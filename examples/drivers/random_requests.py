@@ -191,7 +191,7 @@ class RandomRequests:
     # Requests
 
     def reading(self, register):
-        """Returns a read of a register, with its check: it notes the value."""
+        """Returns a read of a register, with its check, which notes the value."""
         def check(answer, _):
             self.expected.registers[register] = int(answer, 16)
         return f"readl {REGISTERS + register:#x}", check

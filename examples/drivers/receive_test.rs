@@ -3,7 +3,7 @@
 //! usage: receive_test right|wrong
 //!
 //! Requests go to standard output, and answers come from standard input. The exit status is 0 if each frame is received
-//! once, in order and unchanged. Otherwise it is 1, and standard error has the fault. `wrong` selects a driver with a
+//! once, in order and unchanged. Otherwise it is 1, and the fault is on standard error. `wrong` selects a driver with a
 //! race.
 
 use std::io::stdin;

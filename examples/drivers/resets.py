@@ -13,8 +13,8 @@ AFTER_RESET = 6, 6, 1
 
 
 class Resets(Arrivals):
-    """Traffic in which the adapter is reset. The driver gives up the frames that are in the adapter and in the rings
-    then.
+    """Traffic in which the adapter is reset. At a reset, the driver gives up the frames that are in the adapter and in
+    the rings.
     """
 
     def __init__(self, adapter, driver):

@@ -5,8 +5,8 @@ usage: staged_test.py TEST [NAME]
 
 TEST is stages, cuts, offers, arrives, groups, misses or resets. `arrives` is the test `offers` without the request
 `offer`, and `misses` needs a server with --missed 4294967295. Requests go to standard output, and answers come from
-standard input. The exit status is 0 if the driver passes. Otherwise it is 1, and standard error has the fault. NAME is
-a driver or a bug of driver.py (default: right).
+standard input. The exit status is 0 if the driver passes. Otherwise it is 1, and the fault is on standard error. NAME
+is a driver or a bug of driver.py (default: right).
 """
 
 import sys

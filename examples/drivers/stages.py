@@ -1,4 +1,4 @@
-"""Tests in which a step of the adapter, or the handler, can cut in where it matters.
+"""Tests in which a step of the adapter, or the handler, can cut in between accesses on which races depend.
 
 `stages` and `cuts` have the same interface as `exchange` in sweep.py. The README explains the windows of `stages`.
 """
@@ -180,7 +180,7 @@ class Answers(Traffic):
     def finish(self):
         """Lets the adapter do all that is left. The frames of the test and the answers may be mixed on the wire.
 
-        After a `settle` that did nothing, the handler may cut in and send an answer, which is left then.
+        Repeats `settle` until it does nothing and the handler sends no answer, at most PATIENCE times.
         """
         for _ in range(PATIENCE):
             count = len(self.answers)

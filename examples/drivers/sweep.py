@@ -12,8 +12,8 @@ driver without a bug.
 A sweep runs the test `exchange` with the driver `right` and five bugs. With --test, it runs another test, or
 `exchange`, with all drivers. --without removes a window of the test `stages`.
 
-The exit status is 0 if the drivers without a bug pass and, except with --test, each bug is found. That of one run is 0
-if it passes.
+The exit status is 0 if the drivers without a bug pass and, except with --test, each bug is found. The exit status of a
+single run is 0 if the run passes.
 """
 
 import argparse
@@ -29,7 +29,7 @@ from traffic import OTHER, SELF, STEPS, fault_of, frame_of, freed_fault  # noqa:
 ROUNDS = 6
 # The lengths of frames, in turn. The two that arrive in a round take at most seven receive buffers.
 LENGTHS = 60, 257, 1518, 60, 256, 1518
-# The number of frames that are sent after the rounds without a pause.
+# The number of frames that are sent without a pause, after the rounds.
 BURST = 8
 
 
@@ -63,7 +63,7 @@ def exchange(adapter, driver):
         adapter.settle()
         arrive(adapter, 2 * number + 1, came)
         handle(adapter, driver)
-        # Now the adapter does all that is left. If it doesn't interrupt the driver for that, nothing else does.
+        # Now the adapter does all that is left. If it doesn't interrupt the driver for this work, nothing else does.
         adapter.settle()
         handle(adapter, driver)
         fault = fault_of("received", came, driver.received) or fault_of("sent", sent, adapter.wire)

@@ -1,6 +1,6 @@
 """Known departures: how QEMU's e1000 differs from the model, which follows the part's manual or our choice.
 
-docs/EMULATORS.md has the same list, with the section of the manual for each.
+docs/EMULATORS.md contains the same list, with the section of the manual for each.
 """
 
 from registers import table_of
@@ -16,13 +16,14 @@ BITS = {
     "PBA": [(0xFFFF0000, "PBA: TXA isn't derived from RXA")],
     "RAH": [(0x7FFF0000, "RAH: reserved bits are kept")],
 }
-# For registers of the PHY: what differs there, and the bits that are compared. Of registers 2 and 3 all are.
+# For registers of the PHY: what differs there, and the bits that are compared. All bits of registers 2 and 3 are
+# compared.
 PHY = {
     0: ("PHY register 0: bits that the model doesn't have", 0x1000),
     1: ("PHY register 1: abilities, and the latch of the link", 0x20),
     2: ("", 0xFFFF), 3: ("", 0xFFFF)}
 OTHER_PHY = ("PHY registers after register 3", 0)
-# The bit IXSM of a receive descriptor's status, byte 12
+# The byte of a receive descriptor that has the status, and the status bit IXSM
 STATUS_BYTE, IXSM = 12, 1 << 2
 
 
@@ -32,7 +33,7 @@ def value_of(answer):
 
 
 def without_bits(name, ours, theirs):
-    """The departures in two values of a register, and both without the bits that show them."""
+    """The departures in two values of a register, and both values without the bits that show them."""
     found = []
     for mask, departure in BITS.get(table_of(name), []):
         if (ours ^ theirs) & mask:
@@ -47,7 +48,9 @@ def without_checksum_bit(ring):
 
 
 def without_phy(ours, theirs):
-    """The departures in two values of MDIC after a read of a register of the PHY, and both without them."""
+    """The departures in two values of MDIC after a read of a register of the PHY, and both values without these
+    departures.
+    """
     number = ours >> 16 & 0x1F
     found, mask = PHY.get(number, OTHER_PHY)
     if (ours ^ theirs) & 0xFFFF & ~mask:

@@ -12,7 +12,8 @@ from registers import TABLES
 
 EN, UPE, MPE, BAM, VFE, SECRC = 1 << 1, 1 << 3, 1 << 4, 1 << 15, 1 << 18, 1 << 26
 EOP, IFCS, RS = 1, 2, 8
-# The causes of ICR without RXDMT0, which the two adapters record in other moments: their interrupt lines would differ.
+# The causes of ICR without RXDMT0, which the two adapters record at different moments: their interrupt lines would
+# differ.
 CAUSES = 0x2C7
 MAC, ALL, GROUP, OTHER = "020000000001", "ffffffffffff", "01005e000001", "020000000009"
 READ = ["CTRL", "STATUS", "EERD", "MDIC", "VET", "ICR", "ICS", "IMS", "IMC", "RCTL", "TCTL", "PBA", "RDBAL", "RDBAH",

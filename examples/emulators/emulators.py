@@ -153,13 +153,13 @@ class Serve(Emulator):
                 file.write(struct.pack("<64H", *image))
                 file.flush()
                 super().__init__(words + ["--image", file.name], registers)
-                self.ask("endianness")  # it has read the image when it answers
+                self.ask("endianness")  # the server has read the image when it answers
         self.expect_ok("events on")
         if interleave:
             self.ask(f"interleave {interleave}")
 
     def arrive(self, frame):
-        """A frame arrives. Returns its fate, and the lines that it causes."""
+        """Lets a frame arrive. Returns its fate, and the lines that this causes."""
         answer, told = self.ask(f"arrive {frame.hex()}")
         return answer.removeprefix("OK "), told
 
@@ -168,7 +168,7 @@ class Serve(Emulator):
         return self.ask("settle")[1]
 
     def arrive_all(self, frames):
-        """Some frames arrive, must be stored, and are moved to memory. Returns the lines that this causes."""
+        """Lets some frames arrive, which must be stored, and be moved to memory. Returns the lines that this causes."""
         told = []
         for frame in frames:
             fate, more = self.arrive(frame)
@@ -221,7 +221,7 @@ class Qemu(Emulator):
             "-nodefaults", "-machine", "pc", *WORDS, "-m", "64M", "-bios", rom, "-display", "none", "-qtest", "stdio",
             "-qtest-log", "/dev/null", "-netdev", f"dgram,id=net,local.type=fd,local.str={theirs.fileno()}",
             "-device", f"e1000,mac={ADDRESS},mitigation=off,netdev=net"]
-        # QEMU warns that no timer runs, which is so.
+        # QEMU warns that no timer is active. This is expected, so standard error goes to a file.
         with open(os.path.join(self.folder.name, "errors"), "wb") as errors:
             super().__init__(words, registers, pass_fds=[theirs.fileno()], stderr=errors)
         theirs.close()
@@ -242,12 +242,12 @@ class Qemu(Emulator):
         return answer, told
 
     def interrupts(self, lines):
-        """The lines about the device's interrupt."""
+        """The lines about the device's interrupt, with its number replaced by 0."""
         levels = [line.split()[1:] for line in lines if line.startswith("IRQ ")]
         return [f"IRQ {level} 0" for level, number in levels if number == str(self.INTERRUPT)]
 
     def turns(self):
-        """Requests that do nothing, so that QEMU's main loop does what it has to do. Returns the lines about the
+        """Sends requests that do nothing, so that QEMU's main loop does what it has to do. Returns the lines about the
         interrupt.
         """
         return [line for _ in range(2) for line in self.ask("inb 0x80")[1]]
@@ -278,13 +278,13 @@ class Qemu(Emulator):
         self.lines("irq_intercept_in ioapic")
 
     def arrive(self, frame):
-        """A frame arrives. QEMU doesn't report its fate. Returns `taken` in place of the fate, and the lines that this
-        causes.
+        """Lets a frame arrive. QEMU doesn't report its fate. Returns `taken` in place of the fate, and the lines that
+        this causes.
         """
         return "taken", self.arrive_all([frame])
 
     def arrive_all(self, frames):
-        """Some frames arrive, at most ten. Returns the lines that this causes."""
+        """Lets some frames arrive, at most ten. Returns the lines that this causes."""
         told = []
         for frame in frames:
             self.wire.send(frame)

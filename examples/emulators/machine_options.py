@@ -2,7 +2,7 @@
 
 import os
 
-# What QEMU has without other words on the command line
+# The size of memory and the adapter's address if the command line states no others, as in QEMU
 MEMORY, ADDRESS = "128M", "52:54:00:12:34:56"
 UNITS = {"": 20, "B": 0, "K": 10, "M": 20, "G": 30, "T": 40}
 # The adapter is the model of `nicbench serve`, at the place where QEMU's libqos puts a device.
@@ -18,11 +18,13 @@ NEEDS = {
 
 
 class Unusable(Exception):
-    """An option that asks for something that isn't here."""
+    """Why the machine can't start: an option that can't be met, no -qtest, or no program."""
 
 
 def pairs_of(words):
-    """The options of a command line with their values. A word that doesn't begin with - belongs to the one before."""
+    """The options of a command line with their values. A word that doesn't begin with - is the value of the option
+    before it.
+    """
     pairs = []
     for word in words:
         if word.startswith("-") and len(word) > 1:
@@ -35,7 +37,8 @@ def pairs_of(words):
 
 
 def properties_of(value, first):
-    """The properties in a value such as `socket,id=net,fd=3`. The first may lack its name, which is `first`."""
+    """The properties in a value such as `socket,id=net,fd=3`. The first property may lack its name, which is `first`.
+    """
     parts = (value or "").split(",")
     found = dict(part.partition("=")[::2] for part in parts[1:])
     name, joins, rest = parts[0].partition("=")
@@ -51,7 +54,7 @@ def bytes_of(text):
 
 
 class MachineOptions:
-    """The words of a command line: where the client listens, and what the machine has."""
+    """What the words of a command line state: where the client listens, and what the machine has."""
 
     def __init__(self, words):
         self.client = self.log = self.monitor = self.wire = None
@@ -64,7 +67,7 @@ class MachineOptions:
         self.set_adapter()
 
     def read(self, name, value):
-        """Reads an option. Those that don't matter are ignored."""
+        """Reads an option. Raises Unusable if the machine can't meet it. Options in neither table are ignored."""
         if name in NEEDS:
             raise Unusable(f"-{name}: there is an adapter alone, without {NEEDS[name]}")
         readers = {
@@ -126,7 +129,7 @@ class MachineOptions:
             raise Unusable(f"-nic {value}: use -netdev and -device")
 
     def set_adapter(self):
-        """Takes the words of the command line for the adapter."""
+        """Sets the adapter's address, and the file descriptor of its wire if its -netdev has one."""
         if len(self.adapters) > 1:
             raise Unusable("-device e1000: there is one adapter")
         for found in self.adapters:
@@ -141,7 +144,9 @@ class MachineOptions:
 
 
 def program_of():
-    """The path of `nicbench`: that in the variable NICBENCH, or the one that `./nicbench` has built."""
+    """The path of `nicbench`: that in the variable NICBENCH, or the program that `./nicbench` has built. Raises
+    Unusable if there is no such program.
+    """
     top = os.path.dirname(os.path.dirname(os.path.dirname(os.path.abspath(__file__))))
     path = os.environ.get("NICBENCH") or os.path.join(top, ".build", "nicbench")
     if not os.access(path, os.X_OK):

@@ -18,7 +18,7 @@ RETURNS["query-commands"] = [{"name": name} for name in RETURNS]
 
 
 class Monitor:
-    """The connection to a client that sends commands, and the part of a command that it has sent."""
+    """The connection to a client that sends commands, and the text of a command that isn't complete yet."""
 
     def __init__(self, path):
         self.socket = socket.socket(socket.AF_UNIX, socket.SOCK_STREAM)

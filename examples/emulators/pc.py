@@ -50,7 +50,7 @@ class Wire:
             self.is_open = False
 
     def frames(self):
-        """The complete frames that have come. Short ones are padded, as on a wire."""
+        """The complete frames that have come. Short frames are padded, as on a wire."""
         if self.is_open:
             self.receive()
         found = []
@@ -88,11 +88,11 @@ class Interrupts:
     """
 
     SELECTED, ROUTES, ROUTE, OFF = 0x80000800, range(0x60, 0x64), 0x63, 0x80
-    # Its ids, its class and its header (PCI 2.2, 6.1)
+    # The bridge's ids, its class and its header (PCI 2.2, 6.1)
     FIRST = {0x00: 0x86, 0x01: 0x80, 0x02: 0x00, 0x03: 0x70, 0x0A: 0x01, 0x0B: 0x06, 0x0E: 0x80}
 
     def __init__(self):
-        self.is_reported = False  # whether the client has asked for it
+        self.is_reported = False  # whether the client has asked for lines about interrupts
         self.told = None  # the number that was reported as raised
         self.reset()
 
@@ -159,7 +159,7 @@ class Pc(Emulator):
         self.expect_ok(f"outl {ADDRESS_PORT:#x} 0")
 
     def reset(self):
-        """Resets the adapter and the bridge, as the machine does. Returns the lines about the interrupt."""
+        """Resets the adapter and the bridge, as a reset of the machine does. Returns the lines about the interrupt."""
         self.configure([(BAR0, RESET_ADDRESS), (COMMAND, MEMORY_SPACE)])
         self.expect_ok(f"writel {RESET_ADDRESS:#x} {RESET:#x}")
         self.configure(UNCONFIGURED)
@@ -167,7 +167,9 @@ class Pc(Emulator):
         return self.interrupts.lines()
 
     def hear(self, lines):
-        """Does what the server's lines say, and returns the lines for the client."""
+        """Sends the server's frames on the wire, and prints its faults. Returns the lines about the interrupt for the
+        client.
+        """
         told = []
         for line in lines:
             word, *rest = line.split()
@@ -196,12 +198,14 @@ class Pc(Emulator):
         return [*told, answer]
 
     def arrivals(self):
-        """Frames that have come on the wire arrive. Returns the lines that this causes."""
+        """Lets the frames that have come on the wire arrive. Returns the lines that this causes."""
         self.waiting += self.wire.frames() if self.wire else []
         return self.deliver()
 
     def deliver(self):
-        """Frames arrive, in order. While the adapter doesn't receive, they wait, as QEMU's netdev lets them wait."""
+        """Lets the frames that wait arrive, in order. While the adapter doesn't receive, they wait, as in QEMU.
+        Returns the lines that this causes.
+        """
         told = []
         while self.waiting:
             fate, lines = self.ask(f"arrive {self.waiting[0].hex()}")

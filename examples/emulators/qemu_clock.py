@@ -1,7 +1,7 @@
 """Virtual time of a QEMU that has no accelerator `qtest`, and so no `clock_step`.
 
 QEMU runs with `-accel tcg -icount shift=0,sleep=off`, and its processor halts. Then virtual time jumps from one timer
-to the next. Time passes by a timer of the machine (HPET) that is set to the end of the interval.
+to the next. To let an interval pass, `step` sets a timer of the machine (HPET) to the end of the interval.
 """
 
 import time

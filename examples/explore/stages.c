@@ -129,7 +129,7 @@ static void compare(const char *verb, const struct known *wanted, unsigned count
     }
 }
 
-/* The frames on the wire. Returns their number. */
+/* Stores what is known of the frames on the wire, at most MOST. Returns their number. */
 static unsigned wire(struct known *put)
 {
     uint8_t frame[LONGEST_FRAME];
@@ -150,7 +150,7 @@ static void compare_both(void)
     compare("sent", t->out, t->sent_count, put, wire(put));
 }
 
-/* What was compared is forgotten, so runs with different pasts come to the same state. */
+/* Unless the test has failed, forgets what was compared, so runs with different pasts come to the same state. */
 static void forget(void)
 {
     if (!is_ok())
@@ -229,8 +229,8 @@ static bool has(const struct known *list, unsigned count, struct known one)
     return count + 1;
 }
 
-/* The frames of the test and the answers may be mixed on the wire. After a settle that did nothing, the handler may
- * cut in and send an answer, which is left then. */
+/* Settles until nothing happens and the handler sends no answer, at most PATIENCE times. Then compares the answers and
+ * the test's own frames apart, since they may be mixed on the wire. */
 static void finish_answers(void)
 {
     struct known put[MOST], own[MOST], other[MOST];
@@ -387,7 +387,8 @@ static void begin(void)
     bring_up();
 }
 
-/* All runs come to the same slots, and to the same number of free ones: the driver takes back what it has sent. */
+/* Receives and sends frames until both rings are at slot 0 and the driver has taken back what it sent. So all runs come
+ * to the same slots, and to the same number of free ones. */
 static void meet(void)
 {
     x_handler(NULL);

@@ -1,4 +1,6 @@
-"""The finder of races: it finds bugs of examples/drivers, and small tests show what it searches, plays and prints."""
+"""Tests the finder of races: it finds bugs of examples/drivers, and small tests show what it searches, plays and
+prints.
+"""
 
 import os
 import re
@@ -12,7 +14,7 @@ from server_pages import follow, read_page
 FINDER = [sys.executable, "-S", "-E", os.path.join(TOP, "tools", "races")]
 EXCHANGE = [sys.executable, "-S", "-E", os.path.join(TOP, "examples", "drivers", "exchange_test.py")]
 FRAME = "ffffffffffff02000000000908000000".ljust(120, "0")
-# A packet buffer of 2 KB has room for one of these frames.
+# A packet buffer of 2 KB has room for only one of these frames.
 LONG_FRAME = FRAME.ljust(3036, "0")
 PASSES, FOUND, USAGE, NOT_RUN, UNSEARCHED = range(5)
 UNSEARCHED_TOLD = "nothing was searched: in no run did a deviation do anything"
@@ -216,7 +218,7 @@ def page(server):
 
 
 def right(server):
-    """The right driver fails in no run."""
+    """The right driver fails in none of 150 drawn runs, and the runs differ."""
     status, out, errors = find(server, "--first", "0", "--runs", "150", command=EXCHANGE)
     found = re.fullmatch(r"150 runs, \d+ a second, (\d+) different lists of answers\nno run fails\n",
                          without_reached(out))
@@ -269,7 +271,7 @@ def drawn(server):
 
 
 def holds(server):
-    """A driver that doesn't wait for the EEPROM passes until its step is left out."""
+    """A driver that doesn't wait for the EEPROM passes until a step of the EEPROM is left out."""
     server.put("hasty", HASTY.encode())
     command = ["sh", "hasty"]
     out = find(server, "--runs", "20", command=command)
@@ -286,8 +288,8 @@ def holds(server):
 
 
 def replays(server):
-    """A replay fails if the schedule meets another access, or if a place isn't reached. Deviations that did nothing are
-    reported.
+    """Without --any-access, a replay fails if the schedule meets another access, or if a place isn't reached.
+    Deviations that did nothing are reported.
     """
     small = ["sh", "small", "fails"]
     server.put("small", SMALL.encode())
@@ -314,8 +316,8 @@ def replays(server):
 
 
 def names(server):
-    """A schedule without places names its accesses by numbers. It is still met if the test makes other accesses,
-    too.
+    """A schedule without places names its accesses by numbers. Such a schedule also fits a driver that makes more
+    accesses.
     """
     small, text = ["sh", "small", "fails"], "rxdata before read RDH#2\nrxdone before read rx[0]+12#2\n"
     server.put("small", SMALL.encode())
@@ -394,7 +396,7 @@ BAD = {
 
 
 def errors(server):
-    """Texts that aren't schedules, and calls that can't be done."""
+    """The finder rejects texts that aren't schedules, and invalid calls, with a message and an exit status."""
     more = "\nFor more information, try '--help'.\n"
     for text, wanted in BAD.items():
         line = text.count("\n") + 1
@@ -422,7 +424,7 @@ def errors(server):
 
 
 def ends(server):
-    """How a test may end."""
+    """A test may end by a signal or with an error, or never end: the last line of the output names this fault."""
     for name, command, fault in [
         ("a signal", ["sh", "-c", "kill -9 $$"], "ended by SIGKILL"),
         ("its error", ["sh", "-c", "echo a >&2; echo b >&2; exit 3"], "exit status 3: b"),

@@ -1,5 +1,5 @@
-"""The finder of races with frames that a test offers: when they arrive, and what is drawn, explored, shrunk and shown
-of them. Also the tests of examples/drivers with arrivals, groups, misses and resets.
+"""Tests the finder of races with frames that a test offers: when they arrive, and how arrivals are drawn, explored,
+shrunk and shown. Also plays the tests of examples/drivers with arrivals, groups, misses and resets.
 """
 
 import json
@@ -52,8 +52,9 @@ CHART = """\
    exit status 1: finished between
 """
 ZERO = "OK 0x0000000000000000"
-# Compares what runs of a test show: forked, and in a process of their own. Prints for each whether both show the same,
-# how many frames were offered, and whether a deviation was an arrival. Then prints whether runs were forked.
+# Plays a test in four ways, each in a forked run and in a process of its own. Prints for each way whether both runs
+# show the same, how many frames were offered, and whether a deviation was an arrival. Then prints whether runs were
+# forked.
 SAME = BEGIN + """
 def shown(run):
     rows = [(row.line, row.owner, row.place, row.name, row.answer) for row in run.rows]
@@ -133,7 +134,7 @@ def searches(server):
 
 
 def actors(server):
-    """For PCT, the wire is one more actor if the test offers frames. JSON has the bound."""
+    """For PCT, the wire is one more actor if the test offers frames. `--json` prints the bound, too."""
     server.put("offered", OFFERED.encode())
     for command, count, events in [(["sh", "offered"], 5, 10), (["true"], 4, 0)]:
         out = find(server, "--pct", "2", "--runs", "3", command=command)[1]
@@ -155,7 +156,9 @@ def passes(server, test, name, *words):
 
 
 def drivers(server):
-    """The test `offers` of examples/drivers finds a race that the same frames don't show if they arrive by request."""
+    """Runs of the test `offers` of examples/drivers are the same, forked or not. If the same frames arrive by request,
+    the race of `rxo` isn't found. The right drivers pass all tests with arrivals.
+    """
     server.check("arrivals: forked runs", script(server, f"COMMAND = {[*STAGED, 'offers', 'late']!r}\n{SAME}"), (
         0, "True 15 False\nTrue 15 True\nTrue 15 True\nTrue 15 True\nTrue\n", ""))
     status, out, errors = find(server, "--explore", "1", command=[*STAGED, "arrives", "rxo"])

@@ -1,5 +1,5 @@
-"""The finder of races: its charts in docs/RACES.md and race_charts.txt, the picture, the value change dump, and the
-files of `--out`.
+"""Tests the finder of races: its charts in docs/RACES.md and race_charts.txt, the picture, the value change dump, and
+the files of `--out`.
 
 The dump is read by a small parser here, and by `vcd2fst` of GTKWave if it is installed (Debian: package gtkwave).
 """
@@ -21,7 +21,7 @@ from server_pages import read_page
 FILES = ["chart.svg", "chart.txt", "log.txt", "run.vcd", "schedule.txt"]
 MOST_LINES, LONGEST = 25, 155
 
-# The charts of docs/RACES.md and race_charts.txt
+# The bugs with charts in docs/RACES.md and race_charts.txt, each with the heading of its section
 
 FINISHED = "A frame is finished while the handler runs"
 SECTIONS = {
@@ -87,7 +87,7 @@ SVG = "{http://www.w3.org/2000/svg}"
 
 
 def columns_of(starts, begin, end):
-    """The columns left of and right of an arrow, by where columns start."""
+    """The columns left of and right of an arrow, by the positions where columns begin."""
     return [name for name in COLUMNS if starts[name] <= begin][-1], [name for name in COLUMNS if starts[name] > end][0]
 
 
@@ -162,8 +162,8 @@ def contrasts(style):
 
 
 def check_picture(server, name):
-    """The picture has the rows of the text. It has no other kinds of elements, and all of them are inside of its size.
-    Returns the rows of the text.
+    """The picture has the rows of the text. All its elements are inside of its size, and of the kinds that are listed
+    here. Returns the rows of the text.
     """
     root = ElementTree.fromstring((server.get("charts/chart.svg") or b"").decode())
     wanted, last = text_rows(server.get("charts/chart.txt").decode())
@@ -331,7 +331,7 @@ class Wanted:
 
 
 def readers(server, name, variables, changes):
-    """GTKWave's own reader has the same variables and changes."""
+    """`vcd2fst` of GTKWave, if it is installed, reads the same variables and changes from the dump."""
     if not (shutil.which("vcd2fst") and shutil.which("fst2vcd")):
         print(f"dump: {name}: vcd2fst (Debian: package gtkwave) isn't installed: only the parser of the test reads it")
         return
@@ -346,7 +346,7 @@ def readers(server, name, variables, changes):
 
 
 def check_dump(server, name):
-    """A dump has the changes that the log has. Returns its variables, and its changes by the names of variables."""
+    """A dump contains the changes of the log. Returns its variables, and its changes by the names of variables."""
     variables, changes = parse_dump(server.get("charts/run.vcd").decode())
     wanted = Wanted(server.get("charts/log.txt").decode())
     got = {path.rpartition(".")[2]: told for path, told in changes.items()}
@@ -361,7 +361,7 @@ def check_dump(server, name):
 
 
 def dumps(server):
-    """Dumps of runs of drivers, and of requests that reach everything."""
+    """The dumps of three drivers, and of requests that reach everything, are valid."""
     # At the end: an offset without a register, an interrupt, and a reset, after which heads and tails are 0.
     more = ["readl 0xFEB00044", "writel 0xFEB00044 5", write("IMS", 255), write("ICS", 4), read("ICR"),
             write("TDT", 0x70005), read("TDT"), write("CTRL", 1 << 26), read("RDH"), read("TDT")]
@@ -430,7 +430,7 @@ buffer 0x10000000100
 """
 
 
-# Cuts charts of numbered rows. Each case has the rows with stars, what other rows have in memory, and the number of
+# Cuts charts of numbered rows. Each case states the rows with stars, what other rows show in memory, and the number of
 # rows.
 CUT = """
 import sys
@@ -466,7 +466,7 @@ def cuts(server):
 
 
 def files(server):
-    """`--out` stores a schedule, or a folder with the charts, after a search and after a replay; or reports why not."""
+    """`--out` stores a schedule or a folder with charts after a search and a replay, or the finder reports why not."""
     server.put("small", SMALL.encode())
     schedule = f"# sh small fails\n# exit status 1: finished too late\n{SMALLEST}".encode()
     small = ["sh", "small", "fails"]

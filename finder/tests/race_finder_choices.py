@@ -81,8 +81,8 @@ def drawn(server):
 
 
 def replayed(server):
-    """Schedules by places and by numbers. If a number is too great, the answer is 0; of two answers, the first counts.
-    Also schedules that aren't valid, and another access.
+    """Schedules by places and by numbers are replayed. If a number is too great, the answer is 0. Of two answers, the
+    first counts. Invalid schedules are rejected, and another access is reported.
     """
     for name, text, status, last in [
         ("by places", "1.2 choose 5 before choose\n1.4 choose 7 before choose\n", FOUND, "the numbers are wrong"),

@@ -1,5 +1,5 @@
-"""How the finder of races ends: by signals, with output that can't be written, and with tests that never end or leave
-processes.
+"""Tests how the finder of races ends: by signals, with output that can't be written, and with tests that never end or
+leave processes.
 """
 
 import os
@@ -15,7 +15,7 @@ from race_finder_output import script
 from race_finder_runs import ASKS, BEGIN, PYTHON
 from server import LIMIT
 
-# A test that writes a file, and never ends. With an argument, it does so before its first answer.
+# A test that writes a file, and never ends. With an argument, the test does both before its first answer.
 ENDLESS = """
 import sys, time
 def wait():
@@ -57,8 +57,8 @@ class Marked:
             return None  # the process has ended
 
     def left(self):
-        """Waits until no process is left, at most LIMIT seconds. Ends those that are left then, and returns their
-        commands.
+        """Waits until no process is left, at most LIMIT seconds. After this time, ends the processes that are left.
+        Returns their commands.
         """
         end = time.monotonic() + LIMIT
         while (left := self.all()) and time.monotonic() < end:
@@ -206,7 +206,9 @@ if ask("readb 12").endswith("3"):
 
 
 def runs(server):
-    """Players that don't answer, tests that never end, and the memory of servers."""
+    """The late answer of a player isn't used. Two runs of a test that never ends show the same. The memory of the
+    servers limits the number of hosts.
+    """
     server.check("runs: a player that is late", script(server, PLAYER), (0, "None False\nNone\nNone\n", ""))
     server.put("waits.py", WAITS.encode())
     wanted = "True no end within 2 seconds 2 True 1 True\n40 40 0 12 12 0 0 "
@@ -235,7 +237,9 @@ print(command.main())
 
 
 def outputs(server):
-    """Output that can't be written, or that isn't text in the encoding of the output. Only a race has exit status 1."""
+    """If standard output can't be written, the exit status isn't that of a race. Characters that the output can't
+    encode are printed as escapes.
+    """
     server.put("small", f"echo >>played\n{SMALL}".encode())
     unread, full = 128 + signal.SIGPIPE, (NOT_RUN, None, b"races: standard output: No space left on device\n")
     for words, command in [(["--help"], ()), (["--runs", "2"], ["true"]), (["--runs", "2"], ["false"]),
@@ -290,8 +294,8 @@ def so_far(server):
 
 
 def errors(server):
-    """The command that builds the server is named, an error of the finder has exit status 3, and the help has the
-    status after Ctrl-C.
+    """If the server isn't there, the finder names the command that builds it. After an error of the finder itself, the
+    exit status is 3. The help states the exit status after Ctrl-C.
     """
     status, out, told = script(server, MAIN)
     hint = "races: ./none: No such file or directory; run ./nicbench --build to build it\n"

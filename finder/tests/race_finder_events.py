@@ -1,5 +1,5 @@
-"""Events of the server under the finder of races. A test gets the lines that it would get from the server, and the
-chart has all of them.
+"""Tests events of the server under the finder of races. A test gets the lines that it would get from the server, and
+the chart contains all of them.
 """
 
 import os
@@ -9,8 +9,9 @@ import sys
 from race_finder import PASSES, replay
 from server import lines
 
-# A server between the finder and the program. It passes on the program's events, but has its own event `fault` before
-# each answer `OK fault`. If `knows` is false, it rejects the requests for events, and always prints events.
+# A server between the finder and the program. It passes on the program's events, but in place of the event `fault`, it
+# prints its own one before each answer `OK fault`. If `knows` is false, it rejects the requests for events, and always
+# prints events.
 BETWEEN = """#!{python}
 import subprocess, sys
 

@@ -1,7 +1,7 @@
-"""The tests in Python, C and Rust that docs/RACES.md shows: the commands of the page, and the faults that the tests
-must find. Also the session of README.md.
+"""Runs the tests in Python, C and Rust that docs/RACES.md shows: the commands of the page, and the faults that the
+tests must find. Also tests the session of README.md.
 
-If there is no compiler for a language, the module prints this, and doesn't count the checks of this language.
+If there is no compiler for a language, the module prints so, and doesn't count the checks of this language.
 """
 
 import os
@@ -15,7 +15,7 @@ from server import LIMIT
 from server_pages import follow, read_page
 
 HEADING = "| Language | File | Build | COMMAND |"
-# The language whose COMMAND the sessions on the page have
+# The language whose COMMAND the sessions on the page run
 SHOWN = "C"
 # The sizes of the frames that arrive in a run, in bytes
 SIZES = [60, 160, 260, 360] * 3
@@ -68,7 +68,7 @@ def builds(server, folder, language, build):
 
 
 def shown(server, folder, name, command, wanted):
-    """A command prints what a page shows. It fails if it runs the wrong driver."""
+    """A command prints what a page shows. Its exit status is 1 if it runs the wrong driver, and otherwise 0."""
     status, out, errors = run(folder, command)
     server.check(f"languages: {name}: {command}", (follow(without_rate(out), without_rate(wanted)), status, errors),
                  (True, FOUND if command.endswith(" wrong") else PASSES, ""))
@@ -103,7 +103,9 @@ def ask(adapter, request):
 
 
 def answer(adapter, request, frames, instead):
-    """Passes a request on, and returns the lines for the test. `frames` gets each frame of the test."""
+    """Passes a request on, and returns the lines for the test. In place of an arrival, passes on those of the frames in
+    `instead`, by the number of the test's frame. Adds each frame of the test to `frames`.
+    """
     if not request.startswith("arrive "):
         return ask(adapter, request)
     lines = "OK stored\n"
@@ -152,7 +154,7 @@ def faults(server, folder, language, command):
 
 
 def ends(server, folder, language, command):
-    """Other ends of a test: a request is rejected, the server ends, and words that name no driver."""
+    """A test fails with a message if a request is rejected, if the server ends, or if its words name no driver."""
     name = "receive_test.py" if language == "Python" else "receive_test"
     usage = f"usage: {name} right|wrong\n"
     for given, words, wanted in [("ERR value\n", "right", "the server answers ERR value\n"),

@@ -1,5 +1,5 @@
-"""What the finder of races prints: the same for each number of runs at once, what the runs reached, JSON, and
-shards.
+"""Tests what the finder of races prints: the same text for each number of runs at once, what the runs reached, JSON,
+and shards.
 """
 
 import json
@@ -15,8 +15,8 @@ from race_finder import UNSEARCHED_TOLD, USAGE, find, replay, without_rate, with
 from server import LIMIT, lines
 from server_pages import follow, read_page
 
-# Run 5 waits until run 7 has ended, and runs from 9 on until runs are stopped. Then two real runs, of a test that never
-# ends, are stopped.
+# Run 5 waits until run 7 has ended. The runs from run 9 on wait until runs are stopped. Then two real runs, of a test
+# that never ends, are stopped.
 ORDER = """
 import sys, threading
 from concurrent.futures import ThreadPoolExecutor
@@ -112,8 +112,8 @@ def whole():
     other = f"{FRAME[:10]}00{FRAME[12:]}".replace("ff", "02", 1)  # to another address
     yield f"arrive {FRAME}"  # off
     yield from (write(name, 0) for name in WRITTEN if name not in ("EERD", "MDIC"))
-    # An EEPROM read. The PHY restarts autonegotiation, with an interrupt. Causes of both rings. A piece and a whole
-    # frame, and then a full packet buffer.
+    # Reads the EEPROM. Restarts autonegotiation of the PHY, with an interrupt. Records causes of both rings. Receives a
+    # piece and a whole frame, and then fills the packet buffer.
     yield from [write("CTRL", 0x40), write("EERD", 1), read("EERD"), write("MDIC", 0x24201200), read("MDIC"),
                 read("MDIC")]
     yield from [write("RDLEN", 128), write("RDT", 7), "writeq 0 0x800", "writeq 16 0x800", "writeq 32 0x800",
@@ -169,7 +169,9 @@ def reached_by(server, requests, *words):
 
 
 def reached(server):
-    """What the runs reached, and what they never did."""
+    """The finder prints what the runs reached, and what they never reached. The requests of `whole` reach everything.
+    Without one of them, one item is never reached.
+    """
     requests = list(whole())
     server.check("reached: all", reached_by(server, requests),
                  (PASSES, shown(REACHED, ALL) + shown(NEVER, [[]] * 6), ""))
@@ -186,8 +188,8 @@ def reached(server):
 
 
 def json_of(got):
-    """The exit status, the object on standard output, two lists, and the errors. The object is without `search`,
-    `reached` and `never`. The lists have what was reached, and what never was, without `played`.
+    """The exit status, the object on standard output without `search`, `reached` and `never`, two lists, and the
+    errors. The first list names what was reached, and the second one what never was. Neither has a row for `played`.
     """
     status, out, errors = got
     result = json.loads(out)
@@ -208,7 +210,7 @@ def small_tables():
 
 
 def json_found(server):
-    """What searches find, as JSON."""
+    """With `--json`, a search prints one object with its result. A command that isn't there prints none."""
     server.put("small", SMALL.encode())
     words = ["--first", "0", "--runs", "200", "--smaller", "0"]
     found = re.search(r"seed (\d+): ", find(server, *words, command=FAILS)[1])
@@ -236,7 +238,7 @@ def json_found(server):
 
 
 def json_replayed(server):
-    """What replays show, as JSON."""
+    """With `--json`, a replay prints one object with its result."""
     server.put("small", SMALL.encode())
     other, late = "1.3 rx before read RDH", "1.5 rx before read ICR"
     for name, text, words, command, wanted in [
@@ -281,7 +283,9 @@ print(all(shard[0] == lower for shard in shards), shards[0][1] | shards[1][1] ==
 
 
 def shards(server):
-    """Two shards of an exploration are the whole. Of drawn runs, each shard has its seeds."""
+    """Two shards of an exploration together try the schedules of the whole one, each with other schedules of the most
+    deviations. Each shard of drawn runs plays its own seeds.
+    """
     server.put("small", SMALL.encode())
     server.check("shards: two of an exploration", script(server, SHARDS), (0, "9 6 3 3\nTrue True True\n", ""))
     lower = ("depth 0: 1 schedules, none fails, 1 different lists of answers\n"
@@ -340,7 +344,7 @@ def parallel(server):
 
 
 def page(server):
-    """What the right driver of the examples never reaches is on the page of the finder."""
+    """The page of the finder shows what the right driver of the examples never reaches."""
     wanted = re.search(r"^```\n(never:\n.*?)^```$", read_page("finder", "README.md"), re.M | re.S)[1]
     status, out, errors = find(server, "--first", "0", "--runs", "10", command=EXCHANGE)
     server.check("page: what is never reached", (status, follow(out[out.find("never:\n"):], wanted), errors),

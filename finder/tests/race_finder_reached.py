@@ -1,5 +1,5 @@
-"""What the finder of races keeps for a test and for its search, which steps commute with accesses, and before which
-requests deviations were played.
+"""Tests what the finder of races keeps for a test and for its search. Also tests which steps commute with accesses, and
+before which requests deviations were played.
 """
 
 import re

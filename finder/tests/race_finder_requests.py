@@ -1,5 +1,5 @@
-"""The finder of races: deviations before requests of a test that begin rounds, and steps of the EEPROM and the PHY in
-schedules. Also which requests are counted, and `--shrink`.
+"""Tests the finder of races: deviations before requests that begin rounds, and steps of the EEPROM and the PHY in
+schedules. Also tests which requests are counted, and `--shrink`.
 """
 
 import json
@@ -11,8 +11,8 @@ from race_finder_output import script
 from race_finder_runs import BEGIN, STAGED
 from server import lines
 
-# The packet buffer has room for one long frame, and two arrive without an access between them. The second one has room
-# if the first one is moved before. With the argument `fails`, the test fails then.
+# The packet buffer has room for one long frame, and two arrive without an access between them. The second frame has
+# room if the first frame is moved before this arrival. With the argument `fails`, the test fails in this case.
 ROOM = ASK + f"""
 ask "writel 0xFEB01000 2"
 ask "writel 0xFEB02808 128"
@@ -58,8 +58,9 @@ ask "readl 0xFEB00008"
 ask "readl 0xFEB00008"
 case $answer in *3) echo "the link is up" >&2; exit 1 ;; esac
 """
-# Compares what runs with deviations before requests show: forked or recalled, the same again, and in a process of their
-# own.
+# Plays runs with deviations before requests three times: forked or recalled, once more so, and in processes of their
+# own. Prints whether there are enough such runs, and whether they show the same each time. Also prints whether runs are
+# still forked and recalled.
 SAME = BEGIN + """
 def shown(run):
     places = [tuple(met) for met in run.places]
@@ -98,13 +99,13 @@ def plays(server):
     named = (server.get("named") or b"").decode().splitlines()[2:]
     server.check("plays: the name", named, ["rxdata before arrive#2"])
     server.check("plays: a replay of the name", replay(server, named[0], command=FAILS), (FOUND, CHART, ""))
-    # Before the second arrival, `rxdata` or `rx`; before the read and the settling, too.
+    # `rxdata` or `rx` is possible before the second arrival, before the read, and before the settling.
     out = find(server, "--explore", "1", command=["sh", "room"])[1]
     server.check("plays: all of one deviation", re.findall(r"^depth 1: (\d+) ", out, re.M), ["6"])
 
 
 def lacks(server):
-    """What a replay reports of deviations before requests if they aren't met or do nothing."""
+    """A replay reports the deviations before requests that aren't met or do nothing."""
     server.put("room", ROOM.encode())
     passes = ["sh", "room"]
     for line, words, wanted in [
@@ -170,7 +171,7 @@ def ticks(server):
 
 
 def counted(server):
-    """Which requests begin rounds, and which are accesses: those that the server doesn't refuse."""
+    """Only requests that the server doesn't refuse begin rounds or count as accesses."""
     requests = ["offer", "arrive 0", "step fly", "settle 1", "settle", "read 0 65537", "readl 0x100000",
                 "readw 0xFEB00008", "readl 0xFEB00008", "outl 0xCF8 0x80002010", "outl 0xCFC 0xE0000000",
                 "readl 0xFEB00008", "writel 0xE0000014 1", "b64read 0xE0000014 4", "clock_step", "read 0x100000 0",

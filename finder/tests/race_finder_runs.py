@@ -1,5 +1,5 @@
-"""How the finder of races plays runs: forked, without the test, up to a known state, several at once, and as PCT draws
-them.
+"""Tests how the finder of races plays runs: forked, without the test, up to a known state, several at once, and as PCT
+draws them.
 """
 
 import os
@@ -23,12 +23,13 @@ from finder.schedule import Deviation, Place, parse
 from finder.target import Target
 """
 # Compares forked runs with processes of their own: drawn ones, one without deviations, one with deviations also before
-# round 1, and some with later deviations. Prints what differs, what a schedule shows that meets another access, and
-# whether some runs failed. Also prints whether all were forked, and whether there are hosts all along the run.
+# round 1, and some with later deviations. Prints what differs, and the message of a schedule that meets another access.
+# Then prints whether runs are still forked, whether there are more than 10 hosts, and whether the runs had different
+# results.
 SAME = BEGIN + """
 def shown(run):
     rows = [(row.line, row.owner, row.place, row.name, row.answer) for row in run.rows]
-    # That of a drawn run doesn't know what would do something, so places and names are compared.
+    # In a drawn run, a place has no enabled steps, so only places and names are compared.
     places = [met[:2] for met in run.places]
     return [run.fault, run.met, run.idle, run.unreached, run.answers, run.events, run.reached, places, rows]
 
@@ -214,7 +215,9 @@ def digests(server):
 
 
 def ends(server):
-    """How a test in Python may end, and what isn't forked."""
+    """A test in Python has the same fault in a forked run and in a process of its own. The test is loaded once if its
+    runs are forked. Some tests can't be forked.
+    """
     words = []
     for number, (text, _, fault) in enumerate(ENDS.values()):
         server.put(f"ends{number}.py", f"{ASKS}{text}\n".encode())
@@ -292,8 +295,8 @@ done
 """
 # Plays drawings in a world where each engine has some steps. Prints for each depth how many choices weren't that of the
 # actor with the highest priority, and how many priorities became lower. Also prints whether the priorities began as a
-# permutation, whether draws differ, and whether a seed decides. Then prints who went while the driver with the highest
-# priority polled, and some bounds.
+# permutation, whether draws differ, and whether a seed decides. Then prints which actors went while the driver with the
+# highest priority polled, and some bounds.
 CHOICES = BEGIN + """
 STEPS = {"rxdata": 3, "rxdone": 0, "txtake": 4, "txput": 0}
 NEXT = {"rxdata": "rxdone", "txtake": "txput"}

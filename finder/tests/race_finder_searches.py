@@ -1,5 +1,5 @@
-"""What the finder of races searches and prints: all runs that fail, windows, and schedules that lead to the same run.
-Also wrong arguments.
+"""Tests what the finder of races searches and prints: all runs that fail, windows, and schedules that lead to the same
+run. Also tests wrong arguments.
 """
 
 import json
@@ -70,9 +70,9 @@ class Fake:
         run.met, run.places = list(schedule), [met._replace(enabled=tuple(one for one in met.enabled if one not in taken)) for met in self.places]
         return run
 """
-# Before the first place, `txtake` and `tx` commute; before the second one, `txtake`; the third one is the last one.
-# Prints which schedules are tried: also in a window, in a shard, with two deviations, and if the last size isn't known
-# at first.
+# Before the first place, `txtake` and `tx` commute; before the second place, `txtake` and `rxdone`. The third place is
+# the last one. Prints which schedules are tried: also in a window, in a shard, with two deviations, and if the last
+# size isn't known at first.
 SAME = FAKE + """
 PLACES = [Met(Place(1, 1), "read A", ("txtake", "rxdone"), (), ("txtake", "tx")), Met(Place(1, 2), "read B", ("txtake",), (), ("txtake", "rxdone")),
           Met(Place(2, 0), "settle", ("txtake",), (), ("txtake", "tx"))]
@@ -165,7 +165,7 @@ def explored(server):
     server.check("explored: all as JSON", (search["failed"], *got), (failed, [1, 8, 6, 0], True, True))
     names = find(server, "--explore", "3", "--all", "--by-name", command=FAILS)[1].splitlines()[2]
     server.check("explored: by name", names, f"rxdata before read RDH#2; rxdone before read rx[0]+12#2: {FAULT}")
-    # A schedule that fails has longer ones, which are tried, too.
+    # Longer schedules that contain a failing one are tried, too.
     server.put("early", SMALL.replace("fails-*1-*0-*3", "fails-*1-*").encode())
     out = find(server, "--explore", "3", "--all", command=["sh", "early", "fails"])[1]
     server.check("explored: longer ones", (re.findall(COUNTED, out, re.M), re.findall(r"holds: (.*)", out)),
@@ -236,7 +236,7 @@ def same(server):
 
 
 def searched(server):
-    """What was searched, as JSON."""
+    """With `--json`, the finder prints what was searched."""
     server.put("small", SMALL.encode())
     base = {"answers": None, "complete": None, "tried": [], "same": 0, "smallest": None, "holds": False, "shard": "1/1",
             "from": None, "to": None, "first": None}
@@ -261,7 +261,7 @@ def searched(server):
 
 
 def arguments(server):
-    """Arguments that can't be meant are refused before anything is run."""
+    """Invalid arguments are refused before anything is run. `--out` creates nothing before a schedule is found."""
     server.put("given", b"")
     form = "isn't a place: use ROUND.ACCESS, such as 4.6; or ROUND.0 for the request that begins the round"
     for words, wanted in [
@@ -294,7 +294,9 @@ def arguments(server):
 
 
 def options(server):
-    """Options that the server refuses are wrong arguments; a server that ends by itself isn't."""
+    """If the server refuses its options, the finder's exit status is that of invalid arguments. If a server without
+    options ends, the status is that of a server that can't be run.
+    """
     for words, wanted in [(["--options", "--rxa 3"], "--rxa 3"), (["--options", "--fly", "--json"], "--fly")]:
         status, out, errors = find(server, *words, command=["true"])
         server.check(f"options: {words}", (status, out, errors.splitlines()[-2:]), (

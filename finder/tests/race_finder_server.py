@@ -1,7 +1,7 @@
 """The finder of races and `nicbench serve` play the same schedule alike: `serve --schedule`, and `serve --record`.
 
-A test runs with nothing between it and the server, and under the finder. It stores all answers that it reads, and its
-exit status.
+A test runs with nothing between it and the server, and under the finder. The test stores all answers that it reads, and
+its exit status.
 """
 
 import os
@@ -91,7 +91,7 @@ def command_of(server, test):
 
 
 def taken(server):
-    """What a test has stored. Removes the file."""
+    """Returns what a test has stored, and removes the file."""
     stored = server.get("stored")
     server.remove("stored")
     return stored

@@ -1,5 +1,5 @@
-"""The finder of races on the tests of examples/drivers: the table of examples/drivers/README.md, and the drivers
-without a bug in `stages` and `cuts`. Also words that name no test or driver.
+"""Runs the finder of races on the tests of examples/drivers: the table of examples/drivers/README.md, and the drivers
+without a bug in `stages` and `cuts`. Also tests words that name no test or driver.
 """
 
 import os
@@ -16,7 +16,8 @@ from driver import ARRIVAL_BUGS, BUGS, MORE_BUGS, QUEUE, RESET_BUGS, RIGHT
 
 STAGED = [sys.executable, "-S", "-E", os.path.join(TOP, "examples", "drivers", "staged_test.py")]
 HEADING = "| Bug | Test | Options | Seed | Schedule |"
-# Bugs whose schedules the finder finds again here, and how. The others take longer.
+# Bugs whose schedules the finder finds again here, each with the options of the search. The search for other bugs takes
+# longer.
 AGAIN = {"late": ["--explore", "1"], "length": ["--explore", "1"], "masks-late": ["--explore", "1"],
          "cuts": ["--runs", "1"], "rxo": ["--explore", "1"],
          "clears": ["--explore", "1"], "mpc": ["--explore", "1"]}
@@ -103,7 +104,7 @@ def right_drivers(server):
 
 
 def usage(server):
-    """Words that name no test or no driver."""
+    """With words that name no test or no driver, the tests print their usage."""
     names = "|".join([*RIGHT, *BUGS, *MORE_BUGS])
     more = "|".join([*ARRIVAL_BUGS, *QUEUE, *RESET_BUGS])
     staged = f"staged_test.py stages|cuts|offers|arrives|groups|misses|resets [{names}|{more}]"

@@ -57,7 +57,7 @@ void adapter_store(uint64_t address, const void *bytes, uint32_t size);
 enum outcome adapter_step(enum kind kind);
 enum fate adapter_arrive(const uint8_t *frame, uint32_t size);
 
-/* Takes the oldest frame off the wire. Returns its size, or 0 if there is none. `into` has FRAME_BYTES. */
+/* Takes the oldest frame off the wire. Returns its size, or 0 if there is none. `into` has room for FRAME_BYTES. */
 uint32_t adapter_take_sent(uint8_t *into);
 
 /* Whether the interrupt line is asserted. */

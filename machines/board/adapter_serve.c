@@ -1,5 +1,5 @@
-/* The adapter in `nicbench serve` (docs/SERVE.md). Stores and writes don't wait for their answers. These are read
- * later, at the latest before the answer to the next request whose answer matters. */
+/* The adapter in `nicbench serve` (docs/SERVE.md). Stores and writes don't wait for their answers. The answers
+ * are read later, at the latest before the answer to the next request whose answer matters. */
 #include "adapter.h"
 
 #include <errno.h>
@@ -17,7 +17,7 @@
 enum {
     ANSWER_BYTES = 1 << 18,
     REQUEST_BYTES = 16384,
-    MOST_OWED = 16, /* requests that are sent before their answers are read: both fit into their pipes */
+    MOST_OWED = 16, /* the most requests that are sent before their answers are read. All fit into their pipes. */
     SENT_ROOM = 64
 };
 
@@ -103,7 +103,8 @@ static void keep_sent(const char *digits)
     sent_count++;
 }
 
-/* Reads lines up to an answer. Returns the answer's text after `OK`, or the whole line if it is an error. */
+/* Reads lines up to an answer, and notes their events. Returns the answer's text after `OK`, or the whole line of an
+ * error. */
 static char *next_answer(void)
 {
     for (;;) {
@@ -133,7 +134,7 @@ static void collect(void)
         expect_ok(next_answer());
 }
 
-/* Adds a request whose answer is read later. The digits of some bytes may follow its text. */
+/* Adds a request whose answer is read later. The digits of `bytes` follow the text. */
 static void post(const char *text, const uint8_t *bytes, uint32_t size)
 {
     static const char digits[] = "0123456789abcdef";

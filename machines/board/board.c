@@ -11,7 +11,7 @@
  *                       are written there
  *   --echo ROUNDS       FIRST,LAST,MOST,STOP: rounds of echo requests (echo_rounds.h)
  *   --seed N            determines the steps
- *   --at-once           nothing is drawn
+ *   --at-once           nothing is drawn: each step is played at once
  *   --only ROUND,FILE   in this round, only the drawn actions whose numbers are in the file are played
  *   --trace FILE        writes all that happens to this file
  */
@@ -71,7 +71,7 @@ static int shared_file(uint64_t size)
     return file;
 }
 
-/* Two connected sockets. Returns the one that the board keeps. */
+/* Makes two connected sockets. Returns the one that the board keeps, and stores the other one in `other`. */
 static int connected(int *other)
 {
     int sockets[2];
@@ -111,7 +111,7 @@ static void start(const struct options *options)
         close(files[number]);
 }
 
-/* The driver has accessed a ring, and waits. */
+/* Answers the plugin, which waits because the driver has accessed a ring. */
 static void answer_plugin(void)
 {
     char letter;
@@ -127,7 +127,7 @@ static void answer_plugin(void)
         report("the plugin has ended");
 }
 
-/* If steps aren't drawn, the adapter works while the guest runs. Returns whether it has more work. */
+/* If steps aren't drawn, lets the adapter work while the guest runs. Returns whether the adapter has more work. */
 static bool work(void)
 {
     bool has_more;

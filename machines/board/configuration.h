@@ -22,7 +22,7 @@ bool configuration_disables_interrupt(void);
 /* Sets the level of the interrupt line that the status shows, also while the guest has disabled the line. */
 void configuration_set_interrupt(bool level);
 
-/* The interrupt that the machine's firmware or the guest has given to the function. */
+/* The number of the interrupt that the machine's firmware or the guest has given to the function. */
 uint32_t configuration_interrupt(void);
 
 #endif

@@ -16,10 +16,10 @@ struct dma_counts {
 
 extern struct dma_counts dma_counts;
 
-/* Plays a step. */
+/* Plays a step. Returns its outcome. */
 enum outcome dma_step(enum kind kind);
 
-/* A frame arrives. */
+/* Lets a frame arrive. Returns its fate. */
 enum fate dma_arrive(const uint8_t *frame, uint32_t size);
 
 /* The number of frames in the receive packet buffer. */
@@ -31,7 +31,7 @@ uint32_t dma_slot(void);
 /* Which engines a fault has stopped: bit 0 receive, bit 1 transmit. */
 uint32_t dma_stopped(void);
 
-/* The adapter was reset. */
+/* After a reset of the adapter: forgets its frames, its piece in progress and its stopped engines. Reads the rings. */
 void dma_reset(void);
 
 #endif

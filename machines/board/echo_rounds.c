@@ -82,7 +82,7 @@ static uint32_t get16(const uint8_t *bytes)
     return (uint32_t)bytes[0] << 8 | bytes[1];
 }
 
-/* Frames that the adapter missed, that arrived while its receiver was off, or that the wire dropped. */
+/* The number of frames that the adapter missed, that arrived while its receiver was off, or that the wire dropped. */
 static uint64_t counted(void)
 {
     return dma_counts.fates[MISSED] + dma_counts.fates[OFF] + wire_counts.dropped;
@@ -108,7 +108,7 @@ static void send_request(uint32_t round, uint32_t number)
     wire_receive(frame, size, number + 1);
 }
 
-/* Whether all bytes of a reply are those of its request. */
+/* Whether a reply has the length and the data of its request, code 0, and right checksums. */
 static bool is_right(const uint8_t *frame, uint32_t size)
 {
     uint32_t round = get16(frame + ICMP_ROUND), number = get16(frame + ICMP_NUMBER), data = data_size(round, number);
@@ -187,14 +187,14 @@ static void begin(void)
     state = DRAWN;
 }
 
-/* The drawn part is over: what is left is played at once. */
+/* Ends the drawn part of the round: what is left is played at once. */
 static void settle(void)
 {
     sweep_write(BOARD_REGISTERS + BOARD_ROUND, 0);
     state = SETTLING;
 }
 
-/* Counts the replies of the round. Returns what was wrong. */
+/* Counts the replies of the round. Returns what was wrong, by the bits VERDICT_... */
 static uint32_t verdict(void)
 {
     uint32_t gone = missing(), found = current.wrong ? VERDICT_BYTES : 0;
@@ -248,7 +248,7 @@ static void judge(void)
         accesses_begin();
 }
 
-/* A reset ends a round: what was in the adapter is lost. */
+/* Ends a round because of a reset: what was in the adapter is lost. */
 static void cut(void)
 {
     current.is_cut = true;
@@ -266,7 +266,7 @@ static void probe(void)
     current.countdown = PROBE_EVERY;
 }
 
-/* What a point does in this state */
+/* Does what is due at a point in the present state. */
 static void advance(void)
 {
     if (state == PROBING)

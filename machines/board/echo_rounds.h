@@ -18,13 +18,13 @@ void echo_start(const struct echo_options *options);
 enum echo_point { AT_ECHO_REGISTER, AT_ECHO_MEMORY };
 void echo_point(enum echo_point point);
 
-/* The driver resets the adapter: frames may be lost in this round. */
+/* Notes that the driver resets the adapter: frames may be lost in this round. */
 void echo_reset(void);
 
-/* The wire's other end. Returns false for a wrong reply. */
+/* Takes a frame of the guest, as the wire's other end. Returns false for a wrong reply. */
 bool echo_answer(const uint8_t *frame, uint32_t size);
 
-/* Whether the last round was judged. */
+/* Whether the last round was judged, or `stop` rounds have failed. */
 bool echo_is_over(void);
 
 /* Prints the counts. */

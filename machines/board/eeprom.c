@@ -44,7 +44,7 @@ void eeprom_start(void)
     adapter_write(CTRL, CTRL_RST);
 }
 
-/* The clock has risen. */
+/* At a rising edge of the clock: shifts a bit of the command in, or the next bit of the word out. */
 static void shift(bool bit)
 {
     if (is_reading) {

@@ -12,7 +12,7 @@ bool kept_has(uint32_t offset);
 uint32_t kept_read(uint32_t offset);
 void kept_write(uint32_t offset, uint32_t value);
 
-/* The adapter is reset: the registers have their first values. */
+/* Sets the registers to their values after a reset of the adapter. */
 void kept_reset(void);
 
 /* Prints which of the registers were accessed, and how often. */

@@ -58,7 +58,7 @@ static union {
 static int files[MOST_FILES];
 static unsigned file_count;
 
-/* The file descriptors that came with a message. */
+/* Stores the file descriptors that came with a message. */
 static void take_files(struct msghdr *from)
 {
     struct cmsghdr *control = CMSG_FIRSTHDR(from);
@@ -127,8 +127,8 @@ static void close_files(void)
         close(files[--file_count]);
 }
 
-/* The registers take accesses of four aligned bytes, and so do IOADDR and IODATA. Reads of another form return 0, and
- * writes of another form change nothing. */
+/* Whether an access has four aligned bytes in the region from `begin`: of registers, or of the I/O window. Stores its
+ * offset in the region. Other reads return 0, and other writes change nothing. */
 static bool is_register(const struct bar_message *access, uint32_t begin, uint32_t size, uint32_t *offset)
 {
     *offset = (uint32_t)access->address - begin;

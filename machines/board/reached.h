@@ -17,13 +17,13 @@ static inline uint64_t site_of_register(bool is_write, uint32_t offset)
     return (uint64_t)is_write << 32 | offset;
 }
 
-/* A round begins: the next access follows no other. */
+/* Begins a round: the next access follows no other. */
 void reached_begin(void);
 
-/* The driver has made an access. */
+/* Notes an access of the driver. */
 void reached_access(uint64_t site);
 
-/* A step did something after the last access. */
+/* Notes that a step did something after the last access. */
 void reached_step(void);
 
 /* Writes each pair of consecutive accesses: the two sites, how often the pair was made, and how often with a step

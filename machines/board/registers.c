@@ -16,7 +16,8 @@
 
 struct register_counts register_counts;
 
-/* The part's PHY negotiates by itself after power-on and after a reset of the PHY. The model's waits for a driver. */
+/* The part's PHY negotiates by itself after power-on and after a reset of the PHY. The model's PHY waits for a
+ * driver. */
 void registers_negotiate(void)
 {
     adapter_write(MDIC, NEGOTIATE);

@@ -8,10 +8,10 @@
 uint32_t registers_read(uint32_t offset);
 void registers_write(uint32_t offset, uint32_t value);
 
-/* The PHY negotiates. Then the link is up. */
+/* Lets the PHY negotiate. Then the link is up. */
 void registers_negotiate(void);
 
-/* The machine resets the function. */
+/* Does what happens when the machine resets the function: resets the adapter, and lets its PHY negotiate. */
 void registers_reset(void);
 
 struct register_counts {

@@ -89,7 +89,7 @@ static uint32_t adjusted(uint32_t checksum, uint32_t less)
     return (sum & 0xFFFF) + (sum >> 16);
 }
 
-/* A request, or its first fragment: its type becomes that of a reply. */
+/* Answers an echo request, or its first fragment: its type becomes that of a reply. */
 static void answer_echo(uint8_t *frame, uint32_t size)
 {
     if (frame[ICMP_TYPE] != ECHO)

@@ -5,7 +5,7 @@
 struct ring receive_ring, transmit_ring;
 uint32_t receive_buffer_bytes;
 
-/* The distance from RDBAL to TDBAL, and so on */
+/* The distance from a register of the receive ring to that of the transmit ring, such as from RDBAL to TDBAL */
 enum { TO_TRANSMIT = TDBAL - RDBAL };
 
 static void refresh_control(void)

@@ -21,10 +21,10 @@ extern uint32_t receive_buffer_bytes;
 /* Reads all these registers. */
 void rings_refresh(void);
 
-/* The register at an offset was written: reads it if it is one of these. */
+/* After a write of the register at an offset: reads the register if it is one of these. */
 void rings_written(uint32_t offset);
 
-/* A step has moved the head of a ring: reads the head. */
+/* After a step that has moved the head of a ring: reads the head. */
 void rings_advance(struct ring *ring);
 
 /* Whether the ring offers a descriptor to an engine that is enabled. */

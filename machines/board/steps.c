@@ -39,8 +39,8 @@ void steps_tick(void)
         phy_has_work = dma_step(PHY) == TICKED;
 }
 
-/* One step of each kind, and one arrival if the receive packet buffer is empty: so frames wait on the wire and aren't
- * missed while the driver has offered no buffers. */
+/* Plays one step of each kind, and one arrival if the receive packet buffer is empty. So frames wait on the wire and
+ * aren't missed while the driver has offered no buffers. Returns whether something was done. */
 static bool settle_once(void)
 {
     bool did = steps_play(ACTION_TXTAKE);

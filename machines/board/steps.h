@@ -14,7 +14,7 @@ enum action { ACTION_TXTAKE, ACTION_TXPUT, ACTION_RXDATA, ACTION_RXDONE, ACTION_
  * something other than a fault. */
 bool steps_play(enum action action);
 
-/* The driver writes a register: the EEPROM or the PHY may have work. */
+/* Notes that the driver writes a register: the EEPROM or the PHY may have work. */
 void steps_written(uint32_t offset);
 
 /* Plays the steps of the EEPROM and the PHY, if they have work. */

@@ -22,7 +22,8 @@ static uint32_t seed, round_number;
 static uint64_t generator;
 static const char *folder;
 
-/* The round in which only some drawn actions are played, and whether each is, by its number. There is no round 0. */
+/* The round in which only some drawn actions are played, and whether each is, by its number. `round` is 0 if all are
+ * played. */
 static struct {
     uint32_t round;
     bool is_played[1 << 16];
@@ -40,7 +41,7 @@ static struct {
     uint64_t missed, excused, wrong;
 } begun;
 
-/* The drawn actions of the round so far. */
+/* The number of the round's actions that were drawn so far. */
 static uint32_t drawn_number;
 
 static struct {
@@ -97,7 +98,7 @@ static void draw_settings(void)
     settings.gap = gaps[draw(sizeof gaps)];
 }
 
-/* Frames that are lost without a miss: they arrived while the receiver was off, or the wire dropped them. */
+/* The number of frames lost without a miss: they arrived while the receiver was off, or the wire dropped them. */
 static uint64_t excused(void)
 {
     return dma_counts.fates[OFF] + wire_counts.dropped;
@@ -126,7 +127,7 @@ static void begin_round(uint32_t number)
     accesses_ask_after(1 + draw(settings.gap));
 }
 
-/* The drawn part of a round is over: what is left is played at once. */
+/* Ends the drawn part of a round: what is left is played at once. */
 static void end_round(void)
 {
     in_round = false;
@@ -228,7 +229,7 @@ static void keep_trace(void)
     trace_write(path);
 }
 
-/* The test program has judged a round. */
+/* Takes the test program's verdict on a round. */
 static void judge(uint32_t verdict)
 {
     is_judged = true;

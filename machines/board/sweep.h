@@ -7,8 +7,8 @@
 #include <stdbool.h>
 #include <stdint.h>
 
-/* Rounds may be played. If `drawn`, steps are drawn in them; otherwise each step is played at once. `folder` gets the
- * trace of the first round that fails, and what `sweep_end` writes. */
+/* From now on, rounds may be played. If `drawn`, steps are drawn in them; otherwise each step is played at once.
+ * `folder` gets the trace of the first round that fails, and what `sweep_end` writes. */
 void sweep_start(uint32_t seed, const char *folder, bool drawn);
 
 /* In this round, only the drawn actions with the numbers in the file `path` are played. The numbers count the round's

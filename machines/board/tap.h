@@ -5,7 +5,7 @@
 #include <stdbool.h>
 #include <stdint.h>
 
-/* Makes the device and sets its address. The caller is in a network namespace of its own. */
+/* Makes the device and sets its address. The caller must be in a network namespace of its own. */
 void tap_start(const char *name);
 
 /* The descriptor of the device, or -1. */

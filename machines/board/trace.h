@@ -10,10 +10,10 @@
 #include "../shared/accesses.h"
 #include "adapter.h"
 
-/* All that happens is written to this file, also outside of rounds. */
+/* From now on, writes all that happens to this file, also outside of rounds. */
 void trace_to(FILE *file);
 
-/* A round begins: what was recorded before it isn't kept. */
+/* Begins the record of a round, and drops what was recorded before. */
 void trace_begin(uint32_t round, const char *settings);
 
 /* Writes to a file what was recorded since the round began. */

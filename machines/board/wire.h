@@ -15,14 +15,14 @@ extern struct wire_counts wire_counts;
 typedef bool wire_end(const uint8_t *frame, uint32_t size);
 void wire_start(wire_end *end);
 
-/* A frame comes from the other end, without FCS. It waits until it arrives at the adapter, or is dropped if it is too
- * long or too many wait. `number` is shown in traces. */
+/* Takes a frame, without FCS, from the other end. The frame waits until it arrives at the adapter. It is dropped if it
+ * is too long or too many frames wait. `number` is shown in traces. */
 void wire_receive(const uint8_t *frame, uint32_t size, uint32_t number);
 
 /* The number of frames that wait. */
 uint32_t wire_waiting(void);
 
-/* The oldest of these frames arrives at the adapter. Returns false if none waits. */
+/* Lets the oldest of these frames arrive at the adapter. Returns false if no frame waits. */
 bool wire_arrive(void);
 
 /* Passes to the other end the frames that the adapter has sent. */

@@ -81,7 +81,7 @@ void kernel_log_skip(void)
     first_warning[0] = 0;
 }
 
-/* A line is `LEVEL,NUMBER,TIME,..;TEXT`. */
+/* Whether a line of the kernel's log, `LEVEL,NUMBER,TIME,..;TEXT`, is a warning or an error. */
 static int is_warning(const char *line)
 {
     return atoi(line) % LEVELS <= WARNING;

@@ -21,10 +21,10 @@ enum {
     WAIT_LEFT = 20,
     WAIT_LEFT_AT_ONCE = 400,
     WAIT_WATCHDOG = 5000,
-    TRIES = 2000 /* to send a request while the transmit ring is full */
+    TRIES = 2000 /* the most tries to send a request while the transmit ring is full */
 };
 
-/* How a round sends. */
+/* How many requests a round sends, and how many replies each request asks for. */
 enum style { MANY_REQUESTS, SOME_OF_EACH, MANY_REPLIES, STYLES };
 
 static volatile uint32_t *board;
@@ -95,7 +95,7 @@ static void receive_all(void)
 }
 
 /* Waits until `wanted` right replies have come, or no further one comes for `milliseconds`. Returns whether they have
- * come. The board may play steps at each look. */
+ * come. The board may play steps at each read of BOARD_POKE. */
 static bool wait_for(uint32_t wanted, unsigned milliseconds, unsigned pause)
 {
     uint32_t last = current.right;
@@ -240,7 +240,7 @@ static uint32_t play(uint32_t number)
     return found;
 }
 
-/* A round has failed: the interface is taken down and up, and the round is played again by itself. */
+/* After a round that has failed: takes the interface down and up, and plays the round again by itself. */
 static void play_alone(const char *interface, uint32_t number)
 {
     uint32_t found;

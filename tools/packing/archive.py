@@ -8,7 +8,7 @@ import subprocess
 import tarfile
 import tempfile
 
-# Names that aren't packed: of what builds and runs make, of tests, and of Git's file
+# Names of files and folders that aren't packed: outputs of builds and runs, tests, and Git's list of ignored files
 LEFT = ("out", "__pycache__", "target", "tests", ".gitignore")
 
 

@@ -14,7 +14,7 @@ FOLDERS = ("docs", "examples", "machines", "bench", "bindings", "crates", "finde
 FILES = ("README.md", "CHANGELOG.md", "LICENSE", os.path.join("tools", "races"), os.path.join("tools", "run_chart"))
 # The site of tools/pages
 SITE = os.path.join("share", "doc", "nicbench", "site")
-# The pages have the command `./nicbench --build`. In a release, the program is built already.
+# The pages show the command `./nicbench --build`. In a release, the program is built already.
 SCRIPT = """#!/bin/sh
 # Runs the program of this release with the given words. `--build` has nothing to do.
 if [ "${1-}" = --build ]; then
@@ -62,7 +62,7 @@ def release_tree(program, library, version, notes, moment):
 
 
 def place(path):
-    """Where a Debian package has a file of the archive."""
+    """The path in a Debian package at which a file of the archive is installed."""
     places = {"bin/nicbench": "usr/bin/nicbench", "LICENSE": "usr/share/doc/nicbench/copyright",
               "share/zsh/site-functions/_nicbench": "usr/share/zsh/vendor-completions/_nicbench"}
     is_system = path.split("/")[0] in ("lib", "include", "share")

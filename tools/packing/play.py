@@ -8,7 +8,7 @@ import tempfile
 
 from packing.root import Root
 
-# Programs that a session needs and a release doesn't have
+# By a word of a command: the program that the command needs and a release doesn't contain
 NEEDS = {"python3": "python3", "tools/races": "python3", "tools/run_chart": "python3",
          "examples/emulators/qemu.py": "qemu-system-x86_64", "cc ": "cc", "pkg-config": "pkg-config"}
 FLAGS = "$(pkg-config --cflags --libs nic82540em)"
@@ -53,7 +53,7 @@ def sessions(page):
 
 
 def fits(output, shown):
-    """Whether this is the output that a page shows. There, a line `...` is in place of any lines."""
+    """Whether this is the output that a page shows. In the page, a line `...` stands for any lines."""
     lines = ["(?:.*\n)*?" if line == "...\n" else re.escape(line) for line in shown.splitlines(keepends=True)]
     return re.fullmatch("".join(lines), output) is not None
 

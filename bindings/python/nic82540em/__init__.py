@@ -175,8 +175,8 @@ class Nic:
         return self.call("accesses")
 
     def waiting(self) -> tuple[int, int]:
-        """Returns the numbers of frames in the packet buffer. A received frame is there until its last piece is
-        written to memory. A frame to be sent is there until it is put on the wire.
+        """Returns the numbers of received frames and of frames to be sent in the packet buffer. A received frame is
+        there until its last piece is written to memory. A frame to be sent is there until it is put on the wire.
         """
         return self.call("waiting_received"), self.call("waiting_transmit")
 
@@ -205,8 +205,8 @@ class Nic:
         return self.call("digest")
 
     def state_digest(self, seed: int = 0) -> int:
-        """Returns a digest of the adapter's state, without memory: its registers, the frames in its packet buffer, and
-        its work in progress. Adapters with the same state have equal digests for each seed.
+        """Returns a digest of the adapter's state, without memory: its registers, its PHY, the frames in its packet
+        buffers, and its work in progress. Adapters with the same state have equal digests for each seed.
         """
         if not 0 <= seed < 1 << 64:
             raise Refused(f"state_digest {seed}")
@@ -248,7 +248,7 @@ class Nic:
             raise Refused("memory is refused")
 
     def fill_wire(self, full: bool) -> None:
-        """From now on, the wire is full; if `full` is false, only while 64 frames wait. A full wire takes no frame."""
+        """From now on, the wire is full and takes no frame if `full` is true, else only while 64 frames wait."""
         self.call("fill_wire", full)
 
     def take_put(self) -> Optional[bytes]:
@@ -284,7 +284,7 @@ class Nic:
 
     def choose(self, limit: int) -> int:
         """Returns a number below `limit`, which is above 0. If random steps are played before accesses, the number is
-        random. Otherwise, it is that of the schedule if this number is below `limit`, or else 0.
+        random. Otherwise, it is the schedule's number if this number is below `limit`, or else 0.
         """
         if not 0 < limit < 1 << 32:
             raise Refused(f"choose {limit}")
@@ -292,8 +292,8 @@ class Nic:
 
     def schedule(self, access: int, kind: str) -> None:
         """Adds a step to the end of the list of scheduled steps. The step is played before the first access with a
-        number of at least `access`, after all steps that were added before. The first access has number 0. Raises
-        Refused if 4,096 steps wait.
+        number of at least `access`, but not before the steps that were added earlier. The first access has number 0.
+        Raises Refused if 4,096 steps wait.
         """
         if kind not in KINDS or not 0 <= access < 1 << 64 or not self.call("schedule", access, KINDS.index(kind)):
             raise Refused(f"schedule {access} {kind}")
@@ -415,7 +415,7 @@ class Adapter:
         self.cut_in()
 
     def cut_in(self) -> None:
-        """Calls the handler while the line is asserted and interrupts are taken. It isn't interrupted itself."""
+        """Calls the handler while the line is asserted and interrupts are taken. The handler isn't interrupted."""
         while self.line and self.handler and self.takes_interrupts:
             self.takes_interrupts = False
             self.handler()
@@ -423,7 +423,7 @@ class Adapter:
 
     @contextmanager
     def interrupts_off(self) -> Iterator[None]:
-        """In this block, no interrupt is taken. At its end, a handler that is due and was let in before is called."""
+        """In this block, no interrupt is taken. After it, the handler is called if it is due and interrupts are on."""
         before, self.takes_interrupts = self.takes_interrupts, False
         yield
         self.takes_interrupts = before

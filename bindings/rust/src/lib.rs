@@ -337,7 +337,8 @@ pub struct Nic {
 }
 
 impl Nic {
-    /// Makes an adapter, with memory of zeros and an empty wire.
+    /// Makes an adapter, with memory of zeros and an empty wire. Returns an error if an option is out of range, or
+    /// memory is refused.
     pub fn new(options: &Options) -> Result<Nic, Error> {
         let mut handle = Handle { held: false, state: null_mut() };
         if unsafe { nic82540em_new(&mut handle, &options.into()) } {
@@ -370,19 +371,20 @@ impl Nic {
         is_done.then_some(()).ok_or(Error::OutOfRange)
     }
 
-    /// The number of accesses (reads, writes, loads and stores) so far. [`recount`](Nic::recount) sets this number.
+    /// Returns the number of accesses (reads, writes, loads and stores) so far. [`recount`](Nic::recount) sets this
+    /// number.
     pub fn accesses(&mut self) -> u64 {
         unsafe { nic82540em_accesses(&mut self.handle) }
     }
 
-    /// The numbers of frames in the packet buffer. A received frame is there until its last piece is written to memory,
-    /// and a frame to be sent until it is put on the wire.
+    /// Returns the numbers of received frames and of frames to be sent in the packet buffer. A received frame is there
+    /// until its last piece is written to memory, and a frame to be sent until it is put on the wire.
     pub fn waiting(&mut self) -> (u32, u32) {
         unsafe { (nic82540em_waiting_received(&mut self.handle), nic82540em_waiting_transmit(&mut self.handle)) }
     }
 
-    /// The host's memory. Reads and writes of these bytes aren't counted as accesses, and no step is played before
-    /// them.
+    /// Returns the host's memory. Reads and writes of these bytes aren't counted as accesses, and no step is played
+    /// before them.
     pub fn memory(&mut self) -> &mut [u8] {
         let mut address = null_mut();
         let size = unsafe { nic82540em_memory(&mut self.handle, &mut address) };
@@ -392,15 +394,15 @@ impl Nic {
         unsafe { std::slice::from_raw_parts_mut(address, size as usize) }
     }
 
-    /// The value that a read of the register at an offset would return now, without steps before the read. Nothing
-    /// changes.
+    /// Returns the value that a read of the register at an offset would return now, without steps before the read.
+    /// Nothing changes.
     pub fn peek(&mut self, offset: u32) -> u32 {
         let mut value = 0;
         unsafe { nic82540em_peek(&mut self.handle, offset, &mut value) };
         value
     }
 
-    /// Whether a step of this kind would have another outcome than [`Outcome::Nothing`] now.
+    /// Returns whether a step of this kind would have another outcome than [`Outcome::Nothing`] now.
     pub fn is_possible(&mut self, kind: Step) -> bool {
         unsafe { nic82540em_possible(&mut self.handle) >> kind as u32 & 1 == 1 }
     }
@@ -416,7 +418,9 @@ impl Nic {
         FATES[unsafe { nic82540em_arrive(&mut self.handle, frame.as_ptr(), frame.len()) } as usize]
     }
 
-    /// Offers a frame, without its checksum, to the adapter. The oldest waiting frame may arrive before an access
+    /// Offers a frame, without its checksum, to the adapter. Returns an error if memory is refused.
+    ///
+    /// The frame waits after those that were offered before. The oldest waiting frame may arrive before an access
     /// ([`interleave`](Nic::interleave), [`play`](Nic::play)) or before a request ([`begin_round`](Nic::begin_round)).
     /// The frames that still wait at the next [`settle`](Nic::settle) arrive then.
     ///
@@ -441,7 +445,7 @@ impl Nic {
         unsafe { nic82540em_fill_wire(&mut self.handle, full) }
     }
 
-    /// Takes the oldest frame off the wire, if one waits.
+    /// Takes the oldest frame off the wire, and returns the frame, or `None` if no frame waits.
     pub fn take_put(&mut self) -> Option<Vec<u8>> {
         let mut frame = vec![0; MOST_FRAME_BYTES];
         let length = unsafe { nic82540em_take_put(&mut self.handle, frame.as_mut_ptr(), frame.len()) };
@@ -449,7 +453,7 @@ impl Nic {
         (length > 0).then_some(frame)
     }
 
-    /// Whether the interrupt line is asserted.
+    /// Returns whether the interrupt line is asserted.
     pub fn line(&mut self) -> bool {
         unsafe { nic82540em_line(&mut self.handle) }
     }
@@ -501,8 +505,8 @@ impl Nic {
     }
 
     /// Adds a step to the end of the list of scheduled steps. The step is played before the first access with a number
-    /// of at least `access`, after all steps that were added before. The first access has number 0. Returns an error if
-    /// 4,096 steps wait.
+    /// of at least `access`, but not before the steps that were added earlier. The first access has number 0. Returns
+    /// an error if 4,096 steps wait.
     pub fn schedule(&mut self, access: u64, kind: Step) -> Result<(), Error> {
         let is_done = unsafe { nic82540em_schedule(&mut self.handle, access, kind as u32) };
         is_done.then_some(()).ok_or(Error::TooManySteps)
@@ -570,20 +574,20 @@ impl Nic {
         unsafe { nic82540em_recount(&mut self.handle, accesses) }
     }
 
-    /// A digest of the adapter's state and of its host's memory. The digest doesn't cover the EEPROM's words, the
-    /// wire, offered frames, events, schedules, the generator, settings, or the number of accesses.
+    /// Returns a digest of the adapter's state and of its host's memory. The digest doesn't cover the EEPROM's words,
+    /// the wire, offered frames, events, schedules, the generator, settings, or the number of accesses.
     pub fn digest(&mut self) -> u64 {
         unsafe { nic82540em_digest(&mut self.handle) }
     }
 
-    /// A digest of the adapter's state, without memory: its registers, the frames in its packet buffer, and its work in
-    /// progress. Adapters with the same state have equal digests for each seed.
+    /// Returns a digest of the adapter's state, without memory: its registers, its PHY, the frames in its packet
+    /// buffers, and its work in progress. Adapters with the same state have equal digests for each seed.
     pub fn state_digest(&mut self, seed: u64) -> u64 {
         unsafe { nic82540em_state_digest(&mut self.handle, seed) }
     }
 
-    /// A copy of the adapter, with the same memory, wire, offered frames, schedules, settings, generator, events and
-    /// number of accesses. Returns an error if memory is refused.
+    /// Returns a copy of the adapter, with the same memory, wire, offered frames, schedules, settings, generator,
+    /// events and number of accesses. Returns an error if memory is refused.
     pub fn copy(&mut self) -> Result<Nic, Error> {
         let mut handle = Handle { held: false, state: null_mut() };
         if unsafe { nic82540em_copy(&mut self.handle, &mut handle) } {

@@ -66,8 +66,8 @@ static uint32_t read_causes(void)
     return last;
 }
 
-/* Whether this value of MDIC says that the link is down. The driver doesn't wait between its reads, and gives up after
- * some of them; so the bridge waits. */
+/* Whether this value of MDIC answers a read of the PHY's status, and the link is down. The driver doesn't wait between
+ * its reads, and gives up after some of them; so the bridge waits. */
 static bool is_link_down(uint32_t value)
 {
     return (value >> 16 & 0x1F) == PHY_STATUS && value & MDIC_READY && !(value & LINK_UP);
@@ -84,7 +84,7 @@ uint32_t access_readl(uint32_t offset)
     return offset == RDBAH || offset == TDBAH ? 0 : value;
 }
 
-/* The driver's address of a ring becomes a bus address. */
+/* Writes both registers of a ring's base. The address in the driver's memory becomes a bus address. */
 static void write_base(struct ring *ring, uint32_t offset, uint32_t value)
 {
     uint64_t base = function.bus_address + value;
@@ -148,7 +148,8 @@ static bool is_in(const struct ring *ring, uint64_t address)
     return address - ring->begin < ring->bytes;
 }
 
-/* Adds `change` to the buffer's address in each descriptor that is complete in these bytes. */
+/* Adds `change` to the buffer's address in each complete descriptor of these bytes, up to the first 16 bytes outside
+ * the rings. */
 static void translate(uint64_t address, uint8_t *bytes, uint64_t size, uint64_t change)
 {
     uint64_t buffer;

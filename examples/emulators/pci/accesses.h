@@ -6,8 +6,8 @@
 
 struct access_options {
     int wait;   /* the most milliseconds that a read of ICR waits for an interrupt, if the last read found no cause */
-    int settle; /* milliseconds after the receiver was enabled. QEMU's e1000 receives only a second later */
-    int offers; /* a file that gets a letter at each write of RDT: 'A' and the number of new descriptors; or -1 */
+    int settle; /* milliseconds to wait after the receiver was enabled. QEMU's e1000 receives only a second later */
+    int offers; /* a file that gets a letter at each write of RDT: 'A' for no new descriptor, 'B' for one; or -1 */
 };
 
 void accesses_start(const struct access_options *options);

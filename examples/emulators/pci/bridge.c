@@ -4,12 +4,12 @@
  *
  * DEVICE is a name such as 0000:00:03.0. The bridge adds --registers and --memory to the words of nicbench.
  *
- *   --any          another part than the 82540EM, of a list of its kin
+ *   --any          also allows other parts than the 82540EM, from a list of its kin
  *   --line         reports the interrupt line; the driver then also has turns when it is asserted
  *   --wait MS      a read of ICR after one that found no cause waits for an interrupt, at most this long (10)
- *   --settle MS    waits after the receiver was enabled (0)
+ *   --settle MS    waits this long after the receiver was enabled (0)
  *   --map BYTES    with vfio: the IOMMU maps only the first BYTES of the memory (2097152)
- *   --offers FILE  gets a letter at each write of RDT: A and the number of new descriptors
+ *   --offers FILE  gets a letter at each write of RDT: A for no new descriptor, B for one, and so on
  */
 #include <errno.h>
 #include <fcntl.h>
@@ -40,7 +40,7 @@ static struct {
     uint64_t reads, writes, loads, stores;
 } counts;
 static bool tells_line;
-static volatile sig_atomic_t program; /* its process */
+static volatile sig_atomic_t program; /* the process of nicbench */
 
 static void usage(void)
 {
@@ -106,7 +106,7 @@ static unsigned digit_of(char letter)
     return letter <= '9' ? letter - '0' : (letter | 32) - 'a' + 10;
 }
 
-/* Reads the digits of some bytes. Returns false if they aren't there. */
+/* Reads `size` bytes from a space, 0x and their digits. Returns false if the text has another length. */
 static bool take_bytes(const char *digits, uint8_t *bytes, uint64_t size)
 {
     if (strncmp(digits, " 0x", 3) != 0 || strlen(digits) != 3 + 2 * size)
@@ -200,7 +200,7 @@ static bool answer(const char *line, int to)
     return write(to, text + LINE_ROOM - told, told + size) == (ssize_t)(told + size);
 }
 
-/* Answers the requests that come, to the end. */
+/* Answers requests until nicbench ends, or doesn't read an answer. */
 static void serve(int from, int to)
 {
     static char lines[LINE_BYTES];
@@ -223,7 +223,7 @@ static void serve(int from, int to)
     }
 }
 
-/* Runs nicbench, joined by two pipes. */
+/* Runs nicbench in this process, with the pipes as its standard input and output. */
 static void run(char **words, int count, int input, int output)
 {
     char *all[MOST_WORDS + 5], registers[32], memory[32];
@@ -240,7 +240,7 @@ static void run(char **words, int count, int input, int output)
     _exit(127);
 }
 
-/* The user ends the bridge: nicbench ends, and then the bridge as always. */
+/* Kills nicbench at a signal that ends the bridge. The bridge then ends as after any run. */
 static void end(int signal)
 {
     (void)signal;

@@ -12,7 +12,7 @@ struct function {
     volatile uint8_t *registers;
     uint8_t *memory;
     uint64_t bus_address; /* where the adapter finds the first byte of the memory */
-    int interrupt;        /* can be read after an interrupt */
+    int interrupt;        /* a file that can be read after an interrupt */
     int configuration;    /* the file of the configuration space, which begins at `configuration_begin` */
     uint64_t configuration_begin;
     bool (*await_interrupt)(int milliseconds);
@@ -37,7 +37,7 @@ void configuration_write(unsigned offset, uint16_t value);
 
 enum { COMMAND_MEMORY = 1 << 1, COMMAND_MASTER = 1 << 2, COMMAND_NO_INTERRUPT = 1 << 10, STATUS_INTERRUPT = 1 << 3 };
 
-/* The adapter may access memory from now on, or may not (bus mastering). */
+/* Sets whether the adapter may access memory from now on (bus mastering). */
 void function_master(bool may);
 
 /* Registers */

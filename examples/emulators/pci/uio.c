@@ -63,7 +63,8 @@ static int open_interrupt(const char *name)
     return file;
 }
 
-/* uio_pci_generic disables the interrupt in the command register when it comes. */
+/* Enables the interrupt in the command register, where uio_pci_generic disables it when it comes. Returns whether it
+ * came within these milliseconds. */
 static bool await_interrupt(int milliseconds)
 {
     struct pollfd wait = { function.interrupt, POLLIN, 0 };

@@ -80,7 +80,7 @@ static void set_interrupt(uint32_t flags, const int *descriptor)
         fail("the interrupt of the function: %s", strerror(errno));
 }
 
-/* vfio-pci masks the interrupt when it comes. */
+/* Unmasks the interrupt, which vfio-pci masks when it comes. Returns whether it came within these milliseconds. */
 static bool await_interrupt(int milliseconds)
 {
     struct pollfd wait = { function.interrupt, POLLIN, 0 };

@@ -1,5 +1,5 @@
-"""`nicbench drive` with rings of 4,096 descriptors on `nicbench serve`: both rings are filled, and wrap. Sizes that
-aren't valid are rejected.
+"""Tests `nicbench drive` with rings of 4,096 descriptors on `nicbench serve`: both rings are filled, and wrap. Sizes
+that aren't valid are rejected.
 """
 
 from emulators import RDH, RDT, Serve
@@ -46,7 +46,7 @@ class Bursts(Serve):
         return answer
 
     def arrive_all(self, frames):
-        """Frames arrive and are moved to memory, 30 at a time. Notes whether the ring has run dry."""
+        """Lets frames arrive, and moves them to memory, 30 at a time. Notes whether the ring has run dry."""
         told = []
         for at in range(0, len(frames), 30):
             told += super().arrive_all(frames[at:at + 30])
@@ -62,7 +62,8 @@ def frames_of(seed, slots):
 
 
 def exchange(bench, slots, words, memory):
-    """The driver and an adapter fill both rings."""
+    """The driver exchanges frames with an adapter. Both rings are filled, and all frames come unchanged and in order.
+    """
     to_send, arriving = frames_of(2, slots), frames_of(3, slots)
     write_trace(bench.path("send.pcap"), to_send)
     wire, adapter = Wire(arriving), Bursts(bench.program, memory)
@@ -82,8 +83,8 @@ def exchange(bench, slots, words, memory):
 
 
 def rejected(bench):
-    """Sizes of rings that aren't valid, or for which memory is too small: no request is written. With just enough
-    memory, a request is.
+    """If the size of a ring isn't valid, or memory is too small for the rings, no request is written. With just enough
+    memory, one is written.
     """
     for rx, tx, buffers, memory in [(SLOTS, SLOTS, BUFFERS, GREATEST - 1), (SLOTS + 8, SLOTS, BUFFERS, 1 << 24),
                                     (SLOTS, SLOTS + 8, BUFFERS, 1 << 24), (SLOTS, SLOTS, SLOTS - 1, 1 << 24),

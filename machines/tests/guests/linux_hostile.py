@@ -96,8 +96,8 @@ class Guest:
             self.write(ring + offset, value)
 
     def send_ping(self):
-        """Offers a drawn frame, or a part of it, up to 31 times. Mostly it is a ping or a datagram to the wire's other
-        end.
+        """Offers a drawn frame, or a part of it, up to 31 times. Mostly the frame is a ping or a datagram to the wire's
+        other end.
         """
         frame = bytes.fromhex("0200000000020200000000010800") + self.draw.choice((
             bytes.fromhex("450000540000400040010000" "0a0000010a000002" "0800000000000000") + bytes(60),
@@ -152,7 +152,7 @@ class Guest:
 
 
 def answer_qtest(listener):
-    """Answers each line of the board as QEMU does."""
+    """Answers `OK` to what the board sends over qtest, as QEMU does for each line."""
     connection, _ = listener.accept()
     while connection.recv(4096):
         connection.sendall(b"OK\n")

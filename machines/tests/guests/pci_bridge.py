@@ -1,4 +1,6 @@
-"""The bridge of examples/emulators/pci: its words, functions that it refuses, and a guest in which the driver runs."""
+"""Tests the bridge of examples/emulators/pci: its words, functions that it refuses, and a guest in which the driver
+runs.
+"""
 
 import os
 import shutil
@@ -53,7 +55,8 @@ def missing():
 
 
 def in_guest(bench):
-    """The driver on QEMU's e1000 in a guest: by VFIO, with too little memory mapped, and by UIO."""
+    """In a guest with QEMU's e1000, the driver runs by VFIO, with too little memory mapped, and by UIO. All parts pass.
+    """
     command = [sys.executable, os.path.join(PCI, "run"), "--nicbench", bench.program, "--frames", str(FRAMES)]
     ran = subprocess.run(command, capture_output=True, text=True, timeout=1800)
     lines = ran.stdout.splitlines()

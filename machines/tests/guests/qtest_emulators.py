@@ -1,4 +1,6 @@
-"""The test with QEMU's libqtest on `qemu-system-nicbench` and on QEMU, and what `qemu-system-nicbench` does besides."""
+"""Runs the test with QEMU's libqtest on `qemu-system-nicbench` and on QEMU, and tests what else `qemu-system-nicbench`
+does.
+"""
 
 import json
 import os
@@ -176,7 +178,7 @@ def monitored(bench):
 
 
 def unconfigured(bench):
-    """The adapter before it is set up is as QEMU has it before firmware runs; memory has the size of -m."""
+    """Before its set-up, the adapter is as in QEMU before firmware runs. Memory has the size of -m."""
     session = Session(bench, "-m", "size=2M", has_wire=False)
     for name, requests, wanted in [
         ("no registers", ["readl 0xFEB00008"], ["ERR address"]),
@@ -216,7 +218,9 @@ def interrupts(bench):
 
 
 def frames(bench):
-    """Frames go both ways at once; those that come early wait; a fault is reported on standard error."""
+    """Frames go both ways at once. Frames that come before the adapter receives wait. A fault is reported on standard
+    error.
+    """
     session, frame = Session(bench, "-qtest-log", bench.path("log")), bytes.fromhex("ffffffffffff020000000009080045")
     session.put(frame)
     session.put(frame + bytes(100))
@@ -281,7 +285,7 @@ IGNORED = ["-nodefaults", "-no-reboot", "-machine", "pc-i440fx-7.2,accel=qtest",
 
 
 def options(bench):
-    """Options that don't matter are ignored, others are refused."""
+    """Options that change nothing here are ignored. Options that can't be met are refused."""
     nowhere = ["-qtest", f"unix:{bench.path('nowhere')}"]
     for words, told in [*((["-display", "none", *words, *nowhere], told) for words, told in REFUSED),
         (["-m", "1M"], "-qtest unix:PATH is missing: the client must listen there"),
