@@ -94,7 +94,7 @@ pub record Modes (every tagged : Bool) (mode : ℕ) : Type 0 where
   pub groups : HasBit mode 4 ↔ (every ≡ true)
   pub broadcasts : HasBit mode 15 ↔ Unit {0}
 
--- A statement that holds for both values of a Bool, and one that holds for neither.
+-- Two statements that hold are equivalent, and so are two that do not hold.
 holds-true : {P Q : Type 0} → P → Q → P ↔ Q
 holds-true p q = (λ _. q, λ _. p)
 
