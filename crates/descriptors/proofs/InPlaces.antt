@@ -1,11 +1,11 @@
--- Lemmas about `frames_from`: a queue's frames after a frame is written to the next place, and after the first frame is dropped.
+-- Lemmas about `placed_frames`: a queue's frames after a frame is written to the next place, and after the first frame is dropped.
 use Rattle.std.proofs.Common.{◌≡◌, ◌≤◌, ◌<◌, ◌+◌, ◌-◌, ◌*◌, ◌⊎◌, inl, inr, ◌++◌, ◌∷◌, [], ℕ, zero, suc, List, length, take, drop}
 use Rattle.std.proofs.Common.{All, refl, sym, ap}
 use Rattle.std.proofs.Common.{◌∙◌, arith}
 use Rattle.std.proofs.lemmas.Bool.{cond_below, cond_above}
 use Rattle.std.proofs.lemmas.Bool.Decides.{leb_tells, nat_tests}
 use Rattle.std.specs.Prelude.{slice_get, Some, None, is_some, true, false, Bool, IsTrue, ◌==◌, ◌↔◌}
-use Rattle.descriptors.specs.QueuePlaces.{frames_from}
+use Rattle.descriptors.specs.QueuePlaces.{placed_frames}
 use Rattle.descriptors.specs.WrappedPlaces.{wrapped}
 use Rattle.descriptors.proofs.Written.{bytes-written, bytes-before, bytes-after}
 
@@ -36,14 +36,14 @@ wrapped-apart c p q before near once =
       ]
     ]
 
-pub length-frames_from : (bytes : List ℕ) (c p : ℕ) (ns : List ℕ) → length (frames_from bytes c p ns) ≡ length ns
-unfolding frames_from
+pub length-frames_from : (bytes : List ℕ) (c p : ℕ) (ns : List ℕ) → length (placed_frames bytes c p ns) ≡ length ns
+unfolding placed_frames
 length-frames_from bytes c p [] = refl
 length-frames_from bytes c p (n ∷ ns) = ap (λ (k : ℕ). suc k) (length-frames_from bytes c (p + 1) ns)
 
 pub frames_from-append : (bytes : List ℕ) (c p n : ℕ) (ns : List ℕ)
-    → frames_from bytes c p (ns ++ n ∷ []) ≡ frames_from bytes c p ns ++ take n (drop (wrapped c (p + length ns) * 1518) bytes) ∷ []
-unfolding frames_from
+    → placed_frames bytes c p (ns ++ n ∷ []) ≡ placed_frames bytes c p ns ++ take n (drop (wrapped c (p + length ns) * 1518) bytes) ∷ []
+unfolding placed_frames
 frames_from-append bytes c p n [] =
     let here : p ≡ p + 0 = omega arith in
     ap (λ (q : ℕ). take n (drop (wrapped c q * 1518) bytes) ∷ []) here
@@ -51,11 +51,11 @@ frames_from-append bytes c p n (m ∷ ns) =
     let here : p + 1 + length ns ≡ p + length (m ∷ ns) = omega arith in
     ap (λ (fs : List (List ℕ)). take m (drop (wrapped c p * 1518) bytes) ∷ fs)
     (frames_from-append bytes c (p + 1) n ns
-    ∙ ap (λ (q : ℕ). frames_from bytes c (p + 1) ns ++ take n (drop (wrapped c q * 1518) bytes) ∷ []) here)
+    ∙ ap (λ (q : ℕ). placed_frames bytes c (p + 1) ns ++ take n (drop (wrapped c q * 1518) bytes) ∷ []) here)
 
 pub frames_from-round : (bytes : List ℕ) (c p i : ℕ) (ns : List ℕ) → p ≡ c + i → i + length ns ≤ c
-    → frames_from bytes c p ns ≡ frames_from bytes c i ns
-unfolding frames_from
+    → placed_frames bytes c p ns ≡ placed_frames bytes c i ns
+unfolding placed_frames
 frames_from-round bytes c p i [] round fits = refl
 frames_from-round bytes c p i (n ∷ ns) round fits =
     let here : wrapped c p ≡ wrapped c i = wrapped-past c p (omega arith) ∙ (let e : p - c ≡ i = omega arith in e)
@@ -74,8 +74,8 @@ bytes-other_place bytes written place n m other count lies short fits (inr after
 
 pub frames_from-kept : (bytes written ns : List ℕ) (c p q n : ℕ) → length written ≡ n → wrapped c q * 1518 + n ≤ length bytes → n ≤ 1518
     → All (λ (m : ℕ). m ≤ 1518) ns → p + length ns ≡ q → q < p + c → q < c + c
-    → frames_from (take (wrapped c q * 1518) bytes ++ written ++ drop (wrapped c q * 1518 + n) bytes) c p ns ≡ frames_from bytes c p ns
-unfolding frames_from
+    → placed_frames (take (wrapped c q * 1518) bytes ++ written ++ drop (wrapped c q * 1518 + n) bytes) c p ns ≡ placed_frames bytes c p ns
+unfolding placed_frames
 frames_from-kept bytes written [] c p q n count lies short fits end near once = refl
 frames_from-kept bytes written (m ∷ ns) c p q n count lies short fits end near once =
     let here = bytes-other_place bytes written (wrapped c q) n m (wrapped c p) count lies short (fits 0 0 (omega arith))
@@ -85,16 +85,16 @@ frames_from-kept bytes written (m ∷ ns) c p q n count lies short fits end near
     rw (here, rest) refl
 
 pub slice_get-frames_from : (bytes : List ℕ) (c p n : ℕ) (ns : List ℕ) → p < c → slice_get ns 0 ≡ Some n
-    → slice_get (frames_from bytes c p ns) 0 ≡ Some (take n (drop (p * 1518) bytes))
-unfolding frames_from
+    → slice_get (placed_frames bytes c p ns) 0 ≡ Some (take n (drop (p * 1518) bytes))
+unfolding placed_frames
 slice_get-frames_from bytes c p n [] below is = absurd (cc)
 slice_get-frames_from bytes c p n (m ∷ ns) below is =
     let same : m ≡ n = cc in
     rw (wrapped-below c p below, same) refl
 
 pub slice_get-frames_from-at : (bytes : List ℕ) (c p i n : ℕ) (ns : List ℕ) → slice_get ns i ≡ Some n
-    → slice_get (frames_from bytes c p ns) i ≡ Some (take n (drop (wrapped c (p + i) * 1518) bytes))
-unfolding frames_from
+    → slice_get (placed_frames bytes c p ns) i ≡ Some (take n (drop (wrapped c (p + i) * 1518) bytes))
+unfolding placed_frames
 slice_get-frames_from-at bytes c p i n [] is = absurd (cc)
 slice_get-frames_from-at bytes c p zero n (m ∷ ns) is =
     let same : m ≡ n = cc in
@@ -106,15 +106,15 @@ slice_get-frames_from-at bytes c p (suc i) n (m ∷ ns) is =
     ∙ ap (λ (q : ℕ). Some (take n (drop (wrapped c q * 1518) bytes))) here
 
 pub frames_from-drop : (bytes : List ℕ) (c p : ℕ) (ns : List ℕ) → p < c → length ns ≤ c
-    → frames_from bytes c (wrapped c (p + 1)) (drop 1 ns) ≡ drop 1 (frames_from bytes c p ns)
-unfolding frames_from
+    → placed_frames bytes c (wrapped c (p + 1)) (drop 1 ns) ≡ drop 1 (placed_frames bytes c p ns)
+unfolding placed_frames
 frames_from-drop bytes c p [] below fits = refl
 frames_from-drop bytes c p (n ∷ ns) below fits =
     elim (below_or_past (p + 1) c) [
-      | inl low ↦ ap (λ (q : ℕ). frames_from bytes c q ns) (wrapped-below c (p + 1) low)
+      | inl low ↦ ap (λ (q : ℕ). placed_frames bytes c q ns) (wrapped-below c (p + 1) low)
       | inr high ↦
           let first : wrapped c (p + 1) ≡ 0 = omega (arith, high, wrapped-past c (p + 1) high) in
-          ap (λ (q : ℕ). frames_from bytes c q ns) first ∙ sym (frames_from-round bytes c (p + 1) 0 ns (omega arith) (omega arith))
+          ap (λ (q : ℕ). placed_frames bytes c q ns) first ∙ sym (frames_from-round bytes c (p + 1) 0 ns (omega arith) (omega arith))
     ]
 
 pub empty_from_length : (frames : List (List ℕ)) (n : ℕ) (b : Bool) → length frames ≡ n → b ≡ (n == 0) → IsTrue b ↔ (frames ≡ [])
@@ -130,22 +130,22 @@ full_from_length m n capacity b count is = (
   (λ e. let same : n ≡ capacity = omega arith in rw (is) (grind (arith, nat_tests))),
 )
 
-pub frames_from-none : (bytes : List ℕ) (c p : ℕ) (ns : List ℕ) → slice_get ns 0 ≡ None → frames_from bytes c p ns ≡ []
-unfolding frames_from
+pub frames_from-none : (bytes : List ℕ) (c p : ℕ) (ns : List ℕ) → slice_get ns 0 ≡ None → placed_frames bytes c p ns ≡ []
+unfolding placed_frames
 frames_from-none bytes c p [] none = refl
 frames_from-none bytes c p (n ∷ ns) none = absurd (cc)
 
-pub frames_from-some : (bytes : List ℕ) (c p n : ℕ) (ns : List ℕ) → slice_get ns 0 ≡ Some n → frames_from bytes c p ns ≡ [] → ⊥
-unfolding frames_from
+pub frames_from-some : (bytes : List ℕ) (c p n : ℕ) (ns : List ℕ) → slice_get ns 0 ≡ Some n → placed_frames bytes c p ns ≡ [] → ⊥
+unfolding placed_frames
 frames_from-some bytes c p n [] some none = absurd (cc)
 frames_from-some bytes c p n (m ∷ ns) some none = absurd (cc)
 
 -- After bytes are written to the place after the frames, these bytes are the last frame.
 pub frames_from-pushed : (bytes written ns : List ℕ) (c p n : ℕ) → length bytes ≡ c * 1518 → p < c → length ns < c
     → All (λ (m : ℕ). m ≤ 1518) ns → length written ≡ n → n ≤ 1518
-    → frames_from
+    → placed_frames
     (take (wrapped c (p + length ns) * 1518) bytes ++ written ++ drop (wrapped c (p + length ns) * 1518 + n) bytes) c p (ns ++ n ∷ [])
-    ≡ frames_from bytes c p ns ++ written ∷ []
+    ≡ placed_frames bytes c p ns ++ written ∷ []
 frames_from-pushed bytes written ns c p n size first room fits count short =
     let q = p + length ns in
     let start = wrapped c q * 1518 in
@@ -160,7 +160,7 @@ some_below [] some = absurd (cc)
 some_below (n ∷ ns) some = omega arith
 
 pub drop-none : (bytes : List ℕ) (c p : ℕ) (ns : List ℕ) → is_some (slice_get ns 0) ≡ false
-    → frames_from bytes c p (drop 1 ns) ≡ drop 1 (frames_from bytes c p ns)
-unfolding frames_from
+    → placed_frames bytes c p (drop 1 ns) ≡ drop 1 (placed_frames bytes c p ns)
+unfolding placed_frames
 drop-none bytes c p [] none = refl
 drop-none bytes c p (n ∷ ns) none = absurd (cc)

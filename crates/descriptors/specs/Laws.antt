@@ -13,19 +13,23 @@ use Rattle.descriptors.specs.declared.tx_desc.TxDesc.{TxDesc}
 use Rattle.descriptors.specs.TxDesc.{tx_desc_bytes, tx_desc_of, TxDescriptorsComeBack, TxBytesComeBack}
 use Rattle.descriptors.specs.Frames.{IsLegal, is_sendable, padded}
 
--- A receive descriptor has sixteen bytes.
+-- A descriptor has sixteen bytes.
 pub length-rx_desc_bytes : (desc : RxDesc) → length (rx_desc_bytes desc) ≡ 16
 unfolding rx_desc_bytes
 length-rx_desc_bytes desc = refl
 
+pub length-tx_desc_bytes : (desc : TxDesc) → length (tx_desc_bytes desc) ≡ 16
+unfolding tx_desc_bytes
+length-tx_desc_bytes desc = refl
+
 pub rx_desc_of-rx_desc_bytes : DescriptorsComeBack
 unfolding rx_desc_bytes rx_desc_of
-rx_desc_of-rx_desc_bytes desc fits =
-    let address = little_number-reads_back 8 desc.address [] fits.address in
-    let length = little_number-reads_back 2 desc.length [] fits.length in
-    let checksum = little_number-reads_back 2 desc.checksum [] fits.checksum in
-    let special = little_number-reads_back 2 desc.special [] fits.special in
-    rw (address, length, checksum, special) refl
+rx_desc_of-rx_desc_bytes desc fits = rw (
+  little_number-reads_back 8 desc.address [] fits.address,
+  little_number-reads_back 2 desc.length [] fits.length,
+  little_number-reads_back 2 desc.checksum [] fits.checksum,
+  little_number-reads_back 2 desc.special [] fits.special,
+) refl
 
 div-above : (j b x : ℕ) → b < 256 → (b + 256 * x) / 256 ^ suc j ≡ x / 256 ^ j
 div-above j b x below =
@@ -89,18 +93,13 @@ rx_desc_bytes-rx_desc_of bytes are size =
     let special = little_bytes-drop 2 14 bytes are (omega arith) in
     join-same _ _ _ _ _ _ _ _ _ _ address length checksum flags special ∙ in_pieces bytes size
 
--- A transmit descriptor has sixteen bytes.
-pub length-tx_desc_bytes : (desc : TxDesc) → length (tx_desc_bytes desc) ≡ 16
-unfolding tx_desc_bytes
-length-tx_desc_bytes desc = refl
-
 pub tx_desc_of-tx_desc_bytes : TxDescriptorsComeBack
 unfolding tx_desc_bytes tx_desc_of
-tx_desc_of-tx_desc_bytes desc fits =
-    let address = little_number-reads_back 8 desc.address [] fits.address in
-    let length = little_number-reads_back 2 desc.length [] fits.length in
-    let special = little_number-reads_back 2 desc.special [] fits.special in
-    rw (address, length, special) refl
+tx_desc_of-tx_desc_bytes desc fits = rw (
+  little_number-reads_back 8 desc.address [] fits.address,
+  little_number-reads_back 2 desc.length [] fits.length,
+  little_number-reads_back 2 desc.special [] fits.special,
+) refl
 
 pub tx_desc_bytes-tx_desc_of : TxBytesComeBack
 unfolding tx_desc_bytes tx_desc_of

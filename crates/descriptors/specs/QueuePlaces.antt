@@ -6,19 +6,19 @@ use Rattle.descriptors.specs.WrappedPlaces.{wrapped}
 use Rattle.descriptors.specs.declared.queue.FrameQueue.TheInside.{Inside}
 
 -- The frames of these lengths, each at the start of its own place, from this place on.
-unfoldable pub frames_from : List ℕ → ℕ → ℕ → List ℕ → List (List ℕ)
-frames_from bytes capacity place [] = []
-frames_from bytes capacity place (n ∷ ns) = take n (drop (wrapped capacity place * 1518) bytes) ∷ frames_from bytes capacity (place + 1) ns
+unfoldable pub placed_frames : List ℕ → ℕ → ℕ → List ℕ → List (List ℕ)
+placed_frames bytes capacity place [] = []
+placed_frames bytes capacity place (n ∷ ns) = take n (drop (wrapped capacity place * 1518) bytes) ∷ placed_frames bytes capacity (place + 1) ns
 
 -- The plain data of a queue with these fields.
-abbrev pub frames_of : Inside → Frames
-frames_of queue = record {
+abbrev pub queue_of_places : Inside → Frames
+queue_of_places queue = record {
   capacity = queue.lengths.capacity;
-  frames = frames_from queue.bytes.items queue.lengths.capacity queue.first queue.lengths.items;
+  frames = placed_frames queue.bytes.items queue.lengths.capacity queue.first queue.lengths.items;
 }
 
 -- The invariant of the fields of a queue with places.
-pub record IsConsistent (queue : Inside) : Type 0 where
+pub record IsQueueOfPlaces (queue : Inside) : Type 0 where
   -- The memory has 1,518 bytes for each place.
   pub size : length queue.bytes.items ≡ queue.lengths.capacity * 1518
   -- If there are places, the place of the oldest frame is one of them.

@@ -1,6 +1,6 @@
 -- The status byte of a receive descriptor as a number ("3.2.3.1 Receive Descriptor Status Field" of Intel's manual).
 use Rattle.std.specs.Prelude.{ℕ}
-use Rattle.descriptors.specs.declared.rx_status.RxStatus.{RxStatus}
+use Rattle.descriptors.specs.declared.flags.RxStatus.{RxStatus}
 
 -- The status byte as a number.
 abbrev pub status_bits : RxStatus → ℕ

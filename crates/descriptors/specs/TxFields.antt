@@ -1,8 +1,8 @@
 -- The command and status bytes of a transmit descriptor as numbers ("3.3.3.1 Transmit Descriptor Command Field Format"
 -- and "3.3.3.2 Transmit Descriptor Status Field Format" of Intel's manual).
 use Rattle.std.specs.Prelude.{ℕ}
-use Rattle.descriptors.specs.declared.tx_command.TxCommand.{TxCommand}
-use Rattle.descriptors.specs.declared.tx_status.TxStatus.{TxStatus}
+use Rattle.descriptors.specs.declared.flags.TxCommand.{TxCommand}
+use Rattle.descriptors.specs.declared.flags.TxStatus.{TxStatus}
 
 -- The command byte as a number.
 abbrev pub command_bits : TxCommand → ℕ

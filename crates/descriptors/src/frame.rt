@@ -60,6 +60,7 @@ impl Frame {
         let mut frame = Frame {
             bytes: ArrayVec::new(),
         };
+        // There are at most 1,518 bytes, so the call doesn't fail.
         let _ = frame.bytes.try_extend_from_slice(bytes);
         frame
     }

@@ -6,18 +6,17 @@
 #![tactic(auto)]
 
 mod buffers;
+mod flags;
 mod frame;
 mod laws;
 mod packed;
 mod queue;
 mod ring;
 mod rx_desc;
-mod rx_status;
-mod tx_command;
 mod tx_desc;
-mod tx_status;
 
 pub use buffers::copy_of;
+pub use flags::{RxStatus, TxCommand, TxStatus};
 pub use frame::{Frame, LONGEST_LEGAL, LONGEST_SENDABLE, SHORTEST_LEGAL, SHORTEST_SENDABLE};
 pub use laws::{
     descriptors_come_back, offered_places_go_from_head_to_tail,
@@ -27,7 +26,4 @@ pub use packed::PackedQueue;
 pub use queue::{FrameQueue, PLACE_BYTES};
 pub use ring::Ring;
 pub use rx_desc::{RX_DESC_BYTES, RxDesc};
-pub use rx_status::RxStatus;
-pub use tx_command::TxCommand;
 pub use tx_desc::{TX_DESC_BYTES, TxDesc};
-pub use tx_status::TxStatus;

@@ -4,6 +4,7 @@ ghost use Rattle.descriptors.specs.HashedFrames.{frames_writes};
 ghost use Rattle.std.specs.Prelude.{◌≡◌, ◌+◌, ◌-◌, ◌<◌, ◌≤◌, ◌↔◌, [], ◌∷◌, ◌++◌, drop, length, sum_by};
 ghost use Rattle.std.specs.Prelude.{fold, slice_get, take};
 ghost use Rattle.std.specs.Prelude.{Some, IsNone, IfSome, IfOk};
+ghost use Rattle.descriptors.specs.Packed.{PackedFrames, packed_of, IsPacked};
 
 use crate::buffers::copy_of;
 use circular_buffer::HeapCircularBuffer;
@@ -18,7 +19,9 @@ use std::marker::Model;
 /// copy. If a frame doesn't fit after the newest one, a push first moves all frames to the start of the memory.
 #[derive(Debug, Drop)]
 pub struct PackedQueue {
+    /// The memory for the bytes of all frames.
     bytes: Vec<u8>,
+    /// The lengths of the frames, the oldest first.
     lengths: HeapCircularBuffer<u16>,
     /// The index of the oldest frame's first byte.
     first: usize,
@@ -27,11 +30,7 @@ pub struct PackedQueue {
 }
 
 impl Model for PackedQueue {
-    ghost use Rattle.descriptors.specs.Packed.{PackedFrames};
-
     ghost Value = { PackedFrames };
-
-    ghost use Rattle.descriptors.specs.Packed.{packed_of, IsPacked};
 
     ghost view = { packed_of };
 
@@ -115,6 +114,7 @@ impl PackedQueue {
         let first = append(self.bytes.as_mut_slice(), self.first, self.end, frame);
         self.end = first + (self.end - self.first) + frame.len();
         self.first = first;
+        // The buffer of lengths isn't full, so the call returns no length that it dropped.
         let _ = self.lengths.push_back(frame.len() as u16);
     }
 

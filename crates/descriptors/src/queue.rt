@@ -3,6 +3,8 @@ ghost use Rattle.descriptors.specs.WrappedPlaces.{wrapped};
 ghost use Rattle.std.specs.Prelude.{◌≡◌, ◌+◌, ◌-◌, ◌<◌, ◌≤◌, ◌↔◌, [], ◌∷◌, ◌++◌, drop, length};
 ghost use Rattle.std.specs.Prelude.{fold, replicate, slice_get, take};
 ghost use Rattle.std.specs.Prelude.{Some, IsTrue, IsNone, IfSome, IfOk};
+ghost use Rattle.descriptors.specs.QueuedFrames.{Frames};
+ghost use Rattle.descriptors.specs.QueuePlaces.{queue_of_places, IsQueueOfPlaces};
 
 use crate::buffers::copy_of;
 use circular_buffer::HeapCircularBuffer;
@@ -19,21 +21,20 @@ pub const PLACE_BYTES: usize = 1518;
 /// Only `new` and `clone` allocate memory. A frame is copied once, when it is pushed, and can be read without a copy.
 #[derive(Debug, Drop)]
 pub struct FrameQueue {
+    /// The places of frames, each of [`PLACE_BYTES`] bytes. A frame begins at the start of its place.
     bytes: Vec<u8>,
+    /// The lengths of the frames, the oldest first.
     lengths: HeapCircularBuffer<u16>,
+    /// The place of the oldest frame. Each later frame is in the next place, and after the last place in place 0.
     first: u8,
 }
 
 impl Model for FrameQueue {
-    ghost use Rattle.descriptors.specs.QueuedFrames.{Frames};
-
     ghost Value = { Frames };
 
-    ghost use Rattle.descriptors.specs.QueuePlaces.{frames_of, IsConsistent};
+    ghost view = { queue_of_places };
 
-    ghost view = { frames_of };
-
-    ghost invariant = { IsConsistent };
+    ghost invariant = { IsQueueOfPlaces };
 }
 
 impl Clone for FrameQueue {
@@ -59,7 +60,7 @@ impl FrameQueue {
     /// # Errors
     ///
     /// Returns an error only if an allocation fails.
-    #[tactic(auto, unfolding(crate::specs::QueuePlaces::frames_from))]
+    #[tactic(auto, unfolding(crate::specs::QueuePlaces::placed_frames))]
     pub fn new(alloc: Global, capacity: u8) -> Result<FrameQueue, AllocError>
         ensures empty { IfOk result (λ queue. queue ≡ record { capacity = capacity; frames = [] }) }
     {
@@ -134,6 +135,7 @@ impl FrameQueue {
         let behind = usize::from(self.first) + self.lengths.len();
         let start = wrap(behind, self.lengths.capacity()) * PLACE_BYTES;
         write_padded(self.bytes.as_mut_slice(), start, frame, length);
+        // The buffer of lengths isn't full, so the call returns no length that it dropped.
         let _ = self.lengths.push_back(length as u16);
     }
 
@@ -147,7 +149,7 @@ impl FrameQueue {
     }
 
     /// Removes all frames.
-    #[tactic(auto, unfolding(crate::specs::QueuePlaces::frames_from))]
+    #[tactic(auto, unfolding(crate::specs::QueuePlaces::placed_frames))]
     pub fn clear(&mut self)
         ensures { self.new ≡ record self.old { frames = [] } }
     {
@@ -180,7 +182,8 @@ impl FrameQueue {
     }
 }
 
-/// Returns the index of a place after at most one wrap: `place` if it is below the capacity, else `place - capacity`.
+/// Returns the place that is `place` after at most one wrap: `place` if it is below the capacity, else
+/// `place - capacity`.
 fn wrap(place: usize, capacity: usize) -> usize
     ensures { result ≡ wrapped capacity place }
 {

@@ -13,9 +13,13 @@ pub record Area : Type 0 where
 abbrev pub area_at : ℕ → ℕ → Area
 area_at address size = record { address = address; size = size }
 
--- The sixteen bytes of a descriptor ("3.2.3 Receive Descriptor Format", "3.3.3 Legacy Transmit Descriptor Format" of Intel's manual).
+-- The number of bytes of a descriptor ("3.2.3 Receive Descriptor Format", "3.3.3 Legacy Transmit Descriptor Format" of Intel's manual).
+abbrev pub descriptor_bytes : ℕ
+descriptor_bytes = 16
+
+-- The area of a descriptor at this address.
 abbrev pub descriptor_area : ℕ → Area
-descriptor_area address = area_at address 16
+descriptor_area address = area_at address descriptor_bytes
 
 -- The bytes of an area.
 abbrev pub bytes_in : List ℕ → Area → List ℕ

@@ -2,6 +2,7 @@
 use Rattle.std.specs.Prelude.{◌≡◌, ◌≢◌, ◌≤◌, ◌<◌, ◌+◌, ◌*◌, ◌%◌, ℕ}
 use Rattle.std.specs.Int.{next_multiple_of}
 use Rattle.dma_memory.specs.Areas.{Area, area_at, AreApart}
+pub use Rattle.dma_memory.specs.Areas.{descriptor_bytes}
 
 -- The numbers of descriptors of both rings, and the number of receive buffers.
 pub record Counts : Type 0 where
@@ -37,10 +38,6 @@ pub record IsAllowed (counts : Counts) : Type 0 where
   pub tx : IsRingSize counts.tx
   -- The number of receive buffers is allowed.
   pub buffers : IsBufferCount counts.rx counts.buffers
-
--- The number of bytes of a descriptor ("3.2.3 Receive Descriptor Format", "3.3.3 Legacy Transmit Descriptor Format").
-abbrev pub descriptor_bytes : ℕ
-descriptor_bytes = 16
 
 -- The number of bytes of a transmit buffer, which has room for the longest frame (our choice).
 abbrev pub transmit_buffer_bytes : ℕ

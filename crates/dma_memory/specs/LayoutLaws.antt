@@ -5,12 +5,12 @@ use Rattle.dma_memory.specs.Areas.{area_at, AreApart}
 use Rattle.dma_memory.specs.Layout.{Counts, ReceiveRing, TransmitRing, TransmitBuffer, ReceiveBuffer, buffers_start, PlacesAreApart}
 use Rattle.dma_memory.specs.Layout.{PlacesLieBelowSize, BeginsAtNextMultiple}
 
-pub begins : (counts : Counts) → BeginsAtNextMultiple counts
-begins counts = record { multiple = omega arith; behind_rings = omega arith; first = omega arith }
+pub layout_begins : (counts : Counts) → BeginsAtNextMultiple counts
+layout_begins counts = record { multiple = omega arith; behind_rings = omega arith; first = omega arith }
 
 pub place-below_size : PlacesLieBelowSize
-place-below_size counts ReceiveRing has = let b = (begins counts).behind_rings in omega arith
-place-below_size counts TransmitRing has = let b = (begins counts).behind_rings in omega arith
+place-below_size counts ReceiveRing has = let b = (layout_begins counts).behind_rings in omega arith
+place-below_size counts TransmitRing has = let b = (layout_begins counts).behind_rings in omega arith
 place-below_size counts (TransmitBuffer slot) has = omega arith
 place-below_size counts (ReceiveBuffer number) has = omega arith
 
@@ -31,19 +31,19 @@ receive_apart from i j differ = elim (cases_lt i j) as
 pub places-apart : PlacesAreApart
 places-apart counts ReceiveRing ReceiveRing has_a has_b differ = absurd (differ refl)
 places-apart counts ReceiveRing TransmitRing has_a has_b differ = inl (omega arith)
-places-apart counts ReceiveRing (TransmitBuffer slot) has_a has_b differ = let b = (begins counts).behind_rings in inl (omega arith)
-places-apart counts ReceiveRing (ReceiveBuffer number) has_a has_b differ = let b = (begins counts).behind_rings in inl (omega arith)
+places-apart counts ReceiveRing (TransmitBuffer slot) has_a has_b differ = let b = (layout_begins counts).behind_rings in inl (omega arith)
+places-apart counts ReceiveRing (ReceiveBuffer number) has_a has_b differ = let b = (layout_begins counts).behind_rings in inl (omega arith)
 places-apart counts TransmitRing ReceiveRing has_a has_b differ = inr (omega arith)
 places-apart counts TransmitRing TransmitRing has_a has_b differ = absurd (differ refl)
-places-apart counts TransmitRing (TransmitBuffer slot) has_a has_b differ = let b = (begins counts).behind_rings in inl (omega arith)
-places-apart counts TransmitRing (ReceiveBuffer number) has_a has_b differ = let b = (begins counts).behind_rings in inl (omega arith)
-places-apart counts (TransmitBuffer slot) ReceiveRing has_a has_b differ = let b = (begins counts).behind_rings in inr (omega arith)
-places-apart counts (TransmitBuffer slot) TransmitRing has_a has_b differ = let b = (begins counts).behind_rings in inr (omega arith)
+places-apart counts TransmitRing (TransmitBuffer slot) has_a has_b differ = let b = (layout_begins counts).behind_rings in inl (omega arith)
+places-apart counts TransmitRing (ReceiveBuffer number) has_a has_b differ = let b = (layout_begins counts).behind_rings in inl (omega arith)
+places-apart counts (TransmitBuffer slot) ReceiveRing has_a has_b differ = let b = (layout_begins counts).behind_rings in inr (omega arith)
+places-apart counts (TransmitBuffer slot) TransmitRing has_a has_b differ = let b = (layout_begins counts).behind_rings in inr (omega arith)
 places-apart counts (TransmitBuffer slot) (TransmitBuffer other) has_a has_b differ = transmit_apart (buffers_start counts) slot other
     (λ same. differ (ap TransmitBuffer same))
 places-apart counts (TransmitBuffer slot) (ReceiveBuffer number) has_a has_b differ = inl (omega arith)
-places-apart counts (ReceiveBuffer number) ReceiveRing has_a has_b differ = let b = (begins counts).behind_rings in inr (omega arith)
-places-apart counts (ReceiveBuffer number) TransmitRing has_a has_b differ = let b = (begins counts).behind_rings in inr (omega arith)
+places-apart counts (ReceiveBuffer number) ReceiveRing has_a has_b differ = let b = (layout_begins counts).behind_rings in inr (omega arith)
+places-apart counts (ReceiveBuffer number) TransmitRing has_a has_b differ = let b = (layout_begins counts).behind_rings in inr (omega arith)
 places-apart counts (ReceiveBuffer number) (TransmitBuffer slot) has_a has_b differ = inr (omega arith)
 places-apart counts (ReceiveBuffer number) (ReceiveBuffer other) has_a has_b differ = receive_apart
     (buffers_start counts + 2048 * counts.tx) number other (λ same. differ (ap ReceiveBuffer same))

@@ -7,7 +7,7 @@ use Rattle.dma_memory.specs.declared.pool.Pool.TheInside.{Inside}
 abbrev pub numbers_of : Inside → Numbers
 numbers_of pool = record { buffers = pool.buffers; free = pool.free.items }
 
-pub record IsConsistent (pool : Inside) : Type 0 where
+pub record IsPool (pool : Inside) : Type 0 where
   -- Each number below the number of buffers is in the pool at most once, and no other number is in the pool.
   pub once : HasNoSecondOwner pool.buffers pool.free.items
   -- The vector has room for all numbers, so it never grows.

@@ -52,6 +52,7 @@ impl HostMemory {
     fn has(&self, address: u64, count: usize) -> bool
         ensures { IsTrue result ↔ LiesIn self.now address count }
     {
+        // The difference is 0 if `address` isn't below the size. Then only an empty range is in the memory.
         count as u64 <= self.size().saturating_sub(address)
     }
 

@@ -48,8 +48,11 @@ pub enum LayoutError {
 /// these buffers, of 2,048 bytes. The receive buffers follow, each of 256 bytes.
 #[derive(Clone, Copy, Debug, PartialEq, Eq)]
 pub struct Layout {
+    /// The number of descriptors of the receive ring.
     rx: u16,
+    /// The number of descriptors of the transmit ring.
     tx: u16,
+    /// The number of receive buffers.
     buffers: u16,
 }
 
@@ -172,6 +175,8 @@ impl Layout {
     /// Returns the address of the first transmit buffer.
     fn first_transmit_buffer(&self) -> u64
         ensures start { result ≡ start_of self.now (TransmitBuffer 0) }
+
+        // The end of two rings of 4,096 descriptors.
         ensures most { result ≤ 131072 }
     {
         let rings_end = self.transmit_ring() + DESCRIPTOR_BYTES * u64::from(self.tx);
@@ -181,6 +186,8 @@ impl Layout {
     /// Returns the address of the first receive buffer.
     fn first_receive_buffer(&self) -> u64
         ensures start { result ≡ start_of self.now (ReceiveBuffer 0) }
+
+        // The end of 4,096 transmit buffers after two rings of 4,096 descriptors.
         ensures most { result ≤ 8519680 }
     {
         self.first_transmit_buffer() + TRANSMIT_BUFFER_BYTES * u64::from(self.tx)

@@ -42,11 +42,11 @@ impl Model for Pool {
 
     ghost Value = { Numbers };
 
-    ghost use Rattle.dma_memory.specs.Pool.{numbers_of, IsConsistent};
+    ghost use Rattle.dma_memory.specs.Pool.{numbers_of, IsPool};
 
     ghost view = { numbers_of };
 
-    ghost invariant = { IsConsistent };
+    ghost invariant = { IsPool };
 }
 
 impl Pool {
@@ -102,6 +102,7 @@ impl Pool {
         ensures given { HaveSameNumbers (buffer ∷ self.old.free) self.new.free }
         ensures buffers { self.new.buffers ≡ self.old.buffers }
     {
+        // The vector has room for all numbers, so the push doesn't fail.
         self.free.push(buffer).unwrap();
     }
 }

@@ -14,8 +14,8 @@ addr value = value / 256 % 256
 
 -- The register after a write. A write with START begins a read, and drops a pending read. A write without START is ignored. (That a pending
 -- read is dropped, and that a write without START is ignored, is our choice.)
-abbrev pub after_write : ℕ → ReadState → ReadState
-after_write value state = if has_start value then Pending (addr value) else state
+abbrev pub eerd_after_write : ℕ → ReadState → ReadState
+eerd_after_write value state = if has_start value then Pending (addr value) else state
 
 -- The register after a tick. A tick ends a pending read with the word of the image (how long a read takes is our choice). Without a pending
 -- read, a tick changes nothing.

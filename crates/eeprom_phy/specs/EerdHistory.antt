@@ -4,7 +4,7 @@ use Rattle.std.specs.List.{list_any}
 use Rattle.eeprom_phy.specs.declared.eerd.ReadState.{ReadState}
 use Rattle.eeprom_phy.specs.declared.eerd.ReadState.TheVariants.{Idle}
 use Rattle.eeprom_phy.specs.Image.{word_at}
-use Rattle.eeprom_phy.specs.Eerd.{has_start, addr, after_write, after_tick, shown, shown_before, shown_after}
+use Rattle.eeprom_phy.specs.Eerd.{has_start, addr, eerd_after_write, after_tick, shown, shown_before, shown_after}
 
 -- An operation on the register: a write of a value, or a tick of the EEPROM. A read changes nothing.
 pub data Operation : Type 0 where
@@ -12,7 +12,7 @@ pub data Operation : Type 0 where
   Tick : Operation
 
 abbrev pub after_operation : List ℕ → Operation → ReadState → ReadState
-after_operation words (Write value) = after_write value
+after_operation words (Write value) = eerd_after_write value
 after_operation words Tick = after_tick words
 
 -- The register after a list of operations, the oldest first.
@@ -24,9 +24,9 @@ abbrev pub is_start : Operation → Bool
 is_start (Write value) = has_start value
 is_start Tick = false
 
-abbrev pub is_tick : Operation → Bool
-is_tick (Write value) = false
-is_tick Tick = true
+abbrev pub is_eerd_tick : Operation → Bool
+is_eerd_tick (Write value) = false
+is_eerd_tick Tick = true
 
 -- No operation of the list is a write with START.
 abbrev pub NoStart : List Operation → Type 0
@@ -34,11 +34,11 @@ NoStart operations = list_any is_start operations ≡ false
 
 -- No operation of the list is a tick.
 abbrev pub NoTick : List Operation → Type 0
-NoTick operations = list_any is_tick operations ≡ false
+NoTick operations = list_any is_eerd_tick operations ≡ false
 
 -- At least one operation of the list is a tick.
 abbrev pub HasTick : List Operation → Type 0
-HasTick operations = IsTrue (list_any is_tick operations)
+HasTick operations = IsTrue (list_any is_eerd_tick operations)
 
 -- The value of the register after all operations since it was new, the oldest first.
 abbrev pub reads_after : List ℕ → List Operation → ℕ

@@ -5,7 +5,7 @@ use Rattle.std.proofs.lemmas.Bool.{false≢true, true≢false, or_parts}
 use Rattle.eeprom_phy.specs.declared.eerd.ReadState.{ReadState}
 use Rattle.eeprom_phy.specs.declared.eerd.ReadState.TheVariants.{Idle, Pending, Done}
 use Rattle.eeprom_phy.specs.Image.{word_at}
-use Rattle.eeprom_phy.specs.Eerd.{has_start, addr, after_write, shown}
+use Rattle.eeprom_phy.specs.Eerd.{has_start, addr, eerd_after_write, shown}
 use Rattle.eeprom_phy.specs.EerdHistory.{Operation, Write, Tick, after_operation, after_all, is_start, NoStart, NoTick, HasTick, AnswersByHistory}
 
 -- The register after two lists of operations, one after the other.
@@ -15,11 +15,11 @@ after_all-append words [] after state = refl
 after_all-append words (operation ∷ before) after state = after_all-append words before after (after_operation words operation state)
 
 -- A write without START doesn't change the register.
-pub after_write-no_start : (value : ℕ) (state : ReadState) → has_start value ≡ false → after_write value state ≡ state
+pub after_write-no_start : (value : ℕ) (state : ReadState) → has_start value ≡ false → eerd_after_write value state ≡ state
 after_write-no_start value state none = rw none refl
 
 -- A write with START begins a read.
-pub after_write-start : (value : ℕ) (state : ReadState) → has_start value ≡ true → after_write value state ≡ Pending (addr value)
+pub after_write-start : (value : ℕ) (state : ReadState) → has_start value ≡ true → eerd_after_write value state ≡ Pending (addr value)
 after_write-start value state starts = rw starts refl
 
 -- Without a write with START, a register for which no read was begun remains in this state.

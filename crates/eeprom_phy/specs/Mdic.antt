@@ -21,8 +21,8 @@ abbrev pub new_mdic : MdicState
 new_mdic = record { value = 0; pending = None }
 
 -- DATA, bits 15:0 (13.4.7).
-abbrev pub data_of : ℕ → ℕ
-data_of value = value % 2 ^ 16
+abbrev pub data_bits : ℕ → ℕ
+data_bits value = value % 2 ^ 16
 
 -- REGADD, bits 20:16: the number of the PHY's register (13.4.7).
 abbrev pub regadd : ℕ → ℕ
@@ -41,13 +41,13 @@ abbrev pub operation_of : ℕ → Option Operation
 operation_of value = if op value == 1 then Some Write else (if op value == 2 then Some Read else None)
 
 -- The bits of a written value that MDIC stores: all except R, E and bit 31, which is reserved (our choice).
-abbrev pub kept : ℕ → ℕ
-kept value = difference value (union (union (alone mdic_r) (alone mdic_e)) (alone mdic_reserved))
+abbrev pub kept_bits : ℕ → ℕ
+kept_bits value = difference value (union (union (alone mdic_r) (alone mdic_e)) (alone mdic_reserved))
 
 -- MDIC after a write: the kept bits are stored, and the command of OP, if there is one, is pending. An earlier pending command is dropped
 -- (our choice).
-abbrev pub after_write : ℕ → MdicState
-after_write value = record { value = kept value; pending = operation_of value }
+abbrev pub mdic_after_write : ℕ → MdicState
+mdic_after_write value = record { value = kept_bits value; pending = operation_of value }
 
 -- A value with R set.
 abbrev pub with_ready : ℕ → ℕ
@@ -75,8 +75,8 @@ ended_value Read state value = if reaches_phy value then with_ready
 -- The PHY after a command has ended, with this value of MDIC. With PHYADD 1, the command writes DATA to register REGADD, or reads this
 -- register. Otherwise the PHY doesn't change.
 abbrev pub ended_phy : Operation → ℕ → PhyState → PhyState
-ended_phy Write value state = if reaches_phy value then phy.after_write (regadd value) (data_of value) state else state
-ended_phy Read value state = if reaches_phy value then phy.after_read (regadd value) state else state
+ended_phy Write value state = if reaches_phy value then phy.phy_after_write (regadd value) (data_bits value) state else state
+ended_phy Read value state = if reaches_phy value then phy.phy_after_read (regadd value) state else state
 
 -- The value of MDIC after the pending command, if any, has ended at a PHY in this state.
 abbrev pub ended : Option Operation → ℕ → PhyState → ℕ

@@ -6,9 +6,9 @@ use Rattle.eeprom_phy.specs.declared.mdic.Operation.{Operation}
 use Rattle.eeprom_phy.specs.declared.mdic.Operation.TheVariants as operation
 use Rattle.eeprom_phy.specs.declared.mdic.Ticked.{Ticked}
 use Rattle.eeprom_phy.specs.Phy.{PhyState, read_value, comes_up, is_counting}
-use Rattle.eeprom_phy.specs.Mdic.{MdicState, new_mdic, after_write, mdic_after_tick, phy_after_tick, kept, with_ready, with_error, with_data}
-use Rattle.eeprom_phy.specs.Mdic.{data_of, regadd, phyadd, operation_of, reaches_phy, told}
-use Rattle.eeprom_phy.specs.PhyHistory.{PhyEvent, after_events}
+use Rattle.eeprom_phy.specs.Mdic.{MdicState, new_mdic, mdic_after_write, mdic_after_tick, phy_after_tick, kept_bits, with_ready, with_error, with_data}
+use Rattle.eeprom_phy.specs.Mdic.{data_bits, regadd, phyadd, operation_of, reaches_phy, told}
+use Rattle.eeprom_phy.specs.PhyHistory.{PhyEvent, phy_after_all}
 use Rattle.eeprom_phy.specs.PhyHistory as phy
 use Rattle.eeprom_phy.specs.Places.{mdic_i}
 
@@ -23,7 +23,7 @@ pub record MdicAndPhy : Type 0 where
   pub phy : PhyState
 
 abbrev pub after_mdic_event : MdicEvent → MdicAndPhy → MdicAndPhy
-after_mdic_event (Write value) both = record { mdic = after_write value; phy = both.phy }
+after_mdic_event (Write value) both = record { mdic = mdic_after_write value; phy = both.phy }
 after_mdic_event Tick both = record { mdic = mdic_after_tick both.mdic both.phy; phy = phy_after_tick both.mdic both.phy }
 
 -- MDIC and the PHY after a list of events, the oldest first.
@@ -39,7 +39,7 @@ both_behind state events = after_mdic_events events (record { mdic = new_mdic; p
 -- 13.4.7).
 abbrev pub access_of : Option Operation → ℕ → List PhyEvent
 access_of None value = []
-access_of (Some operation.Write) value = if reaches_phy value then phy.Write (regadd value) (data_of value) ∷ [] else []
+access_of (Some operation.Write) value = if reaches_phy value then phy.Write (regadd value) (data_bits value) ∷ [] else []
 access_of (Some operation.Read) value = if reaches_phy value then phy.Read (regadd value) ∷ [] else []
 
 -- The events at the PHY: each tick, and after it the access of the write that is right before this tick. A write makes no access if another
@@ -52,7 +52,7 @@ accesses (Write value ∷ Tick ∷ later) = phy.Tick ∷ (access_of (operation_o
 accesses (Write value ∷ Write next ∷ later) = accesses (Write next ∷ later)
 
 abbrev pub AccessesByHistory : Type 0
-AccessesByHistory = (state : PhyState) (all : List MdicEvent) → (both_behind state all).phy ≡ after_events (accesses all) state
+AccessesByHistory = (state : PhyState) (all : List MdicEvent) → (both_behind state all).phy ≡ phy_after_all (accesses all) state
 
 abbrev pub is_write : MdicEvent → Bool
 is_write (Write value) = true
@@ -68,7 +68,7 @@ mdic_reads state events = (both_behind state events).mdic.value
 
 -- The PHY, from this state on, after a list of events of MDIC and one more tick.
 abbrev pub ticked_phy : PhyState → List MdicEvent → PhyState
-ticked_phy state events = after_events (accesses events ++ phy.Tick ∷ []) state
+ticked_phy state events = phy_after_all (accesses events ++ phy.Tick ∷ []) state
 
 -- What a tick after these events reports to the adapter, if MDIC was new and the PHY was in this state before them.
 abbrev pub told_behind : PhyState → List MdicEvent → Option Ticked
@@ -76,7 +76,7 @@ told_behind state events = told (both_behind state events).mdic (both_behind sta
 
 -- The PHY, from this state on, after a list of events of MDIC.
 abbrev pub phy_of : PhyState → List MdicEvent → PhyState
-phy_of state events = after_events (accesses events) state
+phy_of state events = phy_after_all (accesses events) state
 
 -- The report of a tick of a PHY in this state, if no command is pending: whether the link changes from down to up. The result is `None` if
 -- no countdown is running.
@@ -101,21 +101,21 @@ pub record MdicByHistory : Type 0 where
   -- Without a write, the register reads 0.
   pub never_written : (state : PhyState) (all : List MdicEvent) → NoWrite all → mdic_reads state all ≡ 0
   -- Until a tick, the register reads the last written value, without R, E and bit 31.
-  pub no_tick_yet : (state : PhyState) (before : List MdicEvent) (value : ℕ) → mdic_reads state (before ++ Write value ∷ []) ≡ kept value
+  pub no_tick_yet : (state : PhyState) (before : List MdicEvent) (value : ℕ) → mdic_reads state (before ++ Write value ∷ []) ≡ kept_bits value
   -- If OP of the last write is 00 or 11, ticks don't change the value.
   pub no_command : (state : PhyState) (before : List MdicEvent) (value : ℕ) (after : List MdicEvent) → operation_of value ≡ None
       → NoWrite after
-      → mdic_reads state (before ++ Write value ∷ after) ≡ kept value
+      → mdic_reads state (before ++ Write value ∷ after) ≡ kept_bits value
   -- After a tick has ended a write command for the PHY, the register reads the kept bits of the written value, with R set.
   pub written : (state : PhyState) (before : List MdicEvent) (value : ℕ) (after : List MdicEvent)
       → operation_of value ≡ Some operation.Write → phyadd value ≡ 1 → NoWrite after
-      → mdic_reads state (before ++ Write value ∷ Tick ∷ after) ≡ with_ready (kept value)
+      → mdic_reads state (before ++ Write value ∷ Tick ∷ after) ≡ with_ready (kept_bits value)
   -- After a tick has ended a read command for the PHY, R is set, and DATA is the PHY's register at this tick.
   pub read : (state : PhyState) (before : List MdicEvent) (value : ℕ) (after : List MdicEvent) → operation_of value ≡ Some operation.Read
       → phyadd value ≡ 1 → NoWrite after
       → mdic_reads state (before ++ Write value ∷ Tick ∷ after)
-      ≡ with_ready (with_data (read_value (regadd value) (ticked_phy state before)) (kept value))
+      ≡ with_ready (with_data (read_value (regadd value) (ticked_phy state before)) (kept_bits value))
   -- After a tick has ended a command with a PHYADD other than 1, R and E are set, and DATA is as written.
   pub not_there : (state : PhyState) (before : List MdicEvent) (value : ℕ) (asked : Operation) (after : List MdicEvent)
       → operation_of value ≡ Some asked → phyadd value ≢ 1 → NoWrite after
-      → mdic_reads state (before ++ Write value ∷ Tick ∷ after) ≡ with_error (kept value)
+      → mdic_reads state (before ++ Write value ∷ Tick ∷ after) ≡ with_error (kept_bits value)

@@ -11,17 +11,17 @@ use Rattle.eeprom_phy.specs.declared.mdic.Operation.TheVariants as operation
 use Rattle.eeprom_phy.specs.declared.mdic.Ticked.{Ticked}
 use Rattle.eeprom_phy.specs.Phy.{PhyState, read_value, after_tick, comes_up, is_counting}
 use Rattle.eeprom_phy.specs.Phy as state
-use Rattle.eeprom_phy.specs.Mdic.{new_mdic, kept, with_ready, with_error, with_data, data_of, regadd, phyadd, operation_of, reaches_phy}
+use Rattle.eeprom_phy.specs.Mdic.{new_mdic, kept_bits, with_ready, with_error, with_data, data_bits, regadd, phyadd, operation_of, reaches_phy}
 use Rattle.eeprom_phy.specs.Mdic.{ended, ended_value, phy_ended, told}
-use Rattle.eeprom_phy.specs.PhyHistory.{PhyEvent, after_event, after_events}
+use Rattle.eeprom_phy.specs.PhyHistory.{PhyEvent, phy_after, phy_after_all}
 use Rattle.eeprom_phy.specs.PhyHistory as phy
 use Rattle.eeprom_phy.specs.MdicHistory.{MdicEvent, Write, Tick, MdicAndPhy, after_mdic_event, after_mdic_events, both_behind, access_of}
 use Rattle.eeprom_phy.specs.MdicHistory.{accesses, AccessesByHistory, NoWrite, mdic_reads, ticked_phy, MdicByHistory, told_of_link}
 use Rattle.eeprom_phy.specs.MdicHistory.{ToldByHistory}
-use Rattle.eeprom_phy.specs.PhyLaws.{after_events-append}
+use Rattle.eeprom_phy.specs.PhyLaws.{phy_after_all-append}
 use Rattle.eeprom_phy.specs.Places.{mdic_i}
 
-low-kept : (value : ℕ) → kept value % 2 ^ 28 ≡ value % 2 ^ 28
+low-kept : (value : ℕ) → kept_bits value % 2 ^ 28 ≡ value % 2 ^ 28
 low-kept value =
     let low : ℕ = value % 2 ^ 28 in
     let masked : bit_and low (2 ^ 28 - 1) ≡ low % 2 ^ 28 = and_mask low 28 in
@@ -34,51 +34,51 @@ phyadd-low a b same = omega arith
 regadd-low : (a b : ℕ) → a % 2 ^ 28 ≡ b % 2 ^ 28 → regadd a ≡ regadd b
 regadd-low a b same = omega arith
 
-data-low : (a b : ℕ) → a % 2 ^ 28 ≡ b % 2 ^ 28 → data_of a ≡ data_of b
+data-low : (a b : ℕ) → a % 2 ^ 28 ≡ b % 2 ^ 28 → data_bits a ≡ data_bits b
 data-low a b same = omega arith
 
-pub phyadd-kept : (value : ℕ) → phyadd (kept value) ≡ phyadd value
-phyadd-kept value = phyadd-low (kept value) value (low-kept value)
+pub phyadd-kept : (value : ℕ) → phyadd (kept_bits value) ≡ phyadd value
+phyadd-kept value = phyadd-low (kept_bits value) value (low-kept value)
 
-pub regadd-kept : (value : ℕ) → regadd (kept value) ≡ regadd value
-regadd-kept value = regadd-low (kept value) value (low-kept value)
+pub regadd-kept : (value : ℕ) → regadd (kept_bits value) ≡ regadd value
+regadd-kept value = regadd-low (kept_bits value) value (low-kept value)
 
-pub data-kept : (value : ℕ) → data_of (kept value) ≡ data_of value
-data-kept value = data-low (kept value) value (low-kept value)
+pub data-kept : (value : ℕ) → data_bits (kept_bits value) ≡ data_bits value
+data-kept value = data-low (kept_bits value) value (low-kept value)
 
 after_events-if : (b : Bool) (event : PhyEvent) (phy : PhyState)
-    → after_events (cond b (event ∷ []) []) phy ≡ cond b (after_event event phy) phy
+    → phy_after_all (cond b (event ∷ []) []) phy ≡ cond b (phy_after event phy) phy
 after_events-if true event phy = refl
 after_events-if false event phy = refl
 
 -- The access of a command changes the PHY as the end of the command does.
 pub after_access : (asked : Option Operation) (value : ℕ) (phy : PhyState)
-    → after_events (access_of asked value) phy ≡ phy_ended asked (kept value) phy
+    → phy_after_all (access_of asked value) phy ≡ phy_ended asked (kept_bits value) phy
 after_access None value phy = refl
 after_access (Some operation.Write) value s =
-    after_events-if (reaches_phy value) (phy.Write (regadd value) (data_of value)) s
-    ∙ ap (λ (p : ℕ). cond (p == 1) (state.after_write (regadd value) (data_of value) s) s) (sym (phyadd-kept value))
-    ∙ ap (λ (r : ℕ). cond (reaches_phy (kept value)) (state.after_write r (data_of value) s) s) (sym (regadd-kept value))
-    ∙ ap (λ (d : ℕ). cond (reaches_phy (kept value)) (state.after_write (regadd (kept value)) d s) s) (sym (data-kept value))
+    after_events-if (reaches_phy value) (phy.Write (regadd value) (data_bits value)) s
+    ∙ ap (λ (p : ℕ). cond (p == 1) (state.phy_after_write (regadd value) (data_bits value) s) s) (sym (phyadd-kept value))
+    ∙ ap (λ (r : ℕ). cond (reaches_phy (kept_bits value)) (state.phy_after_write r (data_bits value) s) s) (sym (regadd-kept value))
+    ∙ ap (λ (d : ℕ). cond (reaches_phy (kept_bits value)) (state.phy_after_write (regadd (kept_bits value)) d s) s) (sym (data-kept value))
 after_access (Some operation.Read) value s =
     after_events-if (reaches_phy value) (phy.Read (regadd value)) s
-    ∙ ap (λ (p : ℕ). cond (p == 1) (state.after_read (regadd value) s) s) (sym (phyadd-kept value))
-    ∙ ap (λ (r : ℕ). cond (reaches_phy (kept value)) (state.after_read r s) s) (sym (regadd-kept value))
+    ∙ ap (λ (p : ℕ). cond (p == 1) (state.phy_after_read (regadd value) s) s) (sym (phyadd-kept value))
+    ∙ ap (λ (r : ℕ). cond (reaches_phy (kept_bits value)) (state.phy_after_read r s) s) (sym (regadd-kept value))
 
 -- A register MDIC without a pending command, and its PHY.
 abbrev without_command : ℕ → PhyState → MdicAndPhy
 without_command value phy = record { mdic = record { value = value; pending = None }; phy = phy }
 
 pub accesses-run : (all : List MdicEvent) (value : ℕ) (s : PhyState)
-    → (after_mdic_events all (without_command value s)).phy ≡ after_events (accesses all) s
+    → (after_mdic_events all (without_command value s)).phy ≡ phy_after_all (accesses all) s
 accesses-run [] value s = refl
 accesses-run (Tick ∷ later) value s = accesses-run later value (after_tick s)
 accesses-run (Write written ∷ []) value s = refl
 accesses-run (Write written ∷ Tick ∷ later) value s =
     let asked : Option Operation = operation_of written in
-    accesses-run later (ended asked (kept written) (after_tick s)) (phy_ended asked (kept written) (after_tick s))
-    ∙ ap (after_events (accesses later)) (sym (after_access asked written (after_tick s)))
-    ∙ sym (after_events-append (access_of asked written) (accesses later) (after_tick s))
+    accesses-run later (ended asked (kept_bits written) (after_tick s)) (phy_ended asked (kept_bits written) (after_tick s))
+    ∙ ap (phy_after_all (accesses later)) (sym (after_access asked written (after_tick s)))
+    ∙ sym (phy_after_all-append (access_of asked written) (accesses later) (after_tick s))
 accesses-run (Write written ∷ Write next ∷ later) value s = accesses-run (Write next ∷ later) value s
 
 pub accesses_by_history : AccessesByHistory
@@ -103,16 +103,16 @@ reads-behind state before after = ap (λ (both : MdicAndPhy). both.mdic.value)
     (after_mdic_events-append before after (record { mdic = new_mdic; phy = state }))
 
 phy-ticked : (s : PhyState) (before : List MdicEvent) → after_tick (both_behind s before).phy ≡ ticked_phy s before
-phy-ticked s before = ap after_tick (accesses_by_history s before) ∙ sym (after_events-append (accesses before) (phy.Tick ∷ []) s)
+phy-ticked s before = ap after_tick (accesses_by_history s before) ∙ sym (phy_after_all-append (accesses before) (phy.Tick ∷ []) s)
 
 -- The value of MDIC after a write, a tick, and later events without a write.
 pub reads-ended : (s : PhyState) (before : List MdicEvent) (value : ℕ) (after : List MdicEvent) → NoWrite after
-    → mdic_reads s (before ++ Write value ∷ Tick ∷ after) ≡ ended (operation_of value) (kept value) (ticked_phy s before)
+    → mdic_reads s (before ++ Write value ∷ Tick ∷ after) ≡ ended (operation_of value) (kept_bits value) (ticked_phy s before)
 reads-ended s before value after none =
     let at : PhyState = after_tick (both_behind s before).phy in
     reads-behind s before (Write value ∷ Tick ∷ after)
-    ∙ value-stays after (ended (operation_of value) (kept value) at) (phy_ended (operation_of value) (kept value) at) none
-    ∙ ap (ended (operation_of value) (kept value)) (phy-ticked s before)
+    ∙ value-stays after (ended (operation_of value) (kept_bits value) at) (phy_ended (operation_of value) (kept_bits value) at) none
+    ∙ ap (ended (operation_of value) (kept_bits value)) (phy-ticked s before)
 
 is_not : (p : ℕ) → p ≢ 1 → (p == 1) ≡ false
 is_not p other = grind (arith, nat_tests)
@@ -131,23 +131,23 @@ mdic_by_history = record {
       reads-behind s before (Write value ∷ after)
       ∙ ap (λ (p : Option Operation).
       (after_mdic_events after
-      (record { mdic = record { value = kept value; pending = p }; phy = (both_behind s before).phy })).mdic.value) asked
-      ∙ value-stays after (kept value) (both_behind s before).phy none;
+      (record { mdic = record { value = kept_bits value; pending = p }; phy = (both_behind s before).phy })).mdic.value) asked
+      ∙ value-stays after (kept_bits value) (both_behind s before).phy none;
   written = λ s before value after asked here none.
       reads-ended s before value after none
-      ∙ ap (λ (p : Option Operation). ended p (kept value) (ticked_phy s before)) asked
-      ∙ ap (λ (p : ℕ). cond (p == 1) (with_ready (kept value)) (with_error (kept value))) (phyadd-kept value ∙ here);
+      ∙ ap (λ (p : Option Operation). ended p (kept_bits value) (ticked_phy s before)) asked
+      ∙ ap (λ (p : ℕ). cond (p == 1) (with_ready (kept_bits value)) (with_error (kept_bits value))) (phyadd-kept value ∙ here);
   read = λ s before value after asked here none.
       let at : PhyState = ticked_phy s before in
       reads-ended s before value after none
-      ∙ ap (λ (p : Option Operation). ended p (kept value) at) asked
-      ∙ ap (λ (p : ℕ). cond (p == 1) (with_ready (with_data (read_value (regadd (kept value)) at) (kept value))) (with_error (kept value)))
+      ∙ ap (λ (p : Option Operation). ended p (kept_bits value) at) asked
+      ∙ ap (λ (p : ℕ). cond (p == 1) (with_ready (with_data (read_value (regadd (kept_bits value)) at) (kept_bits value))) (with_error (kept_bits value)))
       (phyadd-kept value ∙ here)
-      ∙ ap (λ (r : ℕ). with_ready (with_data (read_value r at) (kept value))) (regadd-kept value);
+      ∙ ap (λ (r : ℕ). with_ready (with_data (read_value r at) (kept_bits value))) (regadd-kept value);
   not_there = λ s before value asked after is other none.
       reads-ended s before value after none
-      ∙ ap (λ (p : Option Operation). ended p (kept value) (ticked_phy s before)) is
-      ∙ ended_value-not_there asked (ticked_phy s before) (kept value) (ap (λ (p : ℕ). p == 1) (phyadd-kept value)
+      ∙ ap (λ (p : Option Operation). ended p (kept_bits value) (ticked_phy s before)) is
+      ∙ ended_value-not_there asked (ticked_phy s before) (kept_bits value) (ap (λ (p : ℕ). p == 1) (phyadd-kept value)
       ∙ is_not (phyadd value) other);
 }
 
@@ -157,9 +157,9 @@ pub both-behind : (s : PhyState) (before : List MdicEvent) (event : MdicEvent)
 both-behind s before event = after_mdic_events-append before (event ∷ []) (record { mdic = new_mdic; phy = s })
 
 -- A write stores I, bit 29.
-pub interrupt-kept : (value : ℕ) → is_set (kept value) mdic_i ≡ is_set value mdic_i
+pub interrupt-kept : (value : ℕ) → is_set (kept_bits value) mdic_i ≡ is_set value mdic_i
 interrupt-kept value =
-    sym (contains_is_set (kept value) mdic_i) ∙ ap (λ (bit : ℕ). bit == 2 ^ 29) (and_assoc (2 ^ 29) value 0x2FFF_FFFF)
+    sym (contains_is_set (kept_bits value) mdic_i) ∙ ap (λ (bit : ℕ). bit == 2 ^ 29) (and_assoc (2 ^ 29) value 0x2FFF_FFFF)
     ∙ contains_is_set value mdic_i
 
 abbrev told_by : Bool → Bool → Option Ticked
@@ -190,14 +190,14 @@ told_by_history = record {
       ∙ accesses_by_history s (before ++ Tick ∷ []));
   no_command = λ s before value asked.
       ap told_both (both-behind s before (Write value))
-      ∙ ap (λ (p : Option Operation). told (record { value = kept value; pending = p }) (both_behind s before).phy) asked
-      ∙ told-without (kept value) (both_behind s before).phy
+      ∙ ap (λ (p : Option Operation). told (record { value = kept_bits value; pending = p }) (both_behind s before).phy) asked
+      ∙ told-without (kept_bits value) (both_behind s before).phy
       ∙ ap told_of_link (sym (ap (λ (both : MdicAndPhy). both.phy) (both-behind s before (Write value)))
       ∙ accesses_by_history s (before ++ Write value ∷ []));
   command = λ s before value asked is.
       ap told_both (both-behind s before (Write value))
-      ∙ ap (λ (p : Option Operation). told (record { value = kept value; pending = p }) (both_behind s before).phy) is
-      ∙ told-command (is_counting (both_behind s before).phy) (comes_up (both_behind s before).phy) (is_set (kept value) mdic_i)
+      ∙ ap (λ (p : Option Operation). told (record { value = kept_bits value; pending = p }) (both_behind s before).phy) is
+      ∙ told-command (is_counting (both_behind s before).phy) (comes_up (both_behind s before).phy) (is_set (kept_bits value) mdic_i)
       ∙ ap (told_by (comes_up (both_behind s before).phy)) (interrupt-kept value)
       ∙ ap (λ (phy : PhyState). told_by (comes_up phy) (is_set value mdic_i))
       (sym (ap (λ (both : MdicAndPhy). both.phy) (both-behind s before (Write value)))

@@ -54,8 +54,8 @@ after_control value phy =
     if is_set value control_enable && is_set value control_restart then restarted kept else kept)
 
 -- The PHY after a write of a register. All registers except 0 ignore the write (our choice).
-abbrev pub after_write : ℕ → ℕ → PhyState → PhyState
-after_write register value phy = if register == 0 then after_control value phy else phy
+abbrev pub phy_after_write : ℕ → ℕ → PhyState → PhyState
+phy_after_write register value phy = if register == 0 then after_control value phy else phy
 
 -- The value of register 0: bit 12 as stored; the other bits read 0 (our choice).
 abbrev pub control_value : PhyState → ℕ
@@ -84,8 +84,8 @@ read_value register phy =
 
 -- The PHY after a read of a register. A read of register 1 clears the latch, even if the link is down (22.2.4.2, "Link Status"). A read of
 -- another register changes nothing.
-abbrev pub after_read : ℕ → PhyState → PhyState
-after_read register phy = if register == 1 then record phy { latched_low = false } else phy
+abbrev pub phy_after_read : ℕ → PhyState → PhyState
+phy_after_read register phy = if register == 1 then record phy { latched_low = false } else phy
 
 -- Whether negotiation is running: it counts ticks.
 abbrev pub is_running : Negotiation → Bool
@@ -98,14 +98,14 @@ abbrev pub is_counting : PhyState → Bool
 is_counting phy = is_running phy.negotiation
 
 -- Negotiation after a tick: a running countdown decreases by 1, and at 0 negotiation is complete (the number of ticks is our choice).
-abbrev pub counted : Negotiation → Negotiation
-counted NotStarted = NotStarted
-counted (Running left) = if nat_le left 1 then Complete else Running (left - 1)
-counted Complete = Complete
+abbrev pub counted_down : Negotiation → Negotiation
+counted_down NotStarted = NotStarted
+counted_down (Running left) = if nat_le left 1 then Complete else Running (left - 1)
+counted_down Complete = Complete
 
 -- The PHY after a tick: only negotiation can change.
 abbrev pub after_tick : PhyState → PhyState
-after_tick phy = record phy { negotiation = counted phy.negotiation }
+after_tick phy = record phy { negotiation = counted_down phy.negotiation }
 
 -- Whether a tick changes the link from down to up.
 abbrev pub comes_up : PhyState → Bool

@@ -6,7 +6,7 @@ use Rattle.registers.specs.Bits.{is_set}
 use Rattle.registers.specs.Places.{alone}
 use Rattle.eeprom_phy.specs.declared.phy.Link.{Link}
 use Rattle.eeprom_phy.specs.declared.phy.Link.TheVariants.{After, Never}
-use Rattle.eeprom_phy.specs.Phy.{PhyState, new_phy, after_write, after_read, after_tick, read_value, link_is_up, link_seen, link_unseen}
+use Rattle.eeprom_phy.specs.Phy.{PhyState, new_phy, phy_after_write, phy_after_read, after_tick, read_value, link_is_up, link_seen, link_unseen}
 use Rattle.eeprom_phy.specs.Places.{control_enable, control_reset, control_restart}
 
 -- An event at a PHY: a tick, a read of a register, or a write of a value to a register.
@@ -15,24 +15,24 @@ pub data PhyEvent : Type 0 where
   Read : ℕ → PhyEvent
   Write : ℕ → ℕ → PhyEvent
 
-abbrev pub after_event : PhyEvent → PhyState → PhyState
-after_event Tick phy = after_tick phy
-after_event (Read register) phy = after_read register phy
-after_event (Write register value) phy = after_write register value phy
+abbrev pub phy_after : PhyEvent → PhyState → PhyState
+phy_after Tick phy = after_tick phy
+phy_after (Read register) phy = phy_after_read register phy
+phy_after (Write register value) phy = phy_after_write register value phy
 
 -- The PHY after a list of events, the oldest first.
-abbrev pub after_events : List PhyEvent → PhyState → PhyState
-after_events [] phy = phy
-after_events (event ∷ later) phy = after_events later (after_event event phy)
+abbrev pub phy_after_all : List PhyEvent → PhyState → PhyState
+phy_after_all [] phy = phy
+phy_after_all (event ∷ later) phy = phy_after_all later (phy_after event phy)
 
 -- A PHY that was new, after a list of events.
 abbrev pub phy_behind : Link → List PhyEvent → PhyState
-phy_behind link events = after_events events (new_phy link)
+phy_behind link events = phy_after_all events (new_phy link)
 
-abbrev pub is_tick : PhyEvent → Bool
-is_tick Tick = true
-is_tick (Read register) = false
-is_tick (Write register value) = false
+abbrev pub is_tick_of_phy : PhyEvent → Bool
+is_tick_of_phy Tick = true
+is_tick_of_phy (Read register) = false
+is_tick_of_phy (Write register value) = false
 
 abbrev pub is_status_read : PhyEvent → Bool
 is_status_read Tick = false
@@ -45,10 +45,10 @@ is_control_write (Read register) = false
 is_control_write (Write register value) = register == 0
 
 -- Whether the event is a write of register 0 with bit 15 (IEEE 802.3, 22.2.4.1, "Reset").
-abbrev pub is_reset : PhyEvent → Bool
-is_reset Tick = false
-is_reset (Read register) = false
-is_reset (Write register value) = register == 0 && is_set value control_reset
+abbrev pub is_phy_reset : PhyEvent → Bool
+is_phy_reset Tick = false
+is_phy_reset (Read register) = false
+is_phy_reset (Write register value) = register == 0 && is_set value control_reset
 
 -- Whether the event is a write of register 0 with bits 12 and 9, and without bit 15 (22.2.4.1, "Restart Auto-Negotiation").
 abbrev pub is_restart : PhyEvent → Bool
@@ -59,7 +59,7 @@ is_restart (Write register value) = register == 0 && (not
 
 -- Whether the event is a reset or a restart. Only these events take the link down.
 abbrev pub takes_down : PhyEvent → Bool
-takes_down event = is_reset event || is_restart event
+takes_down event = is_phy_reset event || is_restart event
 
 -- No event of the list passes the test.
 abbrev pub HasNo : (PhyEvent → Bool) → List PhyEvent → Type 0
@@ -71,14 +71,14 @@ pub record LinkByHistory : Type 0 where
   -- The link is down if no write ever started negotiation.
   pub never_started : (link : Link) (all : List PhyEvent) → HasNo is_restart all → link_is_up (phy_behind link all) ≡ false
   -- The link is down if no write started negotiation since a reset.
-  pub reset : (link : Link) (before : List PhyEvent) (event : PhyEvent) (after : List PhyEvent) → IsTrue (is_reset event)
+  pub reset : (link : Link) (before : List PhyEvent) (event : PhyEvent) (after : List PhyEvent) → IsTrue (is_phy_reset event)
       → HasNo is_restart after
       → link_is_up (phy_behind link (before ++ event ∷ after)) ≡ false
   -- With `After d` and d at least 1, the link is up exactly if at least d ticks followed the start of negotiation. Neither a reset nor a
   -- restart may have followed this start.
   pub started : (d : ℕ) (before : List PhyEvent) (event : PhyEvent) (after : List PhyEvent) → 1 ≤ d → IsTrue (is_restart event)
       → HasNo takes_down after
-      → link_is_up (phy_behind (After d) (before ++ event ∷ after)) ≡ nat_le d (count_by is_tick after)
+      → link_is_up (phy_behind (After d) (before ++ event ∷ after)) ≡ nat_le d (count_by is_tick_of_phy after)
   -- A link that is set to `Never` is down.
   pub never : (all : List PhyEvent) → link_is_up (phy_behind Never all) ≡ false
 

@@ -9,21 +9,21 @@ use Rattle.registers.specs.Bits.{is_set}
 use Rattle.eeprom_phy.specs.declared.phy.Link.{Link}
 use Rattle.eeprom_phy.specs.declared.phy.Link.TheVariants.{After, Never}
 use Rattle.eeprom_phy.specs.declared.phy.Negotiation.TheVariants.{NotStarted, Running, Complete}
-use Rattle.eeprom_phy.specs.Phy.{PhyState, new_phy, after_write, after_read, after_tick, link_is_up, is_complete, counted, negotiation_of}
+use Rattle.eeprom_phy.specs.Phy.{PhyState, new_phy, phy_after_write, phy_after_read, after_tick, link_is_up, is_complete, counted_down, negotiation_of}
 use Rattle.eeprom_phy.specs.Phy.{status_value}
-use Rattle.eeprom_phy.specs.PhyHistory.{PhyEvent, Tick, Read, Write, after_event, after_events, phy_behind, is_tick, is_status_read}
-use Rattle.eeprom_phy.specs.PhyHistory.{is_control_write, is_reset, is_restart, takes_down, HasNo, LinkByHistory, LatchByHistory}
+use Rattle.eeprom_phy.specs.PhyHistory.{PhyEvent, Tick, Read, Write, phy_after, phy_after_all, phy_behind, is_tick_of_phy, is_status_read}
+use Rattle.eeprom_phy.specs.PhyHistory.{is_control_write, is_phy_reset, is_restart, takes_down, HasNo, LinkByHistory, LatchByHistory}
 use Rattle.eeprom_phy.specs.PhyHistory.{ControlByHistory}
-use Rattle.eeprom_phy.specs.WriteLaws.{link-by_tests, not_started-by_tests, reset-by_tests, restart-by_tests, negotiation-by_tests}
-use Rattle.eeprom_phy.specs.WriteLaws.{latch-by_tests, latched-by_tests, still_latched-by_tests, never-by_tests, enabled-by_tests}
+use Rattle.eeprom_phy.specs.WriteLaws.{link-by_tests, not_started-by_tests, reset-by_tests, restart-by_tests, stays-by_tests}
+use Rattle.eeprom_phy.specs.WriteLaws.{latched-by_tests, still_latched-by_tests, never-by_tests, enabled-by_tests}
 use Rattle.eeprom_phy.specs.WriteLaws.{enabled_stays-by_tests}
 use Rattle.eeprom_phy.specs.Places.{control_enable, control_reset, control_restart}
 
 -- The PHY after two lists of events, one after the other.
-pub after_events-append : (before after : List PhyEvent) (phy : PhyState)
-    → after_events (before ++ after) phy ≡ after_events after (after_events before phy)
-after_events-append [] after phy = refl
-after_events-append (event ∷ before) after phy = after_events-append before after (after_event event phy)
+pub phy_after_all-append : (before after : List PhyEvent) (phy : PhyState)
+    → phy_after_all (before ++ after) phy ≡ phy_after_all after (phy_after_all before phy)
+phy_after_all-append [] after phy = refl
+phy_after_all-append (event ∷ before) after phy = phy_after_all-append before after (phy_after event phy)
 
 first_fails : (test : PhyEvent → Bool) (event : PhyEvent) (later : List PhyEvent) → HasNo test (event ∷ later) → test event ≡ false
 first_fails test event later none = (or_parts (test event) (list_any test later) none).0
@@ -31,20 +31,29 @@ first_fails test event later none = (or_parts (test event) (list_any test later)
 later_fail : (test : PhyEvent → Bool) (event : PhyEvent) (later : List PhyEvent) → HasNo test (event ∷ later) → HasNo test later
 later_fail test event later none = (or_parts (test event) (list_any test later) none).1
 
+-- A fact that remains true with each event that fails a test remains true with events that all fail the test.
+kept-after_events : (P : PhyState → Type 0) (test : PhyEvent → Bool)
+    → ((event : PhyEvent) (phy : PhyState) → test event ≡ false → P phy → P (phy_after event phy))
+    → (events : List PhyEvent) (phy : PhyState) → HasNo test events → P phy → P (phy_after_all events phy)
+kept-after_events P test kept [] phy none holds = holds
+kept-after_events P test kept (event ∷ later) phy none holds =
+    kept-after_events P test kept later (phy_after event phy) (later_fail test event later none)
+    (kept event phy (first_fails test event later none) holds)
+
 link-after_read : (b : Bool) (phy : PhyState)
     → (let after : PhyState = cond b (record phy { latched_low = false }) phy in after.link) ≡ phy.link
 link-after_read true phy = refl
 link-after_read false phy = refl
 
-pub link-after_event : (event : PhyEvent) (phy : PhyState) → (after_event event phy).link ≡ phy.link
+pub link-after_event : (event : PhyEvent) (phy : PhyState) → (phy_after event phy).link ≡ phy.link
 link-after_event Tick phy = refl
 link-after_event (Read register) phy = link-after_read (register == 1) phy
 link-after_event (Write register value) phy = link-by_tests (register == 0) (is_set value control_reset) (is_set value control_enable)
     (is_set value control_restart) phy
 
-pub link-after_events : (events : List PhyEvent) (phy : PhyState) → (after_events events phy).link ≡ phy.link
+pub link-after_events : (events : List PhyEvent) (phy : PhyState) → (phy_after_all events phy).link ≡ phy.link
 link-after_events [] phy = refl
-link-after_events (event ∷ later) phy = link-after_events later (after_event event phy) ∙ link-after_event event phy
+link-after_events (event ∷ later) phy = link-after_events later (phy_after event phy) ∙ link-after_event event phy
 
 negotiation-after_read : (b : Bool) (phy : PhyState)
     → (let after : PhyState = cond b (record phy { latched_low = false }) phy in after.negotiation) ≡ phy.negotiation
@@ -53,27 +62,24 @@ negotiation-after_read false phy = refl
 
 -- An event that isn't a restart doesn't start negotiation.
 pub not_started-after_event : (event : PhyEvent) (phy : PhyState) → is_restart event ≡ false → phy.negotiation ≡ NotStarted
-    → (after_event event phy).negotiation ≡ NotStarted
-not_started-after_event Tick phy none idle = ap counted idle
+    → (phy_after event phy).negotiation ≡ NotStarted
+not_started-after_event Tick phy none idle = ap counted_down idle
 not_started-after_event (Read register) phy none idle = negotiation-after_read (register == 1) phy ∙ idle
 not_started-after_event (Write register value) phy none idle = not_started-by_tests (register == 0) (is_set value control_reset)
     (is_set value control_enable) (is_set value control_restart) phy none idle
 
 pub not_started-after_events : (events : List PhyEvent) (phy : PhyState) → HasNo is_restart events → phy.negotiation ≡ NotStarted
-    → (after_events events phy).negotiation ≡ NotStarted
-not_started-after_events [] phy none idle = idle
-not_started-after_events (event ∷ later) phy none idle =
-    not_started-after_events later (after_event event phy) (later_fail is_restart event later none)
-    (not_started-after_event event phy (first_fails is_restart event later none) idle)
+    → (phy_after_all events phy).negotiation ≡ NotStarted
+not_started-after_events = kept-after_events (λ (phy : PhyState). phy.negotiation ≡ NotStarted) is_restart not_started-after_event
 
-pub reset-after_event : (event : PhyEvent) (phy : PhyState) → is_reset event ≡ true → (after_event event phy).negotiation ≡ NotStarted
+pub reset-after_event : (event : PhyEvent) (phy : PhyState) → is_phy_reset event ≡ true → (phy_after event phy).negotiation ≡ NotStarted
 reset-after_event Tick phy is = absurd (false≢true is)
 reset-after_event (Read register) phy is = absurd (false≢true is)
 reset-after_event (Write register value) phy is = reset-by_tests (register == 0) (is_set value control_reset) (is_set value control_enable)
     (is_set value control_restart) phy is
 
 pub restart-after_event : (event : PhyEvent) (phy : PhyState) → is_restart event ≡ true
-    → (after_event event phy).negotiation ≡ negotiation_of phy.link
+    → (phy_after event phy).negotiation ≡ negotiation_of phy.link
 restart-after_event Tick phy is = absurd (false≢true is)
 restart-after_event (Read register) phy is = absurd (false≢true is)
 restart-after_event (Write register value) phy is = restart-by_tests (register == 0) (is_set value control_reset)
@@ -81,46 +87,46 @@ restart-after_event (Write register value) phy is = restart-by_tests (register =
 
 -- If the link is set to `Never`, no event starts negotiation.
 pub never-after_event : (event : PhyEvent) (phy : PhyState) → phy.link ≡ Never → phy.negotiation ≡ NotStarted
-    → (after_event event phy).negotiation ≡ NotStarted
-never-after_event Tick phy never idle = ap counted idle
+    → (phy_after event phy).negotiation ≡ NotStarted
+never-after_event Tick phy never idle = ap counted_down idle
 never-after_event (Read register) phy never idle = negotiation-after_read (register == 1) phy ∙ idle
 never-after_event (Write register value) phy never idle = never-by_tests (register == 0) (is_set value control_reset)
     (is_set value control_enable) (is_set value control_restart) phy never idle
 
 pub never-after_events : (events : List PhyEvent) (phy : PhyState) → phy.link ≡ Never → phy.negotiation ≡ NotStarted
-    → (after_events events phy).negotiation ≡ NotStarted
+    → (phy_after_all events phy).negotiation ≡ NotStarted
 never-after_events [] phy never idle = idle
 never-after_events (event ∷ later) phy never idle =
-    never-after_events later (after_event event phy) (link-after_event event phy ∙ never) (never-after_event event phy never idle)
+    never-after_events later (phy_after event phy) (link-after_event event phy ∙ never) (never-after_event event phy never idle)
 
 -- An event that is no reset, no restart and no tick doesn't change negotiation.
-pub counted-after_event : (event : PhyEvent) (phy : PhyState) → takes_down event ≡ false → is_tick event ≡ false
-    → (after_event event phy).negotiation ≡ phy.negotiation
+pub counted-after_event : (event : PhyEvent) (phy : PhyState) → takes_down event ≡ false → is_tick_of_phy event ≡ false
+    → (phy_after event phy).negotiation ≡ phy.negotiation
 counted-after_event Tick phy none still = absurd (true≢false still)
 counted-after_event (Read register) phy none still = negotiation-after_read (register == 1) phy
-counted-after_event (Write register value) phy none still = negotiation-by_tests (register == 0) (is_set value control_reset)
-    (is_set value control_enable) (is_set value control_restart) phy none
+counted-after_event (Write register value) phy none still = (stays-by_tests (register == 0) (is_set value control_reset)
+    (is_set value control_enable) (is_set value control_restart) phy none).0
 
 -- Without a reset or a restart, complete negotiation remains complete.
+complete-after_event : (event : PhyEvent) (phy : PhyState) → takes_down event ≡ false → phy.negotiation ≡ Complete
+    → (phy_after event phy).negotiation ≡ Complete
+complete-after_event Tick phy none up = ap counted_down up
+complete-after_event (Read register) phy none up = counted-after_event (Read register) phy none refl ∙ up
+complete-after_event (Write register value) phy none up = counted-after_event (Write register value) phy none refl ∙ up
+
 pub complete-after_events : (events : List PhyEvent) (phy : PhyState) → HasNo takes_down events → phy.negotiation ≡ Complete
-    → (after_events events phy).negotiation ≡ Complete
-complete-after_events [] phy none up = up
-complete-after_events (Tick ∷ later) phy none up = complete-after_events later (after_tick phy) none (ap counted up)
-complete-after_events (Read register ∷ later) phy none up =
-    complete-after_events later (after_read register phy) none (negotiation-after_read (register == 1) phy ∙ up)
-complete-after_events (Write register value ∷ later) phy none up =
-    complete-after_events later (after_write register value phy) (later_fail takes_down (Write register value) later none)
-    (counted-after_event (Write register value) phy (first_fails takes_down (Write register value) later none) refl ∙ up)
+    → (phy_after_all events phy).negotiation ≡ Complete
+complete-after_events = kept-after_events (λ (phy : PhyState). phy.negotiation ≡ Complete) takes_down complete-after_event
 
 -- A tick ends a countdown of at most 1, and decreases a greater countdown by one.
-counted-last : (left : ℕ) → nat_le left 1 ≡ true → counted (Running left) ≡ Complete
+counted-last : (left : ℕ) → nat_le left 1 ≡ true → counted_down (Running left) ≡ Complete
 counted-last left last = rw last refl
 
-counted-more : (left : ℕ) → nat_le left 1 ≡ false → counted (Running left) ≡ Running (left - 1)
+counted-more : (left : ℕ) → nat_le left 1 ≡ false → counted_down (Running left) ≡ Running (left - 1)
 counted-more left more = rw more refl
 
-count_ticks : (later : List PhyEvent) → count_by is_tick (Tick ∷ later) ≡ 1 + count_by is_tick later
-count_ticks later = sum_by-cons (λ (event : PhyEvent). cond (is_tick event) 1 0) Tick later
+count_ticks : (later : List PhyEvent) → count_by is_tick_of_phy (Tick ∷ later) ≡ 1 + count_by is_tick_of_phy later
+count_ticks later = sum_by-cons (λ (event : PhyEvent). cond (is_tick_of_phy event) 1 0) Tick later
 
 enough-one_more : (left n m : ℕ) → nat_le left 1 ≡ true → m ≡ 1 + n → true ≡ nat_le left m
 enough-one_more left n m last more = grind (arith, nat_tests)
@@ -138,30 +144,30 @@ either false = inr refl
 -- Without a reset or a restart, a running countdown has ended exactly if at least `left` ticks happened.
 pub running-after_events : (events : List PhyEvent) (phy : PhyState) (left : ℕ) → HasNo takes_down events → 1 ≤ left
     → phy.negotiation ≡ Running left
-    → is_complete (after_events events phy).negotiation ≡ nat_le left (count_by is_tick events)
+    → is_complete (phy_after_all events phy).negotiation ≡ nat_le left (count_by is_tick_of_phy events)
 running-after_events [] phy left none some runs = ap is_complete runs ∙ grind (arith, nat_tests)
 running-after_events (Tick ∷ later) phy left none some runs = elim (either (nat_le left 1)) [
-  | inl last ↦ ap is_complete (complete-after_events later (after_tick phy) none (ap counted runs ∙ counted-last left last))
-      ∙ enough-one_more left (count_by is_tick later) (count_by is_tick (Tick ∷ later)) last (count_ticks later)
-  | inr more ↦ running-after_events later (after_tick phy) (left - 1) none (still_some left more) (ap counted runs ∙ counted-more left more)
-      ∙ enough-one_less left (count_by is_tick later) (count_by is_tick (Tick ∷ later)) some (count_ticks later)
+  | inl last ↦ ap is_complete (complete-after_events later (after_tick phy) none (ap counted_down runs ∙ counted-last left last))
+      ∙ enough-one_more left (count_by is_tick_of_phy later) (count_by is_tick_of_phy (Tick ∷ later)) last (count_ticks later)
+  | inr more ↦ running-after_events later (after_tick phy) (left - 1) none (still_some left more) (ap counted_down runs ∙ counted-more left more)
+      ∙ enough-one_less left (count_by is_tick_of_phy later) (count_by is_tick_of_phy (Tick ∷ later)) some (count_ticks later)
 ]
 running-after_events (Read register ∷ later) phy left none some runs =
-    running-after_events later (after_read register phy) left none some (negotiation-after_read (register == 1) phy ∙ runs)
+    running-after_events later (phy_after_read register phy) left none some (negotiation-after_read (register == 1) phy ∙ runs)
 running-after_events (Write register value ∷ later) phy left none some runs =
-    running-after_events later (after_write register value phy) left (later_fail takes_down (Write register value) later none) some
+    running-after_events later (phy_after_write register value phy) left (later_fail takes_down (Write register value) later none) some
     (counted-after_event (Write register value) phy (first_fails takes_down (Write register value) later none) refl ∙ runs)
 
 pub link_by_history : LinkByHistory
 link_by_history = record {
   never_started = λ link all none. ap is_complete (not_started-after_events all (new_phy link) none refl);
   reset = λ link before event after is none.
-      ap link_is_up (after_events-append before (event ∷ after) (new_phy link))
-      ∙ ap is_complete (not_started-after_events after (after_event event (phy_behind link before)) none
+      ap link_is_up (phy_after_all-append before (event ∷ after) (new_phy link))
+      ∙ ap is_complete (not_started-after_events after (phy_after event (phy_behind link before)) none
       (reset-after_event event (phy_behind link before) is));
   started = λ d before event after some is none.
-      ap link_is_up (after_events-append before (event ∷ after) (new_phy (After d)))
-      ∙ running-after_events after (after_event event (phy_behind (After d) before)) d none some
+      ap link_is_up (phy_after_all-append before (event ∷ after) (new_phy (After d)))
+      ∙ running-after_events after (phy_after event (phy_behind (After d) before)) d none some
       (restart-after_event event (phy_behind (After d) before) is ∙ ap negotiation_of (link-after_events before (new_phy (After d))));
   never = λ all. ap is_complete (never-after_events all (new_phy Never) refl refl);
 }
@@ -178,21 +184,18 @@ unlatched-after_read false phy was = was
 
 -- An event other than a read of the status register doesn't clear the latch.
 pub latched-after_event : (event : PhyEvent) (phy : PhyState) → is_status_read event ≡ false → phy.latched_low ≡ true
-    → (after_event event phy).latched_low ≡ true
+    → (phy_after event phy).latched_low ≡ true
 latched-after_event Tick phy none was = was
 latched-after_event (Read register) phy none was = latched-after_read (register == 1) phy none ∙ was
 latched-after_event (Write register value) phy none was = still_latched-by_tests (register == 0) (is_set value control_reset)
     (is_set value control_enable) (is_set value control_restart) phy was
 
 pub latched-after_events : (events : List PhyEvent) (phy : PhyState) → HasNo is_status_read events → phy.latched_low ≡ true
-    → (after_events events phy).latched_low ≡ true
-latched-after_events [] phy none was = was
-latched-after_events (event ∷ later) phy none was =
-    latched-after_events later (after_event event phy) (later_fail is_status_read event later none)
-    (latched-after_event event phy (first_fails is_status_read event later none) was)
+    → (phy_after_all events phy).latched_low ≡ true
+latched-after_events = kept-after_events (λ (phy : PhyState). phy.latched_low ≡ true) is_status_read latched-after_event
 
 -- An event that takes the link down latches the link status low.
-pub taken_down-after_event : (event : PhyEvent) (phy : PhyState) → takes_down event ≡ true → (after_event event phy).latched_low ≡ true
+pub taken_down-after_event : (event : PhyEvent) (phy : PhyState) → takes_down event ≡ true → (phy_after event phy).latched_low ≡ true
 taken_down-after_event Tick phy is = absurd (false≢true is)
 taken_down-after_event (Read register) phy is = absurd (false≢true is)
 taken_down-after_event (Write register value) phy is = latched-by_tests (register == 0) (is_set value control_reset)
@@ -200,18 +203,15 @@ taken_down-after_event (Write register value) phy is = latched-by_tests (registe
 
 -- An event that doesn't take the link down doesn't latch the link status low.
 pub unlatched-after_event : (event : PhyEvent) (phy : PhyState) → takes_down event ≡ false → phy.latched_low ≡ false
-    → (after_event event phy).latched_low ≡ false
+    → (phy_after event phy).latched_low ≡ false
 unlatched-after_event Tick phy none was = was
 unlatched-after_event (Read register) phy none was = unlatched-after_read (register == 1) phy was
-unlatched-after_event (Write register value) phy none was = latch-by_tests (register == 0) (is_set value control_reset)
-    (is_set value control_enable) (is_set value control_restart) phy none ∙ was
+unlatched-after_event (Write register value) phy none was = (stays-by_tests (register == 0) (is_set value control_reset)
+    (is_set value control_enable) (is_set value control_restart) phy none).1 ∙ was
 
 pub unlatched-after_events : (events : List PhyEvent) (phy : PhyState) → HasNo takes_down events → phy.latched_low ≡ false
-    → (after_events events phy).latched_low ≡ false
-unlatched-after_events [] phy none was = was
-unlatched-after_events (event ∷ later) phy none was =
-    unlatched-after_events later (after_event event phy) (later_fail takes_down event later none)
-    (unlatched-after_event event phy (first_fails takes_down event later none) was)
+    → (phy_after_all events phy).latched_low ≡ false
+unlatched-after_events = kept-after_events (λ (phy : PhyState). phy.latched_low ≡ false) takes_down unlatched-after_event
 
 read-unlatches : (b : Bool) (phy : PhyState) → b ≡ true
     → (let after : PhyState = cond b (record phy { latched_low = false }) phy in after.latched_low) ≡ false
@@ -219,7 +219,7 @@ read-unlatches true phy is = refl
 read-unlatches false phy is = absurd (false≢true is)
 
 pub status_read-after_event : (event : PhyEvent) (phy : PhyState) → is_status_read event ≡ true
-    → (after_event event phy).latched_low ≡ false
+    → (phy_after event phy).latched_low ≡ false
 status_read-after_event Tick phy is = absurd (false≢true is)
 status_read-after_event (Read register) phy is = read-unlatches (register == 1) phy is
 status_read-after_event (Write register value) phy is = absurd (false≢true is)
@@ -236,13 +236,13 @@ latch_by_history = record {
   never_read = λ link all none. status-latched (phy_behind link all) (latched-after_events all (new_phy link) none refl);
   taken_down = λ link before event after is none.
       status-latched (phy_behind link (before ++ event ∷ after))
-      (ap (λ (phy : PhyState). phy.latched_low) (after_events-append before (event ∷ after) (new_phy link))
-      ∙ latched-after_events after (after_event event (phy_behind link before)) none
+      (ap (λ (phy : PhyState). phy.latched_low) (phy_after_all-append before (event ∷ after) (new_phy link))
+      ∙ latched-after_events after (phy_after event (phy_behind link before)) none
       (taken_down-after_event event (phy_behind link before) is));
   stayed = λ link before event after is none.
       status-unlatched (phy_behind link (before ++ event ∷ after))
-      (ap (λ (phy : PhyState). phy.latched_low) (after_events-append before (event ∷ after) (new_phy link))
-      ∙ unlatched-after_events after (after_event event (phy_behind link before)) none
+      (ap (λ (phy : PhyState). phy.latched_low) (phy_after_all-append before (event ∷ after) (new_phy link))
+      ∙ unlatched-after_events after (phy_after event (phy_behind link before)) none
       (status_read-after_event event (phy_behind link before) is));
 }
 
@@ -252,25 +252,23 @@ enabled-after_read true phy = refl
 enabled-after_read false phy = refl
 
 pub enabled-after_event : (event : PhyEvent) (phy : PhyState) → is_control_write event ≡ false
-    → (after_event event phy).negotiation_enabled ≡ phy.negotiation_enabled
+    → (phy_after event phy).negotiation_enabled ≡ phy.negotiation_enabled
 enabled-after_event Tick phy none = refl
 enabled-after_event (Read register) phy none = enabled-after_read (register == 1) phy
 enabled-after_event (Write register value) phy none = enabled_stays-by_tests (register == 0) (is_set value control_reset)
     (is_set value control_enable) (is_set value control_restart) phy none
 
 pub enabled-after_events : (events : List PhyEvent) (phy : PhyState) → HasNo is_control_write events
-    → (after_events events phy).negotiation_enabled ≡ phy.negotiation_enabled
-enabled-after_events [] phy none = refl
-enabled-after_events (event ∷ later) phy none =
-    enabled-after_events later (after_event event phy) (later_fail is_control_write event later none)
-    ∙ enabled-after_event event phy (first_fails is_control_write event later none)
+    → (phy_after_all events phy).negotiation_enabled ≡ phy.negotiation_enabled
+enabled-after_events events phy none = kept-after_events (λ (after : PhyState). after.negotiation_enabled ≡ phy.negotiation_enabled)
+    is_control_write (λ event before fails same. enabled-after_event event before fails ∙ same) events phy none refl
 
 enabled-behind : (link : Link) (before : List PhyEvent) (value : ℕ) (after : List PhyEvent) → HasNo is_control_write after
     → (phy_behind link (before ++ Write 0 value ∷ after)).negotiation_enabled
     ≡ cond (is_set value control_reset) true (is_set value control_enable)
 enabled-behind link before value after none =
-    ap (λ (phy : PhyState). phy.negotiation_enabled) (after_events-append before (Write 0 value ∷ after) (new_phy link))
-    ∙ enabled-after_events after (after_write 0 value (phy_behind link before)) none
+    ap (λ (phy : PhyState). phy.negotiation_enabled) (phy_after_all-append before (Write 0 value ∷ after) (new_phy link))
+    ∙ enabled-after_events after (phy_after_write 0 value (phy_behind link before)) none
     ∙ enabled-by_tests (is_set value control_reset) (is_set value control_enable) (is_set value control_restart) (phy_behind link before)
 
 shown : Bool → ℕ

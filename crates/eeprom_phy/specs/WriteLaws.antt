@@ -4,7 +4,7 @@ use Rattle.std.proofs.lemmas.Bool.{false≢true, true≢false}
 use Rattle.registers.specs.Bits.{is_set}
 use Rattle.eeprom_phy.specs.declared.phy.Link.TheVariants.{Never}
 use Rattle.eeprom_phy.specs.declared.phy.Negotiation.TheVariants.{NotStarted}
-use Rattle.eeprom_phy.specs.Phy.{PhyState, new_phy, restarted, negotiation_of, after_write}
+use Rattle.eeprom_phy.specs.Phy.{PhyState, new_phy, restarted, negotiation_of, phy_after_write}
 use Rattle.eeprom_phy.specs.Places.{control_enable, control_reset, control_restart}
 
 -- The PHY after a write, by four flags: whether register 0 is written, and whether bits 15, 12 and 9 are set.
@@ -14,13 +14,13 @@ by_tests control reset enable again phy =
     (let kept : PhyState = record phy { negotiation_enabled = enable } in cond (enable && again) (restarted kept) kept)) phy
 
 pub after_write-by_tests : (register value : ℕ) (phy : PhyState)
-    → after_write register value phy
+    → phy_after_write register value phy
     ≡ by_tests (register == 0) (is_set value control_reset) (is_set value control_enable) (is_set value control_restart) phy
 after_write-by_tests register value phy = refl
 
 -- Whether the write resets the PHY, and whether it restarts negotiation.
-abbrev pub resets : Bool → Bool → Bool
-resets control reset = control && reset
+abbrev pub resets_phy : Bool → Bool → Bool
+resets_phy control reset = control && reset
 
 abbrev pub restarts : Bool → Bool → Bool → Bool → Bool
 restarts control reset enable again = control && (not reset && (enable && again))
@@ -43,7 +43,7 @@ not_started-by_tests true false true false phy none idle = idle
 not_started-by_tests true false false a phy none idle = idle
 
 -- After a reset, negotiation is not started.
-pub reset-by_tests : (c r e a : Bool) (phy : PhyState) → resets c r ≡ true → (by_tests c r e a phy).negotiation ≡ NotStarted
+pub reset-by_tests : (c r e a : Bool) (phy : PhyState) → resets_phy c r ≡ true → (by_tests c r e a phy).negotiation ≡ NotStarted
 reset-by_tests false r e a phy is = absurd (false≢true is)
 reset-by_tests true true e a phy is = refl
 reset-by_tests true false e a phy is = absurd (false≢true is)
@@ -57,26 +57,17 @@ restart-by_tests true false true true phy is = refl
 restart-by_tests true false true false phy is = absurd (false≢true is)
 restart-by_tests true false false a phy is = absurd (false≢true is)
 
--- A write that neither resets nor restarts doesn't change negotiation.
-pub negotiation-by_tests : (c r e a : Bool) (phy : PhyState) → (resets c r || restarts c r e a) ≡ false
-    → (by_tests c r e a phy).negotiation ≡ phy.negotiation
-negotiation-by_tests false r e a phy none = refl
-negotiation-by_tests true true e a phy none = absurd (true≢false none)
-negotiation-by_tests true false true true phy none = absurd (true≢false none)
-negotiation-by_tests true false true false phy none = refl
-negotiation-by_tests true false false a phy none = refl
-
--- A write that neither resets nor restarts doesn't change the latch.
-pub latch-by_tests : (c r e a : Bool) (phy : PhyState) → (resets c r || restarts c r e a) ≡ false
-    → (by_tests c r e a phy).latched_low ≡ phy.latched_low
-latch-by_tests false r e a phy none = refl
-latch-by_tests true true e a phy none = absurd (true≢false none)
-latch-by_tests true false true true phy none = absurd (true≢false none)
-latch-by_tests true false true false phy none = refl
-latch-by_tests true false false a phy none = refl
+-- A write that neither resets nor restarts changes neither negotiation nor the latch.
+pub stays-by_tests : (c r e a : Bool) (phy : PhyState) → (resets_phy c r || restarts c r e a) ≡ false
+    → ((by_tests c r e a phy).negotiation ≡ phy.negotiation) × ((by_tests c r e a phy).latched_low ≡ phy.latched_low)
+stays-by_tests false r e a phy none = (refl, refl)
+stays-by_tests true true e a phy none = absurd (true≢false none)
+stays-by_tests true false true true phy none = absurd (true≢false none)
+stays-by_tests true false true false phy none = (refl, refl)
+stays-by_tests true false false a phy none = (refl, refl)
 
 -- A write that resets or restarts latches the link status low.
-pub latched-by_tests : (c r e a : Bool) (phy : PhyState) → (resets c r || restarts c r e a) ≡ true
+pub latched-by_tests : (c r e a : Bool) (phy : PhyState) → (resets_phy c r || restarts c r e a) ≡ true
     → (by_tests c r e a phy).latched_low ≡ true
 latched-by_tests false r e a phy is = absurd (false≢true is)
 latched-by_tests true true e a phy is = refl

@@ -2,6 +2,7 @@ ghost use Rattle.std.specs.Prelude.{◌≡◌, false, fold};
 ghost use Rattle.eeprom_phy.specs.declared.eerd.ReadState.TheVariants.{Idle};
 
 use crate::Image;
+use crate::hashing::feed_read_state;
 use std::hash::Hasher;
 use std::marker::Model;
 
@@ -9,22 +10,7 @@ use std::marker::Model;
 const START: u32 = 1 << 0;
 
 /// DONE, bit 4: the read has ended.
-const DONE: u32 = 1 << 4;
-
-/// The place of the lowest bit of ADDR, bits 15:8.
-const ADDR_SHIFT: u32 = 8;
-
-/// The place of the lowest bit of DATA, bits 31:16.
-const DATA_SHIFT: u32 = 16;
-
-/// The tag of `Idle` in a hash.
-const IDLE_TAG: u8 = 0;
-
-/// The tag of `Pending` in a hash.
-const PENDING_TAG: u8 = 1;
-
-/// The tag of `Done` in a hash.
-const DONE_TAG: u8 = 2;
+const DONE: u8 = 1 << 4;
 
 /// The state of the EEPROM read that a write of EERD requested.
 #[derive(Clone, Copy, Debug, PartialEq, Eq)]
@@ -57,7 +43,7 @@ impl Model for Eerd {
 
 impl Eerd {
     ghost use Rattle.eeprom_phy.specs.declared.eerd.ReadState.TheVariants.{Idle};
-    ghost use Rattle.eeprom_phy.specs.Eerd.{after_tick, after_write, is_pending, shown};
+    ghost use Rattle.eeprom_phy.specs.Eerd.{after_tick, eerd_after_write, is_pending, shown};
     ghost use Rattle.eeprom_phy.specs.Hashed.{eerd_writes};
 
     /// Returns a register for which no read was begun: it reads 0.
@@ -72,7 +58,7 @@ impl Eerd {
     /// A write with START begins a read of the word at ADDR, and drops a pending read. A write without START is
     /// ignored. (That a pending read is dropped, and that a write without START is ignored, is our choice.)
     pub fn write(&mut self, value: u32)
-        ensures { self.new ≡ after_write value self.old }
+        ensures { self.new ≡ eerd_after_write value self.old }
     {
         if value & START != 0 {
             let [_, address, _, _] = value.to_le_bytes();
@@ -82,15 +68,15 @@ impl Eerd {
 
     /// Returns the value of the register. This value is 0 if no read was begun, and only ADDR while a read is pending.
     /// After the read has ended, the value is DATA, ADDR and DONE. START reads 0 (our choice).
-    #[tactic(auto, using(crate::proofs::EerdFields::or_fields))]
     pub fn read(&self) -> u32
         ensures { result ≡ shown self.now }
     {
         match self.state {
             ReadState::Idle => 0,
-            ReadState::Pending(address) => u32::from(address) << ADDR_SHIFT,
+            ReadState::Pending(address) => u32::from_le_bytes([0, address, 0, 0]),
             ReadState::Done(address, word) => {
-                u32::from(word) << DATA_SHIFT | u32::from(address) << ADDR_SHIFT | DONE
+                let [low, high] = word.to_le_bytes();
+                u32::from_le_bytes([DONE, address, low, high])
             }
         }
     }
@@ -120,18 +106,7 @@ impl Eerd {
     pub fn feed<H: Hasher>(&self, hasher: &mut H)
         ensures { hasher.new ≡ fold H.write hasher.old (eerd_writes self.now) }
     {
-        match self.state {
-            ReadState::Idle => hasher.write_u8(IDLE_TAG),
-            ReadState::Pending(address) => {
-                hasher.write_u8(PENDING_TAG);
-                hasher.write_u8(address);
-            }
-            ReadState::Done(address, word) => {
-                hasher.write_u8(DONE_TAG);
-                hasher.write_u8(address);
-                hasher.write_u16(word);
-            }
-        }
+        feed_read_state(self.state, hasher);
     }
 }
 

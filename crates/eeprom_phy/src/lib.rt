@@ -6,8 +6,8 @@
 //! 802.3, clause 22.
 #![tactic(auto)]
 
-mod bits;
 mod eerd;
+mod hashing;
 mod image;
 mod laws;
 mod mdic;

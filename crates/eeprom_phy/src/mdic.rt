@@ -2,6 +2,7 @@ ghost use Rattle.std.specs.Prelude.{◌≡◌, fold};
 ghost use Rattle.eeprom_phy.specs.Mdic.{ended_phy, ended_value, with_data};
 
 use crate::Phy;
+use crate::hashing::feed_command;
 use std::hash::Hasher;
 use std::marker::Model;
 
@@ -44,15 +45,6 @@ const KEPT: u32 = 0x2FFF_FFFF;
 /// The address of the PHY.
 const PHY_ADDRESS: u32 = 1;
 
-/// The tag in a hash if no command is pending.
-const NO_COMMAND_TAG: u8 = 0;
-
-/// The tag in a hash if a write is pending.
-const WRITE_TAG: u8 = 1;
-
-/// The tag in a hash if a read is pending.
-const READ_TAG: u8 = 2;
-
 /// The access that a command makes to a register of the PHY.
 #[derive(Clone, Copy, Debug, PartialEq, Eq)]
 pub enum Operation {
@@ -77,6 +69,7 @@ pub struct Ticked {
 #[derive(Clone, Copy, Debug, PartialEq, Eq)]
 pub struct Mdic {
     value: u32,
+    /// The command that the next tick ends.
     pending: Option<Operation>,
 }
 
@@ -92,7 +85,7 @@ impl Model for Mdic {
 
 impl Mdic {
     ghost use Rattle.eeprom_phy.specs.Hashed.{mdic_writes};
-    ghost use Rattle.eeprom_phy.specs.Mdic.{after_write, has_work, mdic_after_tick, new_mdic, phy_after_tick, told};
+    ghost use Rattle.eeprom_phy.specs.Mdic.{mdic_after_write, has_work, mdic_after_tick, new_mdic, phy_after_tick, told};
 
     /// Returns a register without a pending command, which reads 0.
     pub fn new() -> Self
@@ -107,7 +100,7 @@ impl Mdic {
     /// Stores all bits of the value except R, E and bit 31, and begins the command of OP. A command that is still
     /// pending is dropped (our choice). OP 00 and 11 begin no command.
     pub fn write(&mut self, value: u32)
-        ensures { self.new ≡ after_write value }
+        ensures { self.new ≡ mdic_after_write value }
     {
         self.value = value & KEPT;
         self.pending = match value >> OP_SHIFT & OP {
@@ -165,11 +158,7 @@ impl Mdic {
         ensures { hasher.new ≡ fold H.write hasher.old (mdic_writes self.now) }
     {
         hasher.write_u32(self.value);
-        hasher.write_u8(match self.pending {
-            None => NO_COMMAND_TAG,
-            Some(Operation::Write) => WRITE_TAG,
-            Some(Operation::Read) => READ_TAG,
-        });
+        feed_command(self.pending, hasher);
     }
 }
 
@@ -203,9 +192,10 @@ fn end(operation: Operation, value: u32, phy: &mut Phy) -> u32
 }
 
 /// Returns this value of MDIC with the word as DATA.
-#[tactic(auto, using(crate::proofs::MdicFields::other_data))]
 fn with_data(value: u32, word: u16) -> u32
     ensures { result ≡ with_data word value }
 {
-    value & !DATA | u32::from(word)
+    let [_, _, third, fourth] = value.to_le_bytes();
+    let [low, high] = word.to_le_bytes();
+    u32::from_le_bytes([low, high, third, fourth])
 }

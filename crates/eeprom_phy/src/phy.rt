@@ -1,8 +1,6 @@
 ghost use Rattle.std.specs.Prelude.{◌≡◌, true, false, fold};
-ghost use Rattle.eeprom_phy.specs.Hashed.{link_writes, negotiation_writes};
 
-use crate::bits::{Control, Status};
-use bitflags::Flags;
+use crate::hashing::{feed_link, feed_negotiation};
 use std::hash::{Hash, Hasher};
 use std::marker::Model;
 
@@ -21,20 +19,20 @@ const IDENTIFIER_LOW: u8 = 3;
 /// The values of the identifier registers.
 const IDENTIFIERS: [u16; 2] = [0x0141, 0x0C20];
 
-/// The tag of `After` in a hash.
-const AFTER_TAG: u8 = 0;
+/// Control, bit 9: restart autonegotiation. The bit clears itself.
+const RESTART: u16 = 1 << 9;
 
-/// The tag of `Never` in a hash.
-const NEVER_TAG: u8 = 1;
+/// Control, bit 12: autonegotiation is enabled.
+const ENABLE: u16 = 1 << 12;
 
-/// The tag of `NotStarted` in a hash.
-const NOT_STARTED_TAG: u8 = 0;
+/// Control, bit 15: reset the PHY. The bit clears itself.
+const RESET: u16 = 1 << 15;
 
-/// The tag of `Running` in a hash.
-const RUNNING_TAG: u8 = 1;
+/// Status, bit 2: the link is up, and the register was read after the last reset or restart.
+const LINK: u16 = 1 << 2;
 
-/// The tag of `Complete` in a hash.
-const COMPLETE_TAG: u8 = 2;
+/// Status, bit 5: autonegotiation is complete.
+const NEGOTIATED: u16 = 1 << 5;
 
 /// The number of ticks that negotiation takes until the link is up, or `Never`.
 #[derive(Clone, Copy, Debug, PartialEq, Eq)]
@@ -62,8 +60,10 @@ pub enum Negotiation {
 #[derive(Clone, Copy, Debug, PartialEq, Eq)]
 pub struct Phy {
     link: Link,
+    /// Bit 12 of the control register.
     negotiation_enabled: bool,
     negotiation: Negotiation,
+    /// Whether bit 2 of the status register reads 0 even if the link is up. A read of this register clears the field.
     latched_low: bool,
 }
 
@@ -89,7 +89,7 @@ impl Model for Phy {
 }
 
 impl Phy {
-    ghost use Rattle.eeprom_phy.specs.Phy.{new_phy, after_write, after_read, after_tick, read_value, link_is_up};
+    ghost use Rattle.eeprom_phy.specs.Phy.{new_phy, phy_after_write, phy_after_read, after_tick, read_value, link_is_up};
     ghost use Rattle.eeprom_phy.specs.Hashed.{phy_writes};
     ghost use Rattle.eeprom_phy.specs.Phy.{comes_up, is_counting};
 
@@ -123,14 +123,14 @@ impl Phy {
     /// Reads a register, and returns its value. A read of the status register also clears the latch of its link bit.
     pub fn read(&mut self, register: u8) -> u16
         ensures value { result ≡ read_value register self.old }
-        ensures state { self.new ≡ after_read register self.old }
+        ensures state { self.new ≡ phy_after_read register self.old }
     {
         match register {
-            CONTROL => self.control().bits(),
+            CONTROL => self.control(),
             STATUS => {
                 let status = self.status();
                 self.latched_low = false;
-                status.bits()
+                status
             }
             IDENTIFIER_HIGH => IDENTIFIERS[0],
             IDENTIFIER_LOW => IDENTIFIERS[1],
@@ -140,10 +140,10 @@ impl Phy {
 
     /// Writes a register. All registers except control ignore the write.
     pub fn write(&mut self, register: u8, value: u16)
-        ensures { self.new ≡ after_write register value self.old }
+        ensures { self.new ≡ phy_after_write register value self.old }
     {
         if register == CONTROL {
-            self.write_control(Control::from_bits_retain(value));
+            self.write_control(value);
         }
     }
 
@@ -175,73 +175,41 @@ impl Phy {
     }
 }
 
-/// Feeds the setting of the link to a hasher.
-fn feed_link<H: Hasher>(link: Link, hasher: &mut H)
-    ensures { hasher.new ≡ fold H.write hasher.old (link_writes link) }
-{
-    match link {
-        Link::After(ticks) => {
-            hasher.write_u8(AFTER_TAG);
-            hasher.write_u16(ticks);
-        }
-        Link::Never => hasher.write_u8(NEVER_TAG),
-    }
-}
-
-/// Feeds the state of negotiation to a hasher.
-fn feed_negotiation<H: Hasher>(negotiation: Negotiation, hasher: &mut H)
-    ensures { hasher.new ≡ fold H.write hasher.old (negotiation_writes negotiation) }
-{
-    match negotiation {
-        Negotiation::NotStarted => hasher.write_u8(NOT_STARTED_TAG),
-        Negotiation::Running(ticks) => {
-            hasher.write_u8(RUNNING_TAG);
-            hasher.write_u16(ticks);
-        }
-        Negotiation::Complete => hasher.write_u8(COMPLETE_TAG),
-    }
-}
-
 /// The values of the control and status registers, and the effects of a write of the control register.
 impl Phy {
     ghost use Rattle.eeprom_phy.specs.Phy.{after_control, control_value, restarted, status_value};
 
     /// Returns the value of the control register: the bits that clear themselves read 0.
-    fn control(&self) -> Control
-        ensures { result.0 ≡ control_value self.now }
+    fn control(&self) -> u16
+        ensures { result ≡ control_value self.now }
     {
-        if self.negotiation_enabled {
-            Control::ENABLE
-        } else {
-            Control::empty()
-        }
+        if self.negotiation_enabled { ENABLE } else { 0 }
     }
 
     /// Returns the value of the status register.
-    fn status(&self) -> Status
-        ensures { result.0 ≡ status_value self.now }
+    fn status(&self) -> u16
+        ensures { result ≡ status_value self.now }
     {
-        let mut status = Status::empty();
-        if self.link_is_up() {
-            status.insert(Status::NEGOTIATED);
-            if !self.latched_low {
-                status.insert(Status::LINK);
-            }
+        if !self.link_is_up() {
+            0
+        } else if self.latched_low {
+            NEGOTIATED
+        } else {
+            NEGOTIATED | LINK
         }
-        status
     }
 
     /// Writes the control register. If bit 15 is set, the PHY is reset. Otherwise bit 12 is stored, and bits 12 and 9
     /// together restart negotiation.
-    fn write_control(&mut self, control: Control)
-        ensures { self.new ≡ after_control control.0 self.old }
+    fn write_control(&mut self, value: u16)
+        ensures { self.new ≡ after_control value self.old }
     {
-        if control.contains(Control::RESET) {
+        if value & RESET == RESET {
             *self = Phy::new(self.link);
             return;
         }
-        self.negotiation_enabled = control.contains(Control::ENABLE);
-        if self.negotiation_enabled && control.contains(Control::RESTART) {
+        self.negotiation_enabled = value & ENABLE == ENABLE;
+        if self.negotiation_enabled && value & RESTART == RESTART {
             self.restart();
         }
     }

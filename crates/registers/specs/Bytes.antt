@@ -5,25 +5,25 @@ use Rattle.registers.specs.declared.port_width.PortWidth.{PortWidth}
 use Rattle.registers.specs.declared.port_width.PortWidth.TheVariants.{Byte, Word, Long}
 
 -- The number of bytes of a width.
-abbrev pub size_of : PortWidth → ℕ
-size_of Byte = 1
-size_of Word = 2
-size_of Long = 4
+abbrev pub width_size : PortWidth → ℕ
+width_size Byte = 1
+width_size Word = 2
+width_size Long = 4
 
 -- The greatest number of a width, whose bits are all 1.
 abbrev pub ones_of : PortWidth → ℕ
-ones_of width = 2 ^ (8 * size_of width) - 1
+ones_of width = 2 ^ (8 * width_size width) - 1
 
 -- The number in the bytes of this width from byte `first` on.
-abbrev pub bytes_at : ℕ → PortWidth → ℕ → ℕ
-bytes_at first width word = word / 2 ^ (8 * first) % 2 ^ (8 * size_of width)
+abbrev pub number_from : ℕ → PortWidth → ℕ → ℕ
+number_from first width word = word / 2 ^ (8 * first) % 2 ^ (8 * width_size width)
 
 -- The bytes of a dword in which these bytes have replaced the bytes from byte `first` on.
 abbrev pub replaced : ℕ → List ℕ → List ℕ → List ℕ
 replaced first bytes old = take first old ++ bytes ++ drop (first + length bytes) old
 
 -- The dword in which the low bytes of a value, of this width, have replaced the bytes from byte `first` on.
-abbrev pub with_bytes : ℕ → PortWidth → ℕ → ℕ → ℕ
-with_bytes first width value word =
-    let written : List ℕ = take (size_of width) (to_le_bytes w32 value) in
+abbrev pub with_number_from : ℕ → PortWidth → ℕ → ℕ → ℕ
+with_number_from first width value word =
+    let written : List ℕ = take (width_size width) (to_le_bytes w32 value) in
     from_le_bytes w32 (replaced first written (to_le_bytes w32 word))

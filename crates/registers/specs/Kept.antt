@@ -2,6 +2,8 @@
 -- chapter 13, "Register Descriptions", of Intel's "PCI/PCI-X Family of Gigabit Ethernet Controllers Software Developer's Manual". The other
 -- bits read 0 (our choice).
 use Rattle.std.specs.Prelude.{ℕ, bit_and}
+use Rattle.registers.specs.Bits.{union}
+use Rattle.registers.specs.Places.{alone, ctrl_rst}
 
 -- CTRL (13.4.1 "Device Control Register"): FD 0, ASDE 5, SLU 6, VME 30. A write with RST 26 is a reset, and RST isn't stored.
 abbrev pub control_mask : ℕ
@@ -9,7 +11,7 @@ control_mask = 0x40000061
 
 -- The bits that CTRL stores, and RST.
 abbrev pub written_control_mask : ℕ
-written_control_mask = 0x44000061
+written_control_mask = union control_mask (alone ctrl_rst)
 
 -- RCTL (13.4.22 "Receive Control Register"): EN 1, UPE 3, MPE 4, LPE 5, RDMTS 9:8, MO 13:12, BAM 15, BSIZE 17:16,
 -- VFE 18, BSEX 25, SECRC 26.

@@ -1,67 +1,12 @@
-// Interrupt causes and their mask: ICR, ICS, IMS and IMC.
+// The recorded interrupt causes and their mask: ICR, ICS, IMS and IMC.
 
-ghost use Rattle.std.specs.Prelude.{⊤, ◌≡◌, ◌↔◌, [], ◌∷◌, IsTrue, bit_and, codes};
+ghost use Rattle.std.specs.Prelude.{◌≡◌, ◌↔◌, IsTrue};
 ghost use Rattle.registers.specs.Bits.{union, difference, Meet, IsSubset};
 ghost use Rattle.registers.specs.Kept.{all_causes, causes_of};
 
-use bitflags::{Flag, Flags, bitflag_items};
+use crate::Cause;
+use bitflags::Flags;
 use std::marker::Model;
-
-/// A set of interrupt causes. The bit of a cause has the same place in ICR, ICS, IMS and IMC (13.4.17). The field
-/// contains 32 bits, as in these registers.
-#[derive(Clone, Copy, PartialEq, Eq, Debug)]
-pub struct Cause(pub u32);
-
-bitflag_items! {
-    impl Cause: u32 {
-        /// Transmit descriptor written back.
-        const TXDW = 1 << 0;
-        /// Transmit queue empty.
-        const TXQE = 1 << 1;
-        /// Link status change.
-        const LSC = 1 << 2;
-        /// Receive descriptor minimum threshold reached.
-        const RXDMT0 = 1 << 4;
-        /// Receiver overrun.
-        const RXO = 1 << 6;
-        /// Receiver timer: the adapter is done with the last descriptor of a frame.
-        const RXT0 = 1 << 7;
-        /// MDI/O access complete.
-        const MDAC = 1 << 9;
-    }
-}
-
-impl Flags for Cause {
-    type Bits = u32;
-
-    ghost exact = { ⊤ };
-
-    ghost table = { (codes "TXDW", 0x1) ∷ (codes "TXQE", 0x2) ∷ (codes "LSC", 0x4) ∷ (codes "RXDMT0", 0x10)
-        ∷ (codes "RXO", 0x40) ∷ (codes "RXT0", 0x80) ∷ (codes "MDAC", 0x200) ∷ [] };
-
-    ghost set_of = { λ p. p.0 };
-
-    fn flags<'a>() -> &'a [Flag<Cause>] {
-        Cause::FLAGS
-    }
-
-    fn bits(&self) -> u32 {
-        self.0
-    }
-
-    fn from_bits_retain(bits: u32) -> Cause {
-        Cause(bits)
-    }
-}
-
-impl Cause {
-    /// Returns the causes whose bits are 1 in a written word. The word's other bits are ignored.
-    pub fn kept(value: u32) -> Cause
-        ensures { result.0 ≡ causes_of value }
-    {
-        Cause::from_bits_truncate(value)
-    }
-}
 
 /// The recorded interrupt causes and the mask (13.4.17 to 13.4.21). Both are sets of causes.
 #[derive(Clone, Copy, PartialEq, Eq, Debug)]

@@ -6,6 +6,7 @@
 //! it through the I/O ports CONFIG_ADDRESS and CONFIG_DATA.
 #![tactic(auto)]
 
+mod bits;
 mod config_address;
 mod config_offsets;
 mod device_control;
@@ -13,19 +14,17 @@ mod fields;
 mod interrupts;
 mod laws;
 mod packet_buffer;
-mod pci_command;
 mod pci_function;
 mod port_width;
 mod receive_control;
 mod statistics;
-mod transmit_control;
 
-pub use device_control::{Ctrl, Speed, Status};
-pub use interrupts::{Cause, Causes};
+pub use bits::{Cause, Ctrl, Rctl, Status, Tctl};
+pub use device_control::Speed;
+pub use interrupts::Causes;
 pub use laws::sets_of_places;
 pub use packet_buffer::PacketBufferAllocation;
 pub use pci_function::PciFunction;
 pub use port_width::PortWidth;
-pub use receive_control::{GroupOffset, Rctl};
+pub use receive_control::GroupOffset;
 pub use statistics::Counter;
-pub use transmit_control::Tctl;

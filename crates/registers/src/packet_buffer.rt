@@ -8,22 +8,16 @@ use std::marker::Model;
 /// The size of the packet buffer in kilobytes: RXA for the receive part, and the rest for the transmit part.
 const WHOLE_KILOBYTES: u32 = 64;
 
-/// RXA after power-on.
-const DEFAULT_KILOBYTES: u32 = 48;
-
 /// The least RXA.
 const LEAST_KILOBYTES: u32 = 2;
 
-/// The greatest RXA.
+/// The greatest RXA, which is also RXA after power-on.
 const MOST_KILOBYTES: u32 = 48;
-
-/// RXA, bits 15:0 of PBA.
-const RXA_BITS: u32 = 0xFFFF;
 
 /// The number of bytes of a kilobyte.
 const KILOBYTE_BYTES: u32 = 1_024;
 
-/// The place of the lowest bit of PBA's upper half, which shows the kilobytes of the transmit part.
+/// The place of the lowest bit of PBA's upper half, the kilobytes of the transmit part. RXA is the lower half.
 const TXA_SHIFT: u32 = 16;
 
 /// PBA, the packet buffer allocation register (13.4.16): the kilobytes of the receive part, RXA, an even number from 2
@@ -54,7 +48,7 @@ impl PacketBufferAllocation {
         ensures { result ≡ 48 }
     {
         PacketBufferAllocation {
-            receive_kilobytes: DEFAULT_KILOBYTES,
+            receive_kilobytes: MOST_KILOBYTES,
         }
     }
 
@@ -63,7 +57,7 @@ impl PacketBufferAllocation {
     pub fn write(&mut self, value: u32)
         ensures { self.new ≡ allocation_written value self.old }
     {
-        let kilobytes = value & RXA_BITS;
+        let kilobytes = value % (1 << TXA_SHIFT);
         if (LEAST_KILOBYTES..=MOST_KILOBYTES).contains(&kilobytes) && kilobytes % 2 == 0 {
             self.receive_kilobytes = kilobytes;
         }

@@ -2,13 +2,11 @@
 
 ghost use Rattle.std.specs.Prelude.{◌≡◌};
 ghost use Rattle.registers.specs.ConfigSpace.{interrupt_status};
-ghost use Rattle.registers.specs.Ports.{answer_at, first_byte, is_address_port};
+ghost use Rattle.registers.specs.Ports.{port_answer, first_byte, is_address_port};
 
 use crate::config_address::ConfigAddress;
 use crate::config_offsets::*;
-use crate::pci_command::Command;
 use crate::port_width::PortWidth;
-use bitflags::Flags;
 use std::marker::Model;
 
 /// The port CONFIG_ADDRESS (PCI 2.2, 3.2.2.3.2).
@@ -26,6 +24,16 @@ const STATUS: u32 = 0x0220_0000;
 
 /// Interrupt Status, as a bit of the dword at 04h: it is set while the interrupt line is asserted.
 const INTERRUPT_STATUS: u32 = 1 << 19;
+
+/// The bits of the command register that a write stores (PCI 2.2, 6.2.2 "Device Control"): I/O Space 0, Memory Space 1,
+/// Bus Master 2, Memory Write and Invalidate 4, Parity Error Response 6, and SERR# Enable 8.
+const COMMAND_BITS: u32 = 0x157;
+
+/// Memory Space, a bit of the command register: the device answers in memory space.
+const MEMORY_SPACE: u32 = 1 << 1;
+
+/// Bus Master, a bit of the command register: the device may access memory. The bit has no effect.
+const BUS_MASTER: u32 = 1 << 2;
 
 /// Class 0200h, an Ethernet controller, and revision 2.
 const CLASS: u32 = 0x0200_0002;
@@ -45,8 +53,11 @@ const BASE_BITS: u64 = 0xFFFE_0000;
 #[derive(Clone, Copy, Debug, PartialEq, Eq)]
 pub struct PciFunction {
     address: ConfigAddress,
-    command: Command,
+    /// The command register.
+    command: u32,
+    /// The address of the adapter's first register.
     registers: u64,
+    /// The interrupt line register, which has no effect.
     interrupt_line: u8,
 }
 
@@ -57,14 +68,14 @@ impl Model for PciFunction {
 
     ghost view = { λ function. record {
       address = function.address.0;
-      command = function.command.0;
+      command = function.command;
       registers = function.registers;
       interrupt_line = function.interrupt_line;
     } };
 
     ghost inverse = { λ state. record {
       address = record { 0 = state.address };
-      command = record { 0 = state.command };
+      command = state.command;
       registers = state.registers;
       interrupt_line = state.interrupt_line;
     } };
@@ -72,7 +83,7 @@ impl Model for PciFunction {
 
 impl PciFunction {
     ghost use Rattle.registers.specs.ConfigSpace.{after_write_of, config_word, new_function, registers_of};
-    ghost use Rattle.registers.specs.Ports.{after_write};
+    ghost use Rattle.registers.specs.Ports.{after_port_write};
 
     /// Returns a function whose registers begin at this address. Memory space and bus mastering are enabled, as after
     /// firmware has enabled them. CONFIG_ADDRESS and the interrupt line register are 0.
@@ -81,7 +92,7 @@ impl PciFunction {
     {
         PciFunction {
             address: ConfigAddress(0),
-            command: Command::MEMORY_SPACE.union(Command::BUS_MASTER),
+            command: MEMORY_SPACE | BUS_MASTER,
             registers,
             interrupt_line: 0,
         }
@@ -90,7 +101,7 @@ impl PciFunction {
     /// Reads an I/O port, and returns the value. `asserted` is whether the interrupt line is asserted. If the access
     /// reaches neither CONFIG_ADDRESS nor the adapter's configuration space, all bits of this width are 1.
     pub fn read_port(&self, port: u16, width: PortWidth, asserted: bool) -> u32
-        ensures { result ≡ answer_at port width asserted self.now }
+        ensures { result ≡ port_answer port width asserted self.now }
     {
         if is_address_port(port, width) {
             return self.address.0;
@@ -104,7 +115,7 @@ impl PciFunction {
     /// Writes the low bytes of the value to an I/O port: one, two or four bytes, by the width. If the access reaches
     /// neither CONFIG_ADDRESS nor the adapter's configuration space, nothing changes.
     pub fn write_port(&mut self, port: u16, width: PortWidth, value: u32)
-        ensures { self.new ≡ after_write port width value self.old }
+        ensures { self.new ≡ after_port_write port width value self.old }
     {
         if is_address_port(port, width) {
             self.address = ConfigAddress::kept(value);
@@ -121,7 +132,7 @@ impl PciFunction {
     pub fn registers(&self) -> Option<u64>
         ensures { result ≡ registers_of self.now }
     {
-        if self.command.has_memory_space() {
+        if self.command & MEMORY_SPACE == MEMORY_SPACE {
             Some(self.registers)
         } else {
             None
@@ -144,13 +155,13 @@ impl PciFunction {
         Some(first)
     }
 
-    /// Returns the dword at an offset in configuration space.
+    /// Returns the dword at an offset in configuration space. `asserted` is whether the interrupt line is asserted.
     fn word(&self, offset: u8, asserted: bool) -> u32
         ensures { result ≡ config_word self.now asserted offset }
     {
         match offset {
             DEVICE_AND_VENDOR => IDENTITY,
-            STATUS_AND_COMMAND => STATUS | interrupt_status(asserted) | self.command.0,
+            STATUS_AND_COMMAND => STATUS | interrupt_status(asserted) | self.command,
             CLASS_AND_REVISION => CLASS,
             BASE_ADDRESS => (self.registers & BASE_BITS) as u32,
             SUBSYSTEM => SUBSYSTEM_IDENTITY,
@@ -164,7 +175,7 @@ impl PciFunction {
         ensures { self.new ≡ after_write_of offset word self.old }
     {
         match offset {
-            STATUS_AND_COMMAND => self.command = Command::kept(word),
+            STATUS_AND_COMMAND => self.command = word & COMMAND_BITS,
             BASE_ADDRESS => self.registers = u64::from(word) & BASE_BITS,
             INTERRUPT => self.interrupt_line = (word & 0xFF) as u8,
             _ => {}

@@ -1,7 +1,7 @@
 // The width of an access of an I/O port.
 
 ghost use Rattle.std.specs.Prelude.{◌≡◌, ◌≤◌, ◌+◌};
-ghost use Rattle.registers.specs.Bytes.{bytes_at, ones_of, size_of, with_bytes};
+ghost use Rattle.registers.specs.Bytes.{number_from, ones_of, width_size, with_number_from};
 
 /// The number of bytes of an access of an I/O port.
 #[derive(Clone, Copy, PartialEq, Eq, Debug)]
@@ -17,7 +17,7 @@ pub enum PortWidth {
 impl PortWidth {
     /// Returns the number of bytes.
     pub(crate) fn size(self) -> usize
-        ensures { result ≡ size_of self }
+        ensures { result ≡ width_size self }
     {
         match self {
             PortWidth::Byte => 1,
@@ -41,8 +41,8 @@ impl PortWidth {
     /// dword.
     #[tactic(auto, using(crate::proofs::Lanes::masked))]
     pub(crate) fn bytes_of(self, word: u32, first: usize) -> u32
-        requires { first + size_of self ≤ 4 }
-        ensures { result ≡ bytes_at first self word }
+        requires { first + width_size self ≤ 4 }
+        ensures { result ≡ number_from first self word }
     {
         word >> (8 * first) & self.ones()
     }
@@ -50,8 +50,8 @@ impl PortWidth {
     /// Returns `word`, in which the bytes of this width from byte `first` on are replaced by the low bytes of `value`.
     /// The replaced bytes must be inside the dword.
     pub(crate) fn replaced_in(self, word: u32, first: usize, value: u32) -> u32
-        requires { first + size_of self ≤ 4 }
-        ensures { result ≡ with_bytes first self value word }
+        requires { first + width_size self ≤ 4 }
+        ensures { result ≡ with_number_from first self value word }
     {
         let size = self.size();
         let mut bytes = word.to_le_bytes();

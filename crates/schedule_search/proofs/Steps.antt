@@ -2,7 +2,7 @@
 use Rattle.std.proofs.Common.{◌≡◌, ◌-◌, ◌<◌, ◌≤◌, ◌∷◌, ℕ, List, Some, arith, get_or, length, set, subst, sym}
 use Rattle.std.proofs.Math.ListN.{length-set}
 use Rattle.schedule_search.specs.Tests.{AllPass, EqualKeys, Test}
-use Rattle.schedule_search.specs.Searches.{AreTried, BelowPass, HasOneMore, IsKnownBy, IsSearch, IsTrueKnown}
+use Rattle.schedule_search.specs.Searches.{AreTried, ContinuationsPass, HasOneMore, IsKnownBy, IsSearch, IsTrueEntry}
 use Rattle.schedule_search.specs.Searches.{known_of, left_of, next_choice, path_of, run_in, run_of}
 use Rattle.schedule_search.specs.declared.path.Choice.{Choice}
 use Rattle.schedule_search.specs.declared.path.Known.{Known}
@@ -22,7 +22,7 @@ tried_by test search choices table some fits is =
     subst (AreTried test search.cost search.depth) (split choices search.count some fits) is.tried
 
 below_by : (test : Test) (search : Search) (choices : List Choice) → (search.count ≡ 0 → ⊥) → search.count ≤ length choices
-    → BelowPass test search choices
+    → ContinuationsPass test search choices
     → AllPass test search.cost
     (left_of search.cost search.depth (get_or choices (search.count - 1) no_choice ∷ path_of (search.count - 1) choices))
     (run_of (get_or choices (search.count - 1) no_choice ∷ path_of (search.count - 1) choices))
@@ -44,7 +44,7 @@ pub another : (test : Test) (search : Search) (choices : List Choice) (table : L
     → (search.count ≡ 0 → ⊥) → search.count ≤ length choices
     → (get_or choices (search.count - 1) no_choice).taken < (get_or choices (search.count - 1) no_choice).place.possible
     → next ≡ next_choice (get_or choices (search.count - 1) no_choice)
-    → IsSearch test search choices table → BelowPass test search choices
+    → IsSearch test search choices table → ContinuationsPass test search choices
     → IsSearch test search (set choices (search.count - 1) next) table
 another test search choices table next some fits less is holds all = record {
   fits = omega (arith, fits, length-set choices (search.count - 1) next);
@@ -60,7 +60,7 @@ another test search choices table next some fits less is holds all = record {
 pub removed_passes : (test : Test) (search : Search) (choices : List Choice) (table : List Known)
     → (search.count ≡ 0 → ⊥) → search.count ≤ length choices
     → (get_or choices (search.count - 1) no_choice).place.possible ≤ (get_or choices (search.count - 1) no_choice).taken
-    → IsSearch test search choices table → BelowPass test search choices
+    → IsSearch test search choices table → ContinuationsPass test search choices
     → AllPass test search.cost (get_or choices (search.count - 1) no_choice).left (run_of (path_of (search.count - 1) choices))
 removed_passes test search choices table some fits last holds all =
     all_tried test search.cost (get_or choices (search.count - 1) no_choice) (run_of (path_of (search.count - 1) choices))
@@ -69,8 +69,8 @@ removed_passes test search choices table some fits last holds all =
 pub removed_below : (test : Test) (search : Search) (choices : List Choice) (table : List Known)
     → (search.count ≡ 0 → ⊥) → search.count ≤ length choices
     → (get_or choices (search.count - 1) no_choice).place.possible ≤ (get_or choices (search.count - 1) no_choice).taken
-    → IsSearch test search choices table → BelowPass test search choices
-    → BelowPass test (record search { count = search.count - 1 }) choices
+    → IsSearch test search choices table → ContinuationsPass test search choices
+    → ContinuationsPass test (record search { count = search.count - 1 }) choices
 removed_below test search choices table some fits last holds all =
     subst (λ left. AllPass test search.cost left (run_of (path_of (search.count - 1) choices)))
     (tried_by test search choices table some fits holds).1 (removed_passes test search choices table some fits last holds all)
@@ -80,7 +80,7 @@ pub removed : (test : Test) (search : Search) (choices : List Choice) (table new
     → (get_or choices (search.count - 1) no_choice).place.possible ≤ (get_or choices (search.count - 1) no_choice).taken
     → HasOneMore table (known_of (get_or choices (search.count - 1) no_choice).place.key
     (get_or choices (search.count - 1) no_choice).left) new
-    → IsSearch test search choices table → EqualKeys test → BelowPass test search choices
+    → IsSearch test search choices table → EqualKeys test → ContinuationsPass test search choices
     → IsSearch test (record search { count = search.count - 1 }) choices new
 removed test search choices table new some fits last more holds equal all =
     let choice : Choice = get_or choices (search.count - 1) no_choice in
@@ -96,9 +96,9 @@ removed test search choices table new some fits last more holds equal all =
     }
 
 pub known : (test : Test) (search : Search) (choices : List Choice) (table : List Known) (place : Place) (entry : Known) (left : ℕ)
-    → IsTrueKnown test search.cost entry → IsKnownBy entry place.key left
+    → IsTrueEntry test search.cost entry → IsKnownBy entry place.key left
     → left ≡ left_of search.cost search.depth (path_of search.count choices)
-    → test.at (run_in search choices) ≡ Some place → BelowPass test search choices
+    → test.at (run_in search choices) ≡ Some place → ContinuationsPass test search choices
 known test search choices table place entry left is_true is_known is here =
     subst (λ most. AllPass test search.cost most (run_in search choices)) is
     (known_passes test search.cost left entry place (run_in search choices) is_true is_known here)

@@ -3,7 +3,7 @@ use Rattle.std.proofs.Common.{◌≡◌, ◌∙◌, ◌+◌, ◌<◌, ◌≤◌,
 use Rattle.std.proofs.lemmas.Bool.Decides.{nat_tests}
 use Rattle.std.proofs.lemmas.List.Elements.{All-set}
 use Rattle.schedule_search.specs.Tests.{AllPass, EqualKeys, IsSchedule, MayTake, Test, left_after, played}
-use Rattle.schedule_search.specs.Searches.{AreKnown, HasOneMore, IsKnownBy, IsTried, IsTrueKnown, first_choice, known_of, next_choice}
+use Rattle.schedule_search.specs.Searches.{AreTrueEntries, HasOneMore, IsKnownBy, IsTried, IsTrueEntry, first_choice, known_of, next_choice}
 use Rattle.schedule_search.specs.declared.path.Choice.{Choice}
 use Rattle.schedule_search.specs.declared.path.Key.{Key}
 use Rattle.schedule_search.specs.declared.path.Known.{Known}
@@ -85,7 +85,7 @@ all_tried test cost choice run tried last all (number ∷ later) schedule =
     (some_injective choice.place schedule.0 (test.at run) tried.place schedule.1.0) schedule.1.1 schedule.1.2
 
 pub known_passes : (test : Test) (cost left : ℕ) (entry : Known) (place : Place) (run : List ℕ)
-    → IsTrueKnown test cost entry → IsKnownBy entry place.key left → test.at run ≡ Some place → AllPass test cost left run
+    → IsTrueEntry test cost entry → IsKnownBy entry place.key left → test.at run ≡ Some place → AllPass test cost left run
 known_passes test cost left entry place run true_known known is =
     less_passes test cost left entry.left run known.2
     (true_known (subst (λ key. 0 < key.one) (sym known.1) known.0) run place is (sym known.1))
@@ -94,14 +94,14 @@ positive_key : (one two : Key) → one ≡ two → 0 < two.one → 0 < one.one
 positive_key one two is positive = subst (λ key. 0 < key.one) (sym is) positive
 
 pub noted_is_true : (test : Test) (cost left : ℕ) (place : Place) (run : List ℕ) → EqualKeys test → test.at run ≡ Some place
-    → AllPass test cost left run → IsTrueKnown test cost (known_of place.key left)
+    → AllPass test cost left run → IsTrueEntry test cost (known_of place.key left)
 noted_is_true test cost left place run equal is all =
     λ positive other there at key.
     same_passes test cost left other run
     (equal other run there place at is (positive_key there.key place.key key positive) key) all
 
-pub all_known : (test : Test) (cost : ℕ) (old : List Known) (entry : Known) (new : List Known) → AreKnown test cost old
-    → IsTrueKnown test cost entry → HasOneMore old entry new → AreKnown test cost new
-all_known test cost old entry new known is (inl same) = subst (AreKnown test cost) (sym same) known
+pub all_known : (test : Test) (cost : ℕ) (old : List Known) (entry : Known) (new : List Known) → AreTrueEntries test cost old
+    → IsTrueEntry test cost entry → HasOneMore old entry new → AreTrueEntries test cost new
+all_known test cost old entry new known is (inl same) = subst (AreTrueEntries test cost) (sym same) known
 all_known test cost old entry new known is (inr more) =
-    subst (AreKnown test cost) (sym more.1) (All-set (IsTrueKnown test cost) old more.0 entry is known)
+    subst (AreTrueEntries test cost) (sym more.1) (All-set (IsTrueEntry test cost) old more.0 entry is known)

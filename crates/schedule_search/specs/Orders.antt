@@ -42,10 +42,10 @@ abbrev pub ended_at : (List Choice → Reached) → ℕ → ℕ → ℕ → List
 ended_at run cost depth room path None = record { path = path; room = room }
 ended_at run cost depth room path (Some place) = run (first_choice cost (left_of cost depth path) place ∷ path)
 
-abbrev pub ended : Test → ℕ → ℕ → ℕ → List Choice → Reached
-ended test cost depth zero path = record { path = path; room = 0 }
-ended test cost depth (suc room) path =
-    ended_at (ended test cost depth room) cost depth (suc room) path (test.at (run_of path))
+abbrev pub ended_search : Test → ℕ → ℕ → ℕ → List Choice → Reached
+ended_search test cost depth zero path = record { path = path; room = 0 }
+ended_search test cost depth (suc room) path =
+    ended_at (ended_search test cost depth room) cost depth (suc room) path (test.at (run_of path))
 
 -- The path to try after a path: the next choice at the newest place with a next choice, without later places. Without such a place, there
 -- is no path.
@@ -55,11 +55,11 @@ next_path (choice ∷ path) =
     if nat_lt choice.taken choice.place.possible then Some (next_choice choice ∷ path) else next_path path
 
 -- the next path to try, if there is one, and the number of places that may follow it
-abbrev pub next : List Choice → ℕ → Option Reached
-next [] room = None
-next (choice ∷ path) room =
+abbrev pub path_after : List Choice → ℕ → Option Reached
+path_after [] room = None
+path_after (choice ∷ path) room =
     if nat_lt choice.taken choice.place.possible then Some (record { path = next_choice choice ∷ path; room = room })
-    else next path (suc room)
+    else path_after path (suc room)
 
 abbrev pub path_in : Reached → List Choice
 path_in reached = reached.path
@@ -70,15 +70,15 @@ from_run test cost reached = run_of reached.path ∷ rest test cost reached.path
 
 abbrev pub from_next : Test → ℕ → ℕ → Option Reached → List (List ℕ)
 from_next test cost depth None = []
-from_next test cost depth (Some reached) = from_run test cost (ended test cost depth reached.room reached.path)
+from_next test cost depth (Some reached) = from_run test cost (ended_search test cost depth reached.room reached.path)
 
 -- The first run, and then the run of each next path until there is none, are the list `schedules`, in order.
 pub record AllAreTried : Type 0 where
   pub begins : (test : Test) (cost depth room : ℕ)
-      → schedules test cost room depth [] ≡ from_run test cost (ended test cost depth room [])
+      → schedules test cost room depth [] ≡ from_run test cost (ended_search test cost depth room [])
   pub goes_on : (test : Test) (cost depth : ℕ) (path : List Choice) (room : ℕ)
-      → rest test cost path room ≡ from_next test cost depth (next path room)
-  pub by_back : (path : List Choice) (room : ℕ) → next_path path ≡ option_map path_in (next path room)
+      → rest test cost path room ≡ from_next test cost depth (path_after path room)
+  pub by_back : (path : List Choice) (room : ℕ) → next_path path ≡ option_map path_in (path_after path room)
 
 -- The list of schedules.
 

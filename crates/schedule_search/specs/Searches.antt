@@ -45,19 +45,20 @@ AreTried test cost depth (choice ∷ path) =
     IsTried test cost choice (run_of path) × (choice.left ≡ left_of cost depth path) × AreTried test cost depth path
 
 -- If an entry isn't empty, each schedule from a place with the entry's key passes, if its deviations cost at most the entry's `left`.
-abbrev pub IsTrueKnown : Test → ℕ → Known → Type 0
-IsTrueKnown test cost entry =
+abbrev pub IsTrueEntry : Test → ℕ → Known → Type 0
+IsTrueEntry test cost entry =
     0 < entry.key.one → (run : List ℕ) (place : Place) → test.at run ≡ Some place → place.key ≡ entry.key
     → AllPass test cost entry.left run
 
-abbrev pub AreKnown : Test → ℕ → List Known → Type 0
-AreKnown test cost known = All (IsTrueKnown test cost) known
+-- Each entry of a table is true.
+abbrev pub AreTrueEntries : Test → ℕ → List Known → Type 0
+AreTrueEntries test cost known = All (IsTrueEntry test cost) known
 
 -- The invariant of a search between two calls, as long as no schedule has failed.
 pub record IsSearch (test : Test) (search : Search) (choices : List Choice) (table : List Known) : Type 0 where
   pub fits : search.count ≤ length choices
   pub tried : AreTried test search.cost search.depth (path_of search.count choices)
-  pub known : AreKnown test search.cost table
+  pub known : AreTrueEntries test search.cost table
   pub none_failed : search.failing ≡ 0
 
 -- the run of the path of a search
@@ -65,8 +66,8 @@ abbrev pub run_in : Search → List Choice → List ℕ
 run_in search choices = run_of (path_of search.count choices)
 
 -- All schedules that begin with the path of a search pass, if their later deviations cost at most `left_of` that path.
-abbrev pub BelowPass : Test → Search → List Choice → Type 0
-BelowPass test search choices =
+abbrev pub ContinuationsPass : Test → Search → List Choice → Type 0
+ContinuationsPass test search choices =
     AllPass test search.cost (left_of search.cost search.depth (path_of search.count choices)) (run_in search choices)
 
 abbrev pub known_of : Key → ℕ → Known

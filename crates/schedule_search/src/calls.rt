@@ -4,8 +4,8 @@
 ghost use Rattle.std.specs.List.{Any};
 ghost use Rattle.std.specs.Prelude.{◌≡◌, ◌<◌, ◌≤◌, ◌∷◌, ◌⊎◌, [], ℕ, None, Some, length, slice_index_or};
 ghost use Rattle.schedule_search.specs.Orders.{next_path};
-ghost use Rattle.schedule_search.specs.Searches.{AreKnown, BelowPass, IsKnownBy, IsSearch, first_choice, left_of};
-ghost use Rattle.schedule_search.specs.Searches.{path_of, run_in};
+ghost use Rattle.schedule_search.specs.Searches.{AreTrueEntries, ContinuationsPass, IsKnownBy, IsSearch};
+ghost use Rattle.schedule_search.specs.Searches.{first_choice, left_of, path_of, run_in};
 ghost use Rattle.schedule_search.specs.declared.path.Choice.{Choice};
 ghost use Rattle.schedule_search.specs.declared.path.Known.{Known};
 ghost use Rattle.schedule_search.specs.Tests.{AllPass, EqualKeys, Test};
@@ -13,21 +13,22 @@ ghost use Rattle.schedule_search.specs.Tests.{AllPass, EqualKeys, Test};
 use crate::path::{Choice, Key, Known, Place};
 use crate::search::{Met, Search, Step};
 
-/// The path has one more choice, the first one at this place, and the run takes this choice.
+/// The number of [`Met::Goes`].
 pub const GOES: u32 = 0;
-/// The state is known: all schedules that begin with the path pass, if their deviations cost at most `depth` in total.
+/// The number of [`Met::Passes`].
 pub const PASSES: u32 = 1;
-/// The path has no room for another choice.
+/// The number of [`Met::Full`].
 pub const FULL: u32 = 2;
 
-/// The newest choice of the path has changed, and the next run takes it.
+/// The number of [`Step::Another`].
 pub const ANOTHER: u32 = 0;
-/// The newest choice was removed, and all schedules that begin with the shorter path were tried.
+/// The number of [`Step::Removed`].
 pub const REMOVED: u32 = 1;
-/// All schedules were tried.
+/// The number of [`Step::Ended`].
 pub const ENDED: u32 = 2;
 
-/// Begins a search of the schedules whose deviations cost at most `depth` in total. Clears the table of known states.
+/// Begins a search of the schedules whose deviations cost at most `depth` in total, and `cost` each. Clears the table of
+/// known states. The path is then empty.
 #[unsafe(no_mangle)]
 pub extern "C" fn schedule_search_begin(
     search: &mut Search,
@@ -39,7 +40,7 @@ pub extern "C" fn schedule_search_begin(
     ensures search { (test : Test) → IsSearch test search.new path.now known.new }
     ensures begins { search.new ≡ record { depth = depth; cost = cost; count = 0; failing = 0 } }
 {
-    *search = crate::begin(depth, cost, path, known);
+    *search = crate::begin(depth, cost, known);
 }
 
 /// The run of the path is at this place. Returns [`GOES`], [`PASSES`] or [`FULL`].
@@ -53,15 +54,15 @@ pub extern "C" fn schedule_search_meet(
     ensures search { (test : Test) → IsSearch test search.old path.old known.now
         → test.at (run_in search.old path.old) ≡ Some place.now → IsSearch test search.new path.new known.now }
     ensures passes { (test : Test) → IsSearch test search.old path.old known.now
-        → test.at (run_in search.old path.old) ≡ Some place.now → result ≡ 1
-        → BelowPass test search.new path.new }
-    ensures goes { result ≡ 0 → path_of search.new.count path.new
+        → test.at (run_in search.old path.old) ≡ Some place.now → result ≡ PASSES
+        → ContinuationsPass test search.new path.new }
+    ensures goes { result ≡ GOES → path_of search.new.count path.new
         ≡ first_choice search.old.cost (left_of search.old.cost search.old.depth (path_of search.old.count path.old))
         place.now
         ∷ path_of search.old.count path.old }
-    ensures same { result ≡ 1 → (search.new ≡ search.old) × (path.new ≡ path.old) }
-    ensures full { result ≡ 2 → length path.old ≤ search.old.count }
-    ensures known { result ≡ 1 → Any (λ entry. IsKnownBy entry place.now.key
+    ensures same { result ≡ PASSES → (search.new ≡ search.old) × (path.new ≡ path.old) }
+    ensures full { result ≡ FULL → length path.old ≤ search.old.count }
+    ensures known { result ≡ PASSES → Any (λ entry. IsKnownBy entry place.now.key
         (left_of search.old.cost search.old.depth (path_of search.old.count path.old))) known.now }
     ensures answers { result ≤ 2 }
     ensures kept { (search.new.depth ≡ search.old.depth) × (search.new.cost ≡ search.old.cost) }
@@ -82,20 +83,21 @@ pub extern "C" fn schedule_search_back(
     known: &mut [Known],
 ) -> u32
     ensures search { (test : Test) → IsSearch test search.old path.old known.old → EqualKeys test
-        → BelowPass test search.old path.old → IsSearch test search.new path.new known.new }
+        → ContinuationsPass test search.old path.old → IsSearch test search.new path.new known.new }
     ensures removed { (test : Test) → IsSearch test search.old path.old known.old → EqualKeys test
-        → BelowPass test search.old path.old → result ≡ 1 → BelowPass test search.new path.new }
-    ensures ended { (test : Test) → IsSearch test search.old path.old known.old → BelowPass test search.old path.old
-        → result ≡ 2 → AllPass test search.old.cost search.old.depth [] }
-    ensures another { search.old.count ≤ length path.old → result ≡ 0
+        → ContinuationsPass test search.old path.old → result ≡ REMOVED → ContinuationsPass test search.new path.new }
+    ensures ended { (test : Test) → IsSearch test search.old path.old known.old
+        → ContinuationsPass test search.old path.old → result ≡ ENDED
+        → AllPass test search.old.cost search.old.depth [] }
+    ensures another { search.old.count ≤ length path.old → result ≡ ANOTHER
         → next_path (path_of search.old.count path.old) ≡ Some (path_of search.new.count path.new) }
-    ensures fewer { search.old.count ≤ length path.old → result ≡ 1
+    ensures fewer { search.old.count ≤ length path.old → result ≡ REMOVED
         → next_path (path_of search.old.count path.old) ≡ next_path (path_of search.new.count path.new) }
-    ensures last { search.old.count ≤ length path.old → result ≡ 2
+    ensures last { search.old.count ≤ length path.old → result ≡ ENDED
         → next_path (path_of search.old.count path.old) ≡ None }
-    ensures shorter { search.old.count ≤ length path.old → result ≡ 1
+    ensures shorter { search.old.count ≤ length path.old → result ≡ REMOVED
         → (choice : Choice) × (path_of search.old.count path.old ≡ choice ∷ path_of search.new.count path.new) }
-    ensures failing { 0 < search.old.count → search.old.count ≤ search.old.failing → result ≡ 1
+    ensures failing { 0 < search.old.count → search.old.count ≤ search.old.failing → result ≡ REMOVED
         → (known.new ≡ known.old) × (search.new.failing ≡ search.new.count) }
     ensures answers { result ≤ 2 }
     ensures kept { (search.new.depth ≡ search.old.depth) × (search.new.cost ≡ search.old.cost) }
@@ -127,11 +129,11 @@ pub extern "C" fn schedule_search_find(known: &[Known], key: &Key) -> usize
     crate::find(known, *key)
 }
 
-/// Notes all entries of a table that aren't empty in another table, as far as there is room.
+/// Notes the entries of the table `from` in the table `known`, as far as there is room. Skips empty entries.
 #[unsafe(no_mangle)]
 pub extern "C" fn schedule_search_grow(from: &[Known], known: &mut [Known])
-    ensures { (test : Test) (cost : ℕ) → AreKnown test cost from.now → AreKnown test cost known.old
-        → AreKnown test cost known.new }
+    ensures { (test : Test) (cost : ℕ) → AreTrueEntries test cost from.now → AreTrueEntries test cost known.old
+        → AreTrueEntries test cost known.new }
 {
     crate::grow(from, known);
 }

@@ -1,7 +1,7 @@
 //! The table of known states.
 
 ghost use Rattle.std.specs.Prelude.{◌≡◌, ◌≤◌, ◌<◌, ◌⊎◌, ℕ, length, slice_index_or, true};
-ghost use Rattle.schedule_search.specs.Searches.{AreKnown, HasOneMore, IsKnownBy, known_of};
+ghost use Rattle.schedule_search.specs.Searches.{AreTrueEntries, HasOneMore, IsKnownBy, known_of};
 ghost use Rattle.schedule_search.specs.Tests.{Test};
 ghost use Rattle.schedule_search.specs.declared.path.Known.{Known};
 
@@ -48,10 +48,10 @@ pub(crate) fn note(known: &mut [Known], key: Key, left: u32)
     }
 }
 
-/// Notes all entries of a table that aren't empty in another table, as far as there is room.
+/// Notes the entries of the table `from` in the table `known`, as far as there is room. Skips empty entries.
 pub fn grow(from: &[Known], known: &mut [Known])
-    ensures { (test : Test) (cost : ℕ) → AreKnown test cost from.now → AreKnown test cost known.old
-        → AreKnown test cost known.new }
+    ensures { (test : Test) (cost : ℕ) → AreTrueEntries test cost from.now → AreTrueEntries test cost known.old
+        → AreTrueEntries test cost known.new }
 {
     for entry in from {
         if entry.key.one > 0 {

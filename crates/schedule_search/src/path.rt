@@ -4,11 +4,13 @@ ghost use Rattle.std.specs.Prelude.{◌≡◌, ◌+◌, ◌-◌, ◌<◌, ◌≤
 ghost use Rattle.schedule_search.specs.Searches.{first_choice, left_of, next_choice, path_of};
 ghost use Rattle.schedule_search.specs.Tests.{left_after};
 
-/// The digest of a state. If `one` is 0, the state never counts as known.
+/// The digest of a state, of 128 bits. If `one` is 0, the state never counts as known.
 #[repr(C)]
 #[derive(Clone, Copy)]
 pub struct Key {
+    /// The first half of the digest.
     pub one: u64,
+    /// The second half.
     pub two: u64,
 }
 

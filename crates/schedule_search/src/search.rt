@@ -1,10 +1,10 @@
 //! A search, and the calls with which a caller makes the search's steps.
 
 ghost use Rattle.std.specs.List.{Any};
-ghost use Rattle.std.specs.Prelude.{◌≡◌, ◌<◌, ◌≤◌, ◌∷◌, [], None, Some, length};
+ghost use Rattle.std.specs.Prelude.{◌≡◌, ◌<◌, ◌≤◌, ◌∷◌, [], List, None, Some, length};
 ghost use Rattle.schedule_search.specs.Orders.{next_path};
-ghost use Rattle.schedule_search.specs.Searches.{BelowPass, IsKnownBy, IsSearch, first_choice, left_of, path_of};
-ghost use Rattle.schedule_search.specs.Searches.{run_in};
+ghost use Rattle.schedule_search.specs.Searches.{ContinuationsPass, IsKnownBy, IsSearch, first_choice, left_of};
+ghost use Rattle.schedule_search.specs.Searches.{path_of, run_in};
 ghost use Rattle.schedule_search.specs.declared.path.Choice.{Choice};
 ghost use Rattle.schedule_search.specs.Tests.{AllPass, EqualKeys, Test};
 
@@ -45,9 +45,10 @@ pub enum Step {
     Ended,
 }
 
-/// Begins a search. Clears the table of known states.
-pub fn begin(depth: u32, cost: u32, path: &[Choice], known: &mut [Known]) -> Search
-    ensures search { (test : Test) → IsSearch test result path.now known.new }
+/// Begins a search of the schedules whose deviations cost at most `depth` in total, and `cost` each. Clears the table of
+/// known states. The path of the new search is empty.
+pub fn begin(depth: u32, cost: u32, known: &mut [Known]) -> Search
+    ensures search { (test : Test) (path : List Choice) → IsSearch test result path known.new }
     ensures begins { result ≡ record { depth = depth; cost = cost; count = 0; failing = 0 } }
 {
     for entry in known.iter_mut() {
@@ -70,7 +71,7 @@ pub fn meet(search: &mut Search, path: &mut [Choice], known: &[Known], place: Pl
         → test.at (run_in search.old path.old) ≡ Some place → IsSearch test search.new path.new known.now }
     ensures passes { (test : Test) → IsSearch test search.old path.old known.now
         → test.at (run_in search.old path.old) ≡ Some place → result ≡ Met.Passes
-        → BelowPass test search.new path.new }
+        → ContinuationsPass test search.new path.new }
     ensures goes { result ≡ Met.Goes → path_of search.new.count path.new
         ≡ first_choice search.old.cost (left_of search.old.cost search.old.depth (path_of search.old.count path.old))
         place
@@ -100,11 +101,13 @@ pub fn meet(search: &mut Search, path: &mut [Choice], known: &[Known], place: Pl
 /// is noted as known, unless a schedule from this place has failed.
 pub fn back(search: &mut Search, path: &mut [Choice], known: &mut [Known]) -> Step
     ensures search { (test : Test) → IsSearch test search.old path.old known.old → EqualKeys test
-        → BelowPass test search.old path.old → IsSearch test search.new path.new known.new }
+        → ContinuationsPass test search.old path.old → IsSearch test search.new path.new known.new }
     ensures removed { (test : Test) → IsSearch test search.old path.old known.old → EqualKeys test
-        → BelowPass test search.old path.old → result ≡ Step.Removed → BelowPass test search.new path.new }
-    ensures ended { (test : Test) → IsSearch test search.old path.old known.old → BelowPass test search.old path.old
-        → result ≡ Step.Ended → AllPass test search.old.cost search.old.depth [] }
+        → ContinuationsPass test search.old path.old → result ≡ Step.Removed
+        → ContinuationsPass test search.new path.new }
+    ensures ended { (test : Test) → IsSearch test search.old path.old known.old
+        → ContinuationsPass test search.old path.old → result ≡ Step.Ended
+        → AllPass test search.old.cost search.old.depth [] }
     ensures another { search.old.count ≤ length path.old → result ≡ Step.Another
         → next_path (path_of search.old.count path.old) ≡ Some (path_of search.new.count path.new) }
     ensures fewer { search.old.count ≤ length path.old → result ≡ Step.Removed

@@ -8,9 +8,9 @@ ghost use Rattle.text.specs.Tables.{entry_of, value_in};
 pub fn value_of<T: Copy>(table: &[(&str, T)], word: &str) -> Option<T>
     ensures { result ≡ value_in (map entry_of table.now) word.now }
 {
-    for entry in table {
-        if word == entry.0 {
-            return Some(entry.1);
+    for (name, value) in table {
+        if word == *name {
+            return Some(*value);
         }
     }
     None

@@ -17,11 +17,11 @@ pub fn words_in<'a>(alloc: Global, line: &'a str) -> Result<Vec<&'a str>, AllocE
 
 /// Returns the word at this index, counted from 0. The index must be below the number of words.
 #[tactic(auto, using(crate::proofs::Slices::at_texts))]
-pub fn word_at<'a>(words: &[&'a str], place: usize) -> &'a str
-    requires { place < length words.now }
-    ensures { result.now ≡ word place (texts words.entry.now) }
+pub fn word_at<'a>(words: &[&'a str], index: usize) -> &'a str
+    requires { index < length words.now }
+    ensures { result.now ≡ word index (texts words.entry.now) }
 {
-    words[place]
+    words[index]
 }
 
 /// Returns the index of the first word that is `mark`. Returns `None` if no word is `mark`.

@@ -20,10 +20,10 @@ slice_bounds-result-end c =
 pub returns-clause-none : goal.returns-clause-none
 returns-clause-none c =
     let queue = c.self.inside in
-    let some : slice_get queue.lengths.items 0 ≡ Some c.in_ok-front.field-0.now = sym c.in_ok-front.ensures in
     rw (← c.self.view_is) (
       (λ no. absurd (cc)),
-      (λ none. absurd (some-cut queue.lengths.items (drop queue.first queue.bytes.items) c.in_ok-front.field-0.now some none)),
+      (λ none. absurd (some-cut queue.lengths.items (drop queue.first queue.bytes.items)
+          c.in_ok-front.field-0.now (sym c.in_ok-front.ensures) none)),
     )
 
 pub returns-clause-oldest : goal.returns-clause-oldest

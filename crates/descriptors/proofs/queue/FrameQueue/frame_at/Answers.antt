@@ -3,20 +3,20 @@ use Rattle.std.proofs.Common.{sym, ap, arith}
 use Rattle.std.specs.Prelude.{option_copied}
 use Rattle.std.proofs.lemmas.Option.{get_or_from_slice_get, slice_get-get_or}
 use Rattle.descriptors.specs.QueuedFrames.{Frames}
-use Rattle.descriptors.specs.QueuePlaces.{IsConsistent, frames_of}
+use Rattle.descriptors.specs.QueuePlaces.{IsQueueOfPlaces, queue_of_places}
 use Rattle.descriptors.specs.WrappedPlaces.{wrapped}
 use Rattle.descriptors.specs.declared.queue.FrameQueue.TheInside.{Inside}
 use Rattle.descriptors.proofs.InPlaces.{length-frames_from, slice_get-frames_from-at, wrapped-within}
 use Rattle.descriptors.proofs.PackedLengths.{copied_some}
 use Rattle.descriptors.proofs.queue.FrameQueue.frame_at.Goals as goal
 
-below : (queue : Inside) (seen : Frames) (i : ℕ) → frames_of queue ≡ seen → i < length seen.frames → i < length queue.lengths.items
+below : (queue : Inside) (seen : Frames) (i : ℕ) → queue_of_places queue ≡ seen → i < length seen.frames → i < length queue.lengths.items
 below queue seen i view within =
     let count = length-frames_from queue.bytes.items queue.lengths.capacity queue.first queue.lengths.items in
     let asked = rw (← view) at within in
     omega (arith, asked, count)
 
-place : (queue : Inside) (i : ℕ) → IsConsistent queue → i < length queue.lengths.items
+place : (queue : Inside) (i : ℕ) → IsQueueOfPlaces queue → i < length queue.lengths.items
     → wrapped queue.lengths.capacity (queue.first + i) < queue.lengths.capacity
 place queue i whole within = wrapped-within queue.lengths.capacity (queue.first + i) (omega (arith, whole.first, whole.count, within))
 

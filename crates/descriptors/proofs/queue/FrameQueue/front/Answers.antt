@@ -14,11 +14,10 @@ returns-in_err-front-clause-none c =
 pub returns-clause-none : goal.returns-clause-none
 returns-clause-none c =
     let queue = c.self.inside in
-    let some : slice_get queue.lengths.items 0 ≡ Some c.in_ok-front.field-0.now = sym c.in_ok-front.ensures in
     rw (← c.self.view_is) (
       (λ no. absurd (cc)),
-      (λ none. absurd (frames_from-some queue.bytes.items queue.lengths.capacity queue.first c.in_ok-front.field-0.now
-          queue.lengths.items some none)),
+      (λ none. absurd (frames_from-some queue.bytes.items queue.lengths.capacity queue.first
+          c.in_ok-front.field-0.now queue.lengths.items (sym c.in_ok-front.ensures) none)),
     )
 
 pub returns-clause-oldest : goal.returns-clause-oldest

@@ -1,5 +1,5 @@
 use Rattle.descriptors.proofs.InPlaces.{length-frames_from, empty_from_length}
-use Rattle.descriptors.specs.QueuePlaces.{frames_from}
+use Rattle.descriptors.specs.QueuePlaces.{placed_frames}
 use Rattle.descriptors.proofs.queue.FrameQueue.is_empty.Goals as goal
 
 pub returns : goal.returns
@@ -9,5 +9,5 @@ returns c =
     let first = c.self.inside.first in
     let lengths = c.self.inside.lengths.items in
     rw (← c.self.view_is)
-    (empty_from_length (frames_from bytes capacity first lengths) _ c.is_empty.result
+    (empty_from_length (placed_frames bytes capacity first lengths) _ c.is_empty.result
     (length-frames_from bytes capacity first lengths) c.is_empty.ensures)

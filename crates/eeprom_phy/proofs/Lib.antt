@@ -1,2 +1,0 @@
-mod EerdFields
-mod MdicFields

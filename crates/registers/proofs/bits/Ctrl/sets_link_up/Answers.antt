@@ -1,0 +1,5 @@
+use Rattle.registers.specs.Laws.{contains_bit}
+use Rattle.registers.proofs.bits.Ctrl.sets_link_up.Goals as goal
+
+pub returns : goal.returns
+returns c = rw (c.contains.ensures tt) (contains_bit c.args.self.0 6)
