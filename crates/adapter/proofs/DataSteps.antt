@@ -5,6 +5,7 @@ use Rattle.registers.specs.Bits.{union}
 use Rattle.registers.specs.Kept.{causes_of}
 use Rattle.registers.specs.Places.{alone, rxdmt0}
 use Rattle.rx_engine.specs.Moving.{IfMoved, IsMoved, IsPartMoved, engine_after_data, is_half_offered, memory_after_data, ring_after_data}
+use Rattle.rx_engine.specs.Receiver.{Receiver}
 use Rattle.rx_engine.specs.declared.data.Data.{Data}
 use Rattle.rx_engine.specs.declared.data.Data.TheVariants.{Nothing, Part, Moved, Fault}
 use Rattle.adapter.specs.DataOutcomes.{causes_of_answer, outcome_of}
@@ -25,6 +26,14 @@ pub none_recorded : (state : AdapterState)
 none_recorded state =
     ap (λ (causes : ℕ). record state { causes = record state.causes { recorded = causes } }) (or_zero_r state.causes.recorded)
 
+-- The adapter with this receive engine, after RDH has advanced and these causes are recorded.
+abbrev with_piece : Receiver → ℕ → AdapterState → AdapterState
+with_piece receiver causes state = record state {
+  receiver = receiver;
+  receive_ring = moved_on state.receive_ring;
+  causes = record state.causes { recorded = union state.causes.recorded causes };
+}
+
 -- The adapter with the receive engine, RDH and the recorded causes that a data step with this answer results in.
 abbrev pub left_by : Data → AdapterState → AdapterState
 left_by answer state = record state {
@@ -33,22 +42,20 @@ left_by answer state = record state {
   causes = record state.causes { recorded = union state.causes.recorded (causes_of (causes_of_answer answer)) };
 }
 
+left_by-piece : (low : Bool) (receiver : Receiver) (state : AdapterState) → low ≡ is_half_offered (ring_of (moved_on state.receive_ring))
+    → with_piece receiver (causes_of (if low then alone rxdmt0 else 0)) state
+    ≡ with_piece receiver (if is_half_offered (ring_of (moved_on state.receive_ring)) then alone rxdmt0 else 0) state
+left_by-piece low receiver state half =
+    ap (λ (causes : ℕ). with_piece receiver causes state) (half-causes low (is_half_offered (ring_of (moved_on state.receive_ring))) half)
+
 pub left_by-state : (F : Type 0) (answer : Data) (state : AdapterState)
     → IfMoved answer (λ low. low ≡ is_half_offered (ring_after_data answer (ring_of state.receive_ring)))
     → left_by answer state ≡ after_data (framed {F = F} (outcome_of {F = F} answer) state) state
 left_by-state F Nothing state half = none_recorded state
 left_by-state F (Part low) state half =
-    ap (λ (causes : ℕ). record state {
-      receiver = engine_after_data (Part low) state.filter.rctl (ring_of state.receive_ring) state.receiver;
-      receive_ring = moved_on state.receive_ring;
-      causes = record state.causes { recorded = union state.causes.recorded causes };
-    }) (half-causes low (is_half_offered (ring_of (moved_on state.receive_ring))) half)
+    left_by-piece low (engine_after_data (Part low) state.filter.rctl (ring_of state.receive_ring) state.receiver) state half
 left_by-state F (Moved low) state half =
-    ap (λ (causes : ℕ). record state {
-      receiver = engine_after_data (Moved low) state.filter.rctl (ring_of state.receive_ring) state.receiver;
-      receive_ring = moved_on state.receive_ring;
-      causes = record state.causes { recorded = union state.causes.recorded causes };
-    }) (half-causes low (is_half_offered (ring_of (moved_on state.receive_ring))) half)
+    left_by-piece low (engine_after_data (Moved low) state.filter.rctl (ring_of state.receive_ring) state.receiver) state half
 left_by-state F Fault state half =
     none_recorded (record state { receiver = engine_after_data Fault state.filter.rctl (ring_of state.receive_ring) state.receiver })
 

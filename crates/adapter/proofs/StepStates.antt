@@ -18,7 +18,7 @@ use Rattle.rx_engine.specs.Arriving.{IsAccepted, after_arrival}
 use Rattle.rx_engine.specs.Passing.{Passes}
 use Rattle.rx_engine.specs.Registers.{filter_of}
 use Rattle.rx_engine.specs.Room.{HasRoomFor, LacksRoomFor}
-use Rattle.rx_engine.specs.Receiver.{Receiver}
+use Rattle.rx_engine.specs.Receiver.{IsReceiver, Receiver}
 use Rattle.rx_engine.specs.declared.arrival.Fate.{Fate}
 use Rattle.rx_engine.specs.declared.arrival.Fate.TheVariants.{Off, Illegal, Filtered, Missed, Stored}
 use Rattle.rx_engine.specs.declared.done.Done.{Done}
@@ -35,49 +35,29 @@ use Rattle.adapter.proofs.DataSteps.{none_recorded}
 use Rattle.adapter.specs.DataOutcomes.{causes_of_take, causes_of_tick, file_after_put, outcome_of_done}
 use Rattle.adapter.specs.DataOutcomes.{outcome_of_put, outcome_of_take, outcome_of_tick}
 use Rattle.adapter.specs.Hashed.{file_of}
-use Rattle.adapter.specs.Outcomes.{framed, oldest}
+use Rattle.adapter.specs.Outcomes.{framed, oldest_queued}
 use Rattle.adapter.specs.Receiving.{ChangesDescriptorOf, DoneAnswers, IsFate, after_arrive, after_done, causes_of_finishing, is_ending}
 use Rattle.adapter.specs.Receiving.{room}
 use Rattle.adapter.specs.Recording.{one_more}
 use Rattle.adapter.specs.Registers.{after_reset, by_row, is_reset, read_of, write_of}
 use Rattle.adapter.specs.Rings.{ring_of}
-use Rattle.adapter.specs.State.{AdapterState, CausesAlone}
+use Rattle.adapter.specs.State.{AdapterState, CausesAlone, IsAdapter}
 use Rattle.adapter.specs.Steps.{after_phy_tick, after_phy_told, causes_told, ticked}
 use Rattle.adapter.specs.Table.{row_of}
 use Rattle.adapter.specs.Transmitting.{CanTake, ChangesStatusOfOldest, HasNothingToTake, IsOldest, PutAnswers}
 use Rattle.adapter.specs.Transmitting.{TakeAnswers, after_put, after_take}
-use Rattle.adapter.specs.Transmitting.{causes_of_putting, memory_after_put, reported as reported_to}
+use Rattle.adapter.specs.Transmitting.{causes_of_putting, memory_after_put, memory_reported as reported_to}
 use Rattle.adapter.specs.View.{with_file}
 use Rattle.adapter.specs.declared.outcome.Outcome.TheVariants as outcomes
 use Rattle.adapter.specs.declared.register_file.RegisterFile.{RegisterFile}
+use Rattle.adapter.specs.declared.ring.RingRegisters.{RingRegisters}
 use Rattle.adapter.specs.declared.register.Register.{Register}
-use Rattle.adapter.specs.declared.register.Register.TheVariants.{Ctrl, Status, Eerd, Mdic, Vet, Icr, Ics, Ims, Imc, Rctl, Tctl, Pba}
-use Rattle.adapter.specs.declared.register.Register.TheVariants.{Receive, Transmit, Mpc, Gprc, Gptc, Rnbc, Mta, Ral, Rah, Vfta}
+use Rattle.adapter.specs.declared.register.Register.TheVariants.{Icr, Pba}
 
 kept-state : (register : Register) (value : ℕ) (state : AdapterState) → register ≢ Pba
     → with_file (file_of (by_row (row_of register).kept register value state)) state ≡ by_row (row_of register).kept register value state
-kept-state Ctrl value state other = refl
-kept-state Status value state other = refl
-kept-state Eerd value state other = refl
-kept-state Mdic value state other = refl
-kept-state Vet value state other = refl
-kept-state Icr value state other = refl
-kept-state Ics value state other = refl
-kept-state Ims value state other = refl
-kept-state Imc value state other = refl
-kept-state Rctl value state other = refl
-kept-state Tctl value state other = refl
 kept-state Pba value state other = absurd (other refl)
-kept-state (Receive part) value state other = refl
-kept-state (Transmit part) value state other = refl
-kept-state Mpc value state other = refl
-kept-state Gprc value state other = refl
-kept-state Gptc value state other = refl
-kept-state Rnbc value state other = refl
-kept-state (Mta word) value state other = refl
-kept-state (Ral entry) value state other = refl
-kept-state (Rah entry) value state other = refl
-kept-state (Vfta word) value state other = refl
+kept-state _ value state other = refl
 
 pub write-state : (register : Register) (value : ℕ) (state : AdapterState) → is_reset register value ≡ false → register ≢ Pba
     → with_file (file_of (by_row (row_of register).kept register value state)) state ≡ write_of register value state
@@ -86,37 +66,38 @@ write-state register value state is other =
     ∙ ap (λ (b : Bool). if b then after_reset state else by_row (row_of register).kept register value state) (sym is)
 
 pub read-state : (register : Register) (state : AdapterState) → with_file (file_of (read_of register state)) state ≡ read_of register state
-read-state Ctrl state = refl
-read-state Status state = refl
-read-state Eerd state = refl
-read-state Mdic state = refl
-read-state Vet state = refl
 read-state Icr state = refl
-read-state Ics state = refl
-read-state Ims state = refl
-read-state Imc state = refl
-read-state Rctl state = refl
-read-state Tctl state = refl
-read-state Pba state = refl
-read-state (Receive part) state = refl
-read-state (Transmit part) state = refl
-read-state Mpc state = refl
-read-state Gprc state = refl
-read-state Gptc state = refl
-read-state Rnbc state = refl
-read-state (Mta word) state = refl
-read-state (Ral entry) state = refl
-read-state (Rah entry) state = refl
-read-state (Vfta word) state = refl
+read-state _ state = refl
 
-pub alone-raised : (before after : Interrupts) (causes : ℕ) → after ≡ record before { recorded = union before.recorded (causes_of causes) }
-    → CausesAlone before.recorded before.mask → CausesAlone after.recorded after.mask
-alone-raised before after causes is alone =
-    subst (λ (c : Interrupts). CausesAlone c.recorded c.mask) (sym is) (record {
-      recorded_causes = IsSubset-union before.recorded (causes_of causes) all_causes alone.recorded_causes
-          (IsSubset-masked causes all_causes);
-      masked_causes = alone.masked_causes;
+-- An adapter keeps its invariant if causes are recorded, and its engines, rings, PHY or MDIC change.
+pub adapter-raised : (state : AdapterState) (causes : ℕ) {after : Interrupts} {receiver : Receiver} {transmitter : Transmitter}
+    {receive_ring transmit_ring : RingRegisters} {phy : PhyState} {mdic : mdi.MdicState}
+    → after ≡ record state.causes { recorded = union state.causes.recorded (causes_of causes) } → IsAdapter state → IsReceiver receiver
+    → IsAdapter (record state {
+      causes = after;
+      receiver = receiver;
+      transmitter = transmitter;
+      receive_ring = receive_ring;
+      transmit_ring = transmit_ring;
+      phy = phy;
+      mdic = mdic;
     })
+adapter-raised state causes is adapter received =
+    let before = adapter.registers in
+    record {
+      registers = record {
+        tables = before.tables;
+        allocation = before.allocation;
+        causes = subst (λ (c : Interrupts). CausesAlone c.recorded c.mask) (sym is) (record {
+          recorded_causes = IsSubset-union state.causes.recorded (causes_of causes) all_causes before.causes.recorded_causes
+              (IsSubset-masked causes all_causes);
+          masked_causes = before.causes.masked_causes;
+        });
+        counters = before.counters;
+      };
+      receiver = received;
+      image = adapter.image;
+    }
 
 -- The fate that the receive engine returns meets `IsFate`.
 pub fate-is : (fate : Fate) (frame : List ℕ) (state : AdapterState)
@@ -275,7 +256,7 @@ put-answers (puts.Put reported) wire_free state nothing full =
     is_free true other = refl
     is_free false other = absurd (other refl)
 
-    is_oldest : (buffer : List Queued) → buffer ≢ [] → IsOldest buffer (oldest buffer)
+    is_oldest : (buffer : List Queued) → buffer ≢ [] → IsOldest buffer (oldest_queued buffer)
     is_oldest [] some = absurd (some refl)
     is_oldest (queued ∷ later) some = refl
 

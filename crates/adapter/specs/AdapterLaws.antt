@@ -18,7 +18,7 @@ use Rattle.adapter.specs.declared.step.StepKind.{StepKind}
 use Rattle.adapter.specs.declared.step.StepKind.TheVariants.{TxTake, TxPut, RxData, RxDone, EepromTick, PhyTick}
 use Rattle.adapter.specs.Outcomes.{FrameOutcome}
 use Rattle.adapter.specs.declared.outcome.Outcome.TheVariants.{Took, Put, Part, Moved, Done, Fault}
-use Rattle.adapter.specs.History.{AdapterEvent, Read, Write, Step, Arrive, after_event, after_events}
+use Rattle.adapter.specs.History.{AdapterEvent, Read, Write, Step, Arrive, adapter_after, adapter_after_all}
 use Rattle.registers.specs.PacketBuffer.{IsAllocation, allocation_written, is_allocation}
 use Rattle.adapter.specs.Registers.{after_reset, answer, by_row, is_reset, left_by_read, left_by_write, new_adapter, read_of, write_of}
 use Rattle.adapter.specs.State.{AdapterState, CausesAlone, CountersFit, HasTables, HasRegisters}
@@ -246,7 +246,7 @@ HasRegisters-stepped EepromTick answer memory state adapter =
     of-parts adapter.tables adapter.allocation adapter.causes adapter.counters
 HasRegisters-stepped PhyTick answer memory state adapter = HasRegisters-told (mdi.told state.mdic state.phy) state adapter
 
-pub HasRegisters-after_event : (event : AdapterEvent) (state : AdapterState) → HasRegisters state → HasRegisters (after_event event state)
+pub HasRegisters-after_event : (event : AdapterEvent) (state : AdapterState) → HasRegisters state → HasRegisters (adapter_after event state)
 HasRegisters-after_event (Read offset) state adapter = by_case (register_at offset)
   where
     by_case : (found : Option Register) → HasRegisters (left_by_read found state)
@@ -261,7 +261,7 @@ HasRegisters-after_event (Step kind answer memory) state adapter = HasRegisters-
 HasRegisters-after_event (Arrive fate frame) state adapter = HasRegisters-arrived fate frame state adapter
 
 pub HasRegisters-after_events : (events : List AdapterEvent) (state : AdapterState) → HasRegisters state
-    → HasRegisters (after_events events state)
+    → HasRegisters (adapter_after_all events state)
 HasRegisters-after_events [] state adapter = adapter
 HasRegisters-after_events (event ∷ later) state adapter =
-    HasRegisters-after_events later (after_event event state) (HasRegisters-after_event event state adapter)
+    HasRegisters-after_events later (adapter_after event state) (HasRegisters-after_event event state adapter)

@@ -11,7 +11,7 @@ use Rattle.tx_engine.specs.Fetching.{fetched}
 use Rattle.tx_engine.specs.Transmitter.{Queued}
 use Rattle.adapter.specs.HostAreas.{areas, buffer_size, work_areas}
 use Rattle.adapter.specs.HostFrames.{finished_pieces, named, pieces_in_slots}
-use Rattle.adapter.specs.Slots.{IsDealt, buffered, finished, in_work, offered}
+use Rattle.adapter.specs.Slots.{IsDealt, buffered, finished, slots_in_work, offered}
 use Rattle.adapter.specs.World.{World, receive_ring, transmit_ring}
 
 -- The descriptor of a frame asks for a report: RS is set.
@@ -21,7 +21,7 @@ Reports queued = queued.report ≡ true
 -- The conditions on a world whose driver's oldest slots in the receive and in the transmit ring have these indices.
 pub record Sound (oldest_receive oldest_transmit : ℕ) (world : World) : Type 0 where
   -- The outstanding slots of the receive ring are finished slots, then the slot in progress, if any, then the offered slots (`IsDealt`).
-  pub receive_slots : IsDealt world.memory (receive_ring world) oldest_receive (in_work world)
+  pub receive_slots : IsDealt world.memory (receive_ring world) oldest_receive (slots_in_work world)
   -- The outstanding slots of the transmit ring are written-back slots, then those of the frames in the packet buffer, then the offered
   -- slots (`IsDealt`).
   pub transmit_slots : IsDealt world.memory (transmit_ring world) oldest_transmit (buffered world)

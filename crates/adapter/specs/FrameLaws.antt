@@ -22,7 +22,7 @@ use Rattle.adapter.specs.Frames.{ArrivalGrowsFrames, DataLeavesFrames, DoneFinis
 use Rattle.adapter.specs.Frames.{TakingLeavesFrames}
 use Rattle.adapter.specs.Receiving.{after_arrive}
 use Rattle.adapter.specs.Rings.{ring_of}
-use Rattle.adapter.specs.Transmitting.{IsOldest, moved_on, reported}
+use Rattle.adapter.specs.Transmitting.{IsOldest, moved_on, memory_reported}
 
 pub taking_leaves_frames : TakingLeavesFrames
 taking_leaves_frames memory state Took told =
@@ -41,7 +41,7 @@ putting_takes_first wire_free memory state frame told apart = by_buffer state.tr
         → IfFront buffer
         (λ queued. All (λ slot. IsAwayFrom memory (area_at (status_place queued) 1) (address_of ring slot)) (offered_places ring))
         → to_send memory ring (pads state.transmit_control) buffer
-        ≡ frame ∷ to_send (reported buffer memory) ring (pads state.transmit_control) (drop 1 buffer)
+        ≡ frame ∷ to_send (memory_reported buffer memory) ring (pads state.transmit_control) (drop 1 buffer)
     by_buffer [] none apart = absurd none
     by_buffer (queued ∷ later) same apart =
         to_send-put memory ring (pads state.transmit_control) queued later

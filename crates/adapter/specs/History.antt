@@ -25,16 +25,16 @@ pub data AdapterEvent : Type 0 where
   Arrive : Fate → List ℕ → AdapterEvent
 
 -- The adapter after an event.
-abbrev pub after_event : AdapterEvent → AdapterState → AdapterState
-after_event (Read offset) state = after_read offset state
-after_event (Write offset value) state = after_write offset value state
-after_event (Step kind answer memory) state = after_step kind answer memory state
-after_event (Arrive fate frame) state = after_arrive fate frame state
+abbrev pub adapter_after : AdapterEvent → AdapterState → AdapterState
+adapter_after (Read offset) state = after_read offset state
+adapter_after (Write offset value) state = after_write offset value state
+adapter_after (Step kind answer memory) state = after_step kind answer memory state
+adapter_after (Arrive fate frame) state = after_arrive fate frame state
 
 -- The adapter after a list of events, the oldest first.
-abbrev pub after_events : List AdapterEvent → AdapterState → AdapterState
-after_events [] state = state
-after_events (event ∷ later) state = after_events later (after_event event state)
+abbrev pub adapter_after_all : List AdapterEvent → AdapterState → AdapterState
+adapter_after_all [] state = state
+adapter_after_all (event ∷ later) state = adapter_after_all later (adapter_after event state)
 
 -- Whether the event is a write of CTRL with RST.
 abbrev pub is_reset_event : AdapterEvent → Bool
@@ -63,7 +63,7 @@ NoneSets place events = list_any (sets_register place) events ≡ false
 
 -- What a read at an offset returns after all events since power-on, the oldest first.
 abbrev pub reads : List ℕ → Link → List AdapterEvent → ℕ → ℕ
-reads words link events offset = answer_at offset (after_events events (new_adapter words link))
+reads words link events offset = answer_at offset (adapter_after_all events (new_adapter words link))
 
 -- The value of a register with these kept bits until the next event that sets the register. After power-on or a reset, it reads its reset
 -- value. After a write that is no reset, it reads the kept bits of the written value.

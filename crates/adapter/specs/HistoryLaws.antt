@@ -1,5 +1,5 @@
 -- The proof of `PlainByHistory`, and the effect of events on what such a register reads and on EERD, MDIC and the PHY.
-use Rattle.std.proofs.Common.{◌≡◌, ◌≢◌, ◌==◌, ◌&&◌, ℕ, Bool, true, false, List, [], ◌∷◌, ◌++◌, Option, Some, None, refl, sym, ◌∙◌, ap}
+use Rattle.std.proofs.Common.{◌≡◌, ◌≢◌, ◌+◌, ◌==◌, ◌&&◌, ℕ, Bool, true, false, List, [], ◌∷◌, ◌++◌, Option, Some, None, refl, sym, ◌∙◌, ap}
 use Rattle.std.proofs.Common.{subst, if◌then◌else◌}
 use Rattle.std.specs.List.{list_any}
 use Rattle.std.proofs.lemmas.Bool.{and_parts, eq-eqb, eqb-true, false≢true, or_parts}
@@ -12,13 +12,16 @@ use Rattle.adapter.specs.declared.register.Register.{Register}
 use Rattle.adapter.specs.declared.register.Register.TheVariants.{Ctrl, Status, Eerd, Mdic, Icr, Pba, Receive, Transmit, Mpc, Gprc, Gptc}
 use Rattle.adapter.specs.declared.register.Register.TheVariants.{Rnbc}
 use Rattle.adapter.specs.declared.step.StepKind.{StepKind}
-use Rattle.adapter.specs.declared.register.RingRegister.TheVariants.{BaseLow, BaseHigh, Length, Head, Tail}
+use Rattle.adapter.specs.declared.register.RingRegister.{RingRegister}
+use Rattle.adapter.specs.declared.register.RingRegister.TheVariants.{Head}
+use Rattle.adapter.specs.declared.ring.RingRegisters.{RingRegisters}
+use Rattle.adapter.specs.Rings.{ring_answer, ring_distance}
 use Rattle.adapter.specs.declared.step.StepKind.TheVariants.{TxTake, TxPut, RxData, RxDone, EepromTick, PhyTick}
 use Rattle.adapter.specs.Outcomes.{FrameOutcome}
 use Rattle.adapter.specs.declared.outcome.Outcome.TheVariants.{Took, Put, Part, Moved, Done, Fault}
 use Rattle.adapter.specs.AccessLaws.{Touches, link_shown, causes_set, mask_cleared}
 use Rattle.adapter.specs.AdapterLaws.{HasRegisters-after_events, HasRegisters-new}
-use Rattle.adapter.specs.History.{AdapterEvent, Read, Write, Step, Arrive, after_event, after_events, is_reset_event, moves_head}
+use Rattle.adapter.specs.History.{AdapterEvent, Read, Write, Step, Arrive, adapter_after, adapter_after_all, is_reset_event, moves_head}
 use Rattle.adapter.specs.History.{sets_register}
 use Rattle.adapter.specs.History.{NoneSets, PlainByHistory}
 use Rattle.adapter.specs.Registers.{after_reset, after_write, answer, answer_at, answer_of, by_row, is_reset, left_by_read, left_by_write}
@@ -27,7 +30,7 @@ use Rattle.adapter.specs.RegisterLaws.{answer-at_reset, others_stay_at_write, pl
 use Rattle.adapter.specs.State.{AdapterState}
 use Rattle.adapter.specs.Receiving.{after_arrive, after_data, after_done}
 use Rattle.adapter.specs.Steps.{after_eeprom_tick, after_phy_told, after_step}
-use Rattle.adapter.specs.Transmitting.{after_put, after_take}
+use Rattle.adapter.specs.Transmitting.{after_put, after_take, moved_on}
 use Rattle.adapter.specs.Table.{StandsAt, register_at, row_of}
 use Rattle.adapter.specs.TableLaws.{register_at-only, register_at-there}
 
@@ -43,10 +46,6 @@ image-written register value state = by_test (is_reset register value)
     by_test true = refl
     by_test false = image-by_row register value state
 
-image-read : (register : Register) (state : AdapterState) → (read_of register state).image ≡ state.image
-image-read Icr state = refl
-image-read _ state = refl
-
 image-told : (told : Option Ticked) (state : AdapterState) → (after_phy_told told state).image ≡ state.image
 image-told (Some ticked) state = refl
 image-told None state = refl
@@ -60,6 +59,10 @@ pub record LeavesParts (before after : AdapterState) : Type 0 where
 
 leaves_all : (state : AdapterState) → LeavesParts state state
 leaves_all state = record { image = refl; eerd = refl; mdic = refl; phy = refl }
+
+pub parts-read : (register : Register) (state : AdapterState) → LeavesParts state (read_of register state)
+parts-read Icr state = record { image = refl; eerd = refl; mdic = refl; phy = refl }
+parts-read _ state = record { image = refl; eerd = refl; mdic = refl; phy = refl }
 
 pub parts-took : (answer : FrameOutcome) (memory : List ℕ) (state : AdapterState) → LeavesParts state (after_take answer memory state)
 parts-took Took memory state = record { image = refl; eerd = refl; mdic = refl; phy = refl }
@@ -94,11 +97,11 @@ image-stepped RxDone answer memory state = (parts-done answer state).image
 image-stepped EepromTick answer memory state = refl
 image-stepped PhyTick answer memory state = image-told (mdi.told state.mdic state.phy) state
 
-pub image-after_event : (event : AdapterEvent) (state : AdapterState) → (after_event event state).image ≡ state.image
+pub image-after_event : (event : AdapterEvent) (state : AdapterState) → (adapter_after event state).image ≡ state.image
 image-after_event (Read offset) state = by_case (register_at offset)
   where
     by_case : (found : Option Register) → (left_by_read found state).image ≡ state.image
-    by_case (Some register) = image-read register state
+    by_case (Some register) = (parts-read register state).image
     by_case None = refl
 image-after_event (Write offset value) state = by_case (register_at offset)
   where
@@ -108,9 +111,9 @@ image-after_event (Write offset value) state = by_case (register_at offset)
 image-after_event (Step kind answer memory) state = image-stepped kind answer memory state
 image-after_event (Arrive fate frame) state = (parts-arrived fate frame state).image
 
-pub image-after_events : (events : List AdapterEvent) (state : AdapterState) → (after_events events state).image ≡ state.image
+pub image-after_events : (events : List AdapterEvent) (state : AdapterState) → (adapter_after_all events state).image ≡ state.image
 image-after_events [] state = refl
-image-after_events (event ∷ later) state = image-after_events later (after_event event state) ∙ image-after_event event state
+image-after_events (event ∷ later) state = image-after_events later (adapter_after event state) ∙ image-after_event event state
 
 plain-untouched : (written register : Register) (kept : ℕ) → (row_of register).kept ≡ Some kept → ¬ (Touches written register)
 plain-untouched _ _ kept plain link_shown = cc
@@ -139,18 +142,17 @@ plain-eeprom : (register : Register) (kept : ℕ) (state : AdapterState) → (ro
 plain-eeprom Eerd kept state plain = cc
 plain-eeprom _ kept state plain = refl
 
-elsewhere : (place : ℕ) → ¬ ((place == place) ≡ false)
-elsewhere place none = false≢true (sym none ∙ eq-eqb place place refl)
+-- A ring's register that isn't its head reads the same after the head has advanced. The register RDBAL or TDBAL is at `base`.
+not_head : (base : ℕ) (part : RingRegister) (ring : RingRegisters) → (base + ring_distance part == base + 0x10) ≡ false
+    → ring_answer part (moved_on ring) ≡ ring_answer part ring
+not_head base Head ring none = absurd (false≢true (sym none ∙ eq-eqb (base + 0x10) (base + 0x10) refl))
+not_head base _ ring none = refl
 
 plain-took : (register : Register) (answered : FrameOutcome) (memory : List ℕ) (kept : ℕ) (state : AdapterState)
     → (row_of register).kept ≡ Some kept
     → moves_head (row_of register).offset TxTake answered ≡ false
     → answer register (after_take answered memory state) ≡ answer register state
-plain-took (Transmit Head) Took memory kept state plain none = absurd (elsewhere 0x3810 none)
-plain-took (Transmit BaseLow) Took memory kept state plain none = refl
-plain-took (Transmit BaseHigh) Took memory kept state plain none = refl
-plain-took (Transmit Length) Took memory kept state plain none = refl
-plain-took (Transmit Tail) Took memory kept state plain none = refl
+plain-took (Transmit part) Took memory kept state plain none = not_head 0x3800 part state.transmit_ring none
 plain-took Icr Took memory kept state plain none = cc
 plain-took _ Took memory kept state plain none = refl
 plain-took _ Fault memory kept state plain none = refl
@@ -166,18 +168,10 @@ plain-put _ _ kept state plain = refl
 plain-moved : (register : Register) (answered : FrameOutcome) (kept : ℕ) (state : AdapterState) → (row_of register).kept ≡ Some kept
     → moves_head (row_of register).offset RxData answered ≡ false
     → answer register (after_data answered state) ≡ answer register state
-plain-moved (Receive Head) Part kept state plain none = absurd (elsewhere 0x2810 none)
-plain-moved (Receive BaseLow) Part kept state plain none = refl
-plain-moved (Receive BaseHigh) Part kept state plain none = refl
-plain-moved (Receive Length) Part kept state plain none = refl
-plain-moved (Receive Tail) Part kept state plain none = refl
+plain-moved (Receive part) Part kept state plain none = not_head 0x2800 part state.receive_ring none
 plain-moved Icr Part kept state plain none = cc
 plain-moved _ Part kept state plain none = refl
-plain-moved (Receive Head) Moved kept state plain none = absurd (elsewhere 0x2810 none)
-plain-moved (Receive BaseLow) Moved kept state plain none = refl
-plain-moved (Receive BaseHigh) Moved kept state plain none = refl
-plain-moved (Receive Length) Moved kept state plain none = refl
-plain-moved (Receive Tail) Moved kept state plain none = refl
+plain-moved (Receive part) Moved kept state plain none = not_head 0x2800 part state.receive_ring none
 plain-moved Icr Moved kept state plain none = cc
 plain-moved _ Moved kept state plain none = refl
 plain-moved _ Fault kept state plain none = refl
@@ -239,7 +233,7 @@ plain-written offset value register kept state plain none =
 
 plain-event : (event : AdapterEvent) (register : Register) (kept : ℕ) (state : AdapterState) → (row_of register).kept ≡ Some kept
     → sets_register (row_of register).offset event ≡ false
-    → answer register (after_event event state) ≡ answer register state
+    → answer register (adapter_after event state) ≡ answer register state
 plain-event (Read offset) register kept state plain none = by_case (register_at offset)
   where
     by_case : (found : Option Register) → answer register (left_by_read found state) ≡ answer register state
@@ -252,17 +246,17 @@ plain-event (Arrive fate frame) register kept state plain none = plain-arrived r
 -- If no event of a list sets a register that has kept bits, the list doesn't change what the register reads.
 pub plain-events : (events : List AdapterEvent) (register : Register) (kept : ℕ) (state : AdapterState) → (row_of register).kept ≡ Some kept
     → NoneSets (row_of register).offset events
-    → answer register (after_events events state) ≡ answer register state
+    → answer register (adapter_after_all events state) ≡ answer register state
 plain-events [] register kept state plain none = refl
 plain-events (event ∷ later) register kept state plain none =
     let parts = or_parts (sets_register (row_of register).offset event) (list_any (sets_register (row_of register).offset) later) none in
-    plain-events later register kept (after_event event state) plain parts.1 ∙ plain-event event register kept state plain parts.0
+    plain-events later register kept (adapter_after event state) plain parts.1 ∙ plain-event event register kept state plain parts.0
 
 -- The adapter after two lists of events, one after the other.
-pub after_events-append : (before after : List AdapterEvent) (state : AdapterState)
-    → after_events (before ++ after) state ≡ after_events after (after_events before state)
-after_events-append [] after state = refl
-after_events-append (event ∷ before) after state = after_events-append before after (after_event event state)
+pub adapter_after_all-append : (before after : List AdapterEvent) (state : AdapterState)
+    → adapter_after_all (before ++ after) state ≡ adapter_after_all after (adapter_after_all before state)
+adapter_after_all-append [] after state = refl
+adapter_after_all-append (event ∷ before) after state = adapter_after_all-append before after (adapter_after event state)
 
 plain-not_pba : (register : Register) (kept : ℕ) → (row_of register).kept ≡ Some kept → register ≢ Pba
 plain-not_pba register kept plain same =
@@ -270,7 +264,7 @@ plain-not_pba register kept plain same =
     cc
 
 -- The state after a reset event is the state of `after_reset`.
-pub reset-event : (event : AdapterEvent) (state : AdapterState) → is_reset_event event ≡ true → after_event event state ≡ after_reset state
+pub reset-event : (event : AdapterEvent) (state : AdapterState) → is_reset_event event ≡ true → adapter_after event state ≡ after_reset state
 reset-event (Read offset) state resets = absurd (false≢true resets)
 reset-event (Step kind answer memory) state resets = absurd (false≢true resets)
 reset-event (Arrive fate frame) state resets = absurd (false≢true resets)
@@ -285,23 +279,23 @@ reset-event (Write offset value) state resets =
 pub plain_by_history : PlainByHistory
 plain_by_history register kept words link within plain = record {
   never_written = λ all none.
-      at_offset (after_events all start)
+      at_offset (adapter_after_all all start)
       ∙ plain-events all register kept start plain none
       ∙ answer-at_reset register words (new_phy link) 48 within differ;
   written = λ before value after none_resets none.
-      let here = after_events before start in
+      let here = adapter_after_all before start in
       let event = Write (row_of register).offset value in
-      at_offset (after_events (before ++ event ∷ after) start)
-      ∙ ap (answer register) (after_events-append before (event ∷ after) start)
-      ∙ plain-events after register kept (after_event event here) plain none
+      at_offset (adapter_after_all (before ++ event ∷ after) start)
+      ∙ ap (answer register) (adapter_after_all-append before (event ∷ after) start)
+      ∙ plain-events after register kept (adapter_after event here) plain none
       ∙ ap (answer register) (ap (λ (r : Option Register). left_by_write r value here) there)
       ∙ plain_reads_back register kept value here (HasRegisters-after_events before start (HasRegisters-new words link)) within plain
       (no_reset (row_of register).offset value register refl none_resets);
   reset = λ before event after resets none.
-      let here = after_events before start in
-      at_offset (after_events (before ++ event ∷ after) start)
-      ∙ ap (answer register) (after_events-append before (event ∷ after) start)
-      ∙ plain-events after register kept (after_event event here) plain none
+      let here = adapter_after_all before start in
+      at_offset (adapter_after_all (before ++ event ∷ after) start)
+      ∙ ap (answer register) (adapter_after_all-append before (event ∷ after) start)
+      ∙ plain-events after register kept (adapter_after event here) plain none
       ∙ ap (answer register) (reset-event event here resets)
       ∙ answer-at_reset register here.image here.phy here.receive_kilobytes within differ
       ∙ ap (row_of register).reset (image-after_events before start);

@@ -10,7 +10,7 @@ use Rattle.rx_engine.specs.declared.engine.Work.{Work}
 use Rattle.rx_engine.specs.Descriptors as receive
 use Rattle.tx_engine.specs.Fetching as transmit
 use Rattle.adapter.specs.HostFrames.{named}
-use Rattle.adapter.specs.Slots.{buffered, finished, in_work, offered}
+use Rattle.adapter.specs.Slots.{buffered, finished, slots_in_work, offered}
 use Rattle.adapter.specs.World.{World, receive_ring, transmit_ring}
 
 -- The area of a ring's descriptors.
@@ -44,8 +44,8 @@ offered_buffers world = if receives world then map (buffer_of world) (offered (r
 -- The area of the data that the transmit descriptor at this address points to.
 abbrev pub data_of : List ℕ → ℕ → Area
 data_of memory descriptor = record {
-  address = (transmit.descriptor_at memory descriptor).address;
-  size = (transmit.descriptor_at memory descriptor).length;
+  address = (transmit.transmit_descriptor_at memory descriptor).address;
+  size = (transmit.transmit_descriptor_at memory descriptor).length;
 }
 
 -- The data of offered transmit slots, the pieces in finished receive slots, the piece in progress, and the buffers of `offered_buffers`.
@@ -74,7 +74,7 @@ status_byte descriptor = record { address = descriptor + 12; size = 1 }
 -- - if RCTL.EN is set, the buffers of offered receive slots.
 abbrev pub writable : World → List Area
 writable world =
-    map reported_half (in_work world ++ offered (receive_ring world))
+    map reported_half (slots_in_work world ++ offered (receive_ring world))
     ++ (map status_byte (buffered world ++ offered (transmit_ring world))
     ++ offered_buffers world)
 

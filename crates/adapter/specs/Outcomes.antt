@@ -10,9 +10,9 @@ abbrev pub FrameOutcome : Type 0
 FrameOutcome = Outcome (List ℕ)
 
 -- The oldest frame of a packet buffer, or no bytes if the buffer is empty.
-abbrev pub oldest : List Queued → List ℕ
-oldest [] = []
-oldest (queued ∷ later) = queued.frame
+abbrev pub oldest_queued : List Queued → List ℕ
+oldest_queued [] = []
+oldest_queued (queued ∷ later) = queued.frame
 
 -- The same outcome, but with this frame in place of the frame in `Put` and `Delivered`.
 abbrev pub with_frame : {F G : Type 0} → G → Outcome F → Outcome G
@@ -30,7 +30,7 @@ with_frame frame Fault = Fault
 -- The same outcome, but with the oldest frame of this state's transmit packet buffer in `Put` and `Delivered`. A step from this state that
 -- puts a frame puts the oldest one.
 abbrev pub framed : {F : Type 0} → Outcome F → AdapterState → FrameOutcome
-framed outcome state = with_frame (oldest state.transmitter.buffer) outcome
+framed outcome state = with_frame (oldest_queued state.transmitter.buffer) outcome
 
 -- The frame that a step put, as a list: empty if the outcome isn't `Put`.
 abbrev pub put_by : FrameOutcome → List (List ℕ)

@@ -10,7 +10,7 @@ use Rattle.eeprom_phy.specs.Phy.{new_phy}
 use Rattle.adapter.specs.declared.register.Register.{Register}
 use Rattle.adapter.specs.declared.register.Register.TheVariants.{Ctrl, Eerd, Mdic}
 use Rattle.adapter.specs.declared.step.StepKind.TheVariants.{EepromTick, PhyTick}
-use Rattle.adapter.specs.History.{AdapterEvent, Read, Write, Step, Arrive, after_events, is_reset_event, reads}
+use Rattle.adapter.specs.History.{AdapterEvent, Read, Write, Step, Arrive, adapter_after_all, is_reset_event, reads}
 use Rattle.adapter.specs.Registers.{is_reset, new_adapter}
 use Rattle.adapter.specs.Table.{register_at, row_of}
 
@@ -69,7 +69,7 @@ pub record PartsByHistory (words : List ℕ) (link : Link) : Type 0 where
   -- MDIC reads the value after all operations on MDIC.
   pub mdic : (all : List AdapterEvent) → reads words link all (row_of Mdic).offset ≡ mdic_reads (new_phy link) (mdic_events all)
   -- The PHY's state is its state after all operations on MDIC.
-  pub phy : (all : List AdapterEvent) → (after_events all (new_adapter words link)).phy ≡ phy_of (new_phy link) (mdic_events all)
+  pub phy : (all : List AdapterEvent) → (adapter_after_all all (new_adapter words link)).phy ≡ phy_of (new_phy link) (mdic_events all)
 
 -- `PartsByHistory` holds for each image of the EEPROM and each setting of the link.
 abbrev pub PartsHaveTheirLaws : Type 0

@@ -10,21 +10,21 @@ use Rattle.eeprom_phy.specs.declared.mdic.Operation.{Operation}
 use Rattle.eeprom_phy.specs.declared.mdic.Ticked.{Ticked}
 use Rattle.eeprom_phy.specs.declared.phy.Negotiation.{Negotiation}
 use Rattle.eeprom_phy.specs.declared.phy.Negotiation.TheVariants.{NotStarted, Running, Complete}
-use Rattle.eeprom_phy.specs.Mdic.{MdicState, mdic_after_tick, new_mdic, phy_after_tick, told, ended, phy_ended}
+use Rattle.eeprom_phy.specs.Mdic.{MdicState, mdic_after_tick, phy_after_tick, told, phy_ended}
 use Rattle.eeprom_phy.specs.Mdic as mdi
-use Rattle.eeprom_phy.specs.MdicHistory.{MdicAndPhy, MdicEvent, after_mdic_events, both_behind}
+use Rattle.eeprom_phy.specs.MdicHistory.{MdicAndPhy, after_mdic_events}
 use Rattle.eeprom_phy.specs.MdicLaws.{accesses_by_history, after_mdic_events-append}
-use Rattle.eeprom_phy.specs.Phy.{PhyState, counted, is_counting, is_running, new_phy}
+use Rattle.eeprom_phy.specs.Phy.{PhyState, counted_down, is_counting, is_running, new_phy}
 use Rattle.eeprom_phy.specs.Phy as phy
 use Rattle.adapter.specs.declared.register.Register.{Register}
-use Rattle.adapter.specs.declared.register.Register.TheVariants.{Ctrl, Eerd, Mdic, Icr}
+use Rattle.adapter.specs.declared.register.Register.TheVariants.{Ctrl, Eerd, Mdic}
 use Rattle.adapter.specs.declared.step.StepKind.TheVariants.{TxTake, TxPut, RxData, RxDone, EepromTick, PhyTick}
-use Rattle.adapter.specs.History.{AdapterEvent, Read, Write, Step, Arrive, after_event, after_events, is_reset_event}
-use Rattle.adapter.specs.HistoryLaws.{LeavesParts, after_events-append, parts-arrived, parts-done, parts-moved, parts-put, parts-took}
-use Rattle.adapter.specs.HistoryLaws.{image-after_event, image-after_events, no_reset, reset-event}
+use Rattle.adapter.specs.History.{AdapterEvent, Read, Write, Step, Arrive, adapter_after, adapter_after_all, is_reset_event}
+use Rattle.adapter.specs.HistoryLaws.{LeavesParts, adapter_after_all-append, parts-arrived, parts-done, parts-moved, parts-put, parts-read}
+use Rattle.adapter.specs.HistoryLaws.{image-after_event, image-after_events, no_reset, parts-took, reset-event}
 use Rattle.adapter.specs.Parts.{NoReset, PartsHaveTheirLaws, eerd_operation, eerd_operations, eerd_written, mdic_event, mdic_events}
 use Rattle.adapter.specs.Parts.{mdic_written}
-use Rattle.adapter.specs.Registers.{after_reset, answer_of, by_row, is_reset, left_by_read, left_by_write, new_adapter, read_of, write_of}
+use Rattle.adapter.specs.Registers.{after_reset, answer_of, by_row, is_reset, left_by_read, left_by_write, new_adapter, write_of}
 use Rattle.adapter.specs.State.{AdapterState}
 use Rattle.adapter.specs.Steps.{after_phy_told, after_phy_tick}
 use Rattle.adapter.specs.Table.{StandsAt, register_at, row_of}
@@ -39,7 +39,7 @@ mdic-idle : (pending : Option Operation) (value : ℕ) (state : PhyState) → is
 mdic-idle (Some operation) value state none = absurd (true≢false none)
 mdic-idle None value state none = refl
 
-negotiation-still : (negotiation : Negotiation) → is_running negotiation ≡ false → counted negotiation ≡ negotiation
+negotiation-still : (negotiation : Negotiation) → is_running negotiation ≡ false → counted_down negotiation ≡ negotiation
 negotiation-still NotStarted still = refl
 negotiation-still (Running left) still = absurd (true≢false still)
 negotiation-still Complete still = refl
@@ -83,19 +83,15 @@ both-written Ctrl value state = by_test (is_reset Ctrl value)
     by_test false = refl
 both-written _ value state = refl
 
-both-read : (register : Register) (state : AdapterState) → both_of (read_of register state) ≡ both_of state
-both-read Icr state = refl
-both-read _ state = refl
-
 both-left : (before after : AdapterState) → LeavesParts before after → both_of after ≡ both_of before
 both-left before after left = rw (left.mdic, left.phy) refl
 
 both-event : (event : AdapterEvent) (state : AdapterState)
-    → both_of (after_event event state) ≡ after_mdic_events (mdic_event event) (both_of state)
+    → both_of (adapter_after event state) ≡ after_mdic_events (mdic_event event) (both_of state)
 both-event (Read offset) state = by_case (register_at offset)
   where
     by_case : (found : Option Register) → both_of (left_by_read found state) ≡ both_of state
-    by_case (Some register) = both-read register state
+    by_case (Some register) = both-left state _ (parts-read register state)
     by_case None = refl
 both-event (Write offset value) state = by_case (register_at offset)
   where
@@ -112,10 +108,10 @@ both-event (Step PhyTick answer memory) state = both-ticked state
 both-event (Arrive fate frame) state = both-left state _ (parts-arrived fate frame state)
 
 pub both-events : (events : List AdapterEvent) (state : AdapterState)
-    → both_of (after_events events state) ≡ after_mdic_events (mdic_events events) (both_of state)
+    → both_of (adapter_after_all events state) ≡ after_mdic_events (mdic_events events) (both_of state)
 both-events [] state = refl
 both-events (event ∷ later) state =
-    both-events later (after_event event state)
+    both-events later (adapter_after event state)
     ∙ ap (after_mdic_events (mdic_events later)) (both-event event state)
     ∙ sym (after_mdic_events-append (mdic_event event) (mdic_events later) (both_of state))
 
@@ -124,20 +120,16 @@ eerd-by_row : (register : Register) (value : ℕ) (state : AdapterState)
 eerd-by_row Eerd value state = refl
 eerd-by_row _ value state = refl
 
-eerd-read : (register : Register) (state : AdapterState) → (read_of register state).eerd ≡ state.eerd
-eerd-read Icr state = refl
-eerd-read _ state = refl
-
 eerd-told : (what : Option Ticked) (state : AdapterState) → (after_phy_told what state).eerd ≡ state.eerd
 eerd-told (Some ticked) state = refl
 eerd-told None state = refl
 
 eerd-event : (event : AdapterEvent) (state : AdapterState) → is_reset_event event ≡ false
-    → (after_event event state).eerd ≡ eerd.after_all state.image (eerd_operation event) state.eerd
+    → (adapter_after event state).eerd ≡ eerd.after_all state.image (eerd_operation event) state.eerd
 eerd-event (Read offset) state none = by_case (register_at offset)
   where
     by_case : (found : Option Register) → (left_by_read found state).eerd ≡ state.eerd
-    by_case (Some register) = eerd-read register state
+    by_case (Some register) = (parts-read register state).eerd
     by_case None = refl
 eerd-event (Write offset value) state none = by_case (register_at offset) (λ register found. register_at-only offset register found)
   where
@@ -157,29 +149,29 @@ eerd-event (Step PhyTick answer memory) state none = eerd-told (told state.mdic 
 eerd-event (Arrive fate frame) state none = (parts-arrived fate frame state).eerd
 
 pub eerd-events : (events : List AdapterEvent) (state : AdapterState) → NoReset events
-    → (after_events events state).eerd ≡ eerd.after_all state.image (eerd_operations events) state.eerd
+    → (adapter_after_all events state).eerd ≡ eerd.after_all state.image (eerd_operations events) state.eerd
 eerd-events [] state none = refl
 eerd-events (event ∷ later) state none =
     let parts = or_parts (is_reset_event event) (list_any is_reset_event later) none in
-    eerd-events later (after_event event state) parts.1
-    ∙ ap (λ (words : List ℕ). eerd.after_all words (eerd_operations later) (after_event event state).eerd) (image-after_event event state)
+    eerd-events later (adapter_after event state) parts.1
+    ∙ ap (λ (words : List ℕ). eerd.after_all words (eerd_operations later) (adapter_after event state).eerd) (image-after_event event state)
     ∙ ap (eerd.after_all state.image (eerd_operations later)) (eerd-event event state parts.0)
     ∙ sym (after_all-append state.image (eerd_operation event) (eerd_operations later) state.eerd)
 
 pub parts_have_their_laws : PartsHaveTheirLaws
 parts_have_their_laws words link = record {
   eerd_since_power_on = λ all none.
-      ap (λ (found : Option Register). answer_of found (after_events all start)) (register_at-there Eerd tt)
+      ap (λ (found : Option Register). answer_of found (adapter_after_all all start)) (register_at-there Eerd tt)
       ∙ ap shown (eerd-events all start none);
   eerd_since_reset = λ before event after resets none.
-      let here = after_events before start in
-      ap (λ (found : Option Register). answer_of found (after_events (before ++ event ∷ after) start)) (register_at-there Eerd tt)
-      ∙ ap (λ (state : AdapterState). shown state.eerd) (after_events-append before (event ∷ after) start)
-      ∙ ap (λ (state : AdapterState). shown (after_events after state).eerd) (reset-event event here resets)
+      let here = adapter_after_all before start in
+      ap (λ (found : Option Register). answer_of found (adapter_after_all (before ++ event ∷ after) start)) (register_at-there Eerd tt)
+      ∙ ap (λ (state : AdapterState). shown state.eerd) (adapter_after_all-append before (event ∷ after) start)
+      ∙ ap (λ (state : AdapterState). shown (adapter_after_all after state).eerd) (reset-event event here resets)
       ∙ ap shown (eerd-events after (after_reset here) none)
       ∙ ap (λ (image : List ℕ). eerd.reads_after image (eerd_operations after)) (image-after_events before start);
   mdic = λ all.
-      ap (λ (found : Option Register). answer_of found (after_events all start)) (register_at-there Mdic tt)
+      ap (λ (found : Option Register). answer_of found (adapter_after_all all start)) (register_at-there Mdic tt)
       ∙ ap (λ (both : MdicAndPhy). both.mdic.value) (both-events all start);
   phy = λ all.
       ap (λ (both : MdicAndPhy). both.phy) (both-events all start)

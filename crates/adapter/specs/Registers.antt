@@ -120,8 +120,8 @@ with_register register number state = state
 -- The state after a write of a register whose row has no kept bits. STATUS and the counters ignore the write, and a register with kept bits
 -- doesn't change.
 abbrev pub by_rule : Register → ℕ → AdapterState → AdapterState
-by_rule Eerd value state = record state { eerd = eeprom.after_write value state.eerd }
-by_rule Mdic value state = record state { mdic = mdi.after_write value }
+by_rule Eerd value state = record state { eerd = eeprom.eerd_after_write value state.eerd }
+by_rule Mdic value state = record state { mdic = mdi.mdic_after_write value }
 by_rule Icr value state = record state { causes = record state.causes { recorded = difference state.causes.recorded (causes_of value) } }
 by_rule Ics value state = record state { causes = record state.causes { recorded = union state.causes.recorded (causes_of value) } }
 by_rule Ims value state = record state { causes = record state.causes { mask = union state.causes.mask (causes_of value) } }

@@ -3,13 +3,13 @@ use Rattle.std.specs.Prelude.{◌≡◌, ◌≢◌, ℕ, false, List, All}
 use Rattle.registers.specs.Bits.{HasBit}
 use Rattle.descriptors.specs.Ring.{HasValidIndices}
 use Rattle.registers.specs.Places.{rctl_bsex}
-use Rattle.tx_engine.specs.Fetching.{IsTransmittable, descriptor_at}
+use Rattle.tx_engine.specs.Fetching.{IsTransmittable, transmit_descriptor_at}
 use Rattle.adapter.specs.Slots.{offered}
 use Rattle.adapter.specs.World.{World, receive_ring, transmit_ring}
 
 -- The descriptor at an address can be transmitted: EOP is set, DEXT is clear, and the descriptor points to 1 to 1,518 bytes inside memory.
 abbrev pub CanTransmit : List ℕ → ℕ → Type 0
-CanTransmit memory descriptor = IsTransmittable memory (descriptor_at memory descriptor)
+CanTransmit memory descriptor = IsTransmittable memory (transmit_descriptor_at memory descriptor)
 
 -- The engines can run: no fault has stopped an engine. If `Sound` also holds for the world, no step of an engine is a fault.
 pub record CanRun (world : World) : Type 0 where

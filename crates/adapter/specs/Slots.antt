@@ -24,8 +24,8 @@ slot_of_work None = []
 slot_of_work (Some work) = work.descriptor ∷ []
 
 -- The slot of the receive ring whose piece is in progress, as a list of at most one slot.
-abbrev pub in_work : World → List ℕ
-in_work world = slot_of_work world.adapter.receiver.work
+abbrev pub slots_in_work : World → List ℕ
+slots_in_work world = slot_of_work world.adapter.receiver.work
 
 -- The slots of the frames in the transmit packet buffer, in the order of the frames.
 abbrev pub buffered : World → List ℕ
@@ -37,5 +37,5 @@ finished oldest world = done_slots world.memory (receive_ring world) oldest
 
 -- The written-back slots of the transmit ring, from the driver's oldest slot up to, but not including, the first outstanding slot without
 -- DD.
-abbrev pub written_back : ℕ → World → List ℕ
-written_back oldest world = done_slots world.memory (transmit_ring world) oldest
+abbrev pub written_back_slots : ℕ → World → List ℕ
+written_back_slots oldest world = done_slots world.memory (transmit_ring world) oldest

@@ -5,8 +5,7 @@ use Rattle.std.proofs.lemmas.Bool.{and_parts, eqb-true, leb-true, ltb-true}
 use Rattle.std.proofs.lemmas.Bool.Decides.{nat_tests}
 use Rattle.adapter.specs.declared.register.RingRegister.TheVariants.{BaseLow, BaseHigh, Length, Head, Tail}
 use Rattle.adapter.specs.declared.register.Register.{Register}
-use Rattle.adapter.specs.declared.register.Register.TheVariants.{Ctrl, Status, Eerd, Mdic, Vet, Icr, Ics, Ims, Imc, Rctl, Tctl, Pba}
-use Rattle.adapter.specs.declared.register.Register.TheVariants.{Receive, Transmit, Mpc, Gprc, Gptc, Rnbc, Mta, Ral, Rah, Vfta}
+use Rattle.adapter.specs.declared.register.Register.TheVariants.{Receive, Transmit, Mta, Ral, Rah, Vfta}
 use Rattle.adapter.specs.AccessLaws.{AccessesByOffset, OffsetsByTable, OutsideIsIgnored}
 use Rattle.adapter.specs.Registers.{answer_of, left_by_read, left_by_write}
 use Rattle.adapter.specs.Table.{IsInTable, StandsAt, array_register, array_register_at, or_else, register_at, row_of, single_registers}
@@ -29,18 +28,6 @@ register_at-vfta word within = grind (arith, nat_tests)
 
 pub register_at-there : (register : Register) → IsInTable register → register_at (row_of register).offset ≡ Some register
 unfolding register_at array_register_at
-register_at-there Ctrl within = refl
-register_at-there Status within = refl
-register_at-there Eerd within = refl
-register_at-there Mdic within = refl
-register_at-there Vet within = refl
-register_at-there Icr within = refl
-register_at-there Ics within = refl
-register_at-there Ims within = refl
-register_at-there Imc within = refl
-register_at-there Rctl within = refl
-register_at-there Tctl within = refl
-register_at-there Pba within = refl
 register_at-there (Receive BaseLow) within = refl
 register_at-there (Receive BaseHigh) within = refl
 register_at-there (Receive Length) within = refl
@@ -51,14 +38,11 @@ register_at-there (Transmit BaseHigh) within = refl
 register_at-there (Transmit Length) within = refl
 register_at-there (Transmit Head) within = refl
 register_at-there (Transmit Tail) within = refl
-register_at-there Mpc within = refl
-register_at-there Gprc within = refl
-register_at-there Gptc within = refl
-register_at-there Rnbc within = refl
 register_at-there (Mta word) within = register_at-mta word within
 register_at-there (Ral entry) within = register_at-ral entry within
 register_at-there (Rah entry) within = register_at-rah entry within
 register_at-there (Vfta word) within = register_at-vfta word within
+register_at-there _ within = refl
 
 pub offset-multiple : (register : Register) → (row_of register).offset % 4 ≡ 0
 offset-multiple (Receive BaseLow) = refl

@@ -84,14 +84,14 @@ after_put _ state = state
 
 -- Memory after the oldest frame of a packet buffer is put onto the wire (`written_back`). If the packet buffer is empty, memory doesn't
 -- change.
-abbrev pub reported : List Queued → List ℕ → List ℕ
-reported [] memory = memory
-reported (queued ∷ later) memory = written_back memory queued
+abbrev pub memory_reported : List Queued → List ℕ → List ℕ
+memory_reported [] memory = memory
+memory_reported (queued ∷ later) memory = written_back memory queued
 
 -- The memory after TxPut with this outcome. If a frame was put whose descriptor asks for a report, byte 12 of this descriptor is 0x01 (DD),
 -- if memory contains this byte. Otherwise memory doesn't change.
 abbrev pub memory_after_put : FrameOutcome → List ℕ → AdapterState → List ℕ
-memory_after_put (Put frame) memory state = reported state.transmitter.buffer memory
+memory_after_put (Put frame) memory state = memory_reported state.transmitter.buffer memory
 memory_after_put _ memory state = memory
 
 -- If a frame is in the packet buffer, the two memories differ at most in byte 12 of the oldest frame's descriptor. Otherwise they are

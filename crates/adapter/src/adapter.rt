@@ -4,6 +4,8 @@ ghost use Rattle.std.specs.Prelude.{◌≡◌, ◌↔◌, ◌≤◌, IsTrue, IfO
 ghost use Rattle.registers.specs.Bits.{Meet};
 ghost use Rattle.adapter.specs.Registers.{is_reset};
 ghost use Rattle.adapter.specs.DataOutcomes.{causes_of_tick, outcome_of_tick};
+ghost use Rattle.adapter.specs.State.{AdapterState};
+ghost use Rattle.adapter.specs.View.{state_of, IsConsistent};
 
 use crate::outcome::Outcome;
 use crate::register::Register;
@@ -37,11 +39,7 @@ pub struct Adapter {
 }
 
 impl Model for Adapter {
-    ghost use Rattle.adapter.specs.State.{AdapterState};
-
     ghost Value = { AdapterState };
-
-    ghost use Rattle.adapter.specs.View.{state_of, IsConsistent};
 
     ghost view = { state_of };
 
@@ -71,6 +69,7 @@ impl Clone for Adapter {
     }
 }
 
+// The clauses `adapter` state the invariant of an adapter's value, for the proofs of callers.
 impl Adapter {
     ghost use Rattle.adapter.specs.Hashed.{adapter_writes};
     ghost use Rattle.adapter.specs.Outcomes.{framed};
@@ -111,6 +110,7 @@ impl Adapter {
         ensures adapter { IsAdapter self.new }
     {
         let answer = self.read_register(Register::at(offset));
+        // A law, for the proof of `adapter`: the EEPROM has 64 words.
         let _ = &self.image;
         answer
     }
@@ -121,6 +121,7 @@ impl Adapter {
         ensures answer { result ≡ answer_at offset self.now }
         ensures adapter { IsAdapter self.now }
     {
+        // A law, for the proof of `adapter`: the EEPROM has 64 words.
         let _ = &self.image;
         self.value_of(Register::at(offset))
     }
@@ -133,6 +134,7 @@ impl Adapter {
         ensures adapter { IsAdapter self.new }
     {
         self.write_register(Register::at(offset), value);
+        // A law, for the proof of `adapter`: the EEPROM has 64 words.
         let _ = &self.image;
     }
 

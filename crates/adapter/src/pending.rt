@@ -43,8 +43,9 @@ impl Adapter {
         ensures holding { holding.new.items ≡ holding.old.items
             ++ frames_held oldest (record { memory = memory.now; adapter = self.now }) }
     {
+        let pad = true;
         append_to_put(&self.transmitter, sending);
-        append_queued(memory, &self.file.transmit_ring.ring(), true, sending);
+        append_queued(memory, &self.file.transmit_ring.ring(), pad, sending);
         self.append_in_slots(memory, oldest, holding);
         append_buffered(&self.receiver, holding);
     }
@@ -99,5 +100,6 @@ fn append_frame(bytes: &[u8], frames: &mut Vec<Frame>)
     ensures frames { frames.new.items ≡ frames.old.items ++ bytes.now ∷ [] }
     ensures room { vec_capacity frames.old ≤ vec_capacity frames.new }
 {
+    // There is room, so the call allocates nothing and never fails.
     let _ = frames.push(Frame::from_slice(bytes));
 }

@@ -15,6 +15,7 @@ use registers::{Ctrl, Tctl};
 /// The bits of VET that a write stores and a read returns.
 const VLAN_TYPE_BITS: u32 = 0xFFFF;
 
+// In contracts, `with_file file rest` is an adapter with this register file. `rest` stands for its other parts.
 impl RegisterFile {
     /// Returns the value of a register, or 0 for ICS, IMC, STATUS and PBA. STATUS and PBA aren't in the register file.
     #[inline(always)]

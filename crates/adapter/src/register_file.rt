@@ -67,6 +67,7 @@ impl Clone for RegisterFile {
     }
 }
 
+// In contracts, `with_file file rest` is an adapter with this register file. `rest` stands for its other parts.
 impl RegisterFile {
     ghost use Rattle.std.specs.Prelude.{ℕ, List};
     ghost use Rattle.adapter.specs.DataOutcomes.{file_after_put};
@@ -144,7 +145,7 @@ impl RegisterFile {
     }
 
     /// Returns the values of MPC, GPRC, GPTC and RNBC, in this order.
-    fn counts(&self) -> [u32; 4]
+    fn counter_values(&self) -> [u32; 4]
         ensures { result ≡ self.now.mpc ∷ self.now.gprc ∷ self.now.gptc ∷ self.now.rnbc ∷ [] }
     {
         [
@@ -179,7 +180,7 @@ impl RegisterFile {
         let causes = [self.causes.recorded(), self.causes.masked()];
         u32::hash_slice(&controls, hasher);
         u32::hash_slice(&causes, hasher);
-        u32::hash_slice(&self.counts(), hasher);
+        u32::hash_slice(&self.counter_values(), hasher);
         self.receive_ring.feed(hasher);
         self.transmit_ring.feed(hasher);
         self.eerd.feed(hasher);
@@ -210,7 +211,8 @@ fn address_low(image: &Image) -> u32
     u32::from(image.word(1)) << WORD_BITS | u32::from(image.word(0))
 }
 
-/// Returns RAH(0) after a reset: word 2 of the EEPROM, with AV set.
+/// Returns RAH(0) after a reset: word 2 of the EEPROM, with AV set. The clauses `word` and `size` are true of each
+/// image, and are for the proof of the caller.
 #[tactic(auto, using(crate::proofs::Words::or_valid))]
 fn address_high(image: &Image) -> u32
     ensures high { result ≡ address_high_at_reset 0 image.now }

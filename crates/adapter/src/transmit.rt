@@ -3,7 +3,7 @@
 ghost use Rattle.std.specs.Prelude.{◌≡◌, ◌≤◌, ◌↔◌, [], length};
 ghost use Rattle.std.specs.Prelude.{IfSome, IsNone};
 ghost use Rattle.adapter.specs.DataOutcomes.{causes_of_take, outcome_of_put, outcome_of_take};
-ghost use Rattle.adapter.specs.Outcomes.{framed, oldest};
+ghost use Rattle.adapter.specs.Outcomes.{framed, oldest_queued};
 ghost use Rattle.descriptors.specs.Frames.{longest_frame};
 ghost use Rattle.adapter.specs.State.{IsAdapter};
 ghost use Rattle.adapter.specs.Transmitting.{PutAnswers, PutChangesOnly, TakeAnswers, after_put, after_take};
@@ -37,7 +37,7 @@ impl Adapter {
     /// `None` if and only if the packet buffer is empty.
     pub fn to_put(&self) -> Option<&[u8]>
         ensures none { IsNone result ↔ (self.now.transmitter.buffer ≡ []) }
-        ensures oldest { IfSome result (λ frame. frame.now ≡ oldest self.now.transmitter.buffer) }
+        ensures oldest { IfSome result (λ frame. frame.now ≡ oldest_queued self.now.transmitter.buffer) }
         ensures fits { IfSome result (λ frame. length frame.now ≤ longest_frame) }
     {
         self.transmitter.front()

@@ -8,7 +8,7 @@ use Rattle.bus.specs.TickGroups.{played_in, waiting_after}
 use Rattle.bus.specs.Trails.{Trail, past_of}
 use Rattle.bus.specs.declared.event.Access.{Access}
 use Rattle.bus.specs.declared.event.Event.{Event}
-use Rattle.solo_bus.specs.SoloBuses.{Recounts, SoloState, is_go, lively_ticks, solo_tick_of}
+use Rattle.solo_bus.specs.SoloBuses.{Recounts, SoloState, is_solo_go, lively_ticks, solo_tick_of}
 use Rattle.solo_bus.specs.declared.solo_bus.SoloTick.TheVariants.{Go}
 
 -- The two states are equal, except that all numbers of accesses from 2^64 - 1 on count as equal.
@@ -24,10 +24,10 @@ accesses_of : (past : Past) (events : List Event) (made : List Access) → past 
 accesses_of past events made is has = sym (ap (λ (p : Past). p.accesses) is) ∙ has
 
 ticks_of : (a : SoloState) (past : Past) (events : List Event) (x : Access)
-    → map solo_tick_of events ≡ played_in is_go Go (lively_ticks a.lively) past.accesses a.waiting → past.accesses ≡ x ∷ []
-    → map solo_tick_of events ≡ played_in is_go Go (lively_ticks a.lively) (x ∷ []) a.waiting
+    → map solo_tick_of events ≡ played_in is_solo_go Go (lively_ticks a.lively) past.accesses a.waiting → past.accesses ≡ x ∷ []
+    → map solo_tick_of events ≡ played_in is_solo_go Go (lively_ticks a.lively) (x ∷ []) a.waiting
 ticks_of a past events x played has =
-    subst (λ (made : List Access). map solo_tick_of events ≡ played_in is_go Go (lively_ticks a.lively) made a.waiting) has played
+    subst (λ (made : List Access). map solo_tick_of events ≡ played_in is_solo_go Go (lively_ticks a.lively) made a.waiting) has played
 
 module _ (a b c : SoloState) (past other : Past) (x y : Access) (has : past.accesses ≡ x ∷ []) (had : other.accesses ≡ y ∷ [])
     (same : IsSameRequest x y) (p : Recounts a b past) (q : Recounts a c other) where
@@ -58,7 +58,7 @@ module _ (a b c : SoloState) (past other : Past) (x y : Access) (has : past.acce
   state_one = record {
     world = trail_end p.events a.world b.world c.world p.trail
         (subst (λ (events : List Event). Trail events a.world c.world) (sym events_are_one) q.trail);
-    waiting = p.waiting ∙ ap (λ (it : Past). waiting_after is_go it.accesses a.waiting) pasts_are_one ∙ sym q.waiting;
+    waiting = p.waiting ∙ ap (λ (it : Past). waiting_after is_solo_go it.accesses a.waiting) pasts_are_one ∙ sym q.waiting;
     wire = p.wire.frames ∙ ap (λ (it : Past). a.wire ++ it.put) pasts_are_one ∙ sym q.wire.frames;
     lively = p.lively ∙ sym q.lively;
     count = p.count ∙ ap (λ (it : Past). min (a.accesses + length it.accesses) most_accesses) pasts_are_one ∙ sym q.count;

@@ -1,13 +1,13 @@
 -- A step of one kind, of one adapter on one memory, with a wire that has room or not, has one outcome.
-use Rattle.std.proofs.Common.{◌≡◌, ◌∷◌, [], ℕ, List, Bool, true, false, refl, sym, ap, arith, ◌∙◌}
-use Rattle.adapter.specs.Outcomes.{FrameOutcome, framed}
+use Rattle.std.proofs.Common.{◌≡◌, ◌∷◌, [], ℕ, List, Bool, true, false, refl, sym, ap, ◌∙◌}
+use Rattle.adapter.specs.Outcomes.{FrameOutcome, framed, with_frame}
 use Rattle.adapter.specs.Receiving.{DataAnswers, DoneAnswers}
 use Rattle.adapter.specs.State.{AdapterState}
 use Rattle.adapter.specs.Steps.{Answers, ticked}
 use Rattle.adapter.specs.Transmitting.{IsOldest, PutAnswers, TakeAnswers}
 use Rattle.adapter.specs.declared.outcome.Outcome.{Outcome}
 use Rattle.tx_engine.specs.Transmitter.{Queued}
-use Rattle.adapter.specs.declared.outcome.Outcome.TheVariants.{Delivered, Done, Fault, Moved, Nothing, Part, Put, Ticked, Took, WireFull}
+use Rattle.adapter.specs.declared.outcome.Outcome.TheVariants.{Done, Fault, Moved, Nothing, Part, Put, Ticked, Took, WireFull}
 use Rattle.adapter.specs.declared.step.StepKind.{StepKind}
 use Rattle.adapter.specs.declared.step.StepKind.TheVariants.{EepromTick, PhyTick, RxData, RxDone, TxPut, TxTake}
 
@@ -104,30 +104,13 @@ answers_are_one RxDone wire_free memory state a b p q = done_one state a b p q
 answers_are_one EepromTick wire_free memory state a b p q = tick_one state _ a b p q
 answers_are_one PhyTick wire_free memory state a b p q = tick_one state _ a b p q
 
-framed_one : (state : AdapterState) (a b : Outcome (Unit {0})) → framed a state ≡ framed b state → a ≡ b
-framed_one state Took Took same = refl
-framed_one state Took _ same = absurd (cc)
-framed_one state WireFull WireFull same = refl
-framed_one state WireFull _ same = absurd (cc)
-framed_one state Part Part same = refl
-framed_one state Part _ same = absurd (cc)
-framed_one state Moved Moved same = refl
-framed_one state Moved _ same = absurd (cc)
-framed_one state Done Done same = refl
-framed_one state Done _ same = absurd (cc)
-framed_one state Ticked Ticked same = refl
-framed_one state Ticked _ same = absurd (cc)
-framed_one state Nothing Nothing same = refl
-framed_one state Nothing _ same = absurd (cc)
-framed_one state Fault Fault same = refl
-framed_one state Fault _ same = absurd (cc)
-framed_one state (Put x) (Put y) same = refl
-framed_one state (Put x) _ same = absurd (cc)
-framed_one state (Delivered x fate) (Delivered y other) same = grind (arith, same)
-framed_one state (Delivered x fate) _ same = absurd (cc)
+unframed : (state : AdapterState) (a : Outcome (Unit {0})) → with_frame tt (framed a state) ≡ a
+unframed state Took = refl
+unframed state _ = refl
 
 -- Two outcomes, without their frames, of the same step of the same adapter on the same memory are equal.
 pub one_answer : (kind : StepKind) (wire_free : Bool) (memory : List ℕ) (state : AdapterState) (a b : Outcome (Unit {0}))
     → Answers kind wire_free memory state (framed a state) → Answers kind wire_free memory state (framed b state) → a ≡ b
 one_answer kind wire_free memory state a b p q =
-    framed_one state a b (answers_are_one kind wire_free memory state (framed a state) (framed b state) p q)
+    sym (unframed state a)
+    ∙ ap (with_frame tt) (answers_are_one kind wire_free memory state (framed a state) (framed b state) p q) ∙ unframed state b

@@ -8,7 +8,7 @@ use Rattle.adapter_plants.specs.OneStep.{atoms_one}
 use Rattle.bus.specs.declared.event.Event.TheVariants.{Accesses, Arrives, Steps}
 use Rattle.bus.specs.TickGroups.{without_go}
 use Rattle.stations.specs.AtomicRuns.{IsTick, LeadsTo, counted_by, is_go, step_told, steps_told}
-use Rattle.stations.specs.AtomicSteps.{AtomicStep, At, Idles, IsNoAccess, Watched, after, step_outcome, tick_of}
+use Rattle.stations.specs.AtomicSteps.{AtomicStep, At, Idles, IsNoAccess, Watched, after_atomic, step_outcome, tick_of}
 use Rattle.stations.specs.PlayedTicks.{PlaysTicks}
 use Rattle.stations.specs.LentBuses.{Finished, watched_by}
 use Rattle.stations.specs.Stations.{StationState}
@@ -68,7 +68,7 @@ ends_one caller n (x ∷ xs) (y ∷ ys) old new other are are' same p q =
     let is = All-head IsTick x xs are in
     let is' = All-head IsTick y ys are' in
     let one = atoms_one x y old (no_access x is) (no_access y is') first p.0 q.0 in
-    let later = ends_one caller n xs ys (after x old) new other (All-tail IsTick x xs are) (All-tail IsTick y ys are') rest p.2
+    let later = ends_one caller n xs ys (after_atomic x old) new other (All-tail IsTick x xs are) (All-tail IsTick y ys are') rest p.2
     (subst (λ (s : List StationState). LeadsTo caller ys s other) (sym one.states) q.2) in
     record { states = later.states; told = same_told n x y xs ys is is' first one.outcomes later.told }
 

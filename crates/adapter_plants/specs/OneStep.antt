@@ -12,7 +12,7 @@ use Rattle.adapter_plants.specs.OneFate.{one_fate}
 use Rattle.bus.specs.declared.event.Event.{Event}
 use Rattle.bus.specs.declared.event.Event.TheVariants.{Accesses, Arrives, Steps}
 use Rattle.rx_engine.specs.declared.arrival.Fate.{Fate}
-use Rattle.stations.specs.AtomicSteps.{AtomicStep, At, CanHappen, FindsNothing, Idles, IsNoAccess, OccursAt, PlaysTick, after, step_outcome}
+use Rattle.stations.specs.AtomicSteps.{AtomicStep, At, CanHappen, FindsNothing, Idles, IsNoAccess, OccursAt, PlaysTick, after_atomic, step_outcome}
 use Rattle.stations.specs.AtomicSteps.{outcome_of_event, tick_of, tick_of_event}
 use Rattle.stations.specs.Stations.{StationState, WireHasRoom, all_after, at_each, backlog_at, each_after, stations_after, wire_of}
 use Rattle.stations.specs.Stations.{world_at}
@@ -129,7 +129,7 @@ finds_something host (Accesses access) stations x p none = x
 -- Two atomic steps of the same tick that can happen from the same stations have the same outcome, and lead to the same stations.
 pub atoms_one : (a b : AtomicStep) (stations : List StationState) → IsNoAccess a → IsNoAccess b → tick_of a ≡ tick_of b
     → CanHappen a stations → CanHappen b stations
-    → AreOne (step_outcome a) (step_outcome b) (after a stations) (after b stations)
+    → AreOne (step_outcome a) (step_outcome b) (after_atomic a stations) (after_atomic b stations)
 atoms_one (At host a) (At other b) stations x y same p q =
     let hosts = host_one host other a b x y same in
     let y = subst (λ (h : ℕ). IsNoAccess (At h b)) hosts y in

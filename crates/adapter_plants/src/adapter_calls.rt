@@ -1,5 +1,5 @@
-//! Calls of `Adapter`, each made twice. Only `has_work` is called once, before a step: it states whether the step's
-//! outcome is `Nothing`.
+//! Calls of `Adapter`, each made twice, from equal states: only their clauses determine the outcomes. Only `has_work`
+//! is called once, before a step: it states whether the step's outcome is `Nothing`.
 
 ghost use Rattle.std.specs.Prelude.{◌≡◌, ◌≢◌, ◌↔◌, IfSome, IsNone, IsTrue};
 ghost use Rattle.adapter.specs.declared.outcome.Outcome.TheVariants.{Nothing};
@@ -10,7 +10,7 @@ use std::hash::Hasher;
 
 /// Calls [`Adapter::step`] twice.
 #[tactic(auto, using(crate::specs::OneAnswer::one_answer))]
-pub fn step(
+pub fn step_twice(
     one: &mut Adapter,
     other: &mut Adapter,
     kind: StepKind,
@@ -32,7 +32,7 @@ pub fn step(
 
 /// Calls [`Adapter::arrive`] twice.
 #[tactic(auto, using(crate::specs::OneFate::one_fate))]
-pub fn arrive(one: &mut Adapter, other: &mut Adapter, frame: &[u8]) -> (Fate, Fate)
+pub fn arrive_twice(one: &mut Adapter, other: &mut Adapter, frame: &[u8]) -> (Fate, Fate)
     requires { one.old ≡ other.old }
     ensures fate { result.0 ≡ result.1 }
     ensures adapter { one.new ≡ other.new }
@@ -41,7 +41,7 @@ pub fn arrive(one: &mut Adapter, other: &mut Adapter, frame: &[u8]) -> (Fate, Fa
 }
 
 /// Calls [`Adapter::read`] twice.
-pub fn read(one: &mut Adapter, other: &mut Adapter, offset: u32) -> (u32, u32)
+pub fn read_twice(one: &mut Adapter, other: &mut Adapter, offset: u32) -> (u32, u32)
     requires { one.old ≡ other.old }
     ensures answer { result.0 ≡ result.1 }
     ensures adapter { one.new ≡ other.new }
@@ -50,7 +50,7 @@ pub fn read(one: &mut Adapter, other: &mut Adapter, offset: u32) -> (u32, u32)
 }
 
 /// Calls [`Adapter::value`] twice.
-pub fn value(one: &Adapter, other: &Adapter, offset: u32) -> (u32, u32)
+pub fn value_twice(one: &Adapter, other: &Adapter, offset: u32) -> (u32, u32)
     requires { one.now ≡ other.now }
     ensures { result.0 ≡ result.1 }
 {
@@ -58,7 +58,7 @@ pub fn value(one: &Adapter, other: &Adapter, offset: u32) -> (u32, u32)
 }
 
 /// Calls [`Adapter::write`] twice.
-pub fn write(one: &mut Adapter, other: &mut Adapter, offset: u32, value: u32)
+pub fn write_twice(one: &mut Adapter, other: &mut Adapter, offset: u32, value: u32)
     requires { one.old ≡ other.old }
     ensures { one.new ≡ other.new }
 {
@@ -67,7 +67,7 @@ pub fn write(one: &mut Adapter, other: &mut Adapter, offset: u32, value: u32)
 }
 
 /// Calls [`Adapter::line`] twice.
-pub fn line(one: &Adapter, other: &Adapter) -> (bool, bool)
+pub fn line_twice(one: &Adapter, other: &Adapter) -> (bool, bool)
     requires { one.now ≡ other.now }
     ensures { result.0 ≡ result.1 }
 {
@@ -75,7 +75,10 @@ pub fn line(one: &Adapter, other: &Adapter) -> (bool, bool)
 }
 
 /// Calls [`Adapter::to_put`] twice.
-pub fn to_put<'a>(one: &'a Adapter, other: &'a Adapter) -> (Option<&'a [u8]>, Option<&'a [u8]>)
+pub fn to_put_twice<'a>(
+    one: &'a Adapter,
+    other: &'a Adapter,
+) -> (Option<&'a [u8]>, Option<&'a [u8]>)
     requires { one.now ≡ other.now }
     ensures none { IsNone result.0 ↔ IsNone result.1 }
     ensures frame { IfSome result.0 (λ frame. IfSome result.1 (λ another. frame.now ≡ another.now)) }
@@ -100,7 +103,7 @@ pub fn has_work(
 }
 
 /// Calls [`Adapter::feed`] twice.
-pub fn feed<H: Hasher>(one: &Adapter, other: &Adapter, hasher: &mut H, another: &mut H)
+pub fn feed_twice<H: Hasher>(one: &Adapter, other: &Adapter, hasher: &mut H, another: &mut H)
     requires adapter { one.now ≡ other.now }
     requires hasher { hasher.old ≡ another.old }
     ensures { hasher.new ≡ another.new }

@@ -1,4 +1,4 @@
-//! Calls of `descriptors`, each made twice.
+//! Calls of `descriptors`, each made twice, from equal states: only their clauses determine the outcomes.
 
 ghost use Rattle.std.specs.Prelude.{◌≡◌, ◌<◌};
 ghost use Rattle.descriptors.specs.Ring.{count_of};
@@ -6,7 +6,7 @@ ghost use Rattle.descriptors.specs.Ring.{count_of};
 use descriptors::{Frame, Ring, RxDesc, TxDesc};
 
 /// Calls [`RxDesc::to_bytes`] twice.
-pub fn receive_bytes(one: &RxDesc, other: &RxDesc) -> ([u8; 16], [u8; 16])
+pub fn receive_bytes_twice(one: &RxDesc, other: &RxDesc) -> ([u8; 16], [u8; 16])
     requires { one.now ≡ other.now }
     ensures { result.0 ≡ result.1 }
 {
@@ -14,7 +14,7 @@ pub fn receive_bytes(one: &RxDesc, other: &RxDesc) -> ([u8; 16], [u8; 16])
 }
 
 /// Calls [`TxDesc::to_bytes`] twice.
-pub fn transmit_bytes(one: &TxDesc, other: &TxDesc) -> ([u8; 16], [u8; 16])
+pub fn transmit_bytes_twice(one: &TxDesc, other: &TxDesc) -> ([u8; 16], [u8; 16])
     requires { one.now ≡ other.now }
     ensures { result.0 ≡ result.1 }
 {
@@ -22,7 +22,7 @@ pub fn transmit_bytes(one: &TxDesc, other: &TxDesc) -> ([u8; 16], [u8; 16])
 }
 
 /// Calls [`RxDesc::from_bytes`] and [`TxDesc::from_bytes`], each twice.
-pub fn of_bytes(one: &[u8; 16], other: &[u8; 16]) -> ((RxDesc, RxDesc), (TxDesc, TxDesc))
+pub fn of_bytes_twice(one: &[u8; 16], other: &[u8; 16]) -> ((RxDesc, RxDesc), (TxDesc, TxDesc))
     requires { one.now ≡ other.now }
     ensures receive { result.0.0 ≡ result.0.1 }
     ensures transmit { result.1.0 ≡ result.1.1 }
@@ -34,7 +34,7 @@ pub fn of_bytes(one: &[u8; 16], other: &[u8; 16]) -> ((RxDesc, RxDesc), (TxDesc,
 }
 
 /// Calls [`Ring::has_valid_indices`] twice.
-pub fn has_valid_indices(one: &Ring, other: &Ring) -> (bool, bool)
+pub fn has_valid_indices_twice(one: &Ring, other: &Ring) -> (bool, bool)
     requires { one.now ≡ other.now }
     ensures { result.0 ≡ result.1 }
 {
@@ -42,7 +42,7 @@ pub fn has_valid_indices(one: &Ring, other: &Ring) -> (bool, bool)
 }
 
 /// Calls [`Ring::next`] twice.
-pub fn next(one: &Ring, other: &Ring, index: u16) -> (u16, u16)
+pub fn next_twice(one: &Ring, other: &Ring, index: u16) -> (u16, u16)
     requires ring { one.now ≡ other.now }
     requires slot { index < count_of one.now }
     ensures { result.0 ≡ result.1 }
@@ -51,7 +51,7 @@ pub fn next(one: &Ring, other: &Ring, index: u16) -> (u16, u16)
 }
 
 /// Calls [`Ring::distance`] twice.
-pub fn distance(one: &Ring, other: &Ring, from: u16, to: u16) -> (u32, u32)
+pub fn distance_twice(one: &Ring, other: &Ring, from: u16, to: u16) -> (u32, u32)
     requires ring { one.now ≡ other.now }
     requires from_slot { from < count_of one.now }
     requires to_slot { to < count_of one.now }
@@ -61,7 +61,7 @@ pub fn distance(one: &Ring, other: &Ring, from: u16, to: u16) -> (u32, u32)
 }
 
 /// Calls [`Ring::descriptor`] twice.
-pub fn descriptor(one: &Ring, other: &Ring, index: u16) -> (Option<u64>, Option<u64>)
+pub fn descriptor_twice(one: &Ring, other: &Ring, index: u16) -> (Option<u64>, Option<u64>)
     requires { one.now ≡ other.now }
     ensures { result.0 ≡ result.1 }
 {
@@ -69,7 +69,7 @@ pub fn descriptor(one: &Ring, other: &Ring, index: u16) -> (Option<u64>, Option<
 }
 
 /// Calls [`Frame::try_from_slice`] twice.
-pub fn frame(one: &[u8], other: &[u8]) -> (Option<Frame>, Option<Frame>)
+pub fn frame_twice(one: &[u8], other: &[u8]) -> (Option<Frame>, Option<Frame>)
     requires { one.now ≡ other.now }
     ensures { result.0 ≡ result.1 }
 {

@@ -1,11 +1,11 @@
-//! Calls of EERD and the EEPROM, each made twice.
+//! Calls of EERD and the EEPROM, each made twice, from equal states: only their clauses determine the outcomes.
 
 ghost use Rattle.std.specs.Prelude.{◌≡◌};
 
 use eeprom_phy::{Eerd, Image};
 
 /// Calls [`Image::address`] twice.
-pub fn address(one: &Image, other: &Image) -> ([u8; 6], [u8; 6])
+pub fn address_twice(one: &Image, other: &Image) -> ([u8; 6], [u8; 6])
     requires { one.now ≡ other.now }
     ensures { result.0 ≡ result.1 }
 {
@@ -13,7 +13,7 @@ pub fn address(one: &Image, other: &Image) -> ([u8; 6], [u8; 6])
 }
 
 /// Calls [`eeprom_phy::checksum_ok`] twice.
-pub fn checksum_ok(one: &Image, other: &Image) -> (bool, bool)
+pub fn checksum_ok_twice(one: &Image, other: &Image) -> (bool, bool)
     requires { one.now ≡ other.now }
     ensures { result.0 ≡ result.1 }
 {
@@ -21,7 +21,7 @@ pub fn checksum_ok(one: &Image, other: &Image) -> (bool, bool)
 }
 
 /// Calls [`Eerd::write`] twice.
-pub fn write(one: &mut Eerd, other: &mut Eerd, value: u32)
+pub fn write_twice(one: &mut Eerd, other: &mut Eerd, value: u32)
     requires { one.old ≡ other.old }
     ensures { one.new ≡ other.new }
 {
@@ -30,7 +30,7 @@ pub fn write(one: &mut Eerd, other: &mut Eerd, value: u32)
 }
 
 /// Calls [`Eerd::read`] twice.
-pub fn read(one: &Eerd, other: &Eerd) -> (u32, u32)
+pub fn read_twice(one: &Eerd, other: &Eerd) -> (u32, u32)
     requires { one.now ≡ other.now }
     ensures { result.0 ≡ result.1 }
 {
@@ -38,7 +38,7 @@ pub fn read(one: &Eerd, other: &Eerd) -> (u32, u32)
 }
 
 /// Calls [`Eerd::tick`] twice.
-pub fn tick(one: &mut Eerd, other: &mut Eerd, image: &Image) -> (bool, bool)
+pub fn tick_twice(one: &mut Eerd, other: &mut Eerd, image: &Image) -> (bool, bool)
     requires { one.old ≡ other.old }
     ensures outcome { result.0 ≡ result.1 }
     ensures state { one.new ≡ other.new }

@@ -1,4 +1,5 @@
-//! Calls of the receive filter of `rx_engine`, each made twice.
+//! Calls of the receive filter of `rx_engine`, each made twice, from equal states: only their clauses determine the
+//! outcomes.
 
 ghost use Rattle.std.specs.Prelude.{◌≡◌, ◌≤◌, length};
 
@@ -6,7 +7,7 @@ use registers::GroupOffset;
 use rx_engine::Filter;
 
 /// Calls [`Filter::passes`] twice.
-pub fn passes(one: &Filter, other: &Filter, frame: &[u8]) -> (bool, bool)
+pub fn passes_twice(one: &Filter, other: &Filter, frame: &[u8]) -> (bool, bool)
     requires filter { one.now ≡ other.now }
     requires frame { 16 ≤ length frame.now }
     ensures { result.0 ≡ result.1 }
@@ -15,7 +16,7 @@ pub fn passes(one: &Filter, other: &Filter, frame: &[u8]) -> (bool, bool)
 }
 
 /// Calls [`rx_engine::hash_of`] twice.
-pub fn hash_of(mo: GroupOffset, address: &[u8; 6]) -> (u16, u16)
+pub fn hash_of_twice(mo: GroupOffset, address: &[u8; 6]) -> (u16, u16)
     ensures { result.0 ≡ result.1 }
 {
     (

@@ -1,9 +1,10 @@
 //! Calls of an adapter and its parts, a solo bus, stations and the PCI function, each made twice: their contracts
 //! determine the outcome.
 //!
-//! Most functions of this crate make one call twice, from equal states and with equal arguments. Their clauses state
-//! that both outcomes are equal. The prover knows only the clauses of the call. So the call's clauses determine the
-//! values that the function compares. Most functions compare the outcomes of calls that succeed.
+//! Most functions of this crate make one call twice, from equal states and with equal arguments. They return both
+//! results as a pair, and their clauses state that both outcomes are equal. The prover knows only the clauses of the
+//! call. So the call's clauses determine the values that the function compares. Most functions compare the outcomes of
+//! calls that succeed.
 #![tactic(auto)]
 
 pub mod adapter_calls;

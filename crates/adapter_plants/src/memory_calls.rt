@@ -1,4 +1,4 @@
-//! Calls of `dma_memory`, each made twice.
+//! Calls of `dma_memory`, each made twice, from equal states: only their clauses determine the outcomes.
 
 ghost use Rattle.std.specs.Prelude.{◌≡◌, ◌<◌, ◌↔◌, IfOk, IsNone, IsOk};
 ghost use Rattle.dma_memory.specs.Owners.{HaveSameNumbers, copies};
@@ -6,7 +6,7 @@ ghost use Rattle.dma_memory.specs.Owners.{HaveSameNumbers, copies};
 use dma_memory::{BufId, HostMemory, Layout, LayoutError, OutOfRange, Pool};
 
 /// Calls [`HostMemory::load`] twice.
-pub fn load(
+pub fn load_twice(
     one: &HostMemory,
     other: &HostMemory,
     address: u64,
@@ -22,7 +22,7 @@ pub fn load(
 }
 
 /// Calls [`HostMemory::store`] twice.
-pub fn store(
+pub fn store_twice(
     one: &mut HostMemory,
     other: &mut HostMemory,
     address: u64,
@@ -36,7 +36,7 @@ pub fn store(
 }
 
 /// Calls [`HostMemory::view`] twice.
-pub fn view<'a>(
+pub fn view_twice<'a>(
     one: &'a HostMemory,
     other: &'a HostMemory,
     address: u64,
@@ -50,7 +50,7 @@ pub fn view<'a>(
 }
 
 /// Calls [`Layout::of`] twice.
-pub fn layout(
+pub fn layout_twice(
     rx: u16,
     tx: u16,
     buffers: u16,
@@ -61,7 +61,7 @@ pub fn layout(
 }
 
 /// Calls [`Layout::transmit_buffer`] twice.
-pub fn transmit_buffer(one: &Layout, other: &Layout, slot: u16) -> (u64, u64)
+pub fn transmit_buffer_twice(one: &Layout, other: &Layout, slot: u16) -> (u64, u64)
     requires layout { one.now ≡ other.now }
     requires known { slot < one.now.tx }
     ensures { result.0 ≡ result.1 }
@@ -70,7 +70,7 @@ pub fn transmit_buffer(one: &Layout, other: &Layout, slot: u16) -> (u64, u64)
 }
 
 /// Calls [`Layout::receive_buffer`] twice.
-pub fn receive_buffer(one: &Layout, other: &Layout, number: u16) -> (u64, u64)
+pub fn receive_buffer_twice(one: &Layout, other: &Layout, number: u16) -> (u64, u64)
     requires layout { one.now ≡ other.now }
     requires known { number < one.now.buffers }
     ensures { result.0 ≡ result.1 }
@@ -79,7 +79,7 @@ pub fn receive_buffer(one: &Layout, other: &Layout, number: u16) -> (u64, u64)
 }
 
 /// Calls [`Layout::size`] twice.
-pub fn size(one: &Layout, other: &Layout) -> (u64, u64)
+pub fn size_twice(one: &Layout, other: &Layout) -> (u64, u64)
     requires { one.now ≡ other.now }
     ensures { result.0 ≡ result.1 }
 {
@@ -88,7 +88,7 @@ pub fn size(one: &Layout, other: &Layout) -> (u64, u64)
 
 /// Calls [`Pool::take`] twice. The contract doesn't state which number `take` returns. This number determines which
 /// numbers remain in the pool.
-pub fn take(one: &mut Pool, other: &mut Pool) -> (Option<BufId>, Option<BufId>)
+pub fn take_twice(one: &mut Pool, other: &mut Pool) -> (Option<BufId>, Option<BufId>)
     requires { one.old ≡ other.old }
     ensures outcome { IsNone result.0 ↔ IsNone result.1 }
     ensures free { result.0 ≡ result.1 → HaveSameNumbers one.new.free other.new.free }
@@ -98,7 +98,7 @@ pub fn take(one: &mut Pool, other: &mut Pool) -> (Option<BufId>, Option<BufId>)
 }
 
 /// Calls [`Pool::give`] twice. The contract doesn't state the order of the numbers in the pool.
-pub fn give(one: &mut Pool, other: &mut Pool, buffer: BufId, other_buffer: BufId)
+pub fn give_twice(one: &mut Pool, other: &mut Pool, buffer: BufId, other_buffer: BufId)
     requires pool { one.old ≡ other.old }
     requires buffer { buffer ≡ other_buffer }
     requires known { buffer < one.old.buffers }

@@ -1,11 +1,11 @@
-//! Calls of a PCI function, each made twice.
+//! Calls of a PCI function, each made twice, from equal states: only their clauses determine the outcomes.
 
 ghost use Rattle.std.specs.Prelude.{◌≡◌};
 
 use registers::{PciFunction, PortWidth};
 
 /// Calls [`PciFunction::read_port`] twice.
-pub fn read_port(
+pub fn read_port_twice(
     one: &PciFunction,
     other: &PciFunction,
     port: u16,
@@ -22,7 +22,7 @@ pub fn read_port(
 }
 
 /// Calls [`PciFunction::write_port`] twice.
-pub fn write_port(
+pub fn write_port_twice(
     one: &mut PciFunction,
     other: &mut PciFunction,
     port: u16,
@@ -37,7 +37,7 @@ pub fn write_port(
 }
 
 /// Calls [`PciFunction::registers`] twice.
-pub fn registers(one: &PciFunction, other: &PciFunction) -> (Option<u64>, Option<u64>)
+pub fn registers_twice(one: &PciFunction, other: &PciFunction) -> (Option<u64>, Option<u64>)
     requires { one.now ≡ other.now }
     ensures { result.0 ≡ result.1 }
 {

@@ -1,18 +1,18 @@
-//! Calls of MDIC and the PHY, each made twice.
+//! Calls of MDIC and the PHY, each made twice, from equal states: only their clauses determine the outcomes.
 
 ghost use Rattle.std.specs.Prelude.{◌≡◌};
 
 use eeprom_phy::{Link, Mdic, Phy, Ticked};
 
 /// Calls [`Phy::new`] twice.
-pub fn new(link: Link) -> (Phy, Phy)
+pub fn new_twice(link: Link) -> (Phy, Phy)
     ensures { result.0 ≡ result.1 }
 {
     (Phy::new(link), Phy::new(link))
 }
 
 /// Calls [`Phy::read`] twice.
-pub fn read(one: &mut Phy, other: &mut Phy, register: u8) -> (u16, u16)
+pub fn read_twice(one: &mut Phy, other: &mut Phy, register: u8) -> (u16, u16)
     requires { one.old ≡ other.old }
     ensures answer { result.0 ≡ result.1 }
     ensures state { one.new ≡ other.new }
@@ -21,7 +21,7 @@ pub fn read(one: &mut Phy, other: &mut Phy, register: u8) -> (u16, u16)
 }
 
 /// Calls [`Phy::write`] twice.
-pub fn write(one: &mut Phy, other: &mut Phy, register: u8, value: u16)
+pub fn write_twice(one: &mut Phy, other: &mut Phy, register: u8, value: u16)
     requires { one.old ≡ other.old }
     ensures { one.new ≡ other.new }
 {
@@ -30,7 +30,7 @@ pub fn write(one: &mut Phy, other: &mut Phy, register: u8, value: u16)
 }
 
 /// Calls [`Phy::tick`] twice.
-pub fn tick(one: &mut Phy, other: &mut Phy) -> (bool, bool)
+pub fn tick_twice(one: &mut Phy, other: &mut Phy) -> (bool, bool)
     requires { one.old ≡ other.old }
     ensures outcome { result.0 ≡ result.1 }
     ensures state { one.new ≡ other.new }
@@ -39,7 +39,7 @@ pub fn tick(one: &mut Phy, other: &mut Phy) -> (bool, bool)
 }
 
 /// Calls [`Mdic::write`] twice.
-pub fn write_mdic(one: &mut Mdic, other: &mut Mdic, value: u32)
+pub fn write_mdic_twice(one: &mut Mdic, other: &mut Mdic, value: u32)
     requires { one.old ≡ other.old }
     ensures { one.new ≡ other.new }
 {
@@ -48,7 +48,7 @@ pub fn write_mdic(one: &mut Mdic, other: &mut Mdic, value: u32)
 }
 
 /// Calls [`Mdic::tick`] twice.
-pub fn tick_mdic(
+pub fn tick_mdic_twice(
     one: &mut Mdic,
     other: &mut Mdic,
     phy: &mut Phy,

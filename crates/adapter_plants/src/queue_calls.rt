@@ -1,4 +1,4 @@
-//! Calls of queues of frames, each made twice.
+//! Calls of queues of frames, each made twice, from equal states: only their clauses determine the outcomes.
 
 ghost use Rattle.std.specs.Prelude.{◌≡◌, ◌+◌, ◌<◌, ◌≤◌, ◌↔◌, IfSome, IsNone, length, sum_by};
 
@@ -6,7 +6,10 @@ use descriptors::{FrameQueue, PLACE_BYTES, PackedQueue};
 use std::hash::Hasher;
 
 /// Calls [`FrameQueue::front`] twice.
-pub fn front<'a>(one: &'a FrameQueue, other: &'a FrameQueue) -> (Option<&'a [u8]>, Option<&'a [u8]>)
+pub fn front_twice<'a>(
+    one: &'a FrameQueue,
+    other: &'a FrameQueue,
+) -> (Option<&'a [u8]>, Option<&'a [u8]>)
     requires { one.now ≡ other.now }
     ensures none { IsNone result.0 ↔ IsNone result.1 }
     ensures frame { IfSome result.0 (λ frame. IfSome result.1 (λ another. frame.now ≡ another.now)) }
@@ -15,7 +18,7 @@ pub fn front<'a>(one: &'a FrameQueue, other: &'a FrameQueue) -> (Option<&'a [u8]
 }
 
 /// Calls [`FrameQueue::push`] twice.
-pub fn push(one: &mut FrameQueue, other: &mut FrameQueue, frame: &[u8])
+pub fn push_twice(one: &mut FrameQueue, other: &mut FrameQueue, frame: &[u8])
     requires queue { one.old ≡ other.old }
     requires room { length one.old.frames < one.old.capacity }
     requires fits { length frame.now ≤ PLACE_BYTES }
@@ -26,7 +29,7 @@ pub fn push(one: &mut FrameQueue, other: &mut FrameQueue, frame: &[u8])
 }
 
 /// Calls [`FrameQueue::push_padded`] twice.
-pub fn push_padded(one: &mut FrameQueue, other: &mut FrameQueue, frame: &[u8], least: usize)
+pub fn push_padded_twice(one: &mut FrameQueue, other: &mut FrameQueue, frame: &[u8], least: usize)
     requires queue { one.old ≡ other.old }
     requires room { length one.old.frames < one.old.capacity }
     requires fits { length frame.now ≤ PLACE_BYTES }
@@ -38,7 +41,7 @@ pub fn push_padded(one: &mut FrameQueue, other: &mut FrameQueue, frame: &[u8], l
 }
 
 /// Calls [`FrameQueue::pop`] twice.
-pub fn pop(one: &mut FrameQueue, other: &mut FrameQueue)
+pub fn pop_twice(one: &mut FrameQueue, other: &mut FrameQueue)
     requires { one.old ≡ other.old }
     ensures { one.new ≡ other.new }
 {
@@ -47,7 +50,7 @@ pub fn pop(one: &mut FrameQueue, other: &mut FrameQueue)
 }
 
 /// Calls [`PackedQueue::front`] twice.
-pub fn packed_front<'a>(
+pub fn packed_front_twice<'a>(
     one: &'a PackedQueue,
     other: &'a PackedQueue,
 ) -> (Option<&'a [u8]>, Option<&'a [u8]>)
@@ -59,7 +62,7 @@ pub fn packed_front<'a>(
 }
 
 /// Calls [`PackedQueue::push`] twice.
-pub fn packed_push(one: &mut PackedQueue, other: &mut PackedQueue, frame: &[u8])
+pub fn packed_push_twice(one: &mut PackedQueue, other: &mut PackedQueue, frame: &[u8])
     requires queue { one.old ≡ other.old }
     requires place { length one.old.frames < one.old.capacity }
     requires room { sum_by length one.old.frames + length frame.now ≤ one.old.room }
@@ -71,7 +74,7 @@ pub fn packed_push(one: &mut PackedQueue, other: &mut PackedQueue, frame: &[u8])
 }
 
 /// Calls [`PackedQueue::pop`] twice.
-pub fn packed_pop(one: &mut PackedQueue, other: &mut PackedQueue)
+pub fn packed_pop_twice(one: &mut PackedQueue, other: &mut PackedQueue)
     requires { one.old ≡ other.old }
     ensures { one.new ≡ other.new }
 {
@@ -80,7 +83,7 @@ pub fn packed_pop(one: &mut PackedQueue, other: &mut PackedQueue)
 }
 
 /// Calls [`PackedQueue::feed`] twice.
-pub fn packed_feed<H: Hasher>(
+pub fn packed_feed_twice<H: Hasher>(
     one: &PackedQueue,
     other: &PackedQueue,
     hasher: &mut H,

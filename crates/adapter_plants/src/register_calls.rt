@@ -1,11 +1,11 @@
-//! Calls of `registers`, each made twice.
+//! Calls of `registers`, each made twice, from equal states: only their clauses determine the outcomes.
 
 ghost use Rattle.std.specs.Prelude.{◌≡◌};
 
 use registers::{Cause, Causes, Counter, Ctrl, GroupOffset, Rctl, Tctl};
 
 /// Calls [`Ctrl::kept`], [`Rctl::kept`] and [`Tctl::kept`], each twice.
-pub fn kept(value: u32) -> ((Ctrl, Ctrl), (Rctl, Rctl), (Tctl, Tctl))
+pub fn kept_twice(value: u32) -> ((Ctrl, Ctrl), (Rctl, Rctl), (Tctl, Tctl))
     ensures control { result.0.0 ≡ result.0.1 }
     ensures receive { result.1.0 ≡ result.1.1 }
     ensures transmit { result.2.0 ≡ result.2.1 }
@@ -18,14 +18,14 @@ pub fn kept(value: u32) -> ((Ctrl, Ctrl), (Rctl, Rctl), (Tctl, Tctl))
 }
 
 /// Calls [`Rctl::group_offset`] twice.
-pub fn group_offset(rctl: Rctl) -> (GroupOffset, GroupOffset)
+pub fn group_offset_twice(rctl: Rctl) -> (GroupOffset, GroupOffset)
     ensures { result.0 ≡ result.1 }
 {
     (rctl.group_offset(), rctl.group_offset())
 }
 
 /// Calls [`Counter::bump`] twice.
-pub fn bump(one: &mut Counter, other: &mut Counter)
+pub fn bump_twice(one: &mut Counter, other: &mut Counter)
     requires { one.old ≡ other.old }
     ensures { one.new ≡ other.new }
 {
@@ -34,7 +34,7 @@ pub fn bump(one: &mut Counter, other: &mut Counter)
 }
 
 /// Calls [`Causes::raise`] twice.
-pub fn raise(one: &mut Causes, other: &mut Causes, cause: Cause)
+pub fn raise_twice(one: &mut Causes, other: &mut Causes, cause: Cause)
     requires { one.old ≡ other.old }
     ensures { one.new ≡ other.new }
 {
@@ -43,7 +43,7 @@ pub fn raise(one: &mut Causes, other: &mut Causes, cause: Cause)
 }
 
 /// Calls [`Causes::read`] twice.
-pub fn read(one: &mut Causes, other: &mut Causes) -> (u32, u32)
+pub fn read_twice(one: &mut Causes, other: &mut Causes) -> (u32, u32)
     requires { one.old ≡ other.old }
     ensures answer { result.0 ≡ result.1 }
     ensures state { one.new ≡ other.new }
@@ -52,7 +52,7 @@ pub fn read(one: &mut Causes, other: &mut Causes) -> (u32, u32)
 }
 
 /// Calls [`Causes::clear_written`] twice.
-pub fn clear_written(one: &mut Causes, other: &mut Causes, value: u32)
+pub fn clear_written_twice(one: &mut Causes, other: &mut Causes, value: u32)
     requires { one.old ≡ other.old }
     ensures { one.new ≡ other.new }
 {
@@ -61,7 +61,7 @@ pub fn clear_written(one: &mut Causes, other: &mut Causes, value: u32)
 }
 
 /// Calls [`Causes::set`] twice.
-pub fn set(one: &mut Causes, other: &mut Causes, value: u32)
+pub fn set_twice(one: &mut Causes, other: &mut Causes, value: u32)
     requires { one.old ≡ other.old }
     ensures { one.new ≡ other.new }
 {
@@ -70,7 +70,7 @@ pub fn set(one: &mut Causes, other: &mut Causes, value: u32)
 }
 
 /// Calls [`Causes::mask`] twice.
-pub fn mask(one: &mut Causes, other: &mut Causes, value: u32)
+pub fn mask_twice(one: &mut Causes, other: &mut Causes, value: u32)
     requires { one.old ≡ other.old }
     ensures { one.new ≡ other.new }
 {
@@ -79,7 +79,7 @@ pub fn mask(one: &mut Causes, other: &mut Causes, value: u32)
 }
 
 /// Calls [`Causes::unmask`] twice.
-pub fn unmask(one: &mut Causes, other: &mut Causes, value: u32)
+pub fn unmask_twice(one: &mut Causes, other: &mut Causes, value: u32)
     requires { one.old ≡ other.old }
     ensures { one.new ≡ other.new }
 {
@@ -88,7 +88,7 @@ pub fn unmask(one: &mut Causes, other: &mut Causes, value: u32)
 }
 
 /// Calls [`Causes::line`] twice.
-pub fn line(one: &Causes, other: &Causes) -> (bool, bool)
+pub fn line_twice(one: &Causes, other: &Causes) -> (bool, bool)
     requires { one.now ≡ other.now }
     ensures { result.0 ≡ result.1 }
 {

@@ -1,4 +1,5 @@
-//! Calls of `SoloBus`, and its accesses as a `Bus`, each made twice.
+//! Calls of `SoloBus`, and its accesses as a `Bus`, each made twice, from equal states: only their clauses determine
+//! the outcomes.
 
 ghost use Rattle.std.specs.Prelude.{◌≡◌, ◌+◌, ◌≤◌, IfOk, length};
 ghost use Rattle.adapter_plants.specs.OneAccess.{AreOneState};
@@ -11,7 +12,7 @@ use solo_bus::{MOST_TICKS, SoloBus, SoloTick};
 use std::alloc::{AllocError, Global};
 
 /// Calls [`SoloBus::new`] twice. The contract doesn't state when an allocation fails.
-pub fn new(
+pub fn new_twice(
     alloc: Global,
     adapter: Adapter,
     other_adapter: Adapter,
@@ -31,7 +32,11 @@ pub fn new(
 
 /// Calls [`SoloBus::step`] twice.
 #[tactic(auto, using(crate::specs::OneAnswer::one_answer))]
-pub fn step(one: &mut SoloBus, other: &mut SoloBus, kind: StepKind) -> (Outcome<()>, Outcome<()>)
+pub fn step_twice(
+    one: &mut SoloBus,
+    other: &mut SoloBus,
+    kind: StepKind,
+) -> (Outcome<()>, Outcome<()>)
     requires { one.old ≡ other.old }
     ensures outcome { result.0 ≡ result.1 }
     ensures state { one.new ≡ other.new }
@@ -41,7 +46,7 @@ pub fn step(one: &mut SoloBus, other: &mut SoloBus, kind: StepKind) -> (Outcome<
 
 /// Calls [`SoloBus::arrive`] twice.
 #[tactic(auto, using(crate::specs::OneFate::one_fate))]
-pub fn arrive(one: &mut SoloBus, other: &mut SoloBus, frame: &[u8]) -> (Fate, Fate)
+pub fn arrive_twice(one: &mut SoloBus, other: &mut SoloBus, frame: &[u8]) -> (Fate, Fate)
     requires { one.old ≡ other.old }
     ensures fate { result.0 ≡ result.1 }
     ensures state { one.new ≡ other.new }
@@ -50,7 +55,7 @@ pub fn arrive(one: &mut SoloBus, other: &mut SoloBus, frame: &[u8]) -> (Fate, Fa
 }
 
 /// Calls [`SoloBus::take_put`] twice.
-pub fn take_put(one: &mut SoloBus, other: &mut SoloBus) -> (Option<Frame>, Option<Frame>)
+pub fn take_put_twice(one: &mut SoloBus, other: &mut SoloBus) -> (Option<Frame>, Option<Frame>)
     requires { one.old ≡ other.old }
     ensures frame { result.0 ≡ result.1 }
     ensures state { one.new ≡ other.new }
@@ -59,7 +64,7 @@ pub fn take_put(one: &mut SoloBus, other: &mut SoloBus) -> (Option<Frame>, Optio
 }
 
 /// Calls [`SoloBus::play`] twice.
-pub fn play(one: &mut SoloBus, other: &mut SoloBus, ticks: &[SoloTick])
+pub fn play_twice(one: &mut SoloBus, other: &mut SoloBus, ticks: &[SoloTick])
     requires state { one.old ≡ other.old }
     requires room { length one.old.waiting + length ticks.now ≤ MOST_TICKS }
     ensures { one.new ≡ other.new }
@@ -69,7 +74,7 @@ pub fn play(one: &mut SoloBus, other: &mut SoloBus, ticks: &[SoloTick])
 }
 
 /// Calls [`SoloBus::finish`] twice.
-pub fn finish(one: &mut SoloBus, other: &mut SoloBus)
+pub fn finish_twice(one: &mut SoloBus, other: &mut SoloBus)
     requires { one.old ≡ other.old }
     ensures { one.new ≡ other.new }
 {
@@ -78,7 +83,7 @@ pub fn finish(one: &mut SoloBus, other: &mut SoloBus)
 }
 
 /// Calls [`SoloBus::line`] twice.
-pub fn line(one: &SoloBus, other: &SoloBus) -> (bool, bool)
+pub fn line_twice(one: &SoloBus, other: &SoloBus) -> (bool, bool)
     requires { one.now ≡ other.now }
     ensures { result.0 ≡ result.1 }
 {
@@ -86,7 +91,7 @@ pub fn line(one: &SoloBus, other: &SoloBus) -> (bool, bool)
 }
 
 /// Calls [`Bus::read`] of `SoloBus` twice.
-pub fn read(one: &mut SoloBus, other: &mut SoloBus, offset: u32) -> (u32, u32)
+pub fn read_twice(one: &mut SoloBus, other: &mut SoloBus, offset: u32) -> (u32, u32)
     requires { one.old ≡ other.old }
     ensures answer { result.0 ≡ result.1 }
     ensures state { AreOneState one.new other.new }
@@ -95,7 +100,7 @@ pub fn read(one: &mut SoloBus, other: &mut SoloBus, offset: u32) -> (u32, u32)
 }
 
 /// Calls [`Bus::write`] of `SoloBus` twice.
-pub fn write(one: &mut SoloBus, other: &mut SoloBus, offset: u32, value: u32)
+pub fn write_twice(one: &mut SoloBus, other: &mut SoloBus, offset: u32, value: u32)
     requires { one.old ≡ other.old }
     ensures { AreOneState one.new other.new }
 {
@@ -104,7 +109,7 @@ pub fn write(one: &mut SoloBus, other: &mut SoloBus, offset: u32, value: u32)
 }
 
 /// Calls [`Bus::load`] of `SoloBus` twice.
-pub fn load(
+pub fn load_twice(
     one: &mut SoloBus,
     other: &mut SoloBus,
     address: u64,
@@ -122,7 +127,7 @@ pub fn load(
 }
 
 /// Calls [`Bus::store`] of `SoloBus` twice.
-pub fn store(one: &mut SoloBus, other: &mut SoloBus, address: u64, bytes: &[u8])
+pub fn store_twice(one: &mut SoloBus, other: &mut SoloBus, address: u64, bytes: &[u8])
     requires state { one.old ≡ other.old }
     requires inside { address + length bytes.now ≤ length one.old.world.memory }
     ensures { AreOneState one.new other.new }

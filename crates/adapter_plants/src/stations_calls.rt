@@ -1,4 +1,5 @@
-//! Calls of `Stations` and `LentBus`, each made twice, and a twin of a read over a `LentBus`.
+//! Calls of `Stations` and `LentBus`, each made twice, from equal states: only their clauses determine the outcomes.
+//! Also a twin of a read over a `LentBus`.
 
 ghost use Rattle.std.specs.Prelude.{◌≡◌, ◌<◌, ◌∷◌, [], List};
 ghost use Rattle.adapter.specs.Outcomes.{FrameOutcome};
@@ -13,7 +14,7 @@ use bus::Bus;
 use stations::{LentBus, Observer, Stations, Tick};
 
 /// Calls [`Stations::play`] twice: both observers are told the same outcome.
-pub fn play<O: Observer>(
+pub fn play_twice<O: Observer>(
     one: &mut Stations,
     other: &mut Stations,
     tick: Tick,
@@ -33,7 +34,10 @@ pub fn play<O: Observer>(
 }
 
 /// Calls [`LentBus::finish`] twice: both observers are told the same outcomes.
-pub fn finish<'a, 't, O: Observer>(one: &mut LentBus<'a, 't, O>, other: &mut LentBus<'a, 't, O>)
+pub fn finish_twice<'a, 't, O: Observer>(
+    one: &mut LentBus<'a, 't, O>,
+    other: &mut LentBus<'a, 't, O>,
+)
     requires stations { one.old.stations.now ≡ other.old.stations.now }
     requires ticks { one.old.ticks.now ≡ other.old.ticks.now }
     requires accesses { one.old.accesses ≡ other.old.accesses }

@@ -39,6 +39,7 @@ pub(crate) fn good_bus(alloc: Global) -> Result<SoloBus, AllocError> {
 /// contract of a bus.
 pub(crate) fn new_host<B: Bus>(alloc: Global, bus: &mut B) -> Result<Host, InitError> {
     let mut table = ArrayVec::new();
+    // The table is empty, so it has room.
     let _ = table.try_push(SocketKind::All);
     Host::new(alloc, bus, &config(), table)
 }

@@ -1,10 +1,18 @@
-//! Tests of a bus, and of a driver over a bus.
+//! Tests of the adapter, of a bus, and of a driver over a bus.
 #![tactic(auto)]
 
+#[cfg(test)]
+mod adapter_readme;
 #[cfg(test)]
 mod bring_up_readme;
 #[cfg(test)]
 mod buses;
+#[cfg(test)]
+mod descriptors_readme;
+#[cfg(test)]
+mod dma_memory_readme;
+#[cfg(test)]
+mod eeprom_phy_readme;
 #[cfg(test)]
 mod memory;
 #[cfg(test)]
@@ -16,4 +24,10 @@ mod readme;
 #[cfg(test)]
 mod refused_memory;
 #[cfg(test)]
+mod registers_readme;
+#[cfg(test)]
+mod rx_engine_readme;
+#[cfg(test)]
 mod solo_bus_readme;
+#[cfg(test)]
+mod tx_engine_readme;

@@ -6,7 +6,7 @@ use Rattle.descriptors.specs.declared.ring.Ring.{Ring}
 use Rattle.descriptors.specs.Ring.{address_of, next_of}
 use Rattle.rx_engine.specs.Descriptors.{named_address}
 use Rattle.rx_engine.specs.Moving.{CanMove, HasFrameToMove, IfMoved, IsMoved, IsPartMoved, begun_with, buffer_bytes, engine_after_data}
-use Rattle.rx_engine.specs.Moving.{is_last, memory_after_data, moved_by, next_piece, ring_after_data, work_at}
+use Rattle.rx_engine.specs.Moving.{is_last, memory_after_data, moved_answer, next_piece, ring_after_data, work_at}
 use Rattle.rx_engine.specs.Receiver.{Receiver, oldest}
 use Rattle.rx_engine.specs.declared.data.Data.{Data}
 use Rattle.rx_engine.specs.declared.data.Data.TheVariants as answers
@@ -44,7 +44,7 @@ answers-fault control ring engine memory has cannot = record {
 
 pub answers-moved : (control : ℕ) (ring : Ring) (engine : Receiver) (memory : List ℕ) (ends low : Bool)
     → HasFrameToMove control ring engine → CanMove control ring memory (length (next_piece control engine))
-    → is_last control engine ≡ ends → Answers (moved_by ends low) control ring engine memory
+    → is_last control engine ≡ ends → Answers (moved_answer ends low) control ring engine memory
 answers-moved control ring engine memory true low has can last = record {
   nothing = ((λ is. absurd (cc)), (λ not. absurd (not has)));
   fault = ((λ is. absurd (cc)), (λ both. absurd (both.1 can)));
@@ -76,7 +76,7 @@ pub leaves-moved : (control : ℕ) (ring : Ring) (engine engine' : Receiver) (wo
     (memory memory' : List ℕ) → work ≡ work_at control ring engine ends → engine' ≡ begun_with work engine
     → next ≡ next_of ring ring.head
     → memory' ≡ with_bytes memory (named_address memory (address_of ring ring.head)) (next_piece control engine)
-    → low ≡ half → Leaves (moved_by ends low) control ring engine engine' next half memory memory'
+    → low ≡ half → Leaves (moved_answer ends low) control ring engine engine' next half memory memory'
 leaves-moved control ring engine engine' work next true low half memory memory' is begun goes stored same = record {
   engine_is = begun ∙ ap (λ (w : Work). begun_with w engine) is;
   ring_is = ap (λ (head : ℕ). let after : Ring = record ring { head = head } in after) goes;

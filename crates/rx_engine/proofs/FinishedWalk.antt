@@ -1,6 +1,6 @@
 -- The loop of `append_finished` over the finished slots of a ring.
 use Rattle.std.proofs.Common.{suc, zero, true, false, Bool, ◌≡◌, ◌<◌, ◌-◌, ◌++◌, ◌∷◌, [], ℕ}
-use Rattle.std.proofs.Common.{List, All, length, map, take_while, arith, refl, sym, ap, subst, ◌∙◌, if◌then◌else◌}
+use Rattle.std.proofs.Common.{List, All, map, take_while, arith, refl, sym, ap, subst, ◌∙◌, if◌then◌else◌}
 use Rattle.std.proofs.lemmas.List.Sums.{take_while-cons}
 use Rattle.registers.specs.Bits.{is_set}
 use Rattle.descriptors.specs.declared.ring.Ring.{Ring}
@@ -12,7 +12,7 @@ use Rattle.rx_engine.specs.Descriptors.{descriptor_at}
 use Rattle.rx_engine.specs.Pieces.{Piece, begun_from, frames_from}
 use Rattle.rx_engine.specs.FinishedSlots.{NamesMemory, done_from, named, piece_in, pieces_from}
 use Rattle.rx_engine.specs.JoinedLaws.{first-short, later-short}
-use Rattle.rx_engine.specs.JoinedPieces.{AreShort, alone}
+use Rattle.rx_engine.specs.JoinedPieces.{AreShort, piece_alone}
 use Rattle.rx_engine.specs.PieceLaws.{begun-append, frames-append}
 use Rattle.rx_engine.specs.Slots.{done_slots, is_done}
 
@@ -36,13 +36,18 @@ done-next memory ring place (suc k) some done =
     ∙ ap (λ (b : Bool). if b then address_of ring place ∷ take_while (is_done memory) rest else []) done
     ∙ ap (λ (n : ℕ). address_of ring place ∷ done_from memory ring (next_of ring place) n) (sym left)
 
-pub done-none : (memory : List ℕ) (ring : Ring) (place left : ℕ) → is_done memory (address_of ring place) ≡ false
+done-none : (memory : List ℕ) (ring : Ring) (place left : ℕ) → is_done memory (address_of ring place) ≡ false
     → done_from memory ring place left ≡ []
 done-none memory ring place zero not_done = refl
 done-none memory ring place (suc k) not_done =
     let rest = map (address_of ring) (slots_from (count_of ring) (next_of ring place) k) in
     take_while-cons (is_done memory) (address_of ring place) rest
     ∙ ap (λ (b : Bool). if b then address_of ring place ∷ take_while (is_done memory) rest else []) not_done
+
+pub pieces-none : (memory : List ℕ) (ring : Ring) (place left : ℕ)
+    → is_set (status_bits (descriptor_at memory (address_of ring place)).status) dd ≡ false → pieces_from memory ring place left ≡ []
+pieces-none memory ring place left clear =
+    ap (map (piece_in memory)) (done-none memory ring place left (sym (is-done-status memory (address_of ring place)) ∙ clear))
 
 -- One pass of the loop: the piece in the slot at `place` is the next one, and the facts about the later slots follow.
 pub record Walks (memory : List ℕ) (ring : Ring) (place left : ℕ) (begun : List ℕ) (piece : Piece) : Type 0 where
@@ -80,7 +85,7 @@ walks memory ring place left begun some done lie short =
 pub piece-is : (memory : List ℕ) (at : ℕ) (ends : Bool) (bytes : List ℕ)
     → bytes ≡ bytes_at memory (named memory at).address (named memory at).size
     → ends ≡ is_set (status_bits (descriptor_at memory at).status) eop
-    → alone ends bytes ≡ piece_in memory at ∷ []
+    → piece_alone ends bytes ≡ piece_in memory at ∷ []
 piece-is memory at ends bytes bytes_are ends_are =
-    ap (λ (b : Bool). alone b bytes) ends_are
-    ∙ ap (λ (list : List ℕ). alone (is_set (status_bits (descriptor_at memory at).status) eop) list) bytes_are
+    ap (λ (b : Bool). piece_alone b bytes) ends_are
+    ∙ ap (λ (list : List ℕ). piece_alone (is_set (status_bits (descriptor_at memory at).status) eop) list) bytes_are

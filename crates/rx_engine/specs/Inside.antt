@@ -9,7 +9,7 @@ abbrev pub receiver_of : Inside → Receiver
 receiver_of engine = record { buffer = engine.buffer.frames; moved = engine.moved; work = engine.work; stopped = engine.stopped }
 
 -- The invariant of the fields of a receive engine.
-pub record IsConsistent (engine : Inside) : Type 0 where
+pub record IsReceiverInside (engine : Inside) : Type 0 where
   -- The queue of the packet buffer has places for 614 frames.
   pub capacity : engine.buffer.capacity ≡ 614
   -- The memory of this queue has 65,536 bytes.

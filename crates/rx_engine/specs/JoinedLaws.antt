@@ -3,7 +3,7 @@ use Rattle.std.proofs.Common.{suc, zero, true, Bool, slice_index_or, ◌≡◌, 
 use Rattle.std.proofs.lemmas.List.{length-append}
 use Rattle.rx_engine.specs.Pieces.{Piece, begun_from, frames_from}
 use Rattle.rx_engine.specs.Pieces.Piece.{Last, Part}
-use Rattle.rx_engine.specs.JoinedPieces.{AreShort, alone}
+use Rattle.rx_engine.specs.JoinedPieces.{AreShort, piece_alone}
 
 -- If the frames of a list of pieces are short, the beginning of the first frame has at most 1,518 bytes.
 pub begun-short : (begun : List ℕ) (pieces : List Piece) → AreShort begun pieces → length begun ≤ 1518
@@ -56,5 +56,5 @@ back-short begun (Part bytes ∷ a) b short = back-short (begun ++ bytes) a b (l
 back-short begun (Last bytes ∷ a) b short = back-short [] a b (later-short begun (Last bytes) (a ++ b) short)
 
 -- Exactly one frame ends in a list that consists of the last piece of a frame.
-pub alone-one : (begun bytes : List ℕ) (ends : Bool) → ends ≡ true → length (frames_from begun (alone ends bytes)) ≡ 1
-alone-one begun bytes ends yes_ends = ap (λ (b : Bool). length (frames_from begun (alone b bytes))) yes_ends
+pub alone-one : (begun bytes : List ℕ) (ends : Bool) → ends ≡ true → length (frames_from begun (piece_alone ends bytes)) ≡ 1
+alone-one begun bytes ends yes_ends = ap (λ (b : Bool). length (frames_from begun (piece_alone b bytes))) yes_ends

@@ -11,5 +11,5 @@ pub record AreShort (begun : List ℕ) (pieces : List Piece) : Type 0 where
   pub rest : length (begun_from begun pieces) ≤ 1518
 
 -- A list of one piece with these bytes. The flag is whether the frame ends in the piece.
-abbrev pub alone : Bool → List ℕ → List Piece
-alone ends bytes = piece_of ends bytes ∷ []
+abbrev pub piece_alone : Bool → List ℕ → List Piece
+piece_alone ends bytes = piece_of ends bytes ∷ []

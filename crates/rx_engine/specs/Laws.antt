@@ -27,7 +27,7 @@ use Rattle.rx_engine.specs.Held.{FinishedStays}
 use Rattle.rx_engine.specs.Held.{IsAwayFromWork, MovesApart, OtherBytesLeaveSlots}
 use Rattle.rx_engine.specs.Pieces.{Piece, begun_of, frames_of}
 use Rattle.rx_engine.specs.PieceLaws.{last-begun, last-frames, part-begun, part-frames}
-use Rattle.rx_engine.specs.declared.arrival.Fate.TheVariants.{Off, Illegal, Filtered, Missed, Stored}
+use Rattle.rx_engine.specs.declared.arrival.Fate.TheVariants.{Stored}
 use Rattle.rx_engine.specs.declared.data.Data.TheVariants.{Nothing, Part, Moved, Fault}
 use Rattle.rx_engine.specs.declared.engine.Work.{Work}
 
@@ -71,25 +71,13 @@ oldest-arrived [] frame moved begun = let none : moved ≡ 0 = omega (arith, beg
 oldest-arrived (first ∷ frames) frame moved begun = refl
 
 pub held-after_arrival : ArrivalGrowsHeld
-held-after_arrival Off frame memory finished engine is begun = record {
-  frames = sym (append-nil (held memory finished engine));
-  begun = begun;
-}
-held-after_arrival Illegal frame memory finished engine is begun = record {
-  frames = sym (append-nil (held memory finished engine));
-  begun = begun;
-}
-held-after_arrival Filtered frame memory finished engine is begun = record {
-  frames = sym (append-nil (held memory finished engine));
-  begun = begun;
-}
-held-after_arrival Missed frame memory finished engine is begun = record {
-  frames = sym (append-nil (held memory finished engine));
-  begun = begun;
-}
 held-after_arrival Stored frame memory finished engine is begun = record {
   frames = sym (append_assoc (frames_of (in_slots memory finished engine)) engine.buffer (frame ∷ []));
   begun = begun ∙ sym (oldest-arrived engine.buffer frame engine.moved is.begun);
+}
+held-after_arrival _ frame memory finished engine is begun = record {
+  frames = sym (append-nil (held memory finished engine));
+  begun = begun;
 }
 
 -- The pieces in slots after a data step that moved a piece: the finished pieces, and then the moved piece.

@@ -58,9 +58,9 @@ abbrev pub is_half_offered : Ring → Bool
 is_half_offered ring = 2 * distance_of ring ring.head ring.tail == count_of ring
 
 -- The answer of a step that moved a piece: `Moved` if the frame ends in the piece, and `Part` otherwise.
-abbrev pub moved_by : (ends low : Bool) → Data
-moved_by true low = Moved low
-moved_by false low = Part low
+abbrev pub moved_answer : (ends low : Bool) → Data
+moved_answer true low = Moved low
+moved_answer false low = Part low
 
 -- The step moved a piece, and more pieces of its frame follow.
 abbrev pub IsPartMoved : Data → Type 0

@@ -9,7 +9,7 @@ ghost use Rattle.dma_memory.specs.HostMemory.{LiesIn, with_bytes};
 ghost use Rattle.rx_engine.specs.Descriptors.{named_address};
 ghost use Rattle.rx_engine.specs.Receiver.{IsReceiver};
 ghost use Rattle.rx_engine.specs.Moving.{HasFrameToMove, CanMove, engine_after_data, is_last, next_piece};
-ghost use Rattle.rx_engine.specs.Moving.{ring_after_data, moved_by, IsOffered};
+ghost use Rattle.rx_engine.specs.Moving.{ring_after_data, moved_answer, IsOffered};
 ghost use Rattle.rx_engine.specs.Moving.{memory_after_data, IsMoved, IsPartMoved, IfMoved, is_half_offered};
 
 use crate::storing::store_in;
@@ -41,7 +41,7 @@ pub enum Data {
 impl Data {
     /// Returns the result of a step that moved a piece. `ends` is whether this piece is the last one of its frame.
     fn of_piece(ends: bool, low: bool) -> Data
-        ensures { result ≡ moved_by ends low }
+        ensures { result ≡ moved_answer ends low }
     {
         if ends {
             Data::Moved { low }
@@ -90,17 +90,11 @@ pub fn rx_data(
     ensures before { IsReceiver engine.old }
     ensures after { IsReceiver engine.new }
 {
-    let Some(left) = engine.left() else {
+    let Some(NextPiece { bytes, ends }) = next_piece(engine, ring, control) else {
         return Data::Nothing;
     };
-    if !is_offered(ring, control) {
-        return Data::Nothing;
-    }
-    let size = usize::from(control.buffer_size());
-    let ends = is_last_piece(left.len(), size);
-    let piece = &left[..left.len().min(size)];
-    let length = piece.len() as u16;
-    let Some(descriptor) = store_piece(ring, control, memory, piece) else {
+    let length = bytes.len() as u16;
+    let Some(descriptor) = store_piece(ring, control, memory, bytes) else {
         engine.stop();
         return Data::Fault;
     };
@@ -117,7 +111,35 @@ pub fn rx_data(
 pub fn has_frame_to_move(engine: &RxEngine, ring: &Ring, control: Rctl) -> bool
     ensures { IsTrue result ↔ HasFrameToMove control.0 ring.now engine.now }
 {
-    engine.left().is_some() && is_offered(ring, control)
+    next_piece(engine, ring, control).is_some()
+}
+
+/// The next piece of the packet buffer's oldest frame, borrowed from the packet buffer.
+#[derive(Clone, Copy)]
+struct NextPiece<'a> {
+    bytes: &'a [u8],
+    /// Whether the frame ends in the piece.
+    ends: bool,
+}
+
+/// Returns the piece that [`rx_data`] moves next, or `None` exactly if it has no frame to move.
+fn next_piece<'a>(engine: &'a RxEngine, ring: &Ring, control: Rctl) -> Option<NextPiece<'a>>
+    ensures has { IsSome result ↔ HasFrameToMove control.0 ring.now engine.now }
+    ensures bytes { IfSome result (λ piece. piece.bytes.now ≡ next_piece control.0 engine.now) }
+    ensures ends { IfSome result (λ piece. piece.ends ≡ is_last control.0 engine.now) }
+    ensures some { IfSome result (λ piece. 1 ≤ length piece.bytes.now) }
+    ensures fits { IfSome result (λ piece. length piece.bytes.now ≤ 1518) }
+    ensures sound { IsReceiver engine.now }
+{
+    let left = engine.left()?;
+    if !is_offered(ring, control) {
+        return None;
+    }
+    let size = usize::from(control.buffer_size());
+    Some(NextPiece {
+        bytes: &left[..left.len().min(size)],
+        ends: is_last_piece(left.len(), size),
+    })
 }
 
 /// Returns whether RCTL.EN is set, and at least one descriptor is offered.
@@ -149,6 +171,7 @@ fn store_piece(ring: &Ring, control: Rctl, memory: &mut HostMemory, piece: &[u8]
     if !ring.has_valid_indices() || control.extends_buffer_size() {
         return None;
     }
+    // A law, for the proof of `can`: the number of bytes of memory fits into 64 bits.
     let _size = memory.size();
     let descriptor = ring.descriptor(ring.head)?;
     let buffer = buffer_named_at(memory, descriptor)?;

@@ -6,6 +6,8 @@ ghost use Rattle.std.specs.Prelude.{IfSome, IfOk};
 ghost use Rattle.rx_engine.specs.Hashed.{work_writes};
 ghost use Rattle.descriptors.specs.Frames.{IsLegal};
 ghost use Rattle.rx_engine.specs.Room.{cost, cost_of_length, most_room, occupied_by};
+ghost use Rattle.rx_engine.specs.Receiver.{Receiver};
+ghost use Rattle.rx_engine.specs.Inside.{receiver_of, IsReceiverInside};
 
 use descriptors::PackedQueue;
 use std::alloc::{AllocError, Global};
@@ -37,27 +39,27 @@ pub struct Work {
 /// whether the engine is stopped.
 #[derive(Clone, Drop)]
 pub struct RxEngine {
+    /// The frames of the packet buffer, oldest first.
     buffer: PackedQueue,
     /// The number of bytes that the frames in `buffer` occupy.
     occupied: u32,
     /// The number of bytes of the oldest frame that have been moved to memory.
     moved: u16,
+    /// The piece in progress.
     work: Option<Work>,
+    /// Whether a fault has stopped the data step.
     stopped: bool,
 }
 
 impl Model for RxEngine {
-    ghost use Rattle.rx_engine.specs.Receiver.{Receiver};
-
     ghost Value = { Receiver };
-
-    ghost use Rattle.rx_engine.specs.Inside.{receiver_of, IsConsistent};
 
     ghost view = { receiver_of };
 
-    ghost invariant = { IsConsistent };
+    ghost invariant = { IsReceiverInside };
 }
 
+// The clauses `sound`, `before` and `after` state the invariant of an engine's value, for the proofs of callers.
 impl RxEngine {
     ghost use Rattle.rx_engine.specs.Hashed.{receiver_writes};
     ghost use Rattle.rx_engine.specs.Receiver.{new_receiver, IsReceiver, IsReady, oldest};

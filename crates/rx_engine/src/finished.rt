@@ -10,7 +10,7 @@ ghost use Rattle.registers.specs.Bits.{is_set};
 ghost use Rattle.descriptors.specs.RxStatus.{dd, eop, status_bits};
 ghost use Rattle.rx_engine.specs.Pieces.{begun_from, frames_from};
 ghost use Rattle.rx_engine.specs.FinishedSlots.{LiesWhole, NamesMemory, finished_in, named};
-ghost use Rattle.rx_engine.specs.JoinedPieces.{AreShort, alone};
+ghost use Rattle.rx_engine.specs.JoinedPieces.{AreShort, piece_alone};
 ghost use Rattle.rx_engine.specs.Slots.{is_done, outstanding, done_slots};
 
 use crate::engine::Work;
@@ -28,12 +28,13 @@ pub fn append_piece(
     begun: &mut ArrayVec<u8, 1518>,
     frames: &mut Vec<Frame>,
 )
-    requires short { AreShort begun.old.items (alone ends bytes.now) }
+    requires short { AreShort begun.old.items (piece_alone ends bytes.now) }
     requires room { ends ≡ true → length frames.old.items < vec_capacity frames.old }
-    ensures begun { begun.new.items ≡ begun_from begun.old.items (alone ends bytes.now) }
-    ensures frames { frames.new.items ≡ frames.old.items ++ frames_from begun.old.items (alone ends bytes.now) }
+    ensures begun { begun.new.items ≡ begun_from begun.old.items (piece_alone ends bytes.now) }
+    ensures frames { frames.new.items ≡ frames.old.items ++ frames_from begun.old.items (piece_alone ends bytes.now) }
     ensures room { vec_capacity frames.old ≤ vec_capacity frames.new }
 {
+    // There is room in both lists, so neither call fails.
     let _ = begun.try_extend_from_slice(bytes);
     if ends {
         let _ = frames.push(Frame::from_slice(begun.as_slice()));
@@ -62,14 +63,10 @@ fn descriptor_in(memory: &HostMemory, ring: &Ring, place: u16) -> Option<RxDesc>
     ensures there { IsSome result }
     ensures value { IfSome result (λ desc. desc ≡ descriptor_at memory.now (address_of ring.now place)) }
 {
-    let size = memory.size();
-    let address = ring.descriptor(place)?;
-    if address >= size {
-        return None;
-    }
-    let mut bytes = [0; RX_DESC_BYTES];
-    memory.load(address, &mut bytes).ok()?;
-    Some(RxDesc::from_bytes(&bytes))
+    // A law, for the proof of `there`: the number of bytes of memory fits into 64 bits.
+    let _size = memory.size();
+    let bytes = memory.view(ring.descriptor(place)?, RX_DESC_BYTES).ok()?;
+    Some(RxDesc::from_bytes(bytes.first_chunk()?))
 }
 
 /// Returns the bytes of the piece in a slot of a ring, and whether a frame ends in the piece. Returns `None` if and

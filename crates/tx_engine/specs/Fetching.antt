@@ -16,8 +16,8 @@ abbrev pub pads : ℕ → Bool
 pads control = is_set control tctl_psp
 
 -- The transmit descriptor at an address.
-abbrev pub descriptor_at : List ℕ → ℕ → TxDesc
-descriptor_at memory address = tx_desc_of (bytes_at memory address 16)
+abbrev pub transmit_descriptor_at : List ℕ → ℕ → TxDesc
+transmit_descriptor_at memory address = tx_desc_of (bytes_at memory address 16)
 
 -- The bytes that a descriptor points to, or fewer if memory ends earlier.
 abbrev pub named_by : List ℕ → TxDesc → List ℕ
@@ -29,14 +29,14 @@ as_sent pad frame = if pad then padded frame else frame
 
 -- The frame that the descriptor at an address points to, as it is put onto the wire.
 abbrev pub frame_at : Bool → List ℕ → ℕ → List ℕ
-frame_at pad memory address = as_sent pad (named_by memory (descriptor_at memory address))
+frame_at pad memory address = as_sent pad (named_by memory (transmit_descriptor_at memory address))
 
 -- The entry of the packet buffer that the engine makes from the descriptor at an address.
 abbrev pub fetched : Bool → List ℕ → ℕ → Queued
 fetched pad memory address = record {
   frame = frame_at pad memory address;
   descriptor = address;
-  report = is_set (command_bits (descriptor_at memory address).command) tx_rs;
+  report = is_set (command_bits (transmit_descriptor_at memory address).command) tx_rs;
 }
 
 -- The engine has nothing to take: TCTL.EN is 0, a fault has stopped the engine, its buffer contains four frames (our choice), or head
@@ -67,4 +67,4 @@ pub record IsFetchable (memory : List ℕ) (ring : Ring) : Type 0 where
   -- The descriptor at TDH is inside memory.
   pub lies : LiesIn memory (address_of ring ring.head) 16
   -- The descriptor at TDH can be transmitted.
-  pub transmittable : IsTransmittable memory (descriptor_at memory (address_of ring ring.head))
+  pub transmittable : IsTransmittable memory (transmit_descriptor_at memory (address_of ring ring.head))

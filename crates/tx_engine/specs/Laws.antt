@@ -5,7 +5,7 @@ use Rattle.std.proofs.lemmas.List.{append-nil, map-append}
 use Rattle.descriptors.specs.Ring.{next_of, address_of, offered_places}
 use Rattle.descriptors.specs.RingLaws.{places-head, places-tail}
 use Rattle.tx_engine.specs.Transmitter.{Queued}
-use Rattle.tx_engine.specs.Fetching.{descriptor_at, named_by, frame_at, fetched, as_sent}
+use Rattle.tx_engine.specs.Fetching.{transmit_descriptor_at, named_by, frame_at, fetched, as_sent}
 use Rattle.tx_engine.specs.ToSend.{to_send, TakingMovesFrames, PuttingTakesFront, OfferingAddsFrames}
 
 pub to_send-take : TakingMovesFrames
@@ -41,7 +41,7 @@ zeros-as_sent false frame least same =
 
 -- The entry that `push` appends for a descriptor, with `least` 60 if the adapter pads and 0 otherwise, is the entry that `fetched` defines.
 pub pushed-fetched : (pad : Bool) (memory bytes : List ℕ) (address descriptor least : ℕ) (reports : Bool)
-    → bytes ≡ named_by memory (descriptor_at memory address) → descriptor ≡ address → reports ≡ (fetched pad memory address).report
+    → bytes ≡ named_by memory (transmit_descriptor_at memory address) → descriptor ≡ address → reports ≡ (fetched pad memory address).report
     → least ≡ cond pad 60 0
     → record { frame = bytes ++ replicate (least - length bytes) 0; descriptor = descriptor; report = reports } ≡ fetched pad memory address
 pushed-fetched pad memory bytes address descriptor least reports same_bytes same_address same_reports same_least =

@@ -3,14 +3,14 @@ use Rattle.std.specs.Prelude.{◌≤◌, ℕ, Bool, List, map}
 use Rattle.dma_memory.specs.HostMemory.{LiesIn}
 use Rattle.descriptors.specs.declared.ring.Ring.{Ring}
 use Rattle.descriptors.specs.Ring.{address_of, offered_places}
-use Rattle.tx_engine.specs.Fetching.{descriptor_at, frame_at}
+use Rattle.tx_engine.specs.Fetching.{transmit_descriptor_at, frame_at}
 
 -- The bytes that the descriptor at an address points to are inside memory, and their number is at most 1,518.
 pub record CanBeCopied (memory : List ℕ) (descriptor : ℕ) : Type 0 where
   -- The bytes are in memory.
-  pub lies : LiesIn memory (descriptor_at memory descriptor).address (descriptor_at memory descriptor).length
+  pub lies : LiesIn memory (transmit_descriptor_at memory descriptor).address (transmit_descriptor_at memory descriptor).length
   -- There are at most 1,518 bytes.
-  pub short : (descriptor_at memory descriptor).length ≤ 1518
+  pub short : (transmit_descriptor_at memory descriptor).length ≤ 1518
 
 -- The frames of the offered descriptors, in the order of their slots from the head on, padded if the adapter pads.
 abbrev pub queued_in : Bool → List ℕ → Ring → List (List ℕ)

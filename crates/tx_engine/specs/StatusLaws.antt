@@ -15,7 +15,7 @@ use Rattle.descriptors.specs.declared.ring.Ring.{Ring}
 use Rattle.descriptors.specs.Ring.{address_of, offered_places}
 use Rattle.descriptors.specs.TxDesc.{tx_desc_of}
 use Rattle.tx_engine.specs.Transmitter.{Queued}
-use Rattle.tx_engine.specs.Fetching.{descriptor_at, as_sent, frame_at}
+use Rattle.tx_engine.specs.Fetching.{transmit_descriptor_at, as_sent, frame_at}
 use Rattle.tx_engine.specs.Laws.{to_send-put}
 use Rattle.tx_engine.specs.Steps.{IfFront, status_place, written_back}
 use Rattle.tx_engine.specs.ToSend.{to_send, IsAwayFrom, OtherBytesLeaveFrames}
@@ -44,13 +44,13 @@ length-first_ten memory address =
 
 -- If the first ten bytes of a descriptor don't change, its address and length don't change.
 same-address : (memory changed : List ℕ) (address : ℕ) → bytes_at changed address 10 ≡ bytes_at memory address 10
-    → (descriptor_at changed address).address ≡ (descriptor_at memory address).address
+    → (transmit_descriptor_at changed address).address ≡ (transmit_descriptor_at memory address).address
 unfolding tx_desc_of
 same-address memory changed address same = address-first_ten changed address ∙ ap (little_number 8) same
     ∙ sym (address-first_ten memory address)
 
 same-length : (memory changed : List ℕ) (address : ℕ) → bytes_at changed address 10 ≡ bytes_at memory address 10
-    → (descriptor_at changed address).length ≡ (descriptor_at memory address).length
+    → (transmit_descriptor_at changed address).length ≡ (transmit_descriptor_at memory address).length
 unfolding tx_desc_of
 same-length memory changed address same = length-first_ten changed address ∙ ap (little_from 8 2) same
     ∙ sym (length-first_ten memory address)
@@ -60,12 +60,12 @@ frame_at-away : (memory bytes : List ℕ) (pad : Bool) (place address : ℕ) →
     → frame_at pad (with_bytes memory place bytes) address ≡ frame_at pad memory address
 frame_at-away memory bytes pad place address lies away =
     let changed = with_bytes memory place bytes in
-    let old = descriptor_at memory address in
+    let old = transmit_descriptor_at memory address in
     let ten = bytes_at-elsewhere memory bytes place address 10 lies away.fields in
     let at = same-address memory changed address ten in
     let size = same-length memory changed address ten in
     ap (as_sent pad)
-    (ap (λ (a : ℕ). bytes_at changed a (descriptor_at changed address).length) at
+    (ap (λ (a : ℕ). bytes_at changed a (transmit_descriptor_at changed address).length) at
     ∙ ap (λ (n : ℕ). bytes_at changed old.address n) size
     ∙ bytes_at-elsewhere memory bytes place old.address old.length lies away.frame)
 

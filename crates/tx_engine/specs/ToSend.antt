@@ -5,7 +5,7 @@ use Rattle.dma_memory.specs.HostMemory.{with_bytes, LiesIn}
 use Rattle.descriptors.specs.declared.ring.Ring.{Ring}
 use Rattle.descriptors.specs.Ring.{HasValidIndices, next_of, address_of, offered_places}
 use Rattle.tx_engine.specs.Transmitter.{Queued}
-use Rattle.tx_engine.specs.Fetching.{descriptor_at, frame_at, fetched}
+use Rattle.tx_engine.specs.Fetching.{transmit_descriptor_at, frame_at, fetched}
 
 -- The frames in the transmit packet buffer, followed by the frames of the offered descriptors. If the adapter pads, the frames of
 -- descriptors are padded.
@@ -19,7 +19,7 @@ pub record IsAwayFrom (memory : List ℕ) (area : Area) (address : ℕ) : Type 0
   -- The area doesn't overlap the address and the length in the descriptor, its first ten bytes.
   pub fields : AreApart area (area_at address 10)
   -- The area doesn't overlap the frame.
-  pub frame : AreApart area (area_at (descriptor_at memory address).address (descriptor_at memory address).length)
+  pub frame : AreApart area (area_at (transmit_descriptor_at memory address).address (transmit_descriptor_at memory address).length)
 
 -- If head and tail are indices of different slots, a take step doesn't change the frames to be sent. The frame at the head moves from the
 -- ring to the end of the buffer.

@@ -2,8 +2,9 @@ ghost use Rattle.std.specs.Prelude.{◌≡◌, ◌+◌, ◌-◌, ◌<◌, ◌≤
 ghost use Rattle.std.specs.Prelude.{replicate, slice_get, true, false, IsTrue, IsNone, IfSome, IfOk};
 ghost use Rattle.std.specs.List.{flat_map};
 ghost use Rattle.tx_engine.specs.Hashed.{report_writes, transmitter_writes};
-ghost use Rattle.tx_engine.specs.Transmitter.{Queued, new_transmitter};
+ghost use Rattle.tx_engine.specs.Transmitter.{Queued, new_transmitter, Transmitter};
 ghost use Rattle.tx_engine.specs.Steps.{IfFront};
+ghost use Rattle.tx_engine.specs.Buffer.{transmitter_of, IsWhole};
 
 use crate::fetching::Named;
 use crate::report::Report;
@@ -25,16 +26,14 @@ pub const PACKET_BUFFER_FRAMES: u8 = 4;
 #[derive(Drop)]
 pub struct TxEngine {
     frames: FrameQueue,
+    /// For each frame in `frames`, the address and the RS bit of its descriptor.
     reports: HeapCircularBuffer<Report>,
+    /// Whether no fault has stopped the engine.
     running: bool,
 }
 
 impl Model for TxEngine {
-    ghost use Rattle.tx_engine.specs.Transmitter.{Transmitter};
-
     ghost Value = { Transmitter };
-
-    ghost use Rattle.tx_engine.specs.Buffer.{transmitter_of, IsWhole};
 
     ghost view = { transmitter_of };
 
@@ -167,6 +166,7 @@ impl TxEngine {
         } }
     {
         self.frames.push_padded(named.bytes, least);
+        // There is room, so the call never fails.
         let _ = self.reports.push_back(Report {
             descriptor: named.descriptor,
             wanted: named.reports,

@@ -3,7 +3,7 @@ ghost use Rattle.registers.specs.Bits.{HasBit, is_set};
 ghost use Rattle.dma_memory.specs.HostMemory.{LiesIn};
 ghost use Rattle.descriptors.specs.Ring.{address_of};
 ghost use Rattle.descriptors.specs.TxFields.{command_bits, tx_dext, tx_eop, tx_rs};
-ghost use Rattle.tx_engine.specs.Fetching.{IsTransmittable, IsFetchable, descriptor_at, named_by};
+ghost use Rattle.tx_engine.specs.Fetching.{IsTransmittable, IsFetchable, transmit_descriptor_at, named_by};
 
 use bitflags::Flags;
 use descriptors::{LONGEST_SENDABLE, Ring, TX_DESC_BYTES, TxCommand, TxDesc};
@@ -46,7 +46,7 @@ fn descriptor_at_head(ring: &Ring, memory: &HostMemory) -> Option<(u64, TxDesc)>
     ensures lies { IsSome result ↔ LiesIn memory.now (address_of ring.now ring.now.head) 16 }
     ensures address { IfSome result (λ found. found.0 ≡ address_of ring.now ring.now.head) }
     ensures fits { IfSome result (λ found. found.0 + 12 < 2 ^ 64) }
-    ensures value { IfSome result (λ found. found.1 ≡ descriptor_at memory.now (address_of ring.now ring.now.head)) }
+    ensures value { IfSome result (λ found. found.1 ≡ transmit_descriptor_at memory.now (address_of ring.now ring.now.head)) }
 {
     let size = memory.size();
     let address = ring.descriptor(ring.head)?;
@@ -78,12 +78,12 @@ fn bytes_of<'a>(desc: &TxDesc, memory: &'a HostMemory) -> Option<&'a [u8]>
 pub fn fetch<'a>(ring: &Ring, memory: &'a HostMemory) -> Option<Named<'a>>
     ensures fetchable { IsSome result ↔ IsFetchable memory.now ring.now }
     ensures bytes { IfSome result (λ named. named.bytes.now
-        ≡ named_by memory.now (descriptor_at memory.now (address_of ring.now ring.now.head))) }
+        ≡ named_by memory.now (transmit_descriptor_at memory.now (address_of ring.now ring.now.head))) }
     ensures descriptor { IfSome result (λ named. named.descriptor ≡ address_of ring.now ring.now.head) }
     ensures fits { IfSome result (λ named. named.descriptor + 12 < 2 ^ 64) }
     ensures length { IfSome result (λ named. length named.bytes.now ≤ 1518) }
     ensures reports { IfSome result (λ named. named.reports
-        ≡ is_set (command_bits (descriptor_at memory.now (address_of ring.now ring.now.head)).command) tx_rs) }
+        ≡ is_set (command_bits (transmit_descriptor_at memory.now (address_of ring.now ring.now.head)).command) tx_rs) }
 {
     if !ring.has_valid_indices() {
         return None;

@@ -57,6 +57,7 @@ pub fn put(engine: &mut TxEngine, memory: &mut HostMemory, wire_free: bool) -> P
         return Put::Nothing;
     };
     if report.wanted {
+        // If memory ends before the status byte, nothing is written.
         let _ = memory.store(report.descriptor + STATUS_PLACE, &[TxStatus::DD.bits()]);
     }
     Put::Put {

@@ -4,7 +4,7 @@ ghost use Rattle.std.specs.Prelude.{◌≡◌, ◌≤◌, ◌<◌, ◌+◌, ◌-
 ghost use Rattle.std.specs.Prelude.{vec_capacity, if◌then◌else◌};
 ghost use Rattle.dma_memory.specs.HostMemory.{LiesIn};
 ghost use Rattle.descriptors.specs.Ring.{address_of, count_of, offered_places};
-ghost use Rattle.tx_engine.specs.Fetching.{as_sent, descriptor_at, frame_at, named_by};
+ghost use Rattle.tx_engine.specs.Fetching.{as_sent, transmit_descriptor_at, frame_at, named_by};
 ghost use Rattle.tx_engine.specs.QueuedFrames.{CanBeCopied, queued_in};
 
 use arrayvec::ArrayVec;
@@ -13,7 +13,7 @@ use dma_memory::HostMemory;
 
 /// Returns the number of zeros that follow a frame of `length` bytes on the wire. If `pad` is true, zeros pad a frame
 /// of fewer than 60 bytes to 60 bytes.
-fn zeros_behind(length: usize, pad: bool) -> usize
+fn zeros_after(length: usize, pad: bool) -> usize
     ensures zeros { result ≡ (if pad then 60 - length else 0) }
     ensures most { result ≤ 60 }
 {
@@ -29,6 +29,7 @@ fn extend(whole: &mut ArrayVec<u8, 1518>, bytes: &[u8])
     requires { length whole.old.items + length bytes.now ≤ 1518 }
     ensures { whole.new.items ≡ whole.old.items ++ bytes.now }
 {
+    // There is room, so the call never fails.
     let _ = whole.try_extend_from_slice(bytes);
 }
 
@@ -41,7 +42,7 @@ fn frame_as_sent(bytes: &[u8], pad: bool) -> Frame
     let mut whole: ArrayVec<u8, 1518> = ArrayVec::new();
     extend(&mut whole, bytes);
     let zeros = [0; SHORTEST_LEGAL];
-    let count = zeros_behind(bytes.len(), pad);
+    let count = zeros_after(bytes.len(), pad);
     extend(&mut whole, &zeros[..count]);
     Frame::from_slice(whole.as_slice())
 }
@@ -53,6 +54,7 @@ fn append_padded(bytes: &[u8], pad: bool, frames: &mut Vec<Frame>)
     ensures frames { frames.new.items ≡ frames.old.items ++ as_sent pad bytes.now ∷ [] }
     ensures room { vec_capacity frames.old ≤ vec_capacity frames.new }
 {
+    // There is room, so the call allocates nothing and never fails.
     let _ = frames.push(frame_as_sent(bytes, pad));
 }
 
@@ -61,7 +63,7 @@ fn descriptor_in(memory: &HostMemory, ring: &Ring, place: u16) -> Option<TxDesc>
     requires ring { LiesIn memory.now ring.now.base (16 * count_of ring.now) }
     requires place { place < count_of ring.now }
     ensures there { IsSome result }
-    ensures value { IfSome result (λ desc. desc ≡ descriptor_at memory.now (address_of ring.now place)) }
+    ensures value { IfSome result (λ desc. desc ≡ transmit_descriptor_at memory.now (address_of ring.now place)) }
 {
     let size = memory.size();
     let address = ring.descriptor(place)?;
@@ -81,7 +83,7 @@ fn queued_bytes<'a>(memory: &'a HostMemory, ring: &Ring, place: u16) -> Option<&
     requires lies { CanBeCopied memory.now (address_of ring.now place) }
     ensures there { IsSome result }
     ensures bytes { IfSome result (λ bytes.
-        bytes.now ≡ named_by memory.now (descriptor_at memory.now (address_of ring.now place))) }
+        bytes.now ≡ named_by memory.now (transmit_descriptor_at memory.now (address_of ring.now place))) }
     ensures short { IfSome result (λ bytes. length bytes.now ≤ 1518) }
 {
     let desc = descriptor_in(memory, ring, place)?;

@@ -1,6 +1,5 @@
-use Rattle.std.proofs.Common.{◌++◌, ◌∷◌, [], ℕ, List, take, vec_capacity, sym, ap, ◌∙◌, arith}
-use Rattle.std.proofs.lemmas.List.{append_assoc}
-use Rattle.adapter.proofs.TakenFrames.{next-taken, room-left}
+use Rattle.std.proofs.Common.{vec_capacity, arith}
+use Rattle.adapter.proofs.TakenFrames.{room-left, taken}
 use Rattle.adapter.proofs.pending.append_buffered.Goals as goal
 
 pub append_frame-requires-clause-room : goal.append_frame-requires-clause-room
@@ -12,13 +11,5 @@ append_frame-requires-clause-room c =
 
 pub loop-index-preserved : goal.loop-index-preserved
 loop-index-preserved c =
-    let l = c.loop-index in
-    let start = c.args.frames.now.items in
-    let buffer = c.args.engine.now.buffer in
-    let frame = c.frame_at.result.now in
-    record {
-      frames = c.append_frame.ensures.frames ∙ ap (λ (items : List (List ℕ)). items ++ frame ∷ []) l.invariant.frames
-          ∙ append_assoc start (take l.index buffer) (frame ∷ [])
-          ∙ ap (λ (more : List (List ℕ)). start ++ more) (sym (next-taken buffer l.index frame c.frame_at.ensures.frame));
-      capacity = omega (arith, l.invariant.capacity, c.append_frame.ensures.room);
-    }
+    let frames = taken _ _ _ c.append_frame.ensures.frames c.loop-index.invariant.frames c.frame_at.ensures.frame in
+    record { frames = frames; capacity = omega arith }

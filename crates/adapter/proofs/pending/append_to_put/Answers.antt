@@ -1,7 +1,7 @@
-use Rattle.std.proofs.Common.{◌≡◌, ◌++◌, ◌∷◌, [], ℕ, List, length, map, take, vec_capacity, sym, ap, ◌∙◌, arith}
-use Rattle.std.proofs.lemmas.List.{append_assoc, length-map}
+use Rattle.std.proofs.Common.{◌≡◌, length, map, vec_capacity, arith}
+use Rattle.std.proofs.lemmas.List.{length-map}
 use Rattle.tx_engine.specs.Transmitter.{Queued}
-use Rattle.adapter.proofs.TakenFrames.{next-taken, room-left}
+use Rattle.adapter.proofs.TakenFrames.{room-left, taken}
 use Rattle.adapter.proofs.pending.append_to_put.Goals as goal
 
 pub append_frame-requires-clause-room : goal.append_frame-requires-clause-room
@@ -17,13 +17,5 @@ append_frame-requires-clause-room c =
 
 pub loop-index-preserved : goal.loop-index-preserved
 loop-index-preserved c =
-    let l = c.loop-index in
-    let start = c.args.frames.now.items in
-    let buffer = map (λ (q : Queued). q.frame) c.args.engine.now.buffer in
-    let frame = c.frame_at.result.now in
-    record {
-      frames = c.append_frame.ensures.frames ∙ ap (λ (items : List (List ℕ)). items ++ frame ∷ []) l.invariant.frames
-          ∙ append_assoc start (take l.index buffer) (frame ∷ [])
-          ∙ ap (λ (more : List (List ℕ)). start ++ more) (sym (next-taken buffer l.index frame c.frame_at.ensures.frame));
-      capacity = omega (arith, l.invariant.capacity, c.append_frame.ensures.room);
-    }
+    let frames = taken _ _ _ c.append_frame.ensures.frames c.loop-index.invariant.frames c.frame_at.ensures.frame in
+    record { frames = frames; capacity = omega arith }

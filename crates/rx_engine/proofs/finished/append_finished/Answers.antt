@@ -4,9 +4,9 @@ use Rattle.descriptors.specs.Ring.{address_of, count_of, distance_of, next_of}
 use Rattle.descriptors.specs.RingLaws.{next-below}
 use Rattle.rx_engine.specs.Pieces.{Piece, begun_from, frames_from}
 use Rattle.rx_engine.specs.JoinedLaws.{alone-one}
-use Rattle.rx_engine.specs.JoinedPieces.{AreShort, alone}
+use Rattle.rx_engine.specs.JoinedPieces.{AreShort, piece_alone}
 use Rattle.rx_engine.specs.FinishedSlots.{NamesMemory, done_from, finished_in, piece_in, pieces_from}
-use Rattle.rx_engine.proofs.FinishedWalk.{done-next, done-none, is-done-status, slots-begin, Walks, piece-is, walks}
+use Rattle.rx_engine.proofs.FinishedWalk.{done-next, is-done-status, pieces-none, slots-begin, Walks, piece-is, walks}
 use Rattle.rx_engine.proofs.finished.append_finished.Goals as goal
 
 pub loop-left-init : goal.loop-left-init
@@ -43,21 +43,15 @@ finished_piece-requires-clause-lies c done =
 pub returns-in_default-clause-begun : goal.returns-in_default-clause-begun
 returns-in_default-clause-begun c =
     let l = c.loop-left in
-    let memory = c.args.memory.now in
-    let ring = c.args.ring.now in
-    let slots = done-none memory ring l.place l.left
-    (sym (is-done-status memory (address_of ring l.place)) ∙ c.in_default.ensures.none) in
-    sym (ap (λ (list : List ℕ). begun_from l.begun.items (map (piece_in memory) list)) slots) ∙ l.invariant.begun
+    sym (ap (begun_from l.begun.items) (pieces-none c.args.memory.now c.args.ring.now l.place l.left c.in_default.ensures.none))
+    ∙ l.invariant.begun
 
 pub returns-in_default-clause-frames : goal.returns-in_default-clause-frames
 returns-in_default-clause-frames c =
     let l = c.loop-left in
-    let memory = c.args.memory.now in
-    let ring = c.args.ring.now in
-    let slots = done-none memory ring l.place l.left
-    (sym (is-done-status memory (address_of ring l.place)) ∙ c.in_default.ensures.none) in
     sym (append-nil l.frames.items)
-    ∙ sym (ap (λ (list : List ℕ). l.frames.items ++ frames_from l.begun.items (map (piece_in memory) list)) slots) ∙ l.invariant.frames
+    ∙ sym (ap (λ (list : List Piece). l.frames.items ++ frames_from l.begun.items list)
+    (pieces-none c.args.memory.now c.args.ring.now l.place l.left c.in_default.ensures.none)) ∙ l.invariant.frames
 
 -- If the slot at `place` is done, its piece is the next one of the loop (`Walks`).
 walk : (c : goal.After-append_piece-arg-in-loop-left-1)
@@ -72,7 +66,7 @@ walk c =
     l.invariant.lie l.invariant.short
 
 same : (c : goal.After-append_piece-arg-in-loop-left-1)
-    → alone c.in-Some.ends c.in-Some.bytes.now ≡ piece_in c.args.memory.now (address_of c.args.ring.now c.loop-left.place) ∷ []
+    → piece_alone c.in-Some.ends c.in-Some.bytes.now ≡ piece_in c.args.memory.now (address_of c.args.ring.now c.loop-left.place) ∷ []
 same c = piece-is c.args.memory.now (address_of c.args.ring.now c.loop-left.place) c.in-Some.ends c.in-Some.bytes.now
     c.in-Some.ensures.bytes c.in-Some.ensures.ends
 

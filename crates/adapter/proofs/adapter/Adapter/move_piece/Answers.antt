@@ -1,7 +1,7 @@
 use Rattle.std.proofs.Common.{sym}
 use Rattle.adapter.specs.View.{state_of}
 use Rattle.adapter.proofs.DataSteps.{answered-data, left_by-state, memory_by-data}
-use Rattle.adapter.proofs.StepStates.{alone-raised}
+use Rattle.adapter.proofs.StepStates.{adapter-raised}
 use Rattle.adapter.proofs.adapter.Adapter.move_piece.Goals as goal
 
 pub returns-clause-answer : goal.returns-clause-answer
@@ -38,18 +38,7 @@ returns-clause-only c = rw (sym c.self.view_is) (rw (c.rctl.ensures, c.ring-ring
 
 pub invariant_of-self : goal.invariant_of-self
 invariant_of-self c =
-    let before = c.self.invariant in
-    record {
-      registers = record {
-        tables = before.registers.tables;
-        allocation = before.registers.allocation;
-        causes = alone-raised c.self.inside.file.causes c.raise.new.self c.causes_of_answer.result.0 c.raise.ensures
-            before.registers.causes;
-        counters = before.registers.counters;
-      };
-      receiver = c.rx_data-answer.ensures.after;
-      image = before.image;
-    }
+    adapter-raised (state_of c.self.inside) c.causes_of_answer.result.0 c.raise.ensures c.self.invariant c.rx_data-answer.ensures.after
 
 pub returns-clause-size : goal.returns-clause-size
 returns-clause-size c = c.rx_data-answer.ensures.only.size

@@ -1,21 +1,11 @@
 use Rattle.std.proofs.Common.{sym}
 use Rattle.adapter.specs.View.{state_of}
-use Rattle.adapter.proofs.StepStates.{alone-raised, take-answers, take-state}
+use Rattle.adapter.proofs.StepStates.{adapter-raised, take-answers, take-state}
 use Rattle.adapter.proofs.adapter.Adapter.take_frame.Goals as goal
 
 pub invariant_of-self : goal.invariant_of-self
 invariant_of-self c =
-    let before = c.self.invariant in
-    record {
-      registers = record {
-        tables = before.registers.tables;
-        allocation = before.registers.allocation;
-        causes = alone-raised c.self.inside.file.causes c.raise.new.self c.causes_of_take.result.0 c.raise.ensures before.registers.causes;
-        counters = before.registers.counters;
-      };
-      receiver = before.receiver;
-      image = before.image;
-    }
+    adapter-raised (state_of c.self.inside) c.causes_of_take.result.0 c.raise.ensures c.self.invariant c.self.invariant.receiver
 
 pub returns-clause-answer : goal.returns-clause-answer
 returns-clause-answer c =

@@ -1,22 +1,12 @@
 use Rattle.std.proofs.Common.{sym, ◌∙◌, ap}
 use Rattle.adapter.specs.Steps.{after_phy_tick}
 use Rattle.adapter.specs.View.{state_of}
-use Rattle.adapter.proofs.StepStates.{alone-raised, tick-answers, tick-nothing, tick-state}
+use Rattle.adapter.proofs.StepStates.{adapter-raised, tick-answers, tick-nothing, tick-state}
 use Rattle.adapter.proofs.adapter.Adapter.tick_phy.Goals as goal
 
 pub invariant_of-self : goal.invariant_of-self
 invariant_of-self c =
-    let before = c.self.invariant in
-    record {
-      registers = record {
-        tables = before.registers.tables;
-        allocation = before.registers.allocation;
-        causes = alone-raised c.self.inside.file.causes c.raise.new.self c.causes_of_tick.result.0 c.raise.ensures before.registers.causes;
-        counters = before.registers.counters;
-      };
-      receiver = before.receiver;
-      image = before.image;
-    }
+    adapter-raised (state_of c.self.inside) c.causes_of_tick.result.0 c.raise.ensures c.self.invariant c.self.invariant.receiver
 
 pub returns-clause-state : goal.returns-clause-state
 returns-clause-state c =

@@ -1,4 +1,4 @@
-use Rattle.std.proofs.Common.{◌≡◌, ◌<◌, ◌∙◌, ℕ, List, length, map, slice_get, Some, ap, sym, subst, arith}
+use Rattle.std.proofs.Common.{◌∙◌, ℕ, List, length, map, slice_get, ap, sym, arith}
 use Rattle.tx_engine.specs.Transmitter.{Queued, Transmitter}
 use Rattle.tx_engine.specs.BufferLaws.{length-side_by_side, side_by_side-frames}
 use Rattle.tx_engine.proofs.engine.TxEngine.frame_at.Goals as goal

@@ -1,5 +1,5 @@
 use Rattle.adapter_plants.proofs.Numbers.{given_to_both}
-use Rattle.adapter_plants.proofs.memory_calls.give.Goals as goal
+use Rattle.adapter_plants.proofs.memory_calls.give_twice.Goals as goal
 
 pub returns-clause-free : goal.returns-clause-free
 returns-clause-free c =

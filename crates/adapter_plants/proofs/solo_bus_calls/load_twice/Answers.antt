@@ -4,7 +4,7 @@ use Rattle.bus.specs.declared.event.Access.TheVariants.{Loads}
 use Rattle.adapter.specs.World.{World}
 use Rattle.dma_memory.specs.HostMemory.{bytes_at}
 use Rattle.solo_bus.specs.SoloBuses.{Recounts, SoloState}
-use Rattle.adapter_plants.proofs.solo_bus_calls.load.Goals as goal
+use Rattle.adapter_plants.proofs.solo_bus_calls.load_twice.Goals as goal
 
 pub returns-clause-state : goal.returns-clause-state
 returns-clause-state c =

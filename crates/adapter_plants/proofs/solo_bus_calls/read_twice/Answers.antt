@@ -2,7 +2,7 @@ use Rattle.std.proofs.Common.{refl, sym, subst}
 use Rattle.adapter_plants.specs.OneAccess.{answer_one, state_one}
 use Rattle.bus.specs.declared.event.Access.TheVariants.{Reads}
 use Rattle.solo_bus.specs.SoloBuses.{Recounts, SoloState}
-use Rattle.adapter_plants.proofs.solo_bus_calls.read.Goals as goal
+use Rattle.adapter_plants.proofs.solo_bus_calls.read_twice.Goals as goal
 
 pub returns-clause-answer : goal.returns-clause-answer
 returns-clause-answer c =

@@ -1,5 +1,5 @@
 use Rattle.adapter_plants.proofs.Numbers.{taken_from_both}
-use Rattle.adapter_plants.proofs.memory_calls.take.Goals as goal
+use Rattle.adapter_plants.proofs.memory_calls.take_twice.Goals as goal
 
 pub returns-clause-free : goal.returns-clause-free
 returns-clause-free c same =

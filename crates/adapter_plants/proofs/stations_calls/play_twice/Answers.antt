@@ -4,7 +4,7 @@ use Rattle.adapter_plants.specs.OneStep.{plays_one}
 use Rattle.stations.specs.AtomicSteps.{PlaysTick}
 use Rattle.stations.specs.Stations.{StationState}
 use Rattle.stations.specs.ToldTicks.{tick_told}
-use Rattle.adapter_plants.proofs.stations_calls.play.Goals as goal
+use Rattle.adapter_plants.proofs.stations_calls.play_twice.Goals as goal
 
 pub returns-clause-stations : goal.returns-clause-stations
 returns-clause-stations g c =

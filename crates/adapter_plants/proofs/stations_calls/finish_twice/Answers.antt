@@ -1,6 +1,5 @@
-use Rattle.std.proofs.Common.{refl}
 use Rattle.adapter_plants.specs.OneEnd.{finished_one}
-use Rattle.adapter_plants.proofs.stations_calls.finish.Goals as goal
+use Rattle.adapter_plants.proofs.stations_calls.finish_twice.Goals as goal
 
 pub returns-clause-stations : goal.returns-clause-stations
 returns-clause-stations g c =
