@@ -16,6 +16,7 @@ use Rattle.bus.specs.Accesses.{RingWritesLeaveInterrupts}
 use Rattle.bus.specs.declared.event.Access.{Access}
 use Rattle.bus.specs.declared.event.Access.TheVariants.{Loads, Reads, Stores, Writes}
 use Rattle.bus.specs.Trails.{world_after_access}
+use Rattle.bus.proofs.RegisterWrites.{read-counts}
 
 pub at_offset : (P : Register → Type 0) (register : Register) → IsInTable register → P register
     → IfSome (register_at (row_of register).offset) P
@@ -124,18 +125,6 @@ found-causes : (found : Option Register) (state : AdapterState) → found ≢ So
 found-causes None state other = refl
 found-causes (Some register) state other = register-causes register state (λ is. other (ap (λ (r : Register). Some r) is))
 
-register-mask : (register : Register) (state : AdapterState) → (read_of register state).causes.mask ≡ state.causes.mask
-register-mask Icr state = refl
-register-mask Mpc state = refl
-register-mask Gprc state = refl
-register-mask Gptc state = refl
-register-mask Rnbc state = refl
-register-mask _ state = refl
-
-found-mask : (found : Option Register) (state : AdapterState) → (left_by_read found state).causes.mask ≡ state.causes.mask
-found-mask None state = refl
-found-mask (Some register) state = register-mask register state
-
 -- Any access.
 
 pub access_leaves_causes : (access : Access) (world : World) → LeavesCauses access
@@ -147,7 +136,7 @@ access_leaves_causes (Stores address bytes) world leaves = refl
 
 pub access_leaves_mask : (access : Access) (world : World) → LeavesMask access
     → (world_after_access access world).adapter.causes.mask ≡ world.adapter.causes.mask
-access_leaves_mask (Reads offset value) world leaves = found-mask (register_at offset) world.adapter
+access_leaves_mask (Reads offset value) world leaves = ap (λ (s : AdapterState). s.causes.mask) (read-counts offset world.adapter)
 access_leaves_mask (Writes offset value) world leaves = written-mask (register_at offset) value world.adapter leaves
 access_leaves_mask (Loads address size) world leaves = refl
 access_leaves_mask (Stores address bytes) world leaves = refl

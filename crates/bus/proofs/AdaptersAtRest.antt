@@ -27,7 +27,7 @@ use Rattle.bus.specs.IdleRings.{IsIdle, IsOfRing, moved_bytes}
 use Rattle.bus.specs.declared.event.Access.TheVariants.{Loads, Reads, Stores, Writes}
 use Rattle.bus.specs.AdaptersAtRest.{AccessesKeepRest, HappeningsKeepRest, IsAtRest, IsElsewhere, RestAfterReset, RestIsIdle}
 use Rattle.bus.proofs.IdleRings.{happenings_keep_idle, idle_after_reset, idle_rings_are_sound, offered-none, other_writes_keep_idle}
-use Rattle.bus.proofs.IdleRings.{outstanding-none, reads_keep_idle, stores_keep_idle}
+use Rattle.bus.proofs.IdleRings.{outstanding-none, reads_keep_idle, stores_keep_idle, none-to_send}
 use Rattle.bus.proofs.Lists.{all-none, append-empty}
 use Rattle.bus.proofs.RegisterWrites.{row-leaves}
 
@@ -66,16 +66,8 @@ none-held world rest =
     ap (λ (slots : List ℕ). map (piece_in world.memory) (take_while (is_done world.memory) slots)) (outstanding-none ring) in
     ap (λ (pieces : List Piece). held world.memory pieces world.adapter.receiver) none ∙ ap (held world.memory []) rest.receiver
 
-none-queued : (memory : List ℕ) (ring : Ring) (buffer : List Queued) → buffer ≡ [] → ring.head ≡ ring.tail
-    → to_send memory ring true buffer ≡ []
-unfolding to_send
-none-queued memory ring buffer none same =
-    let behind = map (λ (slot : ℕ). frame_at true memory (address_of ring slot)) (offered_places ring) in
-    ap (λ (queue : List Queued). map (λ (queued : Queued). queued.frame) queue ++ behind) none
-    ∙ ap (map (λ (slot : ℕ). frame_at true memory (address_of ring slot))) (places-none ring same)
-
-none-to-send : (world : World) → IsIdle world → frames_to_send world ≡ []
-none-to-send world idle = none-queued world.memory (transmit_ring world) world.adapter.transmitter.buffer idle.buffer idle.rings.transmit
+none-sent : (world : World) → IsIdle world → frames_to_send world ≡ []
+none-sent world idle = none-to_send world.memory (transmit_ring world) world.adapter.transmitter.buffer idle.buffer idle.rings.transmit
 
 new-again : (receiver : Receiver) → receiver.buffer ≡ [] → receiver.moved ≡ 0 → receiver.work ≡ None → receiver.stopped ≡ false
     → receiver ≡ new_receiver
@@ -101,7 +93,7 @@ happenings_keep_rest a b past happens is rest =
     let receiver = b.adapter.receiver in
     let buffer_none = (append-empty (frames_of (in_slots b.memory (finished_pieces o b) receiver)) receiver.buffer empty).1 in
     let runs = between.runs (runs-of a rest) in
-    let sent = append-empty past.put (frames_to_send b) (between.transmit.sends ∙ none-to-send a idle) in (
+    let sent = append-empty past.put (frames_to_send b) (between.transmit.sends ∙ none-sent a idle) in (
       record {
         rings = after.rings;
         receiver = new-again receiver buffer_none (none-moved receiver is.receiver.begun buffer_none) after.work runs.receiver_runs;

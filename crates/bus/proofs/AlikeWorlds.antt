@@ -1,5 +1,5 @@
 -- Worlds that agree in everything that a driver knows.
-use Rattle.std.proofs.Common.{Bool, ◌≡◌, ◌≤◌, ℕ, List, length, map, sym, ap, subst, ◌∙◌}
+use Rattle.std.proofs.Common.{Bool, ◌≡◌, ◌≤◌, ℕ, List, length, map, refl, sym, ap, subst, ◌∙◌}
 use Rattle.registers.specs.Places.{rctl_en}
 use Rattle.std.specs.List.{All}
 use Rattle.registers.specs.Bits.{field, HasBit}
@@ -10,12 +10,13 @@ use Rattle.tx_engine.specs.Transmitter.{Queued}
 use Rattle.descriptors.specs.declared.ring.Ring.{Ring}
 use Rattle.adapter.specs.Rings.{ring_of}
 use Rattle.adapter.specs.Slots.{outstanding}
+use Rattle.adapter.specs.State.{AdapterState}
 use Rattle.adapter.specs.World.{World, receive_ring, transmit_ring}
 use Rattle.adapter.specs.declared.ring.RingRegisters.{RingRegisters}
 use Rattle.bus.specs.DriversStores.{LeavesFrames}
 use Rattle.adapter.specs.KnownRing.{KnowsRing}
 use Rattle.bus.specs.DriverState.{DriverState, receive_tail}
-use Rattle.bus.specs.ReadyDrivers.{AreStored, ReadyWith, Stands, TransmitIs, transmit_side}
+use Rattle.bus.specs.ReadyDrivers.{AreStored, ReadyWith, Stands, TransmitIs, transmit_side, MeetsLaw, IsDriver}
 
 -- Memory, both rings, RCTL, TCTL and the transmit packet buffer are the same.
 pub record SameParts (a b : World) : Type 0 where
@@ -25,6 +26,50 @@ pub record SameParts (a b : World) : Type 0 where
   pub receive_control : b.adapter.filter.rctl ≡ a.adapter.filter.rctl
   pub transmit_control : b.adapter.transmit_control ≡ a.adapter.transmit_control
   pub buffer : b.adapter.transmitter.buffer ≡ a.adapter.transmitter.buffer
+
+-- The world with all registers of the adapter `other`, except those of the rings.
+abbrev pub with_registers_of : AdapterState → World → World
+with_registers_of other world = record world {
+  adapter = record other {
+    receive_ring = world.adapter.receive_ring;
+    transmit_ring = world.adapter.transmit_ring;
+    receiver = world.adapter.receiver;
+    transmitter = world.adapter.transmitter;
+  };
+}
+
+-- The same, except RCTL and TCTL.
+abbrev pub with_others_of : AdapterState → World → World
+with_others_of other world = with_registers_of
+    (record other {
+      filter = record other.filter { rctl = world.adapter.filter.rctl };
+      transmit_control = world.adapter.transmit_control;
+    }) world
+
+pub same-others : (other : AdapterState) (world : World) → SameParts world (with_others_of other world)
+same-others other world = record
+    { memory = refl; receives = refl; transmits = refl; receive_control = refl; transmit_control = refl; buffer = refl }
+
+-- A driver that is ready remains ready after other registers are set, if the conditions of the law and of its transmit side hold then.
+pub ready-set : {up up' : Bool} (driver : DriverState) (world : World) (other : AdapterState) → ReadyWith up driver world
+    → MeetsLaw driver.oldest_receive driver.oldest_transmit (with_registers_of other world)
+    → TransmitIs up' driver.layout driver.oldest_transmit driver.sending (transmit_side (with_registers_of other world))
+    → ReadyWith up' driver (with_registers_of other world)
+ready-set driver world other ready law transmit = record {
+  driver_is = ready.driver_is;
+  law = law;
+  lies = ready.lies;
+  receive = ready.receive;
+  transmit = transmit;
+  slots = record { names = ready.slots.names; stored = ready.slots.stored };
+  stand = ready.stand;
+}
+
+-- The driver's own facts depend neither on its transmit slots nor on its sum of missed frames.
+pub same-driver : (driver : DriverState) (oldest sending missed : ℕ) (exact : Bool) → IsDriver driver
+    → IsDriver (record driver { oldest_transmit = oldest; sending = sending; missed = missed; exact = exact })
+same-driver driver oldest sending missed exact is = record
+    { oldest_slot = is.oldest_slot; room = is.room; one_owner = is.one_owner; addresses = is.addresses }
 
 transmit-left : (up : Bool) (driver : DriverState) (a b : World) → SameParts a b
     → TransmitIs up driver.layout driver.oldest_transmit driver.sending (transmit_side a)

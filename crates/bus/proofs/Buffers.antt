@@ -7,7 +7,7 @@ use Rattle.dma_memory.specs.Areas.{AreApart, Area, area_at, bytes_in}
 use Rattle.dma_memory.specs.AreaLaws.{apart-inside}
 use Rattle.dma_memory.specs.HostMemory.{LiesIn, bytes_at}
 use Rattle.dma_memory.specs.Layout.{Counts, ReceiveBuffer, ReceiveRing, TransmitBuffer, TransmitRing, area_of, receive_buffer_bytes}
-use Rattle.dma_memory.specs.LayoutLaws.{begins, place-below_size, places-apart}
+use Rattle.dma_memory.specs.LayoutLaws.{layout_begins, place-below_size, places-apart}
 use Rattle.dma_memory.specs.Owners.{copies}
 use Rattle.dma_memory.specs.OwnersLaws.{copies-cons, copies-itself}
 use Rattle.descriptors.specs.declared.ring.Ring.{Ring}
@@ -57,7 +57,7 @@ transmit-away false counts p sending world number known side =
     let area = area_of counts (ReceiveBuffer number) in
     let none : outstanding (transmit_ring world) p
     ≡ [] = subst (λ (oldest : ℕ). outstanding (transmit_ring world) oldest ≡ []) side.last (outstanding-none (transmit_ring world)) in
-    let behind = begins counts in
+    let behind = layout_begins counts in
     let before : (transmit_ring world).base + 16 * count_of (transmit_ring world) ≤ area.address = omega
     (arith, side.ends, behind.behind_rings) in
     record {

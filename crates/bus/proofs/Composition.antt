@@ -1,6 +1,6 @@
 -- What may happen in two consecutive intervals may happen in the joined interval, and an interval may be empty.
 use Rattle.std.proofs.Common.{◌≡◌, ◌⊎◌, ◌+◌, ℕ, zero, suc, List, [], ◌++◌, refl, sym, ap, subst, ◌∙◌, inl, inr, append_assoc}
-use Rattle.std.proofs.Common.{arith, length-append}
+use Rattle.std.proofs.Common.{arith, length, length-append}
 use Rattle.std.proofs.lemmas.List.{append-nil}
 use Rattle.std.specs.Fn.{iterate}
 use Rattle.std.specs.List.{All}
@@ -10,7 +10,7 @@ use Rattle.registers.specs.Places.{rxt0}
 use Rattle.rx_engine.specs.Pieces.{IsPart, Piece}
 use Rattle.rx_engine.specs.Registers.{FilterRegisters}
 use Rattle.adapter.specs.declared.ring.RingRegisters.{RingRegisters}
-use Rattle.adapter.specs.Slots.{finished, written_back}
+use Rattle.adapter.specs.Slots.{finished, written_back_slots}
 use Rattle.adapter.specs.HostFrames.{finished_pieces, frames_held, frames_to_send}
 use Rattle.adapter.specs.Conditions.{Sound}
 use Rattle.bus.specs.Law.{Between, Happens, OnlyHeadMoves, PutsInOrder, Steady, StoresInOrder, management_of, phy_ticked}
@@ -21,6 +21,8 @@ use Rattle.descriptors.specs.Ring.{HasValidIndices}
 use Rattle.adapter.specs.Rings.{ring_of}
 use Rattle.std.proofs.lemmas.List.Elements.{All-append}
 use Rattle.bus.proofs.Lists.{all-none}
+use Rattle.bus.proofs.EngineRegisters.{no-arrivals, steady_moves}
+use Rattle.bus.specs.declared.event.Access.{Access}
 
 pub iterate-add : {A : Type 0} (h : A → A) (m n : ℕ) (x : A) → iterate h (m + n) x ≡ iterate h n (iterate h m x)
 iterate-add h zero n x = let none : 0 + n ≡ n = omega arith in ap (λ (k : ℕ). iterate h k x) none
@@ -77,24 +79,6 @@ steady_trans a b c first later one two = record {
   };
 }
 
-pub steady_refl : (a : World) → Steady a a nothing
-steady_refl a = record {
-  size = refl;
-  image = refl;
-  registers = record {
-    mask = refl;
-    filter = refl;
-    device_control = refl;
-    transmit_control = refl;
-    allocation = refl;
-  };
-  causes = λ place set. set;
-  receive_ring = record { others = refl; head = inl refl };
-  transmit_ring = record { others = refl; head = inl refl };
-  arrivals = record { missed = omega arith; off = λ off. (refl, refl); legal = all-none IsLegal };
-  ticks = record { eerd = refl; management = refl };
-}
-
 -- The facts about frames (`Between`).
 
 -- If a frame ends in the new pieces of either interval, RXT0 is recorded after both, because recorded causes remain recorded.
@@ -112,7 +96,7 @@ puts_trans p a b c first later one two = record {
   sends = append_assoc first.put later.put (frames_to_send c) ∙ ap (λ (behind : List (List ℕ)). first.put ++ behind) two.sends ∙ one.sends;
   reported = one.reported ++ two.reported;
   written = two.written ∙ ap (λ (slots : List ℕ). slots ++ two.reported) one.written
-      ∙ append_assoc (written_back p a) one.reported two.reported;
+      ∙ append_assoc (written_back_slots p a) one.reported two.reported;
   each_reported = omega
       (arith, one.each_reported, two.each_reported, length-append one.reported two.reported, length-append first.put later.put);
 }
@@ -143,28 +127,26 @@ between_trans o p a b c first later earlier steady one two = record {
   sound = two.sound;
 }
 
-pub between_refl : (o p : ℕ) (a : World) → Sound o p a → Between o p a a nothing
-between_refl o p a sound = record {
-  transmit = record {
-    sends = refl;
-    reported = [];
-    written = sym (append-nil (written_back p a));
-    each_reported = refl;
-  };
-  receive = record {
-    holds = sym (append-nil (frames_held o a));
-    more = [];
-    done = sym (append-nil (finished o a));
-    pieces = [];
-    grown = sym (append-nil (finished_pieces o a));
-    told = inl (all-none IsPart);
-  };
-  fits = λ size fit. fit;
-  whole = λ size are. are;
-  untouched = λ area apart. refl;
-  foreign = λ area apart. apart;
-  runs = λ can. can;
-  sound = sound;
+-- No frame is put on the wire, and no slot is written back.
+pub puts-none : (p : ℕ) (a b : World) (past : Past) → past.put ≡ [] → frames_to_send b ≡ frames_to_send a
+    → written_back_slots p b ≡ written_back_slots p a → PutsInOrder p a b past
+puts-none p a b past none same written = record {
+  sends = ap (λ (put : List (List ℕ)). put ++ frames_to_send b) none ∙ same;
+  reported = [];
+  written = written ∙ sym (append-nil (written_back_slots p a));
+  each_reported = sym (ap length none);
+}
+
+-- No receive slot is finished.
+pub finishes-none : (o : ℕ) (a b : World) (past : Past) → frames_held o b ≡ frames_held o a ++ past.stored
+    → finished o b ≡ finished o a → finished_pieces o b ≡ finished_pieces o a → StoresInOrder o a b past
+finishes-none o a b past holds done grown = record {
+  holds = holds;
+  more = [];
+  done = done ∙ sym (append-nil (finished o a));
+  pieces = [];
+  grown = grown ∙ sym (append-nil (finished_pieces o a));
+  told = inl (all-none IsPart);
 }
 
 -- Both facts together (`Happens`).
@@ -177,5 +159,24 @@ happens_trans a b c first later one two = record {
       between_trans o p a b c first later one.steady two.steady before (two.between o p before.sound);
 }
 
+-- Only accesses happened.
+pub happens_only : (a : World) (accesses : List Access) → Happens a a (record nothing { accesses = accesses })
+happens_only a accesses =
+    let past : Past = record nothing { accesses = accesses } in
+    record {
+      steady = steady_moves a a past refl (λ place set. set) (inl refl) (inl refl) (no-arrivals a a past refl refl refl)
+          (record { eerd = refl; management = refl });
+      between = λ o p sound. record {
+        transmit = puts-none p a a past refl refl refl;
+        receive = finishes-none o a a past (sym (append-nil (frames_held o a))) refl refl;
+        fits = λ size fit. fit;
+        whole = λ size are. are;
+        untouched = λ area apart. refl;
+        foreign = λ area apart. apart;
+        runs = λ can. can;
+        sound = sound;
+      };
+    }
+
 pub happens_none : (a : World) → Happens a a nothing
-happens_none a = record { steady = steady_refl a; between = λ o p sound. between_refl o p a sound }
+happens_none a = happens_only a []

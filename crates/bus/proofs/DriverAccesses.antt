@@ -3,7 +3,7 @@ use Rattle.std.proofs.Common.{◌≡◌, Bool, ◌++◌, ◌∷◌, [], ℕ, Lis
 use Rattle.std.specs.List.{All}
 use Rattle.adapter.specs.World.{World, world_after_read, world_after_store, world_after_write}
 use Rattle.bus.specs.Keeping.{view_of}
-use Rattle.bus.specs.Law.{Acts}
+use Rattle.bus.specs.Law.{Acts, Happens}
 use Rattle.bus.specs.Link.{HasLink, KeepsLink, LeavesPhy}
 use Rattle.bus.specs.Pasts.{Past, joined, nothing}
 use Rattle.bus.specs.Settings.{AreSet, settings_after_all, settings_of, writes_in}
@@ -14,7 +14,7 @@ use Rattle.bus.specs.declared.event.Access.{Access}
 use Rattle.bus.proofs.Steps.{goes-happens, goes-stays}
 use Rattle.bus.proofs.Intervals.{goes_join, joined-nothing}
 use Rattle.bus.specs.DriverState.{DriverState}
-use Rattle.bus.specs.Calls.{FollowsWrites, GoesTo, Ran, at, call_did, driver_did, driver_in, only}
+use Rattle.bus.specs.Calls.{FollowsWrites, GoesTo, Ran, at, call_did, driver_did, driver_in, only, Did, Moment}
 use Rattle.bus.specs.ReadyDrivers.{ReadyWith}
 use Rattle.bus.specs.declared.bus.Bus.{Ghosts}
 
@@ -98,6 +98,40 @@ follows-acts bus old new access effect acts sets = record {
   link = access-link bus old new access effect acts sets;
 }
 
+-- After the interval, this statement holds.
+pub record RanWith {B : Type 0} (bus : Ghosts B) (up : Bool) (did : Did) (old new : Moment B) (Behind : World → Type 0) : Type 0 where
+  pub ran : Ran bus up did old new
+  pub behind : Behind (bus.world new.bus)
+
+-- An interval with one access, which may set up the transmit side. The statement `Behind` follows from the statement `Before`, which holds
+-- before the access, and which no step and no delivery changes.
+pub run-with : {first up : Bool} {B : Type 0} (bus : Ghosts B) (old new : B)
+    (access : Access) (effect : World → World → Type 0) (d d' : DriverState) (taken accepted : List (List ℕ))
+    (Before Behind : World → Type 0)
+    → Acts (view_of bus) old new access effect → SetsBy access effect (bus.world new)
+    → ReadyWith first d (bus.world old)
+    → Before (bus.world old)
+    → ((a b : World) (past : Past) → ReadyWith first d a → Happens a b past → Before a → Before b)
+    → ((middle : World) → ReadyWith first d middle → Before middle → effect middle (bus.world new)
+    → GoesTo up (driver_in d middle) (driver_in d' (bus.world new)) (driver_did taken accepted) nothing × Behind (bus.world new))
+    → RanWith bus up (call_did (access ∷ []) taken accepted) (at old d) (at new d') Behind
+run-with {first} {up} bus old new access effect d d' taken accepted Before Behind acts sets ready before stays step =
+    let one = goes-happens d (bus.world old) acts.middle acts.past ready acts.before in
+    let two = step acts.middle one.flows.ready (stays (bus.world old) acts.middle acts.past ready acts.before before) acts.effect_is in
+    record {
+      ran = record {
+        past = acts.past;
+        reports = acts.told;
+        only = acts.only;
+        goes =
+            subst (GoesTo up (driver_in d (bus.world old)) (driver_in d' (bus.world new)) (driver_did taken accepted))
+            (joined-nothing acts.past)
+            (goes_join d d d' (bus.world old) acts.middle (bus.world new) [] taken [] accepted acts.past nothing one two.0);
+        follows = follows-acts bus old new access effect acts sets;
+      };
+      behind = two.1;
+    }
+
 -- Let an access be an interval from each world in which the driver is ready. Then the access is also an interval together with what happens
 -- before it.
 pub ran_by-acts : {up : Bool} {B : Type 0} (bus : Ghosts B) (old new : B) (access : Access) (effect : World → World → Type 0)
@@ -107,19 +141,9 @@ pub ran_by-acts : {up : Bool} {B : Type 0} (bus : Ghosts B) (old new : B) (acces
     → ((middle : World) → ReadyWith up d middle → effect middle (bus.world new)
     → GoesTo up (driver_in d middle) (driver_in d' (bus.world new)) (driver_did taken accepted) nothing)
     → Ran bus up (call_did (access ∷ []) taken accepted) (at old d) (at new d')
-ran_by-acts {up} bus old new access effect d d' taken accepted acts sets ready step =
-    let first = goes-happens d (bus.world old) acts.middle acts.past ready acts.before in
-    let later = step acts.middle first.flows.ready acts.effect_is in
-    record {
-      past = acts.past;
-      reports = acts.told;
-      only = acts.only;
-      goes =
-          subst (GoesTo up (driver_in d (bus.world old)) (driver_in d' (bus.world new)) (driver_did taken accepted))
-          (joined-nothing acts.past)
-          (goes_join d d d' (bus.world old) acts.middle (bus.world new) [] taken [] accepted acts.past nothing first later);
-      follows = follows-acts bus old new access effect acts sets;
-    }
+ran_by-acts bus old new access effect d d' taken accepted acts sets ready step =
+    (run-with bus old new access effect d d' taken accepted (λ world. Unit {0}) (λ world. Unit {0}) acts sets ready tt
+    (λ a b past set happens u. tt) (λ middle set u does. (step middle set does, tt))).ran
 
 pub follows-join : (a b c : World) (first later : Past) → FollowsWrites a b first → FollowsWrites b c later
     → FollowsWrites a c (joined first later)

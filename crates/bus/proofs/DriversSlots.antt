@@ -10,9 +10,9 @@ use Rattle.dma_memory.specs.HostMemory.{bytes_at}
 use Rattle.descriptors.specs.RxDesc.{rx_desc_of}
 use Rattle.descriptors.specs.TxDesc.{tx_desc_of}
 use Rattle.descriptors.specs.TxFields.{command_of}
-use Rattle.descriptors.specs.declared.tx_command.TxCommand.{TxCommand}
+use Rattle.descriptors.specs.declared.flags.TxCommand.{TxCommand}
 use Rattle.descriptors.specs.declared.tx_desc.TxDesc.{TxDesc}
-use Rattle.descriptors.specs.declared.tx_status.TxStatus.{TxStatus}
+use Rattle.descriptors.specs.declared.flags.TxStatus.{TxStatus}
 use Rattle.std.proofs.lemmas.Bool.{cases_lt}
 use Rattle.dma_memory.specs.Areas.{AreApart, Area, IsInside, bytes_in, descriptor_area}
 use Rattle.dma_memory.specs.AreaLaws.{apart-inside, apart-sym, inside-apart}
@@ -21,7 +21,7 @@ use Rattle.descriptors.specs.Ring.{address_of, count_of}
 use Rattle.adapter.specs.Rings.{ring_of}
 use Rattle.adapter.specs.declared.ring.RingRegisters.{RingRegisters}
 use Rattle.rx_engine.specs.Descriptors as receive
-use Rattle.adapter.specs.Slots.{buffered, finished, in_work, offered, outstanding, written_back}
+use Rattle.adapter.specs.Slots.{buffered, finished, slots_in_work, offered, outstanding, written_back_slots}
 use Rattle.adapter.specs.HostAreas.{data_of, frame_areas, IsForeign, offered_buffers, reported_half, ring_area, status_byte, work_areas}
 use Rattle.adapter.specs.HostFrames.{named}
 use Rattle.adapter.specs.Conditions.{Sound}
@@ -42,7 +42,7 @@ pub record Parts (o : ℕ) (a : World) : Type 0 where
   pub rings : AreApart (ring_area (receive_ring a)) (ring_area (transmit_ring a))
   pub receive_rest : All (AreApart (ring_area (receive_ring a))) (frame_areas o a)
   pub transmit_rest : All (AreApart (ring_area (transmit_ring a))) (frame_areas o a)
-  pub halves : All (λ area. IsInside area (ring_area (receive_ring a))) (map reported_half (in_work a ++ offered (receive_ring a)))
+  pub halves : All (λ area. IsInside area (ring_area (receive_ring a))) (map reported_half (slots_in_work a ++ offered (receive_ring a)))
   pub bytes : All (λ area. IsInside area (ring_area (transmit_ring a))) (map status_byte (buffered a ++ offered (transmit_ring a)))
 
 half-inside : (r : Area) (d : ℕ) → IsInside (descriptor_area d) r → IsInside (reported_half d) r
@@ -65,7 +65,7 @@ parts-of o p a sound =
     let t = ring_area (transmit_ring a) in
     let Receive : ℕ → Type 0 = λ d. IsInside (descriptor_area d) r in
     let Transmit : ℕ → Type 0 = λ d. IsInside (descriptor_area d) t in
-    let received = dealt-right a.memory (receive_ring a) o (in_work a) Receive sound.receive_slots
+    let received = dealt-right a.memory (receive_ring a) o (slots_in_work a) Receive sound.receive_slots
     (outstanding-inside (receive_ring a) o sound.receive_slots.slot) in
     let sent = dealt-right a.memory (transmit_ring a) p (buffered a) Transmit sound.transmit_slots
     (outstanding-inside (transmit_ring a) p sound.transmit_slots.slot) in
@@ -74,7 +74,7 @@ parts-of o p a sound =
       rings = all-head (AreApart r) t (frame_areas o a) from_r;
       receive_rest = all-tail (AreApart r) t (frame_areas o a) from_r;
       transmit_rest = pairs-head AreApart t (frame_areas o a) (pairs-tail AreApart r (t ∷ frame_areas o a) sound.separate.apart);
-      halves = All-map (λ area. IsInside area r) reported_half (in_work a ++ offered (receive_ring a))
+      halves = All-map (λ area. IsInside area r) reported_half (slots_in_work a ++ offered (receive_ring a))
           (λ k d below. half-inside r _ (received k d below));
       bytes = All-map (λ area. IsInside area t) status_byte (buffered a ++ offered (transmit_ring a))
           (λ k d below. byte-inside t _ (sent k d below));
@@ -89,7 +89,7 @@ last-buffers P o a all =
     (all-right P (map (data_of a.memory) (offered (transmit_ring a))) (names ++ (work ++ offered_buffers a)) all))
 
 foreign-in_ring : (o p : ℕ) (a : World) (area : Area) → Sound o p a → IsInside area (ring_area (receive_ring a))
-    → All (λ d. AreApart area (reported_half d)) (in_work a ++ offered (receive_ring a)) → IsForeign a area
+    → All (λ d. AreApart area (reported_half d)) (slots_in_work a ++ offered (receive_ring a)) → IsForeign a area
 foreign-in_ring o p a area sound inside apart =
     let parts = parts-of o p a sound in
     let r = ring_area (receive_ring a) in
@@ -98,9 +98,9 @@ foreign-in_ring o p a area sound inside apart =
     λ k d below. inside-apart area _ t (parts.bytes k d below) (apart-inside area r t inside parts.rings) in
     let buffers : All (AreApart area) (offered_buffers a) =
     λ k d below. apart-inside area r _ inside (last-buffers (AreApart r) o a parts.receive_rest k d below) in
-    All-append (AreApart area) (map reported_half (in_work a ++ offered (receive_ring a)))
+    All-append (AreApart area) (map reported_half (slots_in_work a ++ offered (receive_ring a)))
     (map status_byte (buffered a ++ offered (transmit_ring a)) ++ offered_buffers a)
-    (All-map (AreApart area) reported_half (in_work a ++ offered (receive_ring a)) apart)
+    (All-map (AreApart area) reported_half (slots_in_work a ++ offered (receive_ring a)) apart)
     (All-append (AreApart area) (map status_byte (buffered a ++ offered (transmit_ring a))) (offered_buffers a) bytes buffers)
 
 foreign-finished : (o p : ℕ) (a : World) → Sound o p a → All (λ d. IsForeign a (descriptor_area d)) (finished o a)
@@ -108,7 +108,7 @@ foreign-finished o p a sound =
     let ring = receive_ring a in
     let slots = sound.receive_slots in
     let R : ℕ → ℕ → Type 0 = λ x y. AreApart (descriptor_area x) (descriptor_area y) in
-    let behind = in_work a ++ offered ring in
+    let behind = slots_in_work a ++ offered ring in
     let pairs : AllPairs R (finished o a ++ behind) = subst (λ (list : List ℕ). AllPairs R list) slots.classes
     (outstanding-apart ring o slots.slot) in
     let across = pairs-across R (finished o a) behind pairs in
@@ -126,7 +126,7 @@ foreign-named o p a sound =
     let payload = map (data_of a.memory) (offered (transmit_ring a)) in
     let names = map (named a.memory) (finished o a) in
     let work = work_areas a.memory a.adapter.receiver.work in
-    let halves = map reported_half (in_work a ++ offered (receive_ring a)) in
+    let halves = map reported_half (slots_in_work a ++ offered (receive_ring a)) in
     let bytes = map status_byte (buffered a ++ offered (transmit_ring a)) in
     let named_r = all-left (AreApart r) names (work ++ offered_buffers a)
     (all-right (AreApart r) payload (names ++ (work ++ offered_buffers a)) parts.receive_rest) in
@@ -149,26 +149,26 @@ foreign-in_transmit o p a area sound inside apart =
     let parts = parts-of o p a sound in
     let r = ring_area (receive_ring a) in
     let t = ring_area (transmit_ring a) in
-    let halves : All (AreApart area) (map reported_half (in_work a ++ offered (receive_ring a))) =
+    let halves : All (AreApart area) (map reported_half (slots_in_work a ++ offered (receive_ring a))) =
     λ k d below. inside-apart area _ r (parts.halves k d below) (apart-inside area t r inside (apart-sym r t parts.rings)) in
     let buffers : All (AreApart area) (offered_buffers a) =
     λ k d below. apart-inside area t _ inside (last-buffers (AreApart t) o a parts.transmit_rest k d below) in
-    All-append (AreApart area) (map reported_half (in_work a ++ offered (receive_ring a)))
+    All-append (AreApart area) (map reported_half (slots_in_work a ++ offered (receive_ring a)))
     (map status_byte (buffered a ++ offered (transmit_ring a)) ++ offered_buffers a)
     halves
     (All-append (AreApart area) (map status_byte (buffered a ++ offered (transmit_ring a))) (offered_buffers a)
     (All-map (AreApart area) status_byte (buffered a ++ offered (transmit_ring a)) apart)
     buffers)
 
-foreign-written : (o p : ℕ) (a : World) → Sound o p a → All (λ d. IsForeign a (descriptor_area d)) (written_back p a)
+foreign-written : (o p : ℕ) (a : World) → Sound o p a → All (λ d. IsForeign a (descriptor_area d)) (written_back_slots p a)
 foreign-written o p a sound =
     let ring = transmit_ring a in
     let slots = sound.transmit_slots in
     let R : ℕ → ℕ → Type 0 = λ x y. AreApart (descriptor_area x) (descriptor_area y) in
     let behind = buffered a ++ offered ring in
-    let pairs : AllPairs R (written_back p a ++ behind) = subst (λ (list : List ℕ). AllPairs R list) slots.classes
+    let pairs : AllPairs R (written_back_slots p a ++ behind) = subst (λ (list : List ℕ). AllPairs R list) slots.classes
     (outstanding-apart ring p slots.slot) in
-    let across = pairs-across R (written_back p a) behind pairs in
+    let across = pairs-across R (written_back_slots p a) behind pairs in
     let inside = dealt-left a.memory ring p (buffered a) (λ d. IsInside (descriptor_area d) (ring_area ring)) slots
     (outstanding-inside ring p slots.slot) in
     λ k d below. foreign-in_transmit o p a _ sound (inside k d below) (λ j e within. byte-apart _ _ (across k d below j e within))
@@ -191,7 +191,7 @@ foreign-receive_slot o p a slot sound own =
     let Apart : ℕ → Type 0 = λ d. AreApart (descriptor_area at) (reported_half d) in
     let apart = own-apart ring o slot sound.receive_slots.slot own in
     foreign-in_ring o p a (descriptor_area at) sound (slot-inside ring.base (count_of ring) slot 16 own.below (omega arith))
-    (dealt-right a.memory ring o (in_work a) Apart sound.receive_slots (λ k d within. half-apart at _ (apart k d within)))
+    (dealt-right a.memory ring o (slots_in_work a) Apart sound.receive_slots (λ k d within. half-apart at _ (apart k d within)))
 
 front-apart : (base slot other : ℕ) → AreApart (record { address = base + 16 * slot; size = 8 }) (reported_half (base + 16 * other))
 front-apart base slot other = ⊎_elim (λ (less : other < slot). inr (omega (arith, less)))
@@ -204,7 +204,7 @@ foreign-address o p a slot sound below =
     let area : Area = record { address = address_of ring slot; size = 8 } in
     let Apart : ℕ → Type 0 = λ d. AreApart area (reported_half d) in
     foreign-in_ring o p a area sound (slot-inside ring.base (count_of ring) slot 8 below (omega arith))
-    (dealt-right a.memory ring o (in_work a) Apart sound.receive_slots
+    (dealt-right a.memory ring o (slots_in_work a) Apart sound.receive_slots
     (each-outstanding ring o Apart sound.receive_slots.slot (λ other within. front-apart ring.base slot other)))
 
 address-front : (memory : List ℕ) (at : ℕ) → receive.named_address memory at ≡ little_number 8 (bytes_at memory at 8)

@@ -7,7 +7,7 @@ use Rattle.dma_memory.specs.HostMemory.{LiesIn, with_bytes}
 use Rattle.dma_memory.specs.Laws.{length-with_bytes}
 use Rattle.tx_engine.specs.Transmitter.{Queued}
 use Rattle.adapter.specs.HostAreas.{areas, buffer_of, data_of, offered_buffers, receives, reported_half, ring_area, status_byte, work_areas}
-use Rattle.adapter.specs.Slots.{buffered, finished, in_work, offered, outstanding}
+use Rattle.adapter.specs.Slots.{buffered, finished, slots_in_work, offered, outstanding}
 use Rattle.adapter.specs.HostFrames.{named}
 use Rattle.adapter.specs.Conditions.{Reports, Sound}
 use Rattle.bus.specs.DriversStores.{IsDriversArea, DriversStoresLeaveForeign, DriversStoresLeaveFrames}
@@ -16,7 +16,7 @@ use Rattle.bus.proofs.Areas.{separate-same}
 use Rattle.bus.proofs.WrittenAreas.{IsSame, buffers-kept, receive_kept_by_slots, same-apart, transmit_kept_by_slots}
 use Rattle.bus.proofs.Lists.{all-left, all-right}
 use Rattle.bus.proofs.TxPutSteps.{areas-same}
-use Rattle.bus.proofs.RunningEngines.{transmittable-kept}
+use Rattle.bus.proofs.RunningEngines.{still_run, transmittable-kept}
 use Rattle.bus.proofs.Rings.{dealt-right}
 
 buffers-stay : (o p : ℕ) (a : World) (address : ℕ) (bytes : List ℕ) → Sound o p a → LiesIn a.memory address (length bytes)
@@ -30,8 +30,8 @@ buffers-stay o p a address bytes sound lies own =
     lies in
     let received : All (IsSame memory memory') (outstanding ring o) = same-apart memory memory'
     (record { address = address; size = length bytes }) (outstanding ring o) keeps own.received in
-    let same : All (IsSame memory memory') (offered ring) = all-right (IsSame memory memory') (in_work a) (offered ring)
-    (dealt-right memory ring o (in_work a) (IsSame memory memory') sound.receive_slots received) in
+    let same : All (IsSame memory memory') (offered ring) = all-right (IsSame memory memory') (slots_in_work a) (offered ring)
+    (dealt-right memory ring o (slots_in_work a) (IsSame memory memory') sound.receive_slots received) in
     ap (λ (there : List Area). cond (receives a) there []) (buffers-kept memory memory' (buffer_of a 0).size (offered ring) same)
 
 pub drivers_stores_leave_frames : DriversStoresLeaveFrames
@@ -80,18 +80,12 @@ drivers_stores_leave_frames o p a address bytes sound lies own =
         whole = λ size sized. receiving.whole size;
         fits = λ size large. receiving.fits size;
       };
-      runs = λ can. record {
-        receiver_runs = can.receiver_runs;
-        transmitter_runs = can.transmitter_runs;
-        receive_indices = can.receive_indices;
-        transmit_indices = can.transmit_indices;
-        not_extended = can.not_extended;
-        transmittable = transmittable-kept memory memory' (offered (transmit_ring a)) size transmitting.same_offered can.transmittable;
-      };
+      runs = λ can. still_run a b can.receive_indices can.not_extended
+          (transmittable-kept memory memory' (offered (transmit_ring a)) size transmitting.same_offered can.transmittable) can;
     }
 
 pub drivers_stores_leave_foreign : DriversStoresLeaveForeign
 drivers_stores_leave_foreign o p a address bytes sound lies own area foreign =
-    subst (λ (buffers : List Area). All (AreApart area) (map reported_half (in_work a ++ offered (receive_ring a))
+    subst (λ (buffers : List Area). All (AreApart area) (map reported_half (slots_in_work a ++ offered (receive_ring a))
     ++ (map status_byte (buffered a ++ offered (transmit_ring a)) ++ buffers)))
     (sym (buffers-stay o p a address bytes sound lies own)) foreign

@@ -1,73 +1,51 @@
--- Registers, causes and counters after a step of an engine.
-use Rattle.std.proofs.Common.{◌⊎◌, [], ◌≡◌, ◌+◌, ℕ, List, length, max, min, refl, sym, ap, inl}
-use Rattle.std.specs.Fn.{iterate}
-use Rattle.eeprom_phy.specs.Eerd as eeprom
-use Rattle.registers.specs.Bits.{HasBit, union}
-use Rattle.registers.specs.Counting.{greatest_count}
-use Rattle.registers.specs.Laws.{HasBit-union}
-use Rattle.rx_engine.specs.Receiver.{Receiver}
-use Rattle.tx_engine.specs.Transmitter.{Transmitter}
-use Rattle.adapter.specs.State.{AdapterState}
-use Rattle.bus.specs.Law.{Steady, management_of, phy_ticked}
-use Rattle.bus.specs.Pasts.{Past}
-use Rattle.adapter.specs.World.{World}
+-- Registers, causes and counters after a step or an arrival.
+use Rattle.std.proofs.Common.{◌⊎◌, [], ◌≡◌, ℕ, List, length, inl, refl, sym, subst, arith}
 use Rattle.std.specs.List.{All}
+use Rattle.registers.specs.Bits.{HasBit, union}
+use Rattle.registers.specs.Laws.{HasBit-union}
 use Rattle.descriptors.specs.Frames.{IsLegal}
 use Rattle.descriptors.specs.Ring.{HasValidIndices}
 use Rattle.adapter.specs.Rings.{ring_of}
+use Rattle.adapter.specs.State.{AdapterState}
+use Rattle.adapter.specs.World.{World}
+use Rattle.bus.specs.Law.{CountsArrivals, MovesByTicks, Steady}
+use Rattle.bus.specs.Pasts.{Past}
+use Rattle.bus.proofs.Lists.{all-none}
 
 pub added : (recorded causes place : ℕ) → HasBit recorded place → HasBit (union recorded causes) place
 added recorded causes place set = (HasBit-union recorded causes place).1 (inl set)
 
--- the parts of an adapter that a step of an engine may change
-pub record Moves : Type 0 where
-  pub recorded : ℕ
-  pub receive_head : ℕ
-  pub transmit_head : ℕ
-  pub missed : ℕ
-  pub received : ℕ
-  pub transmitted : ℕ
-  pub no_buffers : ℕ
-  pub receiver : Receiver
-  pub transmitter : Transmitter
-
-abbrev pub moved : Moves → AdapterState → AdapterState
-moved m adapter = record adapter {
-  causes = record adapter.causes { recorded = m.recorded };
-  receive_ring = record adapter.receive_ring { head = m.receive_head };
-  transmit_ring = record adapter.transmit_ring { head = m.transmit_head };
-  missed_packets = m.missed;
-  received_packets = m.received;
-  transmitted_packets = m.transmitted;
-  no_receive_buffers = m.no_buffers;
-  receiver = m.receiver;
-  transmitter = m.transmitter;
+-- The world b, with the registers of the world a that only a driver's accesses change.
+abbrev pub moved : World → World → World
+moved a b = record b {
+  adapter = record b.adapter {
+    causes = record b.adapter.causes { mask = a.adapter.causes.mask };
+    filter = a.adapter.filter;
+    device_control = a.adapter.device_control;
+    transmit_control = a.adapter.transmit_control;
+    receive_kilobytes = a.adapter.receive_kilobytes;
+    image = a.adapter.image;
+    receive_ring = record a.adapter.receive_ring { head = b.adapter.receive_ring.head };
+    transmit_ring = record a.adapter.transmit_ring { head = b.adapter.transmit_ring.head };
+  };
 }
 
--- the adapter's own values, with which `moved` changes nothing
-abbrev pub still : AdapterState → Moves
-still adapter = record {
-  recorded = adapter.causes.recorded;
-  receive_head = adapter.receive_ring.head;
-  transmit_head = adapter.transmit_ring.head;
-  missed = adapter.missed_packets;
-  received = adapter.received_packets;
-  transmitted = adapter.transmitted_packets;
-  no_buffers = adapter.no_receive_buffers;
-  receiver = adapter.receiver;
-  transmitter = adapter.transmitter;
+pub no-arrivals : (a b : World) (past : Past) → b.adapter.missed_packets ≡ a.adapter.missed_packets → past.stored ≡ [] → past.missed ≡ 0
+    → CountsArrivals a (moved a b) past
+no-arrivals a b past same none_stored none_missed = record {
+  missed = omega (arith, same, none_missed);
+  off = λ off. (none_stored, none_missed);
+  legal = subst (λ (frames : List (List ℕ)). All IsLegal frames) (sym none_stored) (all-none IsLegal);
 }
 
-pub steady_moves : (world : World) (memory : List ℕ) (m : Moves) (past : Past) → length memory ≡ length world.memory
-    → ((place : ℕ) → HasBit world.adapter.causes.recorded place → HasBit m.recorded place)
-    → m.missed ≡ max world.adapter.missed_packets (min (world.adapter.missed_packets + past.missed) greatest_count)
-    → (¬ (HasBit world.adapter.filter.rctl 1) → (past.stored ≡ []) × (past.missed ≡ 0))
-    → (m.receive_head ≡ world.adapter.receive_ring.head)
-    ⊎ HasValidIndices (ring_of (record world.adapter.receive_ring { head = m.receive_head }))
-    → (m.transmit_head ≡ world.adapter.transmit_ring.head)
-    ⊎ HasValidIndices (ring_of (record world.adapter.transmit_ring { head = m.transmit_head })) → All IsLegal past.stored
-    → past.eeprom_ticks ≡ 0 → past.phy_ticks ≡ 0 → Steady world (record { memory = memory; adapter = moved m world.adapter }) past
-steady_moves world memory m past size causes missed off receive_head transmit_head legal no_eeprom no_phy = record {
+pub steady_moves : (a b : World) (past : Past) → length b.memory ≡ length a.memory
+    → ((place : ℕ) → HasBit a.adapter.causes.recorded place → HasBit b.adapter.causes.recorded place)
+    → (b.adapter.receive_ring.head ≡ a.adapter.receive_ring.head)
+    ⊎ HasValidIndices (ring_of (record a.adapter.receive_ring { head = b.adapter.receive_ring.head }))
+    → (b.adapter.transmit_ring.head ≡ a.adapter.transmit_ring.head)
+    ⊎ HasValidIndices (ring_of (record a.adapter.transmit_ring { head = b.adapter.transmit_ring.head }))
+    → CountsArrivals a (moved a b) past → MovesByTicks a (moved a b) past → Steady a (moved a b) past
+steady_moves a b past size causes receive_head transmit_head arrivals ticks = record {
   size = size;
   image = refl;
   registers = record {
@@ -80,9 +58,6 @@ steady_moves world memory m past size causes missed off receive_head transmit_he
   causes = causes;
   receive_ring = record { others = refl; head = receive_head };
   transmit_ring = record { others = refl; head = transmit_head };
-  arrivals = record { missed = missed; off = off; legal = legal };
-  ticks = record {
-    eerd = ap (λ (ticks : ℕ). iterate (eeprom.after_tick world.adapter.image) ticks world.adapter.eerd) (sym no_eeprom);
-    management = ap (λ (ticks : ℕ). iterate phy_ticked ticks (management_of world.adapter)) (sym no_phy);
-  };
+  arrivals = arrivals;
+  ticks = ticks;
 }

@@ -8,7 +8,7 @@ use Rattle.tx_engine.specs.Fetching.{frame_at}
 use Rattle.tx_engine.specs.ToSend.{to_send}
 use Rattle.tx_engine.specs.Transmitter.{Queued}
 use Rattle.adapter.specs.HostFrames.{frames_to_send}
-use Rattle.adapter.specs.Slots.{buffered, offered, outstanding, written_back}
+use Rattle.adapter.specs.Slots.{buffered, offered, outstanding, written_back_slots}
 use Rattle.adapter.specs.World.{transmit_ring}
 use Rattle.bus.specs.TransmitSteps.{SlotsHaveFrames}
 use Rattle.bus.proofs.Places.{outstanding-known}
@@ -41,13 +41,13 @@ slots_have_frames driver world ready =
     ap length known ∙ length-map (slots_from counts.tx o driver.sending) (λ (slot : ℕ). 16 * counts.rx + 16 * slot)
     ∙ length-slots_from counts.tx o driver.sending in
     let dealt = ap length ready.law.sound.transmit_slots.classes in
-    let count : length (frames_to_send world) + length (written_back o world) ≡ driver.sending =
+    let count : length (frames_to_send world) + length (written_back_slots o world) ≡ driver.sending =
     omega (
       arith,
       all,
       dealt,
       frames,
-      length-append (written_back o world) (buffered world ++ offered ring),
+      length-append (written_back_slots o world) (buffered world ++ offered ring),
       length-append (buffered world)
           (offered ring),
     ) in

@@ -8,23 +8,23 @@ use Rattle.std.proofs.lemmas.List.Kept.{AllPairs-cons}
 use Rattle.dma_memory.specs.Areas.{AreApart, AreSeparate, Area}
 use Rattle.dma_memory.specs.HostMemory.{LiesIn}
 use Rattle.descriptors.specs.declared.ring.Ring.{Ring}
-use Rattle.descriptors.specs.Ring.{HasValidIndices, address_of}
+use Rattle.descriptors.specs.Ring.{HasValidIndices, address_of, offered_places}
 use Rattle.descriptors.specs.RingLaws.{places-none}
 use Rattle.rx_engine.specs.declared.engine.Work.{Work}
 use Rattle.rx_engine.specs.Held as engine
 use Rattle.rx_engine.specs.Pieces.{Piece, begun_of}
-use Rattle.tx_engine.specs.Fetching.{fetched}
+use Rattle.tx_engine.specs.Fetching.{fetched, frame_at}
 use Rattle.rx_engine.specs.Receiver.{Receiver}
 use Rattle.tx_engine.specs.Transmitter.{Queued, Transmitter}
 use Rattle.adapter.specs.declared.register.Register.{Register}
 use Rattle.adapter.specs.declared.register.Register.TheVariants.{Icr, Mpc, Gprc, Gptc, Rnbc}
 use Rattle.adapter.specs.declared.ring.RingRegisters.{RingRegisters}
-use Rattle.adapter.specs.Registers.{after_reset, by_row, is_reset, left_by_read, left_by_write, read_of, write_of}
+use Rattle.adapter.specs.Registers.{after_reset, by_row, is_reset, left_by_read, left_by_write, read_of, write_of, after_read}
 use Rattle.adapter.specs.Rings.{ring_of}
 use Rattle.adapter.specs.State.{AdapterState}
 use Rattle.adapter.specs.Table.{register_at, row_of}
 use Rattle.adapter.specs.HostAreas.{areas, buffer_of, data_of, ring_area, work_areas}
-use Rattle.adapter.specs.Slots.{buffered, done_slots, finished, in_work, is_done, IsDealt, offered, outstanding, slot_of_work}
+use Rattle.adapter.specs.Slots.{buffered, done_slots, finished, slots_in_work, is_done, IsDealt, offered, outstanding, slot_of_work}
 use Rattle.adapter.specs.HostFrames.{finished_pieces, named, piece_in}
 use Rattle.bus.specs.Law.{OnlyHeadMoves}
 use Rattle.bus.specs.IdleRings.{HappeningsKeepIdle, IdleAfterPowerOn, IdleAfterReset, IdleRingsAreSound, IsIdle, OtherWritesKeepIdle}
@@ -34,7 +34,8 @@ use Rattle.adapter.specs.World.{receive_ring, transmit_ring, World, world_after_
 use Rattle.bus.proofs.Lists.{all-head, all-left, all-none, all-weaker, append-empty, map-empty, pairs-head, pairs-none}
 use Rattle.bus.proofs.TxPutSteps.{areas-same}
 use Rattle.bus.proofs.Rings.{offered-head}
-use Rattle.bus.proofs.RegisterWrites.{row-leaves}
+use Rattle.bus.proofs.RegisterWrites.{row-leaves, read-counts, with_counts_of}
+use Rattle.tx_engine.specs.ToSend.{to_send}
 
 -- Rings whose head is their tail.
 
@@ -54,6 +55,14 @@ dealt-idle memory ring taken same none =
       not_done = subst (λ (slots : List ℕ). All (λ d. is_done memory d ≡ false) slots) (sym empty)
           (all-none (λ d. is_done memory d ≡ false));
     }
+
+pub none-to_send : (memory : List ℕ) (ring : Ring) (buffer : List Queued) → buffer ≡ [] → ring.head ≡ ring.tail
+    → to_send memory ring true buffer ≡ []
+unfolding to_send
+none-to_send memory ring buffer none same =
+    let behind = map (λ (slot : ℕ). frame_at true memory (address_of ring slot)) (offered_places ring) in
+    ap (λ (queue : List Queued). map (λ (queued : Queued). queued.frame) queue ++ behind) none
+    ∙ ap (map (λ (slot : ℕ). frame_at true memory (address_of ring slot))) (places-none ring same)
 
 buffers-none : (on : Bool) (f : ℕ → Area) (slots : List ℕ) → slots ≡ [] → cond on (map f slots) [] ≡ []
 buffers-none true f slots none = ap (map f) none
@@ -86,7 +95,7 @@ idle_rings_are_sound world idle =
     ap (λ (frames : List Queued). frames ++ map (fetched true memory) (offered (transmit_ring world))) idle.buffer
     ∙ ap (map (fetched true memory)) unsent in
     record {
-      receive_slots = dealt-idle memory (receive_ring world) (in_work world) idle.rings.receive (ap slot_of_work idle.work);
+      receive_slots = dealt-idle memory (receive_ring world) (slots_in_work world) idle.rings.receive (ap slot_of_work idle.work);
       transmit_slots = dealt-idle memory (transmit_ring world) (buffered world) idle.rings.transmit
           (ap (map (λ (queued : Queued). queued.descriptor)) idle.buffer);
       separate = subst (λ (list : List Area). AreSeparate memory list) (sym (idle-areas world idle)) idle.rings.separate;
@@ -165,7 +174,7 @@ happenings_keep_idle a b past happens idle =
     let steady = happens.steady in
     let sound : Sound o p b = (happens.between o p (idle_rings_are_sound a idle)).sound in
     let tail : o ≡ b.adapter.receive_ring.tail = sym (ap (λ (ring : RingRegisters). ring.tail) steady.receive_ring.others) in
-    let received = none-dealt b.memory (receive_ring b) o (in_work b) tail sound.receive_slots in
+    let received = none-dealt b.memory (receive_ring b) o (slots_in_work b) tail sound.receive_slots in
     let work = work-empty b.adapter.receiver.work received.0 in
     let pieces : finished_pieces o b ≡ [] =
     ap (λ (slots : List ℕ). map (piece_in b.memory) (take_while (is_done b.memory) slots))
@@ -213,26 +222,17 @@ idle-same memory memory' a b size receiver buffer r t idle = record {
           apart = rings.apart;
         }
 
-read-idle : (register : Register) (memory : List ℕ) (state : AdapterState) → IsIdle (record { memory = memory; adapter = state })
-    → IsIdle (record { memory = memory; adapter = read_of register state })
-read-idle Icr memory state idle = idle-same memory memory state (read_of Icr state) refl refl refl refl refl idle
-read-idle Mpc memory state idle = idle-same memory memory state (read_of Mpc state) refl refl refl refl refl idle
-read-idle Gprc memory state idle = idle-same memory memory state (read_of Gprc state) refl refl refl refl refl idle
-read-idle Gptc memory state idle = idle-same memory memory state (read_of Gptc state) refl refl refl refl refl idle
-read-idle Rnbc memory state idle = idle-same memory memory state (read_of Rnbc state) refl refl refl refl refl idle
-read-idle _ memory state idle = idle
-
 pub reads_keep_idle : ReadsKeepIdle
-reads_keep_idle offset world idle = by_case (register_at offset)
-  where
-    by_case : (found : Option Register) → IsIdle (record world { adapter = left_by_read found world.adapter })
-    by_case (Some register) = read-idle register world.memory world.adapter idle
-    by_case None = idle
+reads_keep_idle offset world idle =
+    let counted = with_counts_of (after_read offset world.adapter) world.adapter in
+    subst (λ (adapter : AdapterState). IsIdle (record world { adapter = adapter })) (sym (read-counts offset world.adapter))
+    (idle-same world.memory world.memory world.adapter counted refl refl refl refl refl idle)
 
 pub stores_keep_idle : StoresKeepIdle
 stores_keep_idle address bytes world size idle = idle-same world.memory _ world.adapter world.adapter size refl refl refl refl idle
 
--- No piece is in progress. No byte of the oldest frame in the receive packet buffer has been moved. No frame is in the transmit packet buffer.
+-- No piece is in progress. No byte of the oldest frame in the receive packet buffer has been moved. No frame is in the transmit packet
+-- buffer.
 record NoFrames (state : AdapterState) : Type 0 where
   work : state.receiver.work ≡ None
   unmoved : moved_bytes state.receiver ≡ []

@@ -11,6 +11,7 @@ use Rattle.adapter.specs.World.{World}
 use Rattle.bus.specs.Pasts.{Past, joined, nothing}
 use Rattle.bus.specs.DriverState.{DriverState}
 use Rattle.bus.specs.Calls.{FlowsTo, GoesTo, HasNoForgottenWork, SumsMisses, driver_did, driver_in, frames_ended}
+use Rattle.bus.specs.TrailLaws.{same_past}
 
 -- If the driver's sum doesn't change and MPC counts the frames missed, `SumsMisses` holds.
 pub misses-counted : (d d' : DriverState) (a b : World) (past : Past) → d'.missed ≡ d.missed → d'.exact ≡ d.exact
@@ -106,16 +107,8 @@ goes_join d1 d2 d3 a b c t1 t2 g1 g2 first later one two = record {
 
 pub joined-nothing : (past : Past) → joined past nothing ≡ past
 joined-nothing past =
-    let same : record {
-      put = past.put;
-      stored = past.stored;
-      missed = past.missed;
-      eeprom_ticks = past.eeprom_ticks;
-      phy_ticks =
-          past.phy_ticks;
-      accesses = past.accesses;
-    } ≡ past = refl in
-    rw (append-nil, append-nil, append-nil, add-zero, add-zero, add-zero) same
+    same_past _ _ _ _ _ _ _ _ _ _ _ _ (append-nil past.put) (append-nil past.stored) (omega arith) (omega arith) (omega arith)
+    (append-nil past.accesses)
 
 pub work_kept : {up : Bool} (d d' : DriverState) (a b : World) (taken accepted : List (List ℕ)) (past : Past)
     → GoesTo up (driver_in d a) (driver_in d' b) (driver_did taken accepted) past → HasNoForgottenWork d a → HasNoForgottenWork d' b

@@ -61,7 +61,6 @@ pub mod TransmitSlots
 pub mod OfferedAndFreedSlots
 pub mod DriverAccesses
 pub mod ReceiveAccesses
-pub mod RunsWith
 pub mod TransmitRuns
 pub mod InitialStores
 pub mod DriverRegisterWrites
@@ -70,3 +69,4 @@ pub mod RegisterAccesses
 pub mod FramesCounted
 pub mod Resets
 pub mod Calls
+pub mod Laws

@@ -3,8 +3,8 @@ use Rattle.std.proofs.Common.{◌≡◌, ℕ, zero, suc, Bool, true, false, cond
 use Rattle.std.specs.Fn.{iterate}
 use Rattle.eeprom_phy.specs.declared.mdic.Operation.{Operation}
 use Rattle.eeprom_phy.specs.declared.mdic.Operation.TheVariants as operation
-use Rattle.eeprom_phy.specs.Mdic.{data_of, has_work, mdic_after_tick, phy_after_tick, phy_ended, reaches_phy, regadd}
-use Rattle.eeprom_phy.specs.Phy.{PhyState, after_tick, counted, is_complete, is_counting, link_is_up}
+use Rattle.eeprom_phy.specs.Mdic.{data_bits, has_work, mdic_after_tick, phy_after_tick, phy_ended, reaches_phy, regadd}
+use Rattle.eeprom_phy.specs.Phy.{PhyState, after_tick, counted_down, is_complete, is_counting, link_is_up}
 use Rattle.eeprom_phy.specs.Phy as state
 use Rattle.eeprom_phy.specs.PhyHistory as phy
 use Rattle.eeprom_phy.specs.PhyLaws.{link-after_event}
@@ -14,12 +14,12 @@ pub link-ended : (pending : Option Operation) (value : ℕ) (s : PhyState) → (
 link-ended None value s = refl
 link-ended (Some operation.Write) value s = by_case (reaches_phy value)
   where
-    by_case : (here : Bool) → (cond here (state.after_write (regadd value) (data_of value) s) s).link ≡ s.link
-    by_case true = link-after_event (phy.Write (regadd value) (data_of value)) s
+    by_case : (here : Bool) → (cond here (state.phy_after_write (regadd value) (data_bits value) s) s).link ≡ s.link
+    by_case true = link-after_event (phy.Write (regadd value) (data_bits value)) s
     by_case false = refl
 link-ended (Some operation.Read) value s = by_case (reaches_phy value)
   where
-    by_case : (here : Bool) → (cond here (state.after_read (regadd value) s) s).link ≡ s.link
+    by_case : (here : Bool) → (cond here (state.phy_after_read (regadd value) s) s).link ≡ s.link
     by_case true = link-after_event (phy.Read (regadd value)) s
     by_case false = refl
 

@@ -1,5 +1,5 @@
 -- A link that is up remains up: whatever happens, and at accesses that don't change the PHY.
-use Rattle.std.proofs.Common.{◌≡◌, [], ℕ, zero, suc, Bool, true, false, cond, Option, Some, None, refl, sym, subst}
+use Rattle.std.proofs.Common.{◌≡◌, [], ℕ, zero, suc, Bool, true, false, cond, Option, Some, None, refl, sym, subst, ap}
 use Rattle.std.specs.Fn.{iterate}
 use Rattle.std.specs.List.{All}
 use Rattle.std.proofs.lemmas.Bool.{false≢true}
@@ -7,7 +7,7 @@ use Rattle.eeprom_phy.specs.declared.mdic.Operation.{Operation}
 use Rattle.eeprom_phy.specs.declared.phy.Negotiation.{Negotiation}
 use Rattle.eeprom_phy.specs.declared.phy.Negotiation.TheVariants.{NotStarted, Running, Complete}
 use Rattle.eeprom_phy.specs.Mdic.{has_work, mdic_after_tick, phy_after_tick, phy_ended}
-use Rattle.eeprom_phy.specs.Phy.{after_tick, counted, is_complete, link_is_up}
+use Rattle.eeprom_phy.specs.Phy.{after_tick, counted_down, is_complete, link_is_up}
 use Rattle.adapter.specs.Registers.{after_read, after_write, left_by_read, left_by_write, read_of, write_of}
 use Rattle.adapter.specs.State.{AdapterState}
 use Rattle.adapter.specs.Table.{register_at}
@@ -20,6 +20,7 @@ use Rattle.bus.specs.Settings.{Write, writes_in}
 use Rattle.bus.specs.declared.event.Access.TheVariants.{Loads, Reads, Stores, Writes}
 use Rattle.bus.proofs.Lists.{all-head, all-left, all-right}
 use Rattle.bus.proofs.Settings.{writes-append}
+use Rattle.bus.proofs.RegisterWrites.{read-counts}
 
 -- The link after ticks.
 
@@ -28,7 +29,7 @@ record IsUp (management : Management) : Type 0 where
   up : link_is_up management.phy ≡ true
   no_command : management.mdic.pending ≡ None
 
-complete-stays : (negotiation : Negotiation) → is_complete negotiation ≡ true → is_complete (counted negotiation) ≡ true
+complete-stays : (negotiation : Negotiation) → is_complete negotiation ≡ true → is_complete (counted_down negotiation) ≡ true
 complete-stays NotStarted up = up
 complete-stays (Running left) up = absurd (false≢true up)
 complete-stays Complete up = refl
@@ -70,20 +71,8 @@ same-management a b same link =
     let behind = subst IsUp (sym same) before in
     record { up = behind.up; no_command = behind.no_command }
 
-read-leaves_line : (register : Register) (adapter : AdapterState) → management_of (read_of register adapter) ≡ management_of adapter
-read-leaves_line Icr adapter = refl
-read-leaves_line Mpc adapter = refl
-read-leaves_line Gprc adapter = refl
-read-leaves_line Gptc adapter = refl
-read-leaves_line Rnbc adapter = refl
-read-leaves_line _ adapter = refl
-
 reads-leave_line : (offset : ℕ) (adapter : AdapterState) → management_of (after_read offset adapter) ≡ management_of adapter
-reads-leave_line offset adapter = by_case (register_at offset)
-  where
-    by_case : (found : Option Register) → management_of (left_by_read found adapter) ≡ management_of adapter
-    by_case None = refl
-    by_case (Some register) = read-leaves_line register adapter
+reads-leave_line offset adapter = ap management_of (read-counts offset adapter)
 
 write-leaves_line : (register : Register) (value : ℕ) (adapter : AdapterState) → IsNotOfPhy (Some register)
     → management_of (write_of register value adapter) ≡ management_of adapter

@@ -5,7 +5,7 @@ use Rattle.std.proofs.lemmas.List.Elements.{All-append, All-cons}
 use Rattle.adapter.specs.State.{IsAdapter}
 use Rattle.adapter.specs.World.{World}
 use Rattle.adapter.specs.declared.step.StepKind.TheVariants.{EepromTick, PhyTick}
-use Rattle.bus.specs.BusMembers.{StaysWhole}
+use Rattle.bus.specs.BusMembers.{KeepsProperties}
 use Rattle.bus.specs.Law.{Acts, view}
 use Rattle.bus.specs.LivelyBuses.{IsPrepared, IsQuietEvent, IsSameMachine, Lives, both_ticks, machine_bytes, machine_world}
 use Rattle.bus.specs.LivelyBusLaws.{same_on}
@@ -16,7 +16,7 @@ use Rattle.bus.specs.declared.event.Access.{Access}
 use Rattle.bus.specs.declared.event.Event.TheVariants.{Accesses, Steps}
 use Rattle.bus.specs.declared.lively_bus.LivelyBus.{LivelyBus}
 use Rattle.bus.proofs.Lists.{all-none}
-use Rattle.bus.proofs.StepsThenAccess.{happens_accesses, past-with_access}
+use Rattle.bus.proofs.StepsThenAccess.{happens_accesses, past-with_access, no_access}
 use Rattle.bus.proofs.Trails.{trail_happens}
 
 are-steps : (a p : LivelyBus) (prepared : IsPrepared a p) → All IsStep (both_ticks prepared.eeprom prepared.phy)
@@ -61,6 +61,7 @@ lively-acts a p b access effect prepared is adapter does =
       };
       ticks = λ lively. record { eeprom = omega arith; phy = omega arith };
       before = happens_accesses (machine_world a) middle (past_of events) (access ∷ [])
+          (no_access events (are-steps a p prepared))
           (trail_happens events (machine_world a) middle (are-steps a p prepared) prepared.trail);
       adapter = adapter;
       effect_is = does;
@@ -72,7 +73,7 @@ size-prepared a p prepared =
     prepared.trail).steady.size
 
 pub lively-keeps : (a p b : LivelyBus) → IsPrepared a p → IsSameMachine p b → machine_bytes b ≡ machine_bytes p
-    → StaysWhole machine_bytes IsSameMachine (λ (bus : LivelyBus). ⊤) (λ (bus : LivelyBus). ⊤) a b
+    → KeepsProperties machine_bytes IsSameMachine (λ (bus : LivelyBus). ⊤) (λ (bus : LivelyBus). ⊤) a b
 lively-keeps a p b prepared same size = record {
   extent = size ∙ size-prepared a p prepared;
   lent_stays = same_on a p b prepared.lent same;

@@ -19,13 +19,13 @@ use Rattle.descriptors.specs.RingLaws.{next-below, place, slots_from-push}
 use Rattle.descriptors.specs.TxDesc.{tx_desc_of}
 use Rattle.descriptors.specs.TxFields.{command_bits, command_of, sent_bits, sent_of}
 use Rattle.descriptors.specs.declared.tx_desc.TxDesc.{TxDesc}
-use Rattle.tx_engine.specs.Fetching.{IsTransmittable, descriptor_at, fetched, frame_at}
+use Rattle.tx_engine.specs.Fetching.{IsTransmittable, transmit_descriptor_at, fetched, frame_at}
 use Rattle.adapter.specs.Conditions.{Sound}
 use Rattle.adapter.specs.HostAreas.{areas, data_of}
 use Rattle.rx_engine.specs.Pieces.{frames_of}
 use Rattle.adapter.specs.HostFrames.{frames_held, frames_to_send}
 use Rattle.adapter.specs.Running.{CanTransmit}
-use Rattle.adapter.specs.Slots.{is_done, outstanding, written_back}
+use Rattle.adapter.specs.Slots.{is_done, outstanding, written_back_slots}
 use Rattle.adapter.specs.World.{World, transmit_ring}
 use Rattle.bus.proofs.Lists.{all-none, all-tail}
 use Rattle.bus.proofs.SlotOffers.{frames_can_be_offered}
@@ -40,6 +40,7 @@ use Rattle.bus.proofs.Places.{outstanding-known, place-next, places-differ}
 use Rattle.bus.proofs.StepsWithoutFrames.{goes-rests}
 use Rattle.bus.proofs.Intervals.{misses-stay}
 use Rattle.bus.proofs.TransmitSlots.{next_slot_belongs_to_driver, drivers-buffer}
+use Rattle.bus.proofs.AlikeWorlds.{same-driver}
 
 -- The descriptor of a frame
 
@@ -80,7 +81,7 @@ record Says (memory : List ℕ) (slot address size : ℕ) : Type 0 where
 whole-says : (memory : List ℕ) (slot address size : ℕ) → address < 2 ^ 64 → size ≤ 1518
     → bytes_at memory slot 16 ≡ whole_descriptor address size → Says memory slot address size
 whole-says memory slot address size fits short bytes =
-    let read : descriptor_at memory slot ≡ whole_desc address size = ap tx_desc_of bytes ∙ whole-read address size fits short in
+    let read : transmit_descriptor_at memory slot ≡ whole_desc address size = ap tx_desc_of bytes ∙ whole-read address size fits short in
     let none : slice_index (bytes_at memory slot 16) 12 ≡ 0 = sym (status-byte (bytes_at memory slot 16))
     ∙ ap (λ (desc : TxDesc). sent_bits desc.status) read in
     record {
@@ -202,7 +203,7 @@ outstanding-first driver world ready some =
 -- If the oldest slot is done, it is the first written-back slot; otherwise no slot is written back.
 written-first : (driver : DriverState) (world : World) (done : Bool) → Ready driver world → 0 < driver.sending
     → is_done world.memory (transmit_slot driver.layout driver.oldest_transmit) ≡ done
-    → written_back driver.oldest_transmit world
+    → written_back_slots driver.oldest_transmit world
     ≡ cond done (transmit_slot driver.layout driver.oldest_transmit
     ∷ take_while (is_done world.memory)
     (map (transmit_slot driver.layout)
@@ -216,7 +217,7 @@ written-first driver world done ready some is =
     ∙ ap (λ (b : Bool). cond b (first ∷ take_while test others) []) is
 
 none-outstanding : (driver : DriverState) (world : World) → Ready driver world → driver.sending ≡ 0
-    → written_back driver.oldest_transmit world ≡ []
+    → written_back_slots driver.oldest_transmit world ≡ []
 none-outstanding driver world ready none =
     let up = ready.transmit in
     ap (take_while (is_done world.memory))
@@ -236,7 +237,7 @@ none_is_written_back driver world ready (inr clear) =
 
 record FreedTo (driver : DriverState) (world : World) (later : List ℕ) (next : ℕ) : Type 0 where
   sound : Sound driver.oldest_receive next world
-  behind : written_back next world ≡ later
+  behind : written_back_slots next world ≡ later
 
 pub slot_is_freed : SlotIsFreed
 slot_is_freed driver world ready some done =
@@ -245,7 +246,7 @@ slot_is_freed driver world ready some done =
     let next = (p + 1) % n in
     let up = ready.transmit in
     let later = take_while (is_done world.memory) (map (transmit_slot driver.layout) (slots_from n next (driver.sending - 1))) in
-    let first : written_back p world ≡ transmit_slot driver.layout p ∷ later = written-first driver world true ready some done in
+    let first : written_back_slots p world ≡ transmit_slot driver.layout p ∷ later = written-first driver world true ready some done in
     let freed = written_slots_can_be_freed driver.oldest_receive p world (transmit_slot driver.layout p) later ready.law.sound first in
     let here : FreedTo driver world later (behind_oldest_transmit p world) = record { sound = freed.sound; behind = freed.behind } in
     let there : FreedTo driver world later next = subst (FreedTo driver world later)
@@ -254,14 +255,9 @@ slot_is_freed driver world ready some done =
     let Source = HasSource driver world.memory in
     let sources : All Source (p ∷ slots_from n next (driver.sending - 1)) = subst
     (λ (k : ℕ). All Source (slots_from n p k)) more up.sources in
-    goes-rests driver world (with_freed driver) world
+    goes-rests driver next (driver.sending - 1) world world
     (record {
-      driver_is = record {
-        oldest_slot = ready.driver_is.oldest_slot;
-        room = ready.driver_is.room;
-        one_owner = ready.driver_is.one_owner;
-        addresses = ready.driver_is.addresses;
-      };
+      driver_is = same-driver driver next (driver.sending - 1) driver.missed driver.exact ready.driver_is;
       law = record {
         sound = there.sound;
         runs = ready.law.runs;
@@ -287,14 +283,10 @@ slot_is_freed driver world ready some done =
       stand = ready.stand;
     })
     (record {
-      layout = refl;
-      missed = refl;
-      exact = refl;
       to_send = refl;
       held = refl;
       pieces_same = refl;
       frees = omega (arith, ap length first, ap length there.behind, some);
-      mask = refl;
-      recorded = refl;
+      causes = refl;
       missed_packets = refl;
     })

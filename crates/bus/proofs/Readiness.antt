@@ -23,7 +23,7 @@ use Rattle.adapter.specs.declared.ring.RingRegisters.{RingRegisters}
 use Rattle.bus.specs.Law.{Happens, OnlyHeadMoves}
 use Rattle.bus.specs.DriversSlots.{IsDriversSlot}
 use Rattle.bus.specs.Pasts.{Past}
-use Rattle.bus.proofs.IdleRings.{still-idle}
+use Rattle.bus.proofs.IdleRings.{still-idle, none-to_send}
 use Rattle.bus.proofs.Lists.{all-unmapped, append-empty, map-empty, map-same}
 use Rattle.bus.proofs.DriversSlots.{drivers_side_stays}
 use Rattle.bus.proofs.Rings.{each-outstanding}
@@ -69,14 +69,6 @@ pub record Keeps (o p : ℕ) (a b : World) : Type 0 where
   pub none_to_send : frames_to_send a ≡ [] → frames_to_send b ≡ []
 
 -- The transmit side remains set up or off
-
-pub none-to_send : (memory : List ℕ) (ring : Ring) (buffer : List Queued) → buffer ≡ [] → ring.head ≡ ring.tail
-    → to_send memory ring true buffer ≡ []
-unfolding to_send
-none-to_send memory ring buffer none same =
-    let behind = map (λ (slot : ℕ). frame_at true memory (address_of ring slot)) (offered_places ring) in
-    ap (λ (queue : List Queued). map (λ (queued : Queued). queued.frame) queue ++ behind) none
-    ∙ ap (map (λ (slot : ℕ). frame_at true memory (address_of ring slot))) (places-none ring same)
 
 none-left : (memory : List ℕ) (ring : Ring) (buffer : List Queued) → to_send memory ring true buffer ≡ [] → (buffer ≡ [])
     × (offered ring ≡ [])

@@ -8,26 +8,32 @@ use Rattle.std.proofs.lemmas.List.Kept.{AllPairs-cons}
 use Rattle.dma_memory.specs.Areas.{AreApart, AreSeparate, Area, area_at}
 use Rattle.dma_memory.specs.HostMemory.{LiesIn}
 use Rattle.dma_memory.specs.Layout.{Counts, ReceiveBuffer, ReceiveRing, area_of, receive_buffer_bytes}
-use Rattle.dma_memory.specs.LayoutLaws.{begins, places-apart}
+use Rattle.dma_memory.specs.LayoutLaws.{layout_begins, places-apart}
 use Rattle.dma_memory.specs.Owners.{copies}
 use Rattle.dma_memory.specs.OwnersLaws.{copies-cons, copies-itself, no_second_from_one, once_from_no_second}
 use Rattle.rx_engine.specs.Descriptors.{named_address}
 use Rattle.rx_engine.specs.declared.engine.Work.{Work}
 use Rattle.adapter.specs.HostAreas.{areas, buffer_size, data_of, receives, ring_area, work_areas}
 use Rattle.adapter.specs.HostFrames.{named}
-use Rattle.adapter.specs.Slots.{finished, in_work, offered, outstanding, slot_of_work}
+use Rattle.adapter.specs.Slots.{finished, slots_in_work, offered, outstanding, slot_of_work}
 use Rattle.adapter.specs.World.{World, receive_ring, transmit_ring}
 use Rattle.bus.proofs.IdleRings.{first-two, offered-none}
 use Rattle.bus.proofs.RegisterSetting.{receiver_can_be_set}
 use Rattle.bus.proofs.Lists.{all-head, all-tail, pairs-head, pairs-none}
-use Rattle.bus.specs.RegisterSetting.{with_receive_control}
+use Rattle.bus.specs.RegisterSetting.{with_receive_control, ReceiverSet}
 use Rattle.bus.specs.Beginnings.{ReceiverIsEnabled}
 use Rattle.bus.specs.DriverState.{DriverState, buffer_at, owners}
 use Rattle.bus.specs.ReadyDrivers.{ReadyWith}
 use Rattle.bus.proofs.Buffers.{buffer-lies, known-area}
 use Rattle.bus.proofs.Owners.{all-copies, outstanding-number, owners-count}
-use Rattle.bus.proofs.StepsWithoutFrames.{goes-rests}
+use Rattle.bus.proofs.Steps.{goes-same}
 use Rattle.bus.proofs.EndedFrames.{none-cut}
+use Rattle.bus.proofs.AlikeWorlds.{ready-set}
+use Rattle.registers.specs.Bits.{HasBit}
+use Rattle.registers.specs.Places.{rctl_bsex, rctl_en}
+use Rattle.adapter.specs.Conditions.{AreCut}
+use Rattle.bus.specs.Calls.{GoesTo, driver_did, driver_in}
+use Rattle.bus.specs.Pasts.{nothing}
 
 -- The buffers of outstanding slots
 
@@ -71,7 +77,7 @@ rings-and-buffers driver world ready true =
       once_from_no_second counts.buffers number (owners driver)
           (no_second_from_one counts.buffers (owners driver) ready.driver_is.one_owner),
     ) in
-    let behind = (begins counts).behind_rings in
+    let behind = (layout_begins counts).behind_rings in
     let each : (P : Area → Type 0) → ((number : ℕ) → number < counts.buffers → P (at number))
     → All P (map at numbers) = λ P fact. All-map P at numbers
     (all-copies (λ number. P (at number)) numbers (λ number some. fact number (known number some))) in
@@ -97,6 +103,24 @@ named-buffers counts memory size slots numbers big same =
     sym (map-map at (named_address memory) slots) ∙ ap (map at) same ∙ map-map at (buffer_at counts) numbers
     ∙ ap (λ (n : ℕ). map (λ number. area_at (buffer_at counts number) n) numbers) big
 
+-- RCTL was written without BSEX, and the buffers that the conditions then name have the driver's size.
+pub goes-receiver_set : {up : Bool} (driver : DriverState) (control : ℕ) (world : World) → ReadyWith up driver world
+    → ReceiverSet driver.oldest_receive driver.oldest_transmit world (with_receive_control control world) → ¬ (HasBit control rctl_bsex)
+    → (HasBit control rctl_en → buffer_size (with_receive_control control world) ≤ receive_buffer_bytes)
+    → AreCut receive_buffer_bytes driver.oldest_receive (with_receive_control control world)
+    → GoesTo up (driver_in driver world) (driver_in driver (with_receive_control control world)) (driver_did [] []) nothing
+goes-receiver_set driver control world ready set plain large cut =
+    let b = with_receive_control control world in
+    goes-same driver world b set.same refl refl
+    (ready-set driver world b.adapter ready
+    (record {
+      sound = set.same.sound;
+      runs = set.runs plain ready.law.runs;
+      fit = set.same.fits receive_buffer_bytes large ready.law.fit;
+      whole = cut;
+    })
+    ready.transmit)
+
 pub receiver_is_enabled : ReceiverIsEnabled
 receiver_is_enabled driver control world ready none idle plain big =
     let o = driver.oldest_receive in
@@ -107,7 +131,7 @@ receiver_is_enabled driver control world ready none idle plain big =
     let t = ring_area (transmit_ring world) in
     let on = receives b in
     let accepted : outstanding ring o ≡ offered ring = ready.law.sound.receive_slots.classes
-    ∙ ap (λ (slots : List ℕ). slots ++ (in_work world ++ offered ring)) none
+    ∙ ap (λ (slots : List ℕ). slots ++ (slots_in_work world ++ offered ring)) none
     ∙ ap (λ (work : Option Work). slot_of_work work ++ offered ring) idle in
     let named_at = named-buffers driver.layout memory (buffer_size b) (offered ring) driver.buffers big
     (ap (map (named_address memory)) (sym accepted) ∙ ready.slots.names) in
@@ -124,31 +148,5 @@ receiver_is_enabled driver control world ready none idle plain big =
     ++ (map (named memory) (finished o world) ++ (work_areas memory world.adapter.receiver.work ++ count)))))
     (sym (offered-none (transmit_ring world) ready.transmit.idle)) three in
     let set = receiver_can_be_set o driver.oldest_transmit control world ready.law.sound separate in
-    goes-rests driver world driver b
-    (record {
-      driver_is = ready.driver_is;
-      law = record {
-        sound = set.same.sound;
-        runs = set.runs plain ready.law.runs;
-        fit = set.same.fits receive_buffer_bytes (λ enabled. omega (arith, big)) ready.law.fit;
-        whole = none-cut receive_buffer_bytes o b (λ enabled. big) none idle;
-      };
-      lies = ready.lies;
-      receive = ready.receive;
-      transmit = ready.transmit;
-      slots = record { names = ready.slots.names; stored = ready.slots.stored };
-      stand = ready.stand;
-    })
-    (record {
-      layout = refl;
-      missed = refl;
-      exact = refl;
-      to_send = refl;
-      held = refl;
-      pieces_same = refl;
-      frees = omega arith;
-      mask =
-          refl;
-      recorded = refl;
-      missed_packets = refl;
-    })
+    goes-receiver_set driver control world ready set plain (λ enabled. omega (arith, big))
+    (none-cut receive_buffer_bytes o b (λ enabled. big) none idle)

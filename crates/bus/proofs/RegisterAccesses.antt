@@ -16,7 +16,7 @@ use Rattle.bus.proofs.RegisterReads.{causes_are_read, misses_are_read}
 use Rattle.bus.proofs.Steps.{goes-happens}
 use Rattle.bus.proofs.Intervals.{flows_join, joined-nothing, work_kept}
 use Rattle.bus.specs.DriverState.{DriverState}
-use Rattle.bus.specs.Calls.{FlowsTo, GoesTo, Ran, ReadsCauses, at, driver_did, driver_in, frames_ended, only, with_missed}
+use Rattle.bus.specs.Calls.{FlowsTo, GoesTo, Ran, ReadsCauses, at, driver_did, driver_in, frames_ended, only, missed_added}
 use Rattle.bus.specs.ReadyDrivers.{ReadyWith}
 use Rattle.bus.specs.declared.bus.Bus.{Ghosts}
 
@@ -68,13 +68,13 @@ reads-causes {up} bus old new d value acts ready =
 
 pub ran_by-misses : {up : Bool} {B : Type 0} (bus : Ghosts B) (old new : B) (d : DriverState) (value : ℕ) → d.missed < 2 ^ 64
     → Acts (view_of bus) old new (Reads 0x4010 value) (IsRead 0x4010 value) → ReadyWith up d (bus.world old)
-    → Ran bus up (only (Reads 0x4010 value ∷ [])) (at old d) (at new (with_missed value d))
+    → Ran bus up (only (Reads 0x4010 value ∷ [])) (at old d) (at new (missed_added value d))
 ran_by-misses {up} bus old new d value fits acts ready =
-    ran_by-acts bus old new (Reads 0x4010 value) (IsRead 0x4010 value) d (with_missed value d) [] [] acts
+    ran_by-acts bus old new (Reads 0x4010 value) (IsRead 0x4010 value) d (missed_added value d) [] [] acts
     (read-sets 0x4010 value (λ before. value ≡ answer_at 0x4010 before.adapter) (bus.world new)) ready
     (λ middle set read.
-    subst (λ (shown : ℕ). GoesTo up (driver_in d middle) (driver_in (with_missed shown d) (bus.world new)) (driver_did [] []) nothing)
+    subst (λ (shown : ℕ). GoesTo up (driver_in d middle) (driver_in (missed_added shown d) (bus.world new)) (driver_did [] []) nothing)
     (sym read.0)
-    (subst (λ (w : World). GoesTo up (driver_in d middle) (driver_in (with_missed (answer_at 0x4010 middle.adapter) d) w)
+    (subst (λ (w : World). GoesTo up (driver_in d middle) (driver_in (missed_added (answer_at 0x4010 middle.adapter) d) w)
     (driver_did [] []) nothing) (sym read.1)
     (misses_are_read up d middle fits set)))

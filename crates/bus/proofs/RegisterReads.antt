@@ -7,7 +7,7 @@ use Rattle.std.proofs.lemmas.List.{append-nil}
 use Rattle.registers.specs.Bits.{HasBit}
 use Rattle.registers.specs.Counting.{greatest_count}
 use Rattle.adapter.specs.HostFrames.{frames_held, frames_to_send}
-use Rattle.adapter.specs.Registers.{answer_at, left_by_read, read_of}
+use Rattle.adapter.specs.Registers.{answer_at, left_by_read, read_of, after_read}
 use Rattle.rx_engine.specs.Pieces.{frames_of}
 use Rattle.adapter.specs.Table.{register_at, row_of}
 use Rattle.adapter.specs.TableLaws.{register_at-only}
@@ -21,55 +21,25 @@ use Rattle.bus.specs.Calls.{FlowsTo, SumsMisses, adds_exactly, driver_did, drive
 use Rattle.bus.specs.RegisterReadings.{CausesAreRead, MissesAreRead, OthersAreRead}
 use Rattle.bus.specs.ReadyDrivers.{ReadyWith}
 use Rattle.bus.proofs.Intervals.{misses-stay}
-use Rattle.bus.proofs.AlikeWorlds.{SameParts, ready-left}
+use Rattle.bus.proofs.AlikeWorlds.{SameParts, ready-left, same-others, same-driver}
+use Rattle.bus.proofs.RegisterWrites.{read-counts, with_counts_of}
+use Rattle.adapter.specs.State.{AdapterState}
 
 -- What no read changes: the parts in `SameParts`, and the mask.
 record Read (a b : World) : Type 0 where
   parts : SameParts a b
   mask : b.adapter.causes.mask ≡ a.adapter.causes.mask
 
-same-all : (world : World) → SameParts world world
-same-all world = record { memory = refl; receives = refl; transmits = refl; receive_control = refl; transmit_control = refl; buffer = refl }
-
-read-register : (register : Register) (world : World) → Read world (record world { adapter = read_of register world.adapter })
-read-register Icr world = record {
-  parts = record { memory = refl; receives = refl; transmits = refl; receive_control = refl; transmit_control = refl; buffer = refl };
-  mask = refl;
-}
-read-register Mpc world = record {
-  parts = record { memory = refl; receives = refl; transmits = refl; receive_control = refl; transmit_control = refl; buffer = refl };
-  mask = refl;
-}
-read-register Gprc world = record {
-  parts = record { memory = refl; receives = refl; transmits = refl; receive_control = refl; transmit_control = refl; buffer = refl };
-  mask = refl;
-}
-read-register Gptc world = record {
-  parts = record { memory = refl; receives = refl; transmits = refl; receive_control = refl; transmit_control = refl; buffer = refl };
-  mask = refl;
-}
-read-register Rnbc world = record {
-  parts = record { memory = refl; receives = refl; transmits = refl; receive_control = refl; transmit_control = refl; buffer = refl };
-  mask = refl;
-}
-read-register _ world = record { parts = same-all world; mask = refl }
-
 read-offset : (offset : ℕ) (world : World) → Read world (world_after_read offset world)
-read-offset offset world = by_case (register_at offset)
-  where
-    by_case : (found : Option Register) → Read world (record world { adapter = left_by_read found world.adapter })
-    by_case (Some register) = read-register register world
-    by_case None = record { parts = same-all world; mask = refl }
+read-offset offset world =
+    let counted = with_counts_of (after_read offset world.adapter) world.adapter in
+    subst (λ (adapter : AdapterState). Read world (record world { adapter = adapter })) (sym (read-counts offset world.adapter))
+    (record { parts = same-others counted world; mask = refl })
 
 resummed : {up : Bool} (driver : DriverState) (missed : ℕ) (exact : Bool) (world : World) → ReadyWith up driver world
     → ReadyWith up (record driver { missed = missed; exact = exact }) world
 resummed driver missed exact world ready = record {
-  driver_is = record {
-    oldest_slot = ready.driver_is.oldest_slot;
-    room = ready.driver_is.room;
-    one_owner = ready.driver_is.one_owner;
-    addresses = ready.driver_is.addresses;
-  };
+  driver_is = same-driver driver driver.oldest_transmit driver.sending missed exact ready.driver_is;
   law = ready.law;
   lies = ready.lies;
   receive = ready.receive;

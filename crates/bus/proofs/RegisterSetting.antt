@@ -1,6 +1,7 @@
 -- Writes and reads of registers after which the conditions of the law hold.
 use Rattle.std.proofs.Common.{◌≡◌, ◌≤◌, ◌<◌, ◌+◌, ◌%◌, ◌++◌, ◌∷◌, [], true, false, ℕ, Bool, List, Option, None, Some, zero, suc}
 use Rattle.std.proofs.Common.{if◌then◌else◌, map, refl, sym, ap, subst, ◌∙◌, append_assoc, arith}
+use Rattle.dma_memory.specs.Areas.{AreSeparate}
 use Rattle.std.specs.Fn.{iterate}
 use Rattle.std.specs.List.{All}
 use Rattle.std.proofs.lemmas.List.{append-nil}
@@ -9,7 +10,7 @@ use Rattle.descriptors.specs.Ring.{address_of, count_of, next_of, offered_places
 use Rattle.descriptors.specs.RingLaws.{next-below, places-none}
 use Rattle.eeprom_phy.specs.declared.phy.Link.TheVariants.{Never}
 use Rattle.registers.specs.Bits.{HasBit, field}
-use Rattle.registers.specs.Places.{rctl_en}
+use Rattle.registers.specs.Places.{rctl_en, tctl_psp}
 use Rattle.registers.specs.ReceiveControl.{buffer_size_of}
 use Rattle.rx_engine.specs.Receiver.{Receiver}
 use Rattle.rx_engine.specs.Registers.{FilterRegisters}
@@ -19,62 +20,40 @@ use Rattle.tx_engine.specs.Transmitter.{Queued, Transmitter}
 use Rattle.adapter.specs.declared.register.Register.{Register}
 use Rattle.adapter.specs.declared.register.Register.TheVariants.{Icr, Mpc, Gprc, Gptc, Rnbc}
 use Rattle.adapter.specs.declared.ring.RingRegisters.{RingRegisters}
-use Rattle.adapter.specs.Registers.{after_reset, by_row, is_reset, left_by_read, new_adapter, read_of}
+use Rattle.adapter.specs.Registers.{after_reset, by_row, is_reset, left_by_read, new_adapter, read_of, after_read}
+use Rattle.adapter.specs.HostAreas.{areas}
 use Rattle.adapter.specs.Rings.{ring_of}
+use Rattle.adapter.specs.State.{AdapterState}
 use Rattle.adapter.specs.Table.{register_at, row_of}
-use Rattle.adapter.specs.Slots.{finished, offered, outstanding, written_back}
+use Rattle.adapter.specs.Slots.{finished, offered, outstanding, written_back_slots}
 use Rattle.adapter.specs.HostFrames.{finished_pieces, frames_held, frames_to_send}
 use Rattle.bus.specs.RegisterSetting.{CanOfferMany, ManySlotsCanBeOffered, OfferedMany, OtherWritesLeaveFrames, ReadsLeaveFrames}
-use Rattle.bus.specs.RegisterSetting.{ReceiverCanBeSet, TransmitRingCanBeSet, TransmitterCanBeSet, with_tail}
+use Rattle.bus.specs.RegisterSetting.{ReceiverCanBeSet, ReceiverSet, TransmitRingCanBeSet, TransmitterCanBeSet, with_receive_control}
+use Rattle.bus.specs.RegisterSetting.{with_tail, with_transmit_control}
 use Rattle.adapter.specs.Conditions.{AreCut, FitBuffers, Reports, Sound}
 use Rattle.bus.specs.SlotOffers.{offering}
 use Rattle.bus.specs.DriversStores.{LeavesFrames, SameFrames}
 use Rattle.adapter.specs.Running.{CanRun, CanTransmit}
 use Rattle.adapter.specs.World.{receive_ring, World}
-use Rattle.bus.proofs.IdleRings.{dealt-idle, offered-none, outstanding-none}
+use Rattle.bus.proofs.IdleRings.{dealt-idle, offered-none, outstanding-none, none-to_send}
 use Rattle.bus.proofs.Lists.{all-none}
 use Rattle.bus.proofs.SlotOffers.{slots_can_be_offered}
-use Rattle.bus.proofs.RegisterWrites.{row-leaves}
+use Rattle.bus.proofs.RegisterWrites.{row-leaves, read-counts, with_counts_of}
+use Rattle.bus.proofs.AlikeWorlds.{with_others_of, with_registers_of}
+use Rattle.bus.proofs.RunningEngines.{still_run}
 
 -- Writes of RCTL, of TCTL, and of the registers of the transmit ring.
 
-pub receiver_can_be_set : ReceiverCanBeSet
-receiver_can_be_set o p control world sound separate = record {
+-- Other registers have other contents, and the conditions hold of RCTL and TCTL.
+registers-set : (o p : ℕ) (world : World) (other : AdapterState) → AreSeparate world.memory (areas o (with_registers_of other world))
+    → (¬ (world.adapter.transmit_ring.head ≡ world.adapter.transmit_ring.tail) → HasBit other.transmit_control tctl_psp)
+    → Sound o p world → ReceiverSet o p world (with_registers_of other world)
+registers-set o p world other separate pads sound = record {
   same = record {
     sound = record {
       receive_slots = sound.receive_slots;
       transmit_slots = sound.transmit_slots;
       separate = separate;
-      reports = sound.reports;
-      begun = sound.begun;
-      pads = sound.pads;
-    };
-    held = refl;
-    to_send = refl;
-    finished_same = refl;
-    written_same = refl;
-    pieces_same = refl;
-    whole = λ size sized cut. record
-        { sized = sized; have_no_errors = cut.have_no_errors; cut = cut.cut; legal = cut.legal; short = cut.short };
-    fits = λ size large fit. record { large = large; finished_fit = fit.finished_fit; work_fits = fit.work_fits };
-  };
-  runs = λ not_extended can. record {
-    receiver_runs = can.receiver_runs;
-    transmitter_runs = can.transmitter_runs;
-    receive_indices = can.receive_indices;
-    transmit_indices = can.transmit_indices;
-    not_extended = not_extended;
-    transmittable = can.transmittable;
-  };
-}
-
-pub transmitter_can_be_set : TransmitterCanBeSet
-transmitter_can_be_set o p control world sound pads = record {
-  same = record {
-    sound = record {
-      receive_slots = sound.receive_slots;
-      transmit_slots = sound.transmit_slots;
-      separate = sound.separate;
       reports = sound.reports;
       begun = sound.begun;
       pads = pads;
@@ -88,24 +67,17 @@ transmitter_can_be_set o p control world sound pads = record {
         { sized = sized; have_no_errors = cut.have_no_errors; cut = cut.cut; legal = cut.legal; short = cut.short };
     fits = λ size large fit. record { large = large; finished_fit = fit.finished_fit; work_fits = fit.work_fits };
   };
-  runs = λ can. record {
-    receiver_runs = can.receiver_runs;
-    transmitter_runs = can.transmitter_runs;
-    receive_indices = can.receive_indices;
-    transmit_indices = can.transmit_indices;
-    not_extended = can.not_extended;
-    transmittable = can.transmittable;
-  };
+  runs = λ not_extended can. still_run world (with_registers_of other world) can.receive_indices not_extended can.transmittable can;
 }
 
-none-sent : (memory : List ℕ) (registers : RingRegisters) (buffer : List Queued) → buffer ≡ [] → registers.head ≡ registers.tail
-    → to_send memory (ring_of registers) true buffer ≡ []
-unfolding to_send
-none-sent memory registers buffer none same =
-    let ring = ring_of registers in
-    let behind = map (λ (slot : ℕ). frame_at true memory (address_of ring slot)) (offered_places ring) in
-    ap (λ (queue : List Queued). map (λ (queued : Queued). queued.frame) queue ++ behind) none
-    ∙ ap (map (λ (slot : ℕ). frame_at true memory (address_of ring slot))) (places-none ring same)
+pub receiver_can_be_set : ReceiverCanBeSet
+receiver_can_be_set o p control world sound separate =
+    registers-set o p world (with_receive_control control world).adapter separate sound.pads sound
+
+pub transmitter_can_be_set : TransmitterCanBeSet
+transmitter_can_be_set o p control world sound pads =
+    let set = registers-set o p world (with_transmit_control control world).adapter sound.separate pads sound in
+    record { same = set.same; runs = λ can. set.runs can.not_extended can }
 
 pub transmit_ring_can_be_set : TransmitRingCanBeSet
 transmit_ring_can_be_set o p ring world sound none same separate =
@@ -124,7 +96,7 @@ transmit_ring_can_be_set o p ring world sound none same separate =
         pads = λ differ. absurd (differ same);
       };
       none_outstanding = outstanding-none (ring_of ring);
-      none_to_send = none-sent memory ring world.adapter.transmitter.buffer none same;
+      none_to_send = none-to_send memory (ring_of ring) world.adapter.transmitter.buffer none same;
       held = refl;
       finished_same = refl;
       fits = λ size fit. record { large = fit.large; finished_fit = fit.finished_fit; work_fits = fit.work_fits };
@@ -140,110 +112,24 @@ transmit_ring_can_be_set o p ring world sound none same separate =
 
 -- Writes of other registers, and reads.
 
--- A world of these parts. The conditions, slots and frames depend on no other part.
-abbrev of_parts : List ℕ → RingRegisters → RingRegisters → Receiver → Transmitter → ℕ → ℕ → World
-of_parts memory receive transmit receiver transmitter receive_control transmit_control = record {
-  memory = memory;
-  adapter = record (new_adapter [] Never) {
-    receive_ring = receive;
-    transmit_ring = transmit;
-    receiver = receiver;
-    transmitter = transmitter;
-    filter = record (new_adapter [] Never).filter { rctl = receive_control };
-    transmit_control = transmit_control;
-  };
-}
+pub others-set : (o p : ℕ) (world : World) (other : AdapterState) → Sound o p world → LeavesFrames o p world (with_others_of other world)
+others-set o p world other sound =
+    let set = registers-set o p world (with_others_of other world).adapter sound.separate sound.pads sound in
+    record { same = set.same; runs = λ can. set.runs can.not_extended can }
 
+-- The parts of a world on which the conditions, slots and frames depend.
 abbrev parts : World → World
-parts world =
-    of_parts world.memory world.adapter.receive_ring world.adapter.transmit_ring world.adapter.receiver world.adapter.transmitter
-    world.adapter.filter.rctl
-    world.adapter.transmit_control
-
-to_parts : (o p : ℕ) (world : World) → Sound o p world → Sound o p (parts world)
-to_parts o p world sound = record {
-  receive_slots = sound.receive_slots;
-  transmit_slots = sound.transmit_slots;
-  separate = sound.separate;
-  reports = sound.reports;
-  begun = sound.begun;
-  pads = sound.pads;
-}
-
-from_parts : (o p : ℕ) (world : World) → Sound o p (parts world) → Sound o p world
-from_parts o p world sound = record {
-  receive_slots = sound.receive_slots;
-  transmit_slots = sound.transmit_slots;
-  separate = sound.separate;
-  reports = sound.reports;
-  begun = sound.begun;
-  pads = sound.pads;
-}
-
-running_to_parts : (world : World) → CanRun world → CanRun (parts world)
-running_to_parts world can = record {
-  receiver_runs = can.receiver_runs;
-  transmitter_runs = can.transmitter_runs;
-  receive_indices = can.receive_indices;
-  transmit_indices = can.transmit_indices;
-  not_extended = can.not_extended;
-  transmittable = can.transmittable;
-}
-
-running_from_parts : (world : World) → CanRun (parts world) → CanRun world
-running_from_parts world can = record {
-  receiver_runs = can.receiver_runs;
-  transmitter_runs = can.transmitter_runs;
-  receive_indices = can.receive_indices;
-  transmit_indices = can.transmit_indices;
-  not_extended = can.not_extended;
-  transmittable = can.transmittable;
-}
-
-fit_to_parts : (size o : ℕ) (world : World) → FitBuffers size o world → FitBuffers size o (parts world)
-fit_to_parts size o world fit = record { large = fit.large; finished_fit = fit.finished_fit; work_fits = fit.work_fits }
-
-fit_from_parts : (size o : ℕ) (world : World) → FitBuffers size o (parts world) → FitBuffers size o world
-fit_from_parts size o world fit = record { large = fit.large; finished_fit = fit.finished_fit; work_fits = fit.work_fits }
-
-cut_to_parts : (size o : ℕ) (world : World) → AreCut size o world → AreCut size o (parts world)
-cut_to_parts size o world cut = record
-    { sized = cut.sized; have_no_errors = cut.have_no_errors; cut = cut.cut; legal = cut.legal; short = cut.short }
-
-cut_from_parts : (size o : ℕ) (world : World) → AreCut size o (parts world) → AreCut size o world
-cut_from_parts size o world cut = record
-    { sized = cut.sized; have_no_errors = cut.have_no_errors; cut = cut.cut; legal = cut.legal; short = cut.short }
+parts = with_others_of (new_adapter [] Never)
 
 by-parts : (o p : ℕ) (a b : World) → parts b ≡ parts a → Sound o p a → LeavesFrames o p a b
-by-parts o p a b same sound = record {
-  same = record {
-    sound = from_parts o p b (subst (Sound o p) (sym same) (to_parts o p a sound));
-    held = ap (frames_held o) same;
-    to_send = ap frames_to_send same;
-    finished_same = ap (finished o) same;
-    written_same = ap (written_back p) same;
-    pieces_same = ap (finished_pieces o) same;
-    whole = λ size sized cut. cut_from_parts size o b (subst (AreCut size o) (sym same) (cut_to_parts size o a cut));
-    fits = λ size large fit. fit_from_parts size o b (subst (FitBuffers size o) (sym same) (fit_to_parts size o a fit));
-  };
-  runs = λ can. running_from_parts b (subst CanRun (sym same) (running_to_parts a can));
-}
-
-read-leaves : (o p : ℕ) (register : Register) (world : World) → Sound o p world
-    → LeavesFrames o p world (record world { adapter = read_of register world.adapter })
-read-leaves o p Icr world sound = by-parts o p world _ refl sound
-read-leaves o p Mpc world sound = by-parts o p world _ refl sound
-read-leaves o p Gprc world sound = by-parts o p world _ refl sound
-read-leaves o p Gptc world sound = by-parts o p world _ refl sound
-read-leaves o p Rnbc world sound = by-parts o p world _ refl sound
-read-leaves o p _ world sound = by-parts o p world _ refl sound
+by-parts o p a b same sound =
+    subst (λ (part : World). LeavesFrames o p a (with_others_of b.adapter part)) (sym same) (others-set o p a b.adapter sound)
 
 pub reads_leave_frames : ReadsLeaveFrames
-reads_leave_frames o p offset world sound = by_case (register_at offset)
-  where
-    by_case : (found : Option Register) → LeavesFrames o p world (record world { adapter = left_by_read found world.adapter })
-    by_case (Some register) = read-leaves o p register world sound
-    by_case None = by-parts o p world world refl sound
+reads_leave_frames o p offset world sound =
+    let counted = with_counts_of (after_read offset world.adapter) world.adapter in
+    subst (λ (adapter : AdapterState). LeavesFrames o p world (record world { adapter = adapter })) (sym (read-counts offset world.adapter))
+    (others-set o p world counted sound)
 
 pub other_writes_leave_frames : OtherWritesLeaveFrames
 other_writes_leave_frames o p register value world sound other none = by_test (is_reset register value) none
@@ -280,8 +166,8 @@ same_trans o p a b d filter one two = record {
 }
 
 offered_each : (o p k : ℕ) (world : World) → Sound o p world → CanOfferMany o k world → OfferedMany o p k world (iterate offering k world)
-offered_each o p zero world sound can = record
-    { same = (by-parts o p world world refl sound).same; runs = λ can. can; last = sym (append-nil (outstanding (receive_ring world) o)) }
+offered_each o p zero world sound can = let ring = receive_ring world in record
+    { same = (others-set o p world world.adapter sound).same; runs = λ can. can; last = sym (append-nil (outstanding ring o)) }
 offered_each o p (suc k) world sound can =
     let one = slots_can_be_offered o p world sound can.0 in
     let rest = offered_each o p k (offering world) one.same.sound can.1 in

@@ -1,10 +1,10 @@
--- What a write of a register doesn't change in the adapter, if the write isn't a reset.
-use Rattle.std.proofs.Common.{◌≡◌, ℕ, refl}
+-- What a read of a register doesn't change in the adapter, and what a write doesn't change that isn't a reset.
+use Rattle.std.proofs.Common.{◌≡◌, None, Option, Some, ℕ, refl}
 use Rattle.adapter.specs.declared.register.Register.{Register}
-use Rattle.adapter.specs.declared.register.Register.TheVariants.{Rctl, Tctl, Receive, Transmit}
-use Rattle.adapter.specs.Registers.{by_row}
+use Rattle.adapter.specs.declared.register.Register.TheVariants.{Gprc, Gptc, Icr, Mpc, Rctl, Receive, Rnbc, Tctl, Transmit}
+use Rattle.adapter.specs.Registers.{after_read, by_row, left_by_read, read_of}
 use Rattle.adapter.specs.State.{AdapterState}
-use Rattle.adapter.specs.Table.{row_of}
+use Rattle.adapter.specs.Table.{register_at, row_of}
 use Rattle.bus.specs.IdleRings.{IsOfRing}
 use Rattle.bus.specs.RegisterSetting.{IsOfConditions}
 
@@ -43,3 +43,28 @@ row-leaves (Receive part) value state = record
 row-leaves (Transmit part) value state = record
     { receiver = refl; transmitter = refl; rings = λ other. absurd (other tt); controls = λ other. absurd (other tt) }
 row-leaves _ value state = leaves-all _ state _ (λ no. no) refl refl refl refl refl refl
+
+-- The adapter, with the recorded causes and the counters of `after`.
+abbrev pub with_counts_of : AdapterState → AdapterState → AdapterState
+with_counts_of after adapter = record adapter {
+  causes = record adapter.causes { recorded = after.causes.recorded };
+  missed_packets = after.missed_packets;
+  received_packets = after.received_packets;
+  transmitted_packets = after.transmitted_packets;
+  no_receive_buffers = after.no_receive_buffers;
+}
+
+pub read-counts : (offset : ℕ) (adapter : AdapterState) → after_read offset adapter ≡ with_counts_of (after_read offset adapter) adapter
+read-counts offset adapter = by_case (register_at offset)
+  where
+    by_register : (register : Register) → read_of register adapter ≡ with_counts_of (read_of register adapter) adapter
+    by_register Icr = refl
+    by_register Mpc = refl
+    by_register Gprc = refl
+    by_register Gptc = refl
+    by_register Rnbc = refl
+    by_register _ = refl
+
+    by_case : (found : Option Register) → left_by_read found adapter ≡ with_counts_of (left_by_read found adapter) adapter
+    by_case None = refl
+    by_case (Some register) = by_register register

@@ -18,7 +18,7 @@ use Rattle.tx_engine.specs.Transmitter.{Queued, Transmitter}
 use Rattle.adapter.specs.HostAreas.{IsForeign, areas, buffer_of, data_of, offered_buffers, ring_area}
 use Rattle.adapter.specs.HostAreas.{work_areas, writable}
 use Rattle.adapter.specs.HostFrames.{named}
-use Rattle.adapter.specs.Slots.{buffered, finished, in_work, offered, slot_of_work}
+use Rattle.adapter.specs.Slots.{buffered, finished, slots_in_work, offered, slot_of_work}
 use Rattle.adapter.specs.World.{World, receive_ring, transmit_ring}
 use Rattle.bus.proofs.AdaptersAtRest.{happenings_keep_rest, rest_after_reset, rest_is_idle}
 use Rattle.bus.proofs.IdleRings.{idle_rings_are_sound, offered-none}
@@ -27,11 +27,11 @@ use Rattle.bus.proofs.RegisterSetting.{receiver_can_be_set}
 use Rattle.bus.specs.AdaptersAtRest.{IsAtRest}
 use Rattle.bus.specs.RegisterSetting.{with_receive_control}
 use Rattle.bus.proofs.Owners.{owners-count}
-use Rattle.bus.proofs.StepsWithoutFrames.{goes-rests}
 use Rattle.bus.proofs.Intervals.{misses-stay}
 use Rattle.bus.specs.ReadyDrivers.{Stands}
 use Rattle.bus.specs.Resets.{DriversRest, ReceiverIsDisabled, ResetForgetsSlots, ResetKeepsSum, RestKeepsMemory, reset_driver}
 use Rattle.bus.specs.Resets.{reset_world}
+use Rattle.bus.proofs.ReceiveControl.{goes-receiver_set}
 
 -- The receiver is disabled
 
@@ -80,33 +80,8 @@ receiver_is_disabled up driver control world ready off plain =
     let separate : AreSeparate memory (areas o b) =
     subst (λ (list : List Area). AreSeparate memory (r ∷ t ∷ (payload ++ (done ++ (work ++ list))))) (sym (no-buffers b off)) fewer in
     let set = receiver_can_be_set o driver.oldest_transmit control world ready.law.sound separate in
-    goes-rests driver world driver b
-    (record {
-      driver_is = ready.driver_is;
-      law = record {
-        sound = set.same.sound;
-        runs = set.runs plain ready.law.runs;
-        fit = set.same.fits receive_buffer_bytes (λ enabled. absurd (off enabled)) ready.law.fit;
-        whole = set.same.whole receive_buffer_bytes (λ enabled. absurd (off enabled)) ready.law.whole;
-      };
-      lies = ready.lies;
-      receive = ready.receive;
-      transmit = ready.transmit;
-      slots = record { names = ready.slots.names; stored = ready.slots.stored };
-      stand = ready.stand;
-    })
-    (record {
-      layout = refl;
-      missed = refl;
-      exact = refl;
-      to_send = set.same.to_send;
-      held = set.same.held;
-      pieces_same = set.same.pieces_same;
-      frees = omega (arith, ap length set.same.written_same);
-      mask = refl;
-      recorded = refl;
-      missed_packets = refl;
-    })
+    goes-receiver_set driver control world ready set plain (λ enabled. absurd (off enabled))
+    (set.same.whole receive_buffer_bytes (λ enabled. absurd (off enabled)) ready.law.whole)
 
 -- The reset
 
@@ -133,7 +108,7 @@ reset_keeps_sum driver pool world none =
 writes-nothing : (world : World) → IsAtRest world → (area : Area) → IsForeign world area
 writes-nothing world rest area = subst (λ (list : List Area). All (AreApart area) list) (sym nothing_there) (all-none (AreApart area))
   where
-    working : in_work world ≡ []
+    working : slots_in_work world ≡ []
     working = ap (λ (receiver : Receiver). slot_of_work receiver.work) rest.receiver
 
     queued : buffered world ≡ []

@@ -136,38 +136,6 @@ pub record Reported (memory memory' : List ℕ) (ring : Ring) (oldest descriptor
   pub dealt : IsDealt memory' ring oldest taken
   pub grown : done_slots memory' ring oldest ≡ done_slots memory ring oldest ++ descriptor ∷ []
 
-pub dealt-reported : (memory memory' : List ℕ) (ring : Ring) (oldest descriptor : ℕ) (taken : List ℕ)
-    → IsDealt memory ring oldest (descriptor ∷ taken)
-    → ((other : ℕ) → AreApart (descriptor_area descriptor) (descriptor_area other) → is_done memory' other ≡ is_done memory other)
-    → is_done memory' descriptor ≡ true → Reported memory memory' ring oldest descriptor taken
-dealt-reported memory memory' ring oldest descriptor taken dealt others done =
-    let front = done_slots memory ring oldest in
-    let behind = taken ++ offered ring in
-    let R : ℕ → ℕ → Type 0 = λ a b. AreApart (descriptor_area a) (descriptor_area b) in
-    let pairs : AllPairs R (front ++ descriptor ∷ behind) = subst (λ (slots : List ℕ). AllPairs R slots) dealt.classes
-    (outstanding-apart ring oldest dealt.slot) in
-    let before = pairs-before R front descriptor behind pairs in
-    let after = pairs-behind R front descriptor behind pairs in
-    let passes = take_while-passes (is_done memory) (outstanding ring oldest) in
-    let front_done : All (λ d. is_done memory' d ≡ true) front = λ k d below. others _ (apart-sym _ _ (before k d below))
-    ∙ passes k d below in
-    let all_done = All-append (λ d. is_done memory' d ≡ true) front (descriptor ∷ []) front_done
-    (All-cons (λ d. is_done memory' d ≡ true) descriptor [] done (all-none (λ d. is_done memory' d ≡ true))) in
-    let open_before = all-tail (λ d. is_done memory d ≡ false) descriptor behind dealt.not_done in
-    let open_after : All (λ d. is_done memory' d ≡ false) behind = λ k d below. others _ (after k d below) ∙ open_before k d below in
-    let whole : outstanding ring oldest ≡ (front ++ descriptor ∷ []) ++ behind = dealt.classes
-    ∙ sym (append_assoc front (descriptor ∷ []) behind) in
-    let grown : done_slots memory' ring oldest ≡ front ++ descriptor ∷ [] =
-    ap (take_while (is_done memory')) whole ∙ take_while-split (is_done memory') (front ++ descriptor ∷ []) behind all_done open_after in
-    record {
-      dealt = record {
-        slot = dealt.slot;
-        classes = whole ∙ ap (λ (slots : List ℕ). slots ++ behind) (sym grown);
-        not_done = open_after;
-      };
-      grown = grown;
-    }
-
 pub dealt-others : (memory : List ℕ) (ring : Ring) (oldest descriptor : ℕ) (taken : List ℕ)
     → IsDealt memory ring oldest (descriptor ∷ taken)
     → All (λ other. AreApart (descriptor_area descriptor) (descriptor_area other)) (done_slots memory ring oldest)
@@ -180,3 +148,30 @@ dealt-others memory ring oldest descriptor taken dealt =
     (outstanding-apart ring oldest dealt.slot) in
     let before = pairs-before R front descriptor behind pairs in
     ((λ k d below. apart-sym _ _ (before k d below)), pairs-behind R front descriptor behind pairs)
+
+pub dealt-reported : (memory memory' : List ℕ) (ring : Ring) (oldest descriptor : ℕ) (taken : List ℕ)
+    → IsDealt memory ring oldest (descriptor ∷ taken)
+    → ((other : ℕ) → AreApart (descriptor_area descriptor) (descriptor_area other) → is_done memory' other ≡ is_done memory other)
+    → is_done memory' descriptor ≡ true → Reported memory memory' ring oldest descriptor taken
+dealt-reported memory memory' ring oldest descriptor taken dealt others done =
+    let front = done_slots memory ring oldest in
+    let behind = taken ++ offered ring in
+    let apart = dealt-others memory ring oldest descriptor taken dealt in
+    let passes = take_while-passes (is_done memory) (outstanding ring oldest) in
+    let front_done : All (λ d. is_done memory' d ≡ true) front = λ k d below. others _ (apart.0 k d below) ∙ passes k d below in
+    let all_done = All-append (λ d. is_done memory' d ≡ true) front (descriptor ∷ []) front_done
+    (All-cons (λ d. is_done memory' d ≡ true) descriptor [] done (all-none (λ d. is_done memory' d ≡ true))) in
+    let open_before = all-tail (λ d. is_done memory d ≡ false) descriptor behind dealt.not_done in
+    let open_after : All (λ d. is_done memory' d ≡ false) behind = λ k d below. others _ (apart.1 k d below) ∙ open_before k d below in
+    let whole : outstanding ring oldest ≡ (front ++ descriptor ∷ []) ++ behind = dealt.classes
+    ∙ sym (append_assoc front (descriptor ∷ []) behind) in
+    let grown : done_slots memory' ring oldest ≡ front ++ descriptor ∷ [] =
+    ap (take_while (is_done memory')) whole ∙ take_while-split (is_done memory') (front ++ descriptor ∷ []) behind all_done open_after in
+    record {
+      dealt = record {
+        slot = dealt.slot;
+        classes = whole ∙ ap (λ (slots : List ℕ). slots ++ behind) (sym grown);
+        not_done = open_after;
+      };
+      grown = grown;
+    }

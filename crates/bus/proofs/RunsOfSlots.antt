@@ -21,7 +21,7 @@ use Rattle.rx_engine.specs.PieceLaws.{begun-append, begun-parts, frames-append, 
 use Rattle.adapter.specs.Conditions.{FitBuffers}
 use Rattle.adapter.specs.HostAreas.{IsForeign, areas}
 use Rattle.adapter.specs.HostFrames.{finished_pieces, named, piece_in, pieces_in_slots}
-use Rattle.adapter.specs.Slots.{finished, in_work, IsDealt, outstanding}
+use Rattle.adapter.specs.Slots.{finished, slots_in_work, IsDealt, outstanding}
 use Rattle.adapter.specs.World.{World, receive_ring}
 use Rattle.bus.specs.DriversSlots.{IsDriversSlot, frame_named}
 use Rattle.bus.specs.RunsOfSlots.{RunsCanBeTaken, after_run, places_of_run}
@@ -84,14 +84,14 @@ sizes-named a (slot ∷ run) lie =
 pub record RunPassed (o : ℕ) (a : World) (run later : List ℕ) : Type 0 where
   pub stand : run ≡ map (address_of (receive_ring a)) (places_of_run o run a)
   pub first : outstanding (receive_ring a) o ≡ run ++ outstanding (receive_ring a) (after_run o run a)
-  pub dealt : IsDealt a.memory (receive_ring a) (after_run o run a) (in_work a)
+  pub dealt : IsDealt a.memory (receive_ring a) (after_run o run a) (slots_in_work a)
   pub behind : finished (after_run o run a) a ≡ later
   pub own : All (IsDriversSlot (receive_ring a) (after_run o run a)) (places_of_run o run a)
   pub separate : AreSeparate a.memory (areas (after_run o run a) a)
   pub lie : All (λ slot. LiesIn a.memory (named a.memory slot).address (named a.memory slot).size) run
   pub fits : (size : ℕ) → FitBuffers size o a → FitBuffers size (after_run o run a) a
 
-pub run-passed : (o : ℕ) (a : World) (run later : List ℕ) → IsDealt a.memory (receive_ring a) o (in_work a)
+pub run-passed : (o : ℕ) (a : World) (run later : List ℕ) → IsDealt a.memory (receive_ring a) o (slots_in_work a)
     → AreSeparate a.memory (areas o a) → finished o a ≡ run ++ later → RunPassed o a run later
 run-passed o a [] later dealt separate done = record {
   stand = refl;

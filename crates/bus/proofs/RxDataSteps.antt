@@ -29,7 +29,7 @@ use Rattle.adapter.specs.Outcomes.{FrameOutcome}
 use Rattle.adapter.specs.declared.outcome.Outcome.TheVariants.{Part, Moved, Nothing, Fault}
 use Rattle.adapter.specs.HostAreas.{areas, buffer_of, buffer_size, data_of, offered_buffers, receives, reported_half}
 use Rattle.adapter.specs.HostAreas.{ring_area, status_byte, work_areas}
-use Rattle.adapter.specs.Slots.{buffered, done_slots, finished, is_done, IsDealt, offered, outstanding, written_back}
+use Rattle.adapter.specs.Slots.{buffered, done_slots, finished, is_done, IsDealt, offered, outstanding, written_back_slots}
 use Rattle.adapter.specs.HostFrames.{finished_pieces, frames_held, named, piece_in, pieces_in_slots}
 use Rattle.adapter.specs.Conditions.{AreCut, Reports, Sound}
 use Rattle.bus.specs.Law.{Between, Happens}
@@ -38,8 +38,8 @@ use Rattle.bus.specs.StepsAndArrivals.{world_after_step}
 use Rattle.adapter.specs.State.{IsAdapter}
 use Rattle.adapter.specs.World.{receive_ring, transmit_ring, World}
 use Rattle.bus.proofs.Areas.{separate-same, separate-shorter}
-use Rattle.bus.proofs.Composition.{happens_none}
-use Rattle.bus.proofs.EngineRegisters.{added, steady_moves, still}
+use Rattle.bus.proofs.Composition.{finishes-none, happens_none, puts-none}
+use Rattle.bus.proofs.EngineRegisters.{added, no-arrivals, steady_moves}
 use Rattle.bus.proofs.CutPieces.{CutPieces, HaveNoErrors, are-cut, errors-kept, next-piece}
 use Rattle.bus.proofs.WrittenAreas.{IsSame, buffers-kept, descriptors-kept, is_done-same, named-kept, names_fit-kept, NamesFit}
 use Rattle.bus.proofs.WrittenAreas.{pieces-kept, same-outstanding, transmit_kept}
@@ -49,7 +49,7 @@ use Rattle.bus.proofs.StepsBesideRings.{between_stopped}
 use Rattle.bus.proofs.Rings.{dealt-left, dealt-moved, dealt-right, dealt-same, done-same, offered-head, outstanding-inside}
 use Rattle.descriptors.specs.Frames.{IsLegal}
 use Rattle.bus.proofs.Lists.{all-none}
-use Rattle.bus.proofs.RunningEngines.{can_move, piece-fits, transmittable-kept}
+use Rattle.bus.proofs.RunningEngines.{can_move, piece-fits, still_run, transmittable-kept}
 use Rattle.descriptors.specs.RingLaws.{next-below}
 use Rattle.descriptors.specs.Ring.{count_of}
 
@@ -184,20 +184,9 @@ between_moved ends buffer moved o p a0 has can last_is is keeps_held sound =
     ∙ buffers-kept memory memory' bsize rest (all-tail (IsSame memory memory') head rest same_offered) in
     let bytes = map status_byte (buffered a ++ offered (transmit_ring a)) in
     record {
-      transmit = record {
-        sends = transmitting.sends;
-        reported = [];
-        written = transmitting.done ∙ sym (append-nil (written_back p a));
-        each_reported = refl;
-      };
-      receive = record {
-        holds = ap (λ (pieces : List Piece). held memory' pieces b.adapter.receiver) same_pieces ∙ holding.frames;
-        more = [];
-        done = done ∙ sym (append-nil (finished o a));
-        pieces = [];
-        grown = same_pieces ∙ sym (append-nil (finished_pieces o a));
-        told = inl (all-none IsPart);
-      };
+      transmit = puts-none p a b nothing refl transmitting.sends transmitting.done;
+      receive = finishes-none o a b nothing
+          (ap (λ (pieces : List Piece). held memory' pieces b.adapter.receiver) same_pieces ∙ holding.frames) done same_pieces;
       fits = λ room fit.
           let small : n ≤ room = omega (arith, short, fit.large has.enabled) in
           record {
@@ -229,14 +218,10 @@ between_moved ends buffer moved o p a0 has can last_is is keeps_held sound =
           (all-right (AreApart other) (map reported_half (offered ring)) (bytes ++ whole_buffer ∷ others) there) in
           let all = All-append (AreApart other) (map reported_half (head ∷ rest)) (bytes ++ others) halves behind in
           subst (λ (list : List Area). All (AreApart other) (map reported_half (head ∷ rest) ++ (bytes ++ list))) (sym left) all;
-      runs = λ run. record {
-        receiver_runs = run.receiver_runs;
-        transmitter_runs = run.transmitter_runs;
-        receive_indices = λ still_more. record { head = next-below (count_of ring) ring.head can.indices.head; tail = can.indices.tail };
-        transmit_indices = run.transmit_indices;
-        not_extended = run.not_extended;
-        transmittable = transmittable-kept memory memory' (offered (transmit_ring a)) size transmitting.same_offered run.transmittable;
-      };
+      runs = λ run. still_run a b
+          (λ still_more. record { head = next-below (count_of ring) ring.head can.indices.head; tail = can.indices.tail })
+          run.not_extended
+          (transmittable-kept memory memory' (offered (transmit_ring a)) size transmitting.same_offered run.transmittable) run;
       sound = record {
         receive_slots = dealt;
         transmit_slots = transmitting.dealt;
@@ -257,17 +242,11 @@ data_moved : (ends : Bool) (buffer : List (List ℕ)) (moved : ℕ) (a : World) 
     → KeepsHeld ends buffer moved o (with_work None a)) → Happens a (moved_world ends buffer moved a) nothing
 data_moved ends buffer moved a running has can last keeps_held = record {
   steady =
-      steady_moves a (moved_world ends buffer moved a).memory
-      (record (still a.adapter) {
-        recorded = union a.adapter.causes.recorded (causes_of_moving a.adapter.receive_ring);
-        receive_head = next_of (receive_ring a) a.adapter.receive_ring.head;
-        receiver = moved_engine ends buffer moved a;
-      })
-      nothing (length-with_bytes a.memory (next_piece a.adapter.filter.rctl a.adapter.receiver) _ can.place)
-      (added a.adapter.causes.recorded (causes_of_moving a.adapter.receive_ring)) (omega (arith, running.registers.counters.missed))
-      (λ off. (refl, refl))
+      let b = moved_world ends buffer moved a in
+      steady_moves a b nothing (length-with_bytes a.memory (next_piece a.adapter.filter.rctl a.adapter.receiver) _ can.place)
+      (added a.adapter.causes.recorded (causes_of_moving a.adapter.receive_ring))
       (inr (record { head = next-below (count_of (receive_ring a)) a.adapter.receive_ring.head can.indices.head; tail = can.indices.tail }))
-      (inl refl) (all-none IsLegal) refl refl;
+      (inl refl) (no-arrivals a b nothing refl refl refl) (record { eerd = refl; management = refl });
   between = λ o p sound.
       let free = has.ready.free in
       let has_free = subst (λ (work : Option Work). HasFrameAndDescriptor (with_work work a).adapter) free has in
@@ -289,9 +268,9 @@ data_happens a Moved running says =
     (finished_pieces o a) (answers.Moved (is_half_offered (ring_of (moved_on a.adapter.receive_ring)))) begun)
 data_happens a Fault running answers = record {
   steady =
-      steady_moves a a.memory (record (still a.adapter) { receiver = (world_after_step RxData Fault a).adapter.receiver })
-      nothing refl (λ place set. set) (omega (arith, running.registers.counters.missed)) (λ off. (refl, refl)) (inl refl) (inl refl)
-      (all-none IsLegal) refl refl;
+      let b = world_after_step RxData Fault a in
+      steady_moves a b nothing refl (λ place set. set) (inl refl) (inl refl) (no-arrivals a b nothing refl refl refl)
+      (record { eerd = refl; management = refl });
   between = λ o p sound. between_stopped o p a true a.adapter.transmitter.stopped
       (λ can. answers.1 (can_move o p a sound can answers.0)) sound;
 }

@@ -31,7 +31,7 @@ use Rattle.adapter.specs.Outcomes.{FrameOutcome}
 use Rattle.adapter.specs.declared.outcome.Outcome.TheVariants.{Done, Nothing}
 use Rattle.adapter.specs.HostAreas.{areas, buffer_of, data_of, frame_areas, offered_buffers, receives, reported_half}
 use Rattle.adapter.specs.HostAreas.{ring_area, status_byte}
-use Rattle.adapter.specs.Slots.{buffered, done_slots, finished, in_work, is_done, offered, written_back}
+use Rattle.adapter.specs.Slots.{buffered, done_slots, finished, slots_in_work, is_done, offered, written_back_slots}
 use Rattle.adapter.specs.HostFrames.{finished_pieces, frames_held, named, piece_in, pieces_in_slots}
 use Rattle.adapter.specs.Conditions.{Reports, Sound}
 use Rattle.bus.specs.Law.{Between, Happens}
@@ -40,14 +40,14 @@ use Rattle.bus.specs.StepsAndArrivals.{world_after_step}
 use Rattle.adapter.specs.State.{IsAdapter}
 use Rattle.adapter.specs.World.{receive_ring, transmit_ring, World}
 use Rattle.bus.proofs.Areas.{separate-same}
-use Rattle.bus.proofs.Composition.{happens_none}
-use Rattle.bus.proofs.EngineRegisters.{added, steady_moves, still}
+use Rattle.bus.proofs.Composition.{happens_none, puts-none}
+use Rattle.bus.proofs.EngineRegisters.{added, no-arrivals, steady_moves}
 use Rattle.bus.proofs.CutPieces.{CutPieces, HaveNoErrors, are-cut, errors-kept}
 use Rattle.bus.proofs.WrittenAreas.{IsSame, buffers-kept, descriptors-kept, is_done-same, named-kept, names_fit-kept, NamesFit}
 use Rattle.bus.proofs.WrittenAreas.{pieces-kept, same-apart, transmit_kept}
 use Rattle.bus.proofs.Lists.{all-head, all-left, all-none, all-right, all-tail, all-weaker, pairs-head}
 use Rattle.bus.proofs.RxDataSteps.{with_work}
-use Rattle.bus.proofs.RunningEngines.{transmittable-kept}
+use Rattle.bus.proofs.RunningEngines.{still_run, transmittable-kept}
 use Rattle.bus.proofs.Rings.{dealt-others, dealt-reported, dealt-right, outstanding-inside}
 use Rattle.descriptors.specs.Frames.{IsLegal}
 
@@ -80,7 +80,7 @@ work-stands o p work a0 sound =
     let payload = map (data_of a.memory) (offered (transmit_ring a)) in
     let names = map (named a.memory) (finished o a) in
     let slots = sound.receive_slots in
-    let right = dealt-right a.memory ring o (in_work a) (λ d. IsInside (descriptor_area d) r) slots
+    let right = dealt-right a.memory ring o (slots_in_work a) (λ d. IsInside (descriptor_area d) r) slots
     (outstanding-inside ring o slots.slot) in
     let inside = all-head (λ d. IsInside (descriptor_area d) r) work.descriptor (offered ring) right in
     let place : Area = record { address = receive.named_address a.memory work.descriptor; size = work.length } in
@@ -178,12 +178,7 @@ between_done o p work a0 most sound =
     let halves = map reported_half (offered ring) in
     let bytes = map status_byte (buffered a ++ offered (transmit_ring a)) in
     record {
-      transmit = record {
-        sends = transmitting.sends;
-        reported = [];
-        written = transmitting.done ∙ sym (append-nil (written_back p a));
-        each_reported = refl;
-      };
+      transmit = puts-none p a b nothing refl transmitting.sends transmitting.done;
       receive = record {
         holds = ap (λ (pieces : List Piece). frames_of pieces ++ a.adapter.receiver.buffer) all_pieces ∙ sym (append-nil (frames_held o a));
         more = d ∷ [];
@@ -218,14 +213,8 @@ between_done o p work a0 most sound =
       foreign = λ other foreign.
           subst (λ (there : List Area). All (AreApart other) (halves ++ (bytes ++ there))) (sym left)
           (all-tail (AreApart other) area (halves ++ (bytes ++ buffers)) foreign);
-      runs = λ can. record {
-        receiver_runs = can.receiver_runs;
-        transmitter_runs = can.transmitter_runs;
-        receive_indices = can.receive_indices;
-        transmit_indices = can.transmit_indices;
-        not_extended = can.not_extended;
-        transmittable = transmittable-kept memory memory' (offered (transmit_ring a)) size transmitting.same_offered can.transmittable;
-      };
+      runs = λ can. still_run a b can.receive_indices can.not_extended
+          (transmittable-kept memory memory' (offered (transmit_ring a)) size transmitting.same_offered can.transmittable) can;
       sound = record {
         receive_slots = receiving.dealt;
         transmit_slots = transmitting.dealt;
@@ -259,17 +248,10 @@ done_work : (work : Option Work) (a : World) → IsAdapter (with_work work a).ad
 done_work None a running answers = absurd (answers refl)
 done_work (Some work) a running answers =
     let w = with_work (Some work) a in
+    let b = world_after_step RxDone Done w in
     record {
-      steady =
-          steady_moves w (memory_after_done (Some work) w.memory)
-          (record (still w.adapter) {
-            recorded = union w.adapter.causes.recorded (causes_of_finishing (Some work));
-            received = received_counted w.adapter;
-            receiver = (with_work None a).adapter.receiver;
-          })
-          nothing (length-back w.memory work) (added w.adapter.causes.recorded (causes_of_finishing (Some work)))
-          (omega (arith, running.registers.counters.missed))
-          (λ off. (refl, refl)) (inl refl) (inl refl) (all-none IsLegal) refl refl;
+      steady = steady_moves w b nothing (length-back w.memory work) (added w.adapter.causes.recorded (causes_of_finishing (Some work)))
+          (inl refl) (inl refl) (no-arrivals w b nothing refl refl refl) (record { eerd = refl; management = refl });
       between = λ o p sound.
           let stand = work-stands o p work a sound in
           let there = between_done o p work a (running.receiver.most work refl) sound in

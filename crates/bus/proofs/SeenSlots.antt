@@ -16,7 +16,7 @@ use Rattle.descriptors.specs.declared.rx_desc.RxDesc.{RxDesc}
 use Rattle.rx_engine.specs.Descriptors.{descriptor_at}
 use Rattle.rx_engine.specs.Pieces.{Piece}
 use Rattle.adapter.specs.HostFrames.{finished_pieces, named, piece_in}
-use Rattle.adapter.specs.Slots.{finished, in_work, is_done, offered, outstanding}
+use Rattle.adapter.specs.Slots.{finished, slots_in_work, is_done, offered, outstanding}
 use Rattle.adapter.specs.World.{World, receive_ring}
 use Rattle.bus.specs.DriversSlots.{frame_named}
 use Rattle.bus.proofs.Lists.{all-head, all-right}
@@ -181,7 +181,7 @@ slot-shows {up} d world k ready below =
 
     by_case : (done : Bool) → test slot ≡ done → ShowsSlot done k pieces descriptor
     by_case true done =
-        let rest = in_work world ++ offered (receive_ring world) in
+        let rest = slots_in_work world ++ offered (receive_ring world) in
         let sound = ready.law.sound.receive_slots in
         let past = goes-past test it.before slot it.after rest done
         (subst (λ (list : List ℕ). list ≡ take_while test list ++ rest) it.is sound.classes) sound.not_done in

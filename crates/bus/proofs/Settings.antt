@@ -20,6 +20,7 @@ use Rattle.bus.specs.Pasts.{Past, joined}
 use Rattle.bus.specs.Settings.{adapter_with, AreSet, HappeningsLeaveSettings, IsNotReceiveControl, IsOff, LeavesReceiver, NoArrival}
 use Rattle.bus.specs.Settings.{Settings, settings_after, settings_after_all, settings_of, SettingsJoin, StaysOff, WhileOff, Write}
 use Rattle.bus.specs.Settings.{writes_in, WritesSet}
+use Rattle.bus.proofs.RegisterWrites.{read-counts}
 
 same-settings : (a b : AdapterState) → b.image ≡ a.image → b.phy.link ≡ a.phy.link → b.receive_kilobytes ≡ a.receive_kilobytes
     → b.device_control ≡ a.device_control → b.causes.mask ≡ a.causes.mask
@@ -37,20 +38,8 @@ happenings_leave_settings a b past happens =
     ∙ link-ticks past.phy_ticks (management_of a.adapter)) stay.allocation stay.device_control stay.mask stay.filter
     stay.transmit_control steady.receive_ring.others steady.transmit_ring.others
 
-read-leaves : (register : Register) (adapter : AdapterState) → settings_of (read_of register adapter) ≡ settings_of adapter
-read-leaves Icr adapter = refl
-read-leaves Mpc adapter = refl
-read-leaves Gprc adapter = refl
-read-leaves Gptc adapter = refl
-read-leaves Rnbc adapter = refl
-read-leaves _ adapter = refl
-
 pub reads-leave : (offset : ℕ) (adapter : AdapterState) → settings_of (after_read offset adapter) ≡ settings_of adapter
-reads-leave offset adapter = by_case (register_at offset)
-  where
-    by_case : (found : Option Register) → settings_of (left_by_read found adapter) ≡ settings_of adapter
-    by_case None = refl
-    by_case (Some register) = read-leaves register adapter
+reads-leave offset adapter = ap settings_of (read-counts offset adapter)
 
 row-sets : (register : Register) (value : ℕ) (adapter : AdapterState)
     → settings_of (by_row (row_of register).kept register value adapter)

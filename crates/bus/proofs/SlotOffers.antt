@@ -17,7 +17,7 @@ use Rattle.rx_engine.specs.Held.{HasBegun, held, in_slots}
 use Rattle.rx_engine.specs.Pieces.{Piece}
 use Rattle.adapter.specs.HostAreas.{areas, buffer_of, data_of, IsForeign, offered_buffers, receives, reported_half, ring_area}
 use Rattle.adapter.specs.HostAreas.{status_byte, work_areas}
-use Rattle.adapter.specs.Slots.{buffered, done_slots, finished, in_work, is_done, IsDealt, offered, outstanding}
+use Rattle.adapter.specs.Slots.{buffered, done_slots, finished, slots_in_work, is_done, IsDealt, offered, outstanding}
 use Rattle.adapter.specs.HostFrames.{finished_pieces, named, piece_in}
 use Rattle.adapter.specs.Conditions.{Reports}
 use Rattle.bus.specs.SlotOffers.{FramesCanBeOffered, SlotsCanBeOffered, offering, offering_frame}
@@ -149,8 +149,8 @@ foreign-offered a area grown foreign half buffer =
     let b = offering a in
     let P : Area → Type 0 = AreApart area in
     let last = address_of (receive_ring a) a.adapter.receive_ring.tail in
-    let halves = map reported_half (in_work a ++ offered (receive_ring a)) in
-    let halves' = map reported_half (in_work a ++ offered (receive_ring b)) in
+    let halves = map reported_half (slots_in_work a ++ offered (receive_ring a)) in
+    let halves' = map reported_half (slots_in_work a ++ offered (receive_ring b)) in
     let bytes = map status_byte (buffered a ++ offered (transmit_ring a)) in
     let rest : All P (bytes ++ offered_buffers a) = all-right P halves (bytes ++ offered_buffers a) foreign in
     let old : All P (offered_buffers a) = all-right P bytes (offered_buffers a) rest in
@@ -163,7 +163,7 @@ foreign-offered a area grown foreign half buffer =
     (λ (none : offered_buffers b ≡ offered_buffers a). subst (λ (list : List Area). All P list) (sym none) old)
     (buffers-grown (receives a) (buffer_of a) (offered (receive_ring a)) (offered (receive_ring b)) last grown) in
     All-append P halves' (bytes ++ offered_buffers b)
-    (all-grown P reported_half (in_work a) (offered (receive_ring a)) (offered (receive_ring b)) last grown
+    (all-grown P reported_half (slots_in_work a) (offered (receive_ring a)) (offered (receive_ring b)) last grown
     (all-left P halves (bytes ++ offered_buffers a) foreign) half)
     (All-append P bytes (offered_buffers b) (all-left P bytes (offered_buffers a) rest) buffers)
 
@@ -176,7 +176,7 @@ slots_can_be_offered o p a sound can =
     let t = ring_area (transmit_ring a) in
     let payload = map (data_of a.memory) (offered (transmit_ring a)) in
     let work = work_areas a.memory a.adapter.receiver.work in
-    let grown = dealt-offered a.memory ring o (in_work a) sound.receive_slots
+    let grown = dealt-offered a.memory ring o (slots_in_work a) sound.receive_slots
     (record { head = can.ring.head_slot; tail = can.ring.tail_slot }) can.ring.oldest_slot can.ring.room can.fresh in
     let names : map (named a.memory) (finished o b) ≡ map (named a.memory) (finished o a) = ap (map (named a.memory)) grown.done in
     let pieces : finished_pieces o b ≡ finished_pieces o a = ap (map (piece_in a.memory)) grown.done in
@@ -262,7 +262,7 @@ foreign-sending a area grown foreign status =
     let b = offering_frame a in
     let P : Area → Type 0 = AreApart area in
     let last = address_of (transmit_ring a) a.adapter.transmit_ring.tail in
-    let halves = map reported_half (in_work a ++ offered (receive_ring a)) in
+    let halves = map reported_half (slots_in_work a ++ offered (receive_ring a)) in
     let bytes = map status_byte (buffered a ++ offered (transmit_ring a)) in
     let bytes' = map status_byte (buffered a ++ offered (transmit_ring b)) in
     let rest : All P (bytes ++ offered_buffers a) = all-right P halves (bytes ++ offered_buffers a) foreign in

@@ -11,7 +11,7 @@ use Rattle.adapter.specs.HostAreas.{areas, buffer_of, buffer_size, data_of, IsFo
 use Rattle.adapter.specs.HostAreas.{status_byte, work_areas}
 use Rattle.registers.specs.Bits.{HasBit}
 use Rattle.registers.specs.Places.{rctl_en}
-use Rattle.adapter.specs.Slots.{buffered, in_work, offered, slot_of_work}
+use Rattle.adapter.specs.Slots.{buffered, slots_in_work, offered, slot_of_work}
 use Rattle.adapter.specs.HostFrames.{named}
 use Rattle.adapter.specs.Conditions.{FitBuffers, Sound}
 use Rattle.bus.specs.SpareMemory.{IsSpare}
@@ -67,16 +67,16 @@ spare-apart size o p a area sound fit spare =
     let Away : ℕ → Type 0 = λ d. AreApart (area_at (receive.named_address a.memory d) size) area in
     let Near : ℕ → Type 0 = λ d. AreApart (data_of a.memory d) area in
     let work = a.adapter.receiver.work in
-    let done = dealt-left a.memory (receive_ring a) o (in_work a) Away sound.receive_slots spare.buffers in
-    let behind = dealt-right a.memory (receive_ring a) o (in_work a) Away sound.receive_slots spare.buffers in
+    let done = dealt-left a.memory (receive_ring a) o (slots_in_work a) Away sound.receive_slots spare.buffers in
+    let behind = dealt-right a.memory (receive_ring a) o (slots_in_work a) Away sound.receive_slots spare.buffers in
     let sent = dealt-right a.memory (transmit_ring a) p (buffered a) Near sound.transmit_slots spare.sources in
     all-areas (λ other. AreApart other area) o a (record {
       received = spare.receive_slots;
       sent = spare.transmit_slots;
       payload = all-right Near (buffered a) (offered (transmit_ring a)) sent;
       names = λ k d below. name-apart a.memory size _ area (fit.finished_fit k d below) (done k d below);
-      work = work-apart a.memory work size area (all-left Away (in_work a) (offered (receive_ring a)) behind) fit.work_fits;
-      buffers = offered-apart a size area fit.large (all-right Away (in_work a) (offered (receive_ring a)) behind);
+      work = work-apart a.memory work size area (all-left Away (slots_in_work a) (offered (receive_ring a)) behind) fit.work_fits;
+      buffers = offered-apart a size area fit.large (all-right Away (slots_in_work a) (offered (receive_ring a)) behind);
     })
 
 pub spare-foreign : (size o p : ℕ) (a : World) (area : Area) → Sound o p a → FitBuffers size o a → IsSpare size o p a area
@@ -85,7 +85,7 @@ spare-foreign size o p a area sound fit spare =
     let parts = parts-of o p a sound in
     let r = ring_area (receive_ring a) in
     let t = ring_area (transmit_ring a) in
-    let halves = map reported_half (in_work a ++ offered (receive_ring a)) in
+    let halves = map reported_half (slots_in_work a ++ offered (receive_ring a)) in
     let bytes = map status_byte (buffered a ++ offered (transmit_ring a)) in
     let buffers = (of-areas (λ other. AreApart other area) o a (spare-apart size o p a area sound fit spare)).buffers in
     All-append (AreApart area) halves (bytes ++ offered_buffers a)

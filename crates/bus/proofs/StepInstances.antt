@@ -8,8 +8,8 @@ use Rattle.bus.proofs.StepsBesideRings.{arrival_happens, eeprom_tick_happens, ph
 use Rattle.bus.proofs.TxTakeSteps.{take_happens}
 
 pub steps_happen : StepsHappen
-steps_happen world TxTake wire_free answer running answers = take_happens world answer running answers
-steps_happen world TxPut wire_free answer running answers = put_happens world wire_free answer running answers
+steps_happen world TxTake wire_free answer running answers = take_happens world answer answers
+steps_happen world TxPut wire_free answer running answers = put_happens world wire_free answer answers
 steps_happen world RxData wire_free answer running answers = data_happens world answer running answers
 steps_happen world RxDone wire_free answer running answers = done_happens world answer running answers
 steps_happen world EepromTick wire_free answer running answers = eeprom_tick_happens world answer running

@@ -12,8 +12,9 @@ use Rattle.descriptors.specs.Ring.{address_of}
 use Rattle.descriptors.specs.RingLaws.{place}
 use Rattle.rx_engine.specs.PieceLaws.{frames-append}
 use Rattle.rx_engine.specs.Pieces.{IsPart, begun_of, frames_from, frames_of}
+use Rattle.adapter.specs.Conditions.{Sound}
 use Rattle.adapter.specs.HostFrames.{finished_pieces, frames_held, frames_to_send}
-use Rattle.adapter.specs.Slots.{written_back}
+use Rattle.adapter.specs.Slots.{written_back_slots}
 use Rattle.adapter.specs.World.{World, receive_ring}
 use Rattle.bus.specs.Law.{Happens}
 use Rattle.bus.specs.DriversStores.{SameFrames}
@@ -26,6 +27,7 @@ use Rattle.bus.proofs.EndedFrames.{frames-none}
 use Rattle.bus.specs.DriverState.{DriverState, HandedOut, receive_slot, receive_tail, with_owners}
 use Rattle.bus.specs.Calls.{GoesTo, driver_did, driver_in}
 use Rattle.bus.specs.ReadyDrivers.{ReadyWith, Stands}
+use Rattle.bus.proofs.RegisterSetting.{others-set}
 
 -- What happens without the driver: frames leave and arrive, frames end in slots, slots become written back, causes are
 -- recorded, and MPC counts.
@@ -36,7 +38,7 @@ pub record Passes (o p : ℕ) (a b : World) (past : Past) : Type 0 where
   pub grown : frames_of (finished_pieces o b) ≡ frames_of (finished_pieces o a) ++ ended
   pub told : (ended ≡ []) ⊎ HasBit b.adapter.causes.recorded 7
   pub reported : List ℕ
-  pub written : written_back p b ≡ written_back p a ++ reported
+  pub written : written_back_slots p b ≡ written_back_slots p a ++ reported
   pub each_reported : length reported ≡ length past.put
   pub mask : b.adapter.causes.mask ≡ a.adapter.causes.mask
   pub causes : (place : ℕ) → HasBit a.adapter.causes.recorded place → HasBit b.adapter.causes.recorded place
@@ -58,7 +60,7 @@ goes-passes {up} d buffers staged pool handed_out a b past passes ready =
         holds = passes.holds;
         least = omega (arith, ap length passes.grown, longer);
         frees = omega
-            (arith, ap length passes.written, length-append (written_back d.oldest_transmit a) passes.reported, passes.each_reported);
+            (arith, ap length passes.written, length-append (written_back_slots d.oldest_transmit a) passes.reported, passes.each_reported);
         mask = passes.mask;
         misses = misses-counted d (with_owners d buffers staged pool handed_out) a b past refl refl passes.missed passes.missed_most
             passes.missed_below_greatest;
@@ -80,7 +82,7 @@ passes-same o p a b same causes missed = record {
   grown = ap frames_of same.pieces_same ∙ sym (append-nil (frames_of (finished_pieces o a)));
   told = inl refl;
   reported = [];
-  written = same.written_same ∙ sym (append-nil (written_back p a));
+  written = same.written_same ∙ sym (append-nil (written_back_slots p a));
   each_reported = refl;
   mask = ap (λ (c : Interrupts). c.mask) causes;
   causes = λ place has. subst (λ (c : Interrupts). HasBit c.recorded place) (sym causes) has;
@@ -89,22 +91,19 @@ passes-same o p a b same causes missed = record {
   missed_below_greatest = λ below_greatest. omega (arith, missed);
 }
 
+pub goes-same : {up : Bool} (d : DriverState) (a b : World) → SameFrames d.oldest_receive d.oldest_transmit a b
+    → b.adapter.causes ≡ a.adapter.causes → b.adapter.missed_packets ≡ a.adapter.missed_packets → ReadyWith up d b
+    → GoesTo up (driver_in d a) (driver_in d b) (driver_did [] []) nothing
+goes-same d a b same causes missed ready = goes-passes d d.buffers d.staged d.pool d.handed_out a b nothing
+    (passes-same d.oldest_receive d.oldest_transmit a b same causes missed) ready
+
+pub same-frames : (o p : ℕ) (a : World) → Sound o p a → SameFrames o p a a
+same-frames o p a sound = (others-set o p a a.adapter sound).same
+
 pub goes-stays : {up : Bool} (d : DriverState) (a : World) → ReadyWith up d a
     → GoesTo up (driver_in d a) (driver_in d a) (driver_did [] []) nothing
 goes-stays {up} d a ready =
-    goes-passes d d.buffers d.staged d.pool d.handed_out a a nothing
-    (passes-same d.oldest_receive d.oldest_transmit a a
-    (record {
-      sound = ready.law.sound;
-      held = refl;
-      to_send = refl;
-      finished_same = refl;
-      written_same = refl;
-      pieces_same = refl;
-      whole = λ size sized whole. whole;
-      fits = λ size large fits. fits;
-    }) refl refl)
-    ready
+    goes-same d a a (same-frames d.oldest_receive d.oldest_transmit a ready.law.sound) refl refl ready
 
 pub goes-happens : {up : Bool} (d : DriverState) (a b : World) (past : Past) → ReadyWith up d a → Happens a b past
     → GoesTo up (driver_in d a) (driver_in d b) (driver_did [] []) past

@@ -1,58 +1,30 @@
 -- Steps of an adapter and deliveries, and then an access of its driver.
-use Rattle.std.proofs.Common.{◌≡◌, ◌++◌, ◌∷◌, [], List, refl, sym, ap, ◌∙◌, arith}
+use Rattle.std.proofs.Common.{◌≡◌, ◌++◌, ◌∷◌, [], List, refl, sym, ap, ◌∙◌, arith, subst}
 use Rattle.std.specs.List.{All}
 use Rattle.std.proofs.lemmas.List.{append-nil}
 use Rattle.adapter.specs.World.{World}
 use Rattle.adapter.specs.declared.step.StepKind.TheVariants.{TxTake, TxPut, RxData, RxDone, EepromTick, PhyTick}
 use Rattle.bus.specs.Law.{Happens}
-use Rattle.bus.specs.Pasts.{Past}
+use Rattle.bus.specs.Pasts.{Past, joined, nothing}
 use Rattle.bus.specs.TrailLaws.{past_of-append, same_past}
 use Rattle.bus.specs.Trails.{IsStep, past_of, past_of_event}
 use Rattle.bus.specs.declared.event.Access.{Access}
 use Rattle.bus.specs.declared.event.Event.{Event}
 use Rattle.bus.specs.declared.event.Event.TheVariants.{Accesses, Arrives, Steps}
 use Rattle.bus.proofs.Lists.{all-head, all-tail}
+use Rattle.bus.proofs.Composition.{happens_only, happens_trans}
 
-pub happens_accesses : (a b : World) (past : Past) (accesses : List Access) → Happens a b past
+with-accesses : (past : Past) (accesses : List Access) → past.accesses ≡ []
+    → joined past (record nothing { accesses = accesses }) ≡ record past { accesses = accesses }
+with-accesses past accesses none =
+    same_past _ _ _ _ _ _ _ _ _ _ _ _ (append-nil past.put) (append-nil past.stored) (omega arith) (omega arith) (omega arith)
+    (ap (λ (before : List Access). before ++ accesses) none)
+
+pub happens_accesses : (a b : World) (past : Past) (accesses : List Access) → past.accesses ≡ [] → Happens a b past
     → Happens a b (record past { accesses = accesses })
-happens_accesses a b past accesses happens =
-    let steady = happens.steady in
-    record {
-      steady = record {
-        size = steady.size;
-        image = steady.image;
-        registers = steady.registers;
-        causes = steady.causes;
-        receive_ring = steady.receive_ring;
-        transmit_ring = steady.transmit_ring;
-        arrivals = record { missed = steady.arrivals.missed; off = steady.arrivals.off; legal = steady.arrivals.legal };
-        ticks = record { eerd = steady.ticks.eerd; management = steady.ticks.management };
-      };
-      between = λ o p sound.
-          let between = happens.between o p sound in
-          record {
-            transmit = record {
-              sends = between.transmit.sends;
-              reported = between.transmit.reported;
-              written = between.transmit.written;
-              each_reported = between.transmit.each_reported;
-            };
-            receive = record {
-              holds = between.receive.holds;
-              more = between.receive.more;
-              done = between.receive.done;
-              pieces = between.receive.pieces;
-              grown = between.receive.grown;
-              told = between.receive.told;
-            };
-            fits = between.fits;
-            whole = between.whole;
-            untouched = between.untouched;
-            foreign = between.foreign;
-            runs = between.runs;
-            sound = between.sound;
-          };
-    }
+happens_accesses a b past accesses none happens =
+    subst (Happens a b) (with-accesses past accesses none)
+    (happens_trans a b b past (record nothing { accesses = accesses }) happens (happens_only b accesses))
 
 event-no_access : (event : Event) → IsStep event → (past_of_event event).accesses ≡ []
 event-no_access (Steps TxTake wire_free answer) is = refl
@@ -73,7 +45,4 @@ no_access (event ∷ later) are =
 pub past-with_access : (events : List Event) (access : Access) → All IsStep events
     → record (past_of events) { accesses = access ∷ [] } ≡ past_of (events ++ Accesses access ∷ [])
 past-with_access events access are =
-    let past = past_of events in
-    same_past _ _ _ _ _ _ _ _ _ _ _ _ (sym (append-nil past.put)) (sym (append-nil past.stored)) (omega arith) (omega arith) (omega arith)
-    (ap (λ (accesses : List Access). accesses ++ access ∷ []) (sym (no_access events are)))
-    ∙ sym (past_of-append events (Accesses access ∷ []))
+    sym (with-accesses (past_of events) (access ∷ []) (no_access events are)) ∙ sym (past_of-append events (Accesses access ∷ []))

@@ -17,7 +17,7 @@ use Rattle.rx_engine.specs.Pieces.{Piece, frames_of, parts}
 use Rattle.rx_engine.specs.Pieces.Piece.{Last, Part}
 use Rattle.adapter.specs.Conditions.{AreCut, FitBuffers, Sound}
 use Rattle.adapter.specs.HostFrames.{finished_pieces, frames_held, frames_to_send, named, piece_in}
-use Rattle.adapter.specs.Slots.{finished, in_work, offered, outstanding}
+use Rattle.adapter.specs.Slots.{finished, slots_in_work, offered, outstanding}
 use Rattle.adapter.specs.World.{World, receive_ring}
 use Rattle.bus.specs.DriversSlots.{frame_named}
 use Rattle.bus.specs.Pasts.{nothing}
@@ -28,7 +28,7 @@ use Rattle.bus.proofs.EndedFrames.{parts-few}
 use Rattle.bus.proofs.Owners.{one_owner-dealt}
 use Rattle.bus.proofs.Places.{place-add, place-below}
 use Rattle.bus.proofs.SeenSlots.{cons-parts, finished-lie, outstanding-slots}
-use Rattle.bus.proofs.Steps.{goes-passes, passes-same}
+use Rattle.bus.proofs.Steps.{goes-passes, passes-same, same-frames}
 use Rattle.bus.proofs.Intervals.{misses-stay}
 use Rattle.bus.specs.DriverState.{DriverState, HandedOut, buffer_at, piece_numbers, receive_slot, receive_tail, with_owners}
 use Rattle.bus.specs.ReadyDrivers.{AreStored, ReadyWith, Stands}
@@ -235,7 +235,7 @@ oldest-contain d world seen last later ready is =
     let most : length slots ≤ length d.buffers = omega (
       arith,
       ap length ready.law.sound.receive_slots.classes,
-      length-append slots (in_work world ++ offered (receive_ring world)),
+      length-append slots (slots_in_work world ++ offered (receive_ring world)),
       all,
       length-map (slots_from d.layout.rx d.oldest_receive (length d.buffers)) receive_slot,
       length-slots_from d.layout.rx d.oldest_receive (length d.buffers),
@@ -260,16 +260,7 @@ pub buffers_can_come_back : BuffersCanComeBack
 buffers_can_come_back up d pool handed_out a ready moves stand =
     goes-passes d d.buffers d.staged pool handed_out a a nothing
     (passes-same d.oldest_receive d.oldest_transmit a a
-    (record {
-      sound = ready.law.sound;
-      held = refl;
-      to_send = refl;
-      finished_same = refl;
-      written_same = refl;
-      pieces_same = refl;
-      whole = λ size sized whole. whole;
-      fits = λ size large fits. fits;
-    }) refl refl)
+    (same-frames d.oldest_receive d.oldest_transmit a ready.law.sound) refl refl)
     (record {
       driver_is = record {
         oldest_slot = ready.driver_is.oldest_slot;

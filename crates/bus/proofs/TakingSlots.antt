@@ -12,7 +12,7 @@ use Rattle.dma_memory.specs.HostMemory.{LiesIn}
 use Rattle.descriptors.specs.declared.ring.Ring.{Ring}
 use Rattle.descriptors.specs.Ring.{address_of, count_of, distance_of, next_of, offered_places, slots_from}
 use Rattle.descriptors.specs.RingLaws.{next-below, next-inner, next-last}
-use Rattle.adapter.specs.Slots.{buffered, done_slots, finished, in_work, is_done, IsDealt, offered, outstanding}
+use Rattle.adapter.specs.Slots.{buffered, done_slots, finished, slots_in_work, is_done, IsDealt, offered, outstanding}
 use Rattle.adapter.specs.HostAreas.{areas, data_of, offered_buffers, ring_area, work_areas}
 use Rattle.adapter.specs.HostFrames.{named}
 use Rattle.adapter.specs.Conditions.{FitBuffers}
@@ -149,16 +149,16 @@ behind_oldest_receive oldest world = next_of (receive_ring world) oldest
 
 -- With the next receive slot as the oldest one, all conditions of the law hold, except those on what the slots contain.
 pub record Passed (o : ℕ) (a : World) (slot : ℕ) (later : List ℕ) : Type 0 where
-  pub ahead : Ahead a.memory (receive_ring a) o (in_work a) slot later
+  pub ahead : Ahead a.memory (receive_ring a) o (slots_in_work a) slot later
   pub separate : AreSeparate a.memory (areas (behind_oldest_receive o a) a)
   -- the bytes that the slot names
   pub lies : LiesIn a.memory (named a.memory slot).address (named a.memory slot).size
   pub fits : (size : ℕ) → FitBuffers size o a → FitBuffers size (behind_oldest_receive o a) a
 
-pub passed : (o : ℕ) (a : World) (slot : ℕ) (later : List ℕ) → IsDealt a.memory (receive_ring a) o (in_work a)
+pub passed : (o : ℕ) (a : World) (slot : ℕ) (later : List ℕ) → IsDealt a.memory (receive_ring a) o (slots_in_work a)
     → AreSeparate a.memory (areas o a) → finished o a ≡ slot ∷ later → Passed o a slot later
 passed o a slot later dealt separate done =
-    let ahead = dealt-ahead a.memory (receive_ring a) o (in_work a) slot later dealt done in
+    let ahead = dealt-ahead a.memory (receive_ring a) o (slots_in_work a) slot later dealt done in
     let front = ring_area (receive_ring a) ∷ ring_area (transmit_ring a) ∷ map (data_of a.memory) (offered (transmit_ring a)) in
     let rest = work_areas a.memory a.adapter.receiver.work ++ offered_buffers a in
     let Lies : Area → Type 0 = λ area. LiesIn a.memory area.address area.size in

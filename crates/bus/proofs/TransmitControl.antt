@@ -19,8 +19,8 @@ use Rattle.bus.specs.DriversStores.{LeavesFrames}
 use Rattle.bus.specs.Beginnings.{CausesAreEnabled, TransmitterIsEnabled, EnabledForgetsNoWork}
 use Rattle.bus.specs.Calls.{driver_in, frames_ended}
 use Rattle.bus.specs.DriverState.{transmit_slot}
-use Rattle.bus.proofs.AlikeWorlds.{SameParts, ready-left}
-use Rattle.bus.proofs.StepsWithoutFrames.{goes-rests}
+use Rattle.bus.proofs.AlikeWorlds.{ready-left, same-others, ready-set}
+use Rattle.bus.proofs.Steps.{goes-same}
 
 pub transmitter_is_enabled : TransmitterIsEnabled
 transmitter_is_enabled driver control world ready below knows pads =
@@ -28,39 +28,21 @@ transmitter_is_enabled driver control world ready below knows pads =
     let none : driver.sending ≡ 0 = ready.transmit.nothing in
     let Inside : ℕ → Type 0 = λ slot. IsInside (data_of world.memory (transmit_slot counts slot)) (area_of counts (TransmitBuffer slot)) in
     let leaves = transmitter_can_be_set driver.oldest_receive driver.oldest_transmit control world ready.law.sound (λ differ. pads) in
-    goes-rests driver world driver (with_transmit_control control world)
+    goes-same driver world (with_transmit_control control world) leaves.same refl refl
+    (ready-set driver world (with_transmit_control control world).adapter ready
     (record {
-      driver_is = ready.driver_is;
-      law = record {
-        sound = leaves.same.sound;
-        runs = leaves.runs ready.law.runs;
-        fit = leaves.same.fits receive_buffer_bytes ready.law.fit.large ready.law.fit;
-        whole = leaves.same.whole receive_buffer_bytes ready.law.whole.sized ready.law.whole;
-      };
-      lies = ready.lies;
-      receive = ready.receive;
-      transmit = record {
-        oldest_slot = below;
-        room = omega (arith, none, below);
-        pads = pads;
-        knows = knows;
-        sources = subst (λ (k : ℕ). All Inside (slots_from counts.tx driver.oldest_transmit k)) (sym none) (all-none Inside);
-      };
-      slots = record { names = ready.slots.names; stored = ready.slots.stored };
-      stand = ready.stand;
+      sound = leaves.same.sound;
+      runs = leaves.runs ready.law.runs;
+      fit = leaves.same.fits receive_buffer_bytes ready.law.fit.large ready.law.fit;
+      whole = leaves.same.whole receive_buffer_bytes ready.law.whole.sized ready.law.whole;
     })
     (record {
-      layout = refl;
-      missed = refl;
-      exact = refl;
-      to_send = refl;
-      held = refl;
-      pieces_same = refl;
-      frees = omega arith;
-      mask = refl;
-      recorded = refl;
-      missed_packets = refl;
-    })
+      oldest_slot = below;
+      room = omega (arith, none, below);
+      pads = pads;
+      knows = knows;
+      sources = subst (λ (k : ℕ). All Inside (slots_from counts.tx driver.oldest_transmit k)) (sym none) (all-none Inside);
+    }))
 
 pub causes_are_enabled : CausesAreEnabled
 unfolding register_at
@@ -68,10 +50,8 @@ causes_are_enabled up driver causes world ready =
     let b = world_after_write 0xD0 causes world in
     let leaves : LeavesFrames driver.oldest_receive driver.oldest_transmit world b = other_writes_leave_frames driver.oldest_receive
     driver.oldest_transmit Ims causes world ready.law.sound (λ no. no) refl in
-    let same : SameParts world b = record
-    { memory = refl; receives = refl; transmits = refl; receive_control = refl; transmit_control = refl; buffer = refl } in
     record {
-      ready = ready-left driver world b ready leaves same;
+      ready = ready-left driver world b ready leaves (same-others b.adapter world);
       frames = record {
         to_send = leaves.same.to_send;
         held = leaves.same.held;

@@ -15,7 +15,7 @@ use Rattle.adapter.specs.Rings.{new_ring, ring_of}
 use Rattle.adapter.specs.Slots.{finished, is_done, outstanding}
 use Rattle.adapter.specs.World.{World, receive_ring, transmit_ring}
 use Rattle.adapter.specs.declared.ring.RingRegisters.{RingRegisters}
-use Rattle.bus.proofs.IdleRings.{offered-none, outstanding-none}
+use Rattle.bus.proofs.IdleRings.{offered-none, outstanding-none, none-to_send}
 use Rattle.bus.proofs.KeptPieces.{cut-kept}
 use Rattle.bus.proofs.RegisterSetting.{transmit_ring_can_be_set}
 use Rattle.bus.proofs.Lists.{all-head, all-none, all-tail, all-unmapped, all-weaker, pairs-head, pairs-tail}
@@ -27,8 +27,8 @@ use Rattle.bus.specs.DriverState.{DriverState, buffer_at}
 use Rattle.bus.specs.ReadyDrivers.{ReadyWith}
 use Rattle.bus.proofs.Buffers.{known-area}
 use Rattle.bus.proofs.Owners.{all-copies, outstanding-number}
-use Rattle.bus.proofs.Readiness.{none-to_send}
 use Rattle.bus.proofs.StepsWithoutFrames.{goes-rests}
+use Rattle.bus.proofs.AlikeWorlds.{same-driver}
 
 -- Separate areas
 
@@ -133,14 +133,9 @@ transmit_ring_is_written driver ring world ready idle inside =
     (λ other apart. apart-inside area place other inside (apart-sym other place apart)) (place-away driver world ready) in
     let set = ring-set driver ring world ready idle (lies-inside world.memory area place inside (omega (arith, ends, ready.lies)))
     (inside-apart (ring_area (receive_ring world)) area place inside received) away in
-    goes-rests driver world (record driver { oldest_transmit = ring.tail }) b
+    goes-rests driver ring.tail driver.sending world b
     (record {
-      driver_is = record {
-        oldest_slot = ready.driver_is.oldest_slot;
-        room = ready.driver_is.room;
-        one_owner = ready.driver_is.one_owner;
-        addresses = ready.driver_is.addresses;
-      };
+      driver_is = same-driver driver ring.tail driver.sending driver.missed driver.exact ready.driver_is;
       law = record {
         sound = set.sound;
         runs = set.runs ready.law.runs;
@@ -161,9 +156,6 @@ transmit_ring_is_written driver ring world ready idle inside =
       stand = ready.stand;
     })
     (record {
-      layout = refl;
-      missed = refl;
-      exact = refl;
       to_send = set.none_to_send
           ∙ sym (none-to_send world.memory (transmit_ring world) world.adapter.transmitter.buffer ready.transmit.empty ready.transmit.idle);
       held = set.held;
@@ -176,7 +168,6 @@ transmit_ring_is_written driver ring world ready idle inside =
         ap length
             (ap (take_while (is_done world.memory)) set.none_outstanding),
       );
-      mask = refl;
-      recorded = refl;
+      causes = refl;
       missed_packets = refl;
     })

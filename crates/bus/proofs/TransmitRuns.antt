@@ -12,7 +12,7 @@ use Rattle.dma_memory.specs.LayoutLaws.{places-apart}
 use Rattle.descriptors.specs.Frames.{padded}
 use Rattle.descriptors.specs.Ring.{next_of, slots_from}
 use Rattle.descriptors.specs.RingLaws.{next-below}
-use Rattle.adapter.specs.Slots.{is_done, written_back}
+use Rattle.adapter.specs.Slots.{is_done, written_back_slots}
 use Rattle.adapter.specs.World.{World, transmit_ring, world_after_store, world_after_write}
 use Rattle.bus.proofs.Lists.{all-none}
 use Rattle.bus.proofs.KnownRings.{transmit_tail-written}
@@ -25,10 +25,9 @@ use Rattle.bus.specs.Calls.{Goes, Ran, at, call_did, driver_did, driver_in, only
 use Rattle.bus.specs.Calls.{transmit_buffer, transmit_loads, whole_descriptor}
 use Rattle.bus.specs.ReadyDrivers.{Ready}
 use Rattle.bus.specs.TransmitSteps.{FrameStands, IsLoadOrStore, SendsEndWithTail, TailIsMoved, with_freed}
-use Rattle.bus.proofs.DriverAccesses.{load-sets, ran_by-join, store-sets, write-sets}
+use Rattle.bus.proofs.DriverAccesses.{load-sets, ran_by-join, store-sets, write-sets, RanWith, run-with}
 use Rattle.bus.proofs.Buffers.{front-same}
 use Rattle.bus.proofs.OfferedAndFreedSlots.{frame_is_offered, length-whole, none_is_written_back, slot_is_freed}
-use Rattle.bus.proofs.RunsWith.{RanWith, run-with}
 use Rattle.bus.proofs.Steps.{goes-stays}
 use Rattle.bus.proofs.TransmitSlots.{data_is_stored, descriptor_is_stored, next_slot_belongs_to_driver, drivers-buffer}
 use Rattle.bus.proofs.TransmitSlots.{own-descriptor}
@@ -168,43 +167,40 @@ LoadsOldest bus old new d bytes =
     Acts (view_of bus) old new (Loads (transmit_slot d.layout d.oldest_transmit) 16)
     (λ before after. (bytes ≡ bytes_at before.memory (transmit_slot d.layout d.oldest_transmit) 16) × (after ≡ before))
 
+-- The oldest slot's descriptor is loaded, and then the driver may free this slot.
+run-loads : {B : Type 0} (bus : Ghosts B) (old new : B) (d d' : DriverState) (bytes : List ℕ) (Behind : World → Type 0)
+    → ((middle : World) → Ready d middle → bytes ≡ bytes_at middle.memory (transmit_slot d.layout d.oldest_transmit) 16
+    → Goes (driver_in d middle) (driver_in d' middle) (driver_did [] []) nothing × Behind middle)
+    → LoadsOldest bus old new d bytes → Ready d (bus.world old)
+    → RanWith bus true (only (Loads (transmit_slot d.layout d.oldest_transmit) 16 ∷ [])) (at old d) (at new d') Behind
+run-loads bus old new d d' bytes Behind goes acts ready =
+    let slot = transmit_slot d.layout d.oldest_transmit in
+    run-with bus old new (Loads slot 16) (λ before after. (bytes ≡ bytes_at before.memory slot 16) × (after ≡ before)) d d' [] []
+    (λ world. Unit {0}) Behind acts (load-sets slot 16 (λ before. bytes ≡ bytes_at before.memory slot 16) (bus.world new)) ready tt
+    (λ a b past set happens u. tt)
+    (λ middle set u loaded.
+    subst (λ (after : World). Goes (driver_in d middle) (driver_in d' after) (driver_did [] []) nothing × Behind after) (sym loaded.1)
+    (goes middle set loaded.0))
+
 pub run-frees : {B : Type 0} (bus : Ghosts B) (old new : B) (d : DriverState) (bytes : List ℕ) → 0 < d.sending
     → is_set (slice_index bytes 12) 0 ≡ true
     → LoadsOldest bus old new d bytes → Ready d (bus.world old)
     → Ran bus true (only (Loads (transmit_slot d.layout d.oldest_transmit) 16 ∷ [])) (at old d) (at new (with_freed d))
 run-frees bus old new d bytes some done acts ready =
-    (run-with bus old new (Loads (transmit_slot d.layout d.oldest_transmit) 16)
-    (λ before after. (bytes ≡ bytes_at before.memory (transmit_slot d.layout d.oldest_transmit) 16)
-    × (after ≡ before)) d (with_freed d) [] [] (λ world. Unit {0}) (λ world. Unit {0}) acts
-    (load-sets (transmit_slot d.layout d.oldest_transmit) 16
-    (λ before. bytes ≡ bytes_at before.memory (transmit_slot d.layout d.oldest_transmit) 16) (bus.world new)) ready tt
-    (λ a b past set happens u. tt)
-    (λ middle set u loaded.
-    let is : is_done middle.memory (transmit_slot d.layout d.oldest_transmit)
-    ≡ true = ap (λ (list : List ℕ). is_set (slice_index list 12) 0) (sym loaded.0) ∙ done in (
-      subst (λ (after : World). Goes (driver_in d middle) (driver_in (with_freed d) after) (driver_did [] []) nothing) (sym loaded.1)
-          (slot_is_freed d middle set some is),
-      tt,
-    ))).ran
+    (run-loads bus old new d (with_freed d) bytes (λ world. Unit {0})
+    (λ middle set loaded.
+    (slot_is_freed d middle set some (ap (λ (list : List ℕ). is_set (slice_index list 12) 0) (sym loaded) ∙ done), tt)) acts ready).ran
 
 pub run-waits : {B : Type 0} (bus : Ghosts B) (old new : B) (d : DriverState) (bytes : List ℕ) → is_set (slice_index bytes 12) 0 ≡ false
     → LoadsOldest bus old new d bytes → Ready d (bus.world old)
     → RanWith bus true (only (Loads (transmit_slot d.layout d.oldest_transmit) 16 ∷ [])) (at old d) (at new d)
-    (λ world. written_back d.oldest_transmit world ≡ [])
+    (λ world. written_back_slots d.oldest_transmit world ≡ [])
 run-waits bus old new d bytes clear acts ready =
-    run-with bus old new (Loads (transmit_slot d.layout d.oldest_transmit) 16)
-    (λ before after. (bytes ≡ bytes_at before.memory (transmit_slot d.layout d.oldest_transmit) 16)
-    × (after ≡ before)) d d [] [] (λ world. Unit {0}) (λ world. written_back d.oldest_transmit world ≡ []) acts
-    (load-sets (transmit_slot d.layout d.oldest_transmit) 16
-    (λ before. bytes ≡ bytes_at before.memory (transmit_slot d.layout d.oldest_transmit) 16) (bus.world new)) ready tt
-    (λ a b past set happens u. tt)
-    (λ middle set u loaded.
-    let is : is_done middle.memory (transmit_slot d.layout d.oldest_transmit)
-    ≡ false = ap (λ (list : List ℕ). is_set (slice_index list 12) 0) (sym loaded.0) ∙ clear in (
-      subst (λ (after : World). Goes (driver_in d middle) (driver_in d after) (driver_did [] []) nothing) (sym loaded.1)
-          (goes-stays d middle set),
-      subst (λ (after : World). written_back d.oldest_transmit after ≡ []) (sym loaded.1) (none_is_written_back d middle set (inr is)),
-    ))
+    run-loads bus old new d d bytes (λ world. written_back_slots d.oldest_transmit world ≡ [])
+    (λ middle set loaded. (
+      goes-stays d middle set,
+      none_is_written_back d middle set (inr (ap (λ (list : List ℕ). is_set (slice_index list 12) 0) (sym loaded) ∙ clear)),
+    )) acts ready
 
 -- The accesses of a call that sends a frame
 

@@ -22,7 +22,7 @@ use Rattle.adapter.specs.Outcomes.{FrameOutcome}
 use Rattle.adapter.specs.declared.outcome.Outcome.TheVariants.{Put, WireFull, Nothing}
 use Rattle.adapter.specs.HostAreas.{areas, buffer_of, data_of, frame_areas, offered_buffers, receives, reported_half, ring_area}
 use Rattle.adapter.specs.HostAreas.{status_byte, work_areas}
-use Rattle.adapter.specs.Slots.{buffered, finished, in_work, is_done, offered}
+use Rattle.adapter.specs.Slots.{buffered, finished, slots_in_work, is_done, offered}
 use Rattle.adapter.specs.HostFrames.{finished_pieces, frames_held, named}
 use Rattle.adapter.specs.Conditions.{Reports, Sound}
 use Rattle.bus.specs.Law.{Between, Happens}
@@ -31,15 +31,15 @@ use Rattle.bus.specs.StepsAndArrivals.{past_of_step, world_after_step}
 use Rattle.adapter.specs.State.{IsAdapter}
 use Rattle.adapter.specs.World.{receive_ring, transmit_ring, World}
 use Rattle.bus.proofs.Areas.{separate-same}
-use Rattle.bus.proofs.Composition.{happens_none}
+use Rattle.bus.proofs.Composition.{finishes-none, happens_none}
 use Rattle.bus.proofs.KeptPieces.{cut-kept}
-use Rattle.bus.proofs.EngineRegisters.{added, steady_moves, still}
+use Rattle.bus.proofs.EngineRegisters.{added, no-arrivals, steady_moves}
 use Rattle.bus.proofs.WrittenAreas.{IsSame, buffers-kept, data-kept, fetched-kept, is_done-same, receive_kept, to_send-kept}
 use Rattle.bus.proofs.Lists.{all-head, all-left, all-right, all-tail, all-weaker, all-without, map-same, pairs-head, pairs-tail}
 use Rattle.bus.proofs.Rings.{dealt-others, dealt-reported, dealt-right, outstanding-inside}
 use Rattle.descriptors.specs.Frames.{IsLegal}
 use Rattle.bus.proofs.Lists.{all-none}
-use Rattle.bus.proofs.RunningEngines.{transmittable-kept}
+use Rattle.bus.proofs.RunningEngines.{still_run, transmittable-kept}
 
 pub is_done-reported : (memory : List ℕ) (descriptor : ℕ) → LiesIn memory descriptor 16 → LiesIn memory (descriptor + 12) 1
     → is_done (with_bytes memory (descriptor + 12) (1 ∷ [])) descriptor ≡ true
@@ -146,7 +146,7 @@ between_put o p queued later a0 sound =
     let buffers : offered_buffers b ≡ offered_buffers a =
     ap (λ (there : List Area). cond (receives a) there [])
     (buffers-kept memory memory' (buffer_of a 0).size (offered (receive_ring a)) receiving.same_offered) in
-    let halves = map reported_half (in_work a ++ offered (receive_ring a)) in
+    let halves = map reported_half (slots_in_work a ++ offered (receive_ring a)) in
     let bytes = map status_byte (buffered (with_queue later a0) ++ offers) in
     record {
       transmit = record {
@@ -156,14 +156,8 @@ between_put o p queued later a0 sound =
         written = transmitting.grown;
         each_reported = refl;
       };
-      receive = record {
-        holds = receiving.held ∙ sym (append-nil (frames_held o a));
-        more = [];
-        done = receiving.done ∙ sym (append-nil (finished o a));
-        pieces = [];
-        grown = receiving.pieces ∙ sym (append-nil (finished_pieces o a));
-        told = inl (all-none IsPart);
-      };
+      receive = finishes-none o a b (record nothing { put = queued.frame ∷ [] }) (receiving.held ∙ sym (append-nil (frames_held o a)))
+          receiving.done receiving.pieces;
       fits = λ size fit.
           let kept = receiving.fits size fit in
           record { large = kept.large; finished_fit = kept.finished_fit; work_fits = kept.work_fits };
@@ -175,14 +169,8 @@ between_put o p queued later a0 sound =
       foreign = λ other foreign.
           subst (λ (there : List Area). All (AreApart other) (halves ++ (bytes ++ there))) (sym buffers)
           (all-without (AreApart other) halves area (bytes ++ offered_buffers a) foreign);
-      runs = λ can. record {
-        receiver_runs = can.receiver_runs;
-        transmitter_runs = can.transmitter_runs;
-        receive_indices = can.receive_indices;
-        transmit_indices = can.transmit_indices;
-        not_extended = can.not_extended;
-        transmittable = transmittable-kept memory memory' offers size same_offers can.transmittable;
-      };
+      runs = λ can. still_run a b can.receive_indices can.not_extended
+          (transmittable-kept memory memory' offers size same_offers can.transmittable) can;
       sound = record {
         receive_slots = receiving.dealt;
         transmit_slots = transmitting.dealt;
@@ -217,23 +205,18 @@ length-reported memory queued = by-tests queued.report (nat_lt (queued.descripto
         let below : queued.descriptor + 12 < length memory = grind (arith, nat_tests, is) in
         length-with_bytes memory (1 ∷ []) (queued.descriptor + 12) (omega (arith, below))
 
-put_queue : (queue : List Queued) (a : World) (wire_free : Bool) (frame : List ℕ) → IsAdapter a.adapter
+put_queue : (queue : List Queued) (a : World) (wire_free : Bool) (frame : List ℕ)
     → PutAnswers wire_free (with_queue queue a).adapter (Put frame)
     → Happens (with_queue queue a) (world_after_step TxPut (Put frame) (with_queue queue a)) (past_of_step TxPut (Put frame))
-put_queue [] a wire_free frame running answers = absurd answers.1
-put_queue (queued ∷ later) a wire_free frame running answers =
+put_queue [] a wire_free frame answers = absurd answers.1
+put_queue (queued ∷ later) a wire_free frame answers =
     let w = with_queue (queued ∷ later) a in
+    let b = world_after_step TxPut (Put frame) w in
+    let past = past_of_step TxPut (Put frame) in
     record {
-      steady =
-          steady_moves w (reported_in w.memory queued)
-          (record (still w.adapter) {
-            recorded = union w.adapter.causes.recorded (causes_of_putting (queued ∷ later));
-            transmitted = one_more w.adapter.transmitted_packets;
-            transmitter = (with_queue later a).adapter.transmitter;
-          })
-          (past_of_step TxPut (Put frame)) (length-reported w.memory queued)
-          (added w.adapter.causes.recorded (causes_of_putting (queued ∷ later))) (omega (arith, running.registers.counters.missed))
-          (λ off. (refl, refl)) (inl refl) (inl refl) (all-none IsLegal) refl refl;
+      steady = steady_moves w b past (length-reported w.memory queued)
+          (added w.adapter.causes.recorded (causes_of_putting (queued ∷ later))) (inl refl) (inl refl)
+          (no-arrivals w b past refl refl refl) (record { eerd = refl; management = refl });
       between = λ o p sound.
           let place = place-found o p queued later a sound in
           let written = report-written w.memory queued
@@ -244,9 +227,9 @@ put_queue (queued ∷ later) a wire_free frame running answers =
           (record nothing { put = f ∷ [] })) answers.1 there;
     }
 
-pub put_happens : (a : World) (wire_free : Bool) (answer : FrameOutcome) → IsAdapter a.adapter → PutAnswers wire_free a.adapter answer
+pub put_happens : (a : World) (wire_free : Bool) (answer : FrameOutcome) → PutAnswers wire_free a.adapter answer
     → Happens a (world_after_step TxPut answer a) (past_of_step TxPut answer)
-put_happens a wire_free (Put frame) running answers = put_queue a.adapter.transmitter.buffer a wire_free frame running answers
-put_happens a wire_free Nothing running answers = happens_none a
-put_happens a wire_free WireFull running answers = happens_none a
-put_happens a wire_free _ running answers = absurd answers
+put_happens a wire_free (Put frame) answers = put_queue a.adapter.transmitter.buffer a wire_free frame answers
+put_happens a wire_free Nothing answers = happens_none a
+put_happens a wire_free WireFull answers = happens_none a
+put_happens a wire_free _ answers = absurd answers

@@ -15,7 +15,7 @@ use Rattle.adapter.specs.Transmitting.{CanTake, HasNothingToTake, TakeAnswers, c
 use Rattle.adapter.specs.declared.step.StepKind.TheVariants.{TxTake}
 use Rattle.adapter.specs.Outcomes.{FrameOutcome}
 use Rattle.adapter.specs.declared.outcome.Outcome.TheVariants.{Took, Nothing, Fault}
-use Rattle.adapter.specs.Slots.{buffered, finished, in_work, IsDealt, offered, written_back}
+use Rattle.adapter.specs.Slots.{buffered, finished, slots_in_work, IsDealt, offered, written_back_slots}
 use Rattle.adapter.specs.HostAreas.{data_of, offered_buffers, reported_half, ring_area, status_byte, work_areas}
 use Rattle.adapter.specs.HostFrames.{finished_pieces, frames_held, named}
 use Rattle.adapter.specs.Conditions.{Reports, Sound}
@@ -26,10 +26,10 @@ use Rattle.bus.specs.StepsAndArrivals.{world_after_step}
 use Rattle.adapter.specs.State.{IsAdapter}
 use Rattle.adapter.specs.World.{receive_ring, transmit_ring, World}
 use Rattle.bus.proofs.Areas.{separate-without}
-use Rattle.bus.proofs.Composition.{happens_none}
+use Rattle.bus.proofs.Composition.{finishes-none, happens_none, puts-none}
 use Rattle.bus.proofs.KeptPieces.{cut-kept}
 use Rattle.bus.proofs.StepsBesideRings.{between_stopped}
-use Rattle.bus.proofs.EngineRegisters.{added, steady_moves, still}
+use Rattle.bus.proofs.EngineRegisters.{added, no-arrivals, steady_moves}
 use Rattle.bus.proofs.Rings.{dealt-moved, offered-head}
 use Rattle.descriptors.specs.Frames.{IsLegal}
 use Rattle.bus.proofs.Lists.{all-none, all-tail}
@@ -73,26 +73,14 @@ between_padded o p a in_ring differ sound =
     let reports : All Reports (buffer ++ (fetched true a.memory head ∷ map (fetched true a.memory) rest)) =
     subst (λ (slots : List ℕ). All Reports (buffer ++ map (fetched true a.memory) slots)) first sound.reports in
     record {
-      transmit = record {
-        sends = to_send-take a.memory ring true buffer in_ring differ;
-        reported = [];
-        written = sym (append-nil (written_back p a));
-        each_reported = refl;
-      };
-      receive = record {
-        holds = sym (append-nil (frames_held o a));
-        more = [];
-        done = sym (append-nil (finished o a));
-        pieces = [];
-        grown = sym (append-nil (finished_pieces o a));
-        told = inl (all-none IsPart);
-      };
+      transmit = puts-none p a b nothing refl (to_send-take a.memory ring true buffer in_ring differ) refl;
+      receive = finishes-none o a b nothing (sym (append-nil (frames_held o a))) refl refl;
       fits = λ size fit. record { large = fit.large; finished_fit = fit.finished_fit; work_fits = fit.work_fits };
       whole = λ size are. cut-kept size o a b are.sized refl (λ k d below. refl) refl are;
       untouched = λ area apart. refl;
       foreign = λ area apart.
           subst (λ (slots : List ℕ). All (AreApart area)
-          (map reported_half (in_work a ++ offered (receive_ring a)) ++ (map status_byte slots ++ offered_buffers a))) (sym same) apart;
+          (map reported_half (slots_in_work a ++ offered (receive_ring a)) ++ (map status_byte slots ++ offered_buffers a))) (sym same) apart;
       runs = λ can. record {
         receiver_runs = can.receiver_runs;
         transmitter_runs = can.transmitter_runs;
@@ -123,32 +111,24 @@ between_taken o p a not_idle can sound =
     let padded : pads a.adapter.transmit_control ≡ true = eq-eqb _ _ (sound.pads differ) in
     subst (λ (pad : Bool). Between o p a (taken pad a) nothing) (sym padded) (between_padded o p a can.sound differ sound)
 
-pub take_happens : (a : World) (answer : FrameOutcome) → IsAdapter a.adapter → TakeAnswers a.memory a.adapter answer
+pub take_happens : (a : World) (answer : FrameOutcome) → TakeAnswers a.memory a.adapter answer
     → Happens a (world_after_step TxTake answer a) nothing
-take_happens a Took running answers = record {
-  steady =
-      steady_moves a a.memory
-      (record (still a.adapter) {
-        recorded = union a.adapter.causes.recorded (causes_of_taking a.adapter.transmit_ring);
-        transmit_head = next_of (transmit_ring a) a.adapter.transmit_ring.head;
-        transmitter = (taken (pads a.adapter.transmit_control) a).adapter.transmitter;
-      })
-      nothing refl (added a.adapter.causes.recorded (causes_of_taking a.adapter.transmit_ring))
-      (omega (arith, running.registers.counters.missed)) (λ off. (refl, refl)) (inl refl)
-      (inr (record {
-        head = next-below (count_of (transmit_ring a)) a.adapter.transmit_ring.head answers.1.sound.head;
-        tail =
-            answers.1.sound.tail;
-      })) (all-none IsLegal) refl refl;
-  between = λ o p sound. between_taken o p a answers.0 answers.1 sound;
-}
-take_happens a Fault running answers = record {
-  steady =
-      steady_moves a a.memory (record (still a.adapter) { transmitter = (world_after_step TxTake Fault a).adapter.transmitter })
-      nothing refl (λ place set. set) (omega (arith, running.registers.counters.missed)) (λ off. (refl, refl)) (inl refl) (inl refl)
-      (all-none IsLegal) refl refl;
-  between = λ o p sound. between_stopped o p a a.adapter.receiver.stopped true
-      (λ can. answers.1 (can_take o p a sound can answers.0)) sound;
-}
-take_happens a Nothing running answers = happens_none a
-take_happens a _ running answers = absurd answers
+take_happens a Took answers =
+    let b = world_after_step TxTake Took a in
+    let ring = transmit_ring a in
+    record {
+      steady = steady_moves a b nothing refl (added a.adapter.causes.recorded (causes_of_taking a.adapter.transmit_ring)) (inl refl)
+          (inr (record { head = next-below (count_of ring) ring.head answers.1.sound.head; tail = answers.1.sound.tail }))
+          (no-arrivals a b nothing refl refl refl) (record { eerd = refl; management = refl });
+      between = λ o p sound. between_taken o p a answers.0 answers.1 sound;
+    }
+take_happens a Fault answers =
+    let b = world_after_step TxTake Fault a in
+    record {
+      steady = steady_moves a b nothing refl (λ place set. set) (inl refl) (inl refl) (no-arrivals a b nothing refl refl refl)
+          (record { eerd = refl; management = refl });
+      between = λ o p sound. between_stopped o p a a.adapter.receiver.stopped true
+          (λ can. answers.1 (can_take o p a sound can answers.0)) sound;
+    }
+take_happens a Nothing answers = happens_none a
+take_happens a _ answers = absurd answers

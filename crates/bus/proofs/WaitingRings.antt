@@ -13,7 +13,7 @@ use Rattle.rx_engine.specs.declared.engine.Work.{Work}
 use Rattle.tx_engine.specs.Transmitter.{Queued}
 use Rattle.adapter.specs.declared.ring.RingRegisters.{RingRegisters}
 use Rattle.adapter.specs.Rings.{ring_of}
-use Rattle.adapter.specs.Slots.{buffered, finished, in_work, offered, outstanding, slot_of_work}
+use Rattle.adapter.specs.Slots.{buffered, finished, slots_in_work, offered, outstanding, slot_of_work}
 use Rattle.adapter.specs.HostFrames.{finished_pieces, frames_held, piece_in, pieces_in_slots}
 use Rattle.bus.specs.RegisterSetting.{OffersWait, TransmitStaysIdle}
 use Rattle.adapter.specs.Conditions.{AreCut, Sound}
@@ -80,7 +80,7 @@ pub all-offered : (o p : ℕ) (world : World) → Sound o p world → HoldsNone 
     → outstanding (receive_ring world) o ≡ offered (receive_ring world)
 all-offered o p world sound none =
     let slots = offered (receive_ring world) in
-    sound.receive_slots.classes ∙ ap (λ (front : List ℕ). front ++ (in_work world ++ slots)) none.none_finished
+    sound.receive_slots.classes ∙ ap (λ (front : List ℕ). front ++ (slots_in_work world ++ slots)) none.none_finished
     ∙ ap (λ (work : Option Work). slot_of_work work ++ slots) none.no_work
 
 pub offers_wait : OffersWait

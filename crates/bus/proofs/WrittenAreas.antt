@@ -22,7 +22,7 @@ use Rattle.tx_engine.specs.Fetching as transmit
 use Rattle.tx_engine.specs.Fetching.{as_sent, fetched, frame_at}
 use Rattle.tx_engine.specs.ToSend.{to_send}
 use Rattle.tx_engine.specs.Transmitter.{Queued}
-use Rattle.adapter.specs.Slots.{buffered, done_slots, finished, in_work, is_done, IsDealt, offered, outstanding, slot_of_work, written_back}
+use Rattle.adapter.specs.Slots.{buffered, done_slots, finished, slots_in_work, is_done, IsDealt, offered, outstanding, slot_of_work, written_back_slots}
 use Rattle.adapter.specs.HostAreas.{data_of, ring_area, work_areas}
 use Rattle.adapter.specs.HostFrames.{finished_pieces, frames_held, frames_to_send, named, piece_in, pieces_in_slots}
 use Rattle.adapter.specs.Conditions.{AreCut, FitBuffers}
@@ -65,8 +65,8 @@ pub fetched-same : (memory memory' : List ℕ) (area : Area) (descriptor : ℕ) 
     → IsSame memory memory' descriptor → AreApart area (data_of memory descriptor)
     → fetched true memory' descriptor ≡ fetched true memory descriptor
 fetched-same memory memory' area descriptor keeps same apart =
-    let desc : TxDesc = transmit.descriptor_at memory descriptor in
-    let desc_same : transmit.descriptor_at memory' descriptor ≡ desc = ap tx_desc_of same in
+    let desc : TxDesc = transmit.transmit_descriptor_at memory descriptor in
+    let desc_same : transmit.transmit_descriptor_at memory' descriptor ≡ desc = ap tx_desc_of same in
     ap (λ (d : TxDesc). let queued : Queued = record
     { frame = as_sent true (bytes_at memory' d.address d.length); descriptor = descriptor; report = is_set (command_bits d.command) 3 }
     in queued) desc_same
@@ -171,7 +171,7 @@ to_send-kept memory memory' ring buffer same =
 pub record TransmitKept (world : World) (memory' : List ℕ) (oldest : ℕ) : Type 0 where
   pub same_offered : All (IsSame world.memory memory') (offered (transmit_ring world))
   pub dealt : IsDealt memory' (transmit_ring world) oldest (buffered world)
-  pub done : done_slots memory' (transmit_ring world) oldest ≡ written_back oldest world
+  pub done : done_slots memory' (transmit_ring world) oldest ≡ written_back_slots oldest world
   pub sends : to_send memory' (transmit_ring world) true world.adapter.transmitter.buffer ≡ frames_to_send world
   pub data_areas : map (data_of memory') (offered (transmit_ring world)) ≡ map (data_of world.memory) (offered (transmit_ring world))
   pub fetches : map (fetched true memory') (offered (transmit_ring world)) ≡ map (fetched true world.memory) (offered (transmit_ring world))
@@ -209,7 +209,7 @@ transmit_kept world memory' oldest area keeps dealt apart data_apart =
 
 pub record ReceiveKept (world : World) (memory' : List ℕ) (oldest : ℕ) : Type 0 where
   pub same_offered : All (IsSame world.memory memory') (offered (receive_ring world))
-  pub dealt : IsDealt memory' (receive_ring world) oldest (in_work world)
+  pub dealt : IsDealt memory' (receive_ring world) oldest (slots_in_work world)
   pub done : done_slots memory' (receive_ring world) oldest ≡ finished oldest world
   pub named_areas : map (named memory') (done_slots memory' (receive_ring world) oldest) ≡ map (named world.memory) (finished oldest world)
   pub descriptors : SameDescriptors world.memory memory' (finished oldest world)
@@ -223,7 +223,7 @@ pub record ReceiveKept (world : World) (memory' : List ℕ) (oldest : ℕ) : Typ
   pub areas_of_work : work_areas memory' world.adapter.receiver.work ≡ work_areas world.memory world.adapter.receiver.work
 
 pub receive_kept_by_slots : (world : World) (memory' : List ℕ) (oldest : ℕ) (area : Area) → ChangesOnly world.memory memory' area
-    → IsDealt world.memory (receive_ring world) oldest (in_work world)
+    → IsDealt world.memory (receive_ring world) oldest (slots_in_work world)
     → All (IsSame world.memory memory') (outstanding (receive_ring world) oldest)
     → All (AreApart area) (map (named world.memory) (finished oldest world))
     → All (AreApart area) (work_areas world.memory world.adapter.receiver.work) → ReceiveKept world memory' oldest
@@ -233,9 +233,9 @@ receive_kept_by_slots world memory' oldest area keeps dealt same named_apart wor
     let work = world.adapter.receiver.work in
     let done_as : All (λ d. is_done memory' d ≡ is_done memory d) (outstanding ring oldest) = λ k d below. is_done-same memory memory' _
     (same k d below) in
-    let right = dealt-right memory ring oldest (in_work world) (IsSame memory memory') dealt same in
-    let same_done = dealt-left memory ring oldest (in_work world) (IsSame memory memory') dealt same in
-    let same_work = all-left (IsSame memory memory') (in_work world) (offered ring) right in
+    let right = dealt-right memory ring oldest (slots_in_work world) (IsSame memory memory') dealt same in
+    let same_done = dealt-left memory ring oldest (slots_in_work world) (IsSame memory memory') dealt same in
+    let same_work = all-left (IsSame memory memory') (slots_in_work world) (offered ring) right in
     let done : done_slots memory' ring oldest ≡ finished oldest world = done-same memory memory' ring oldest done_as in
     let areas_of_work = work-kept memory memory' work same_work in
     let descriptors = descriptors-kept memory memory' (finished oldest world) same_done in
@@ -246,8 +246,8 @@ receive_kept_by_slots world memory' oldest area keeps dealt same named_apart wor
     ∙ ap (λ (list : List Piece). finished_pieces oldest world ++ list)
     (work_piece-kept memory memory' area work keeps same_work work_apart) in
     record {
-      same_offered = all-right (IsSame memory memory') (in_work world) (offered ring) right;
-      dealt = dealt-same memory memory' ring oldest (in_work world) done_as dealt;
+      same_offered = all-right (IsSame memory memory') (slots_in_work world) (offered ring) right;
+      dealt = dealt-same memory memory' ring oldest (slots_in_work world) done_as dealt;
       done = done;
       named_areas = ap (map (named memory')) done ∙ named-kept memory memory' (finished oldest world) same_done;
       descriptors = descriptors;
@@ -266,9 +266,9 @@ receive_kept_by_slots world memory' oldest area keeps dealt same named_apart wor
     }
 
 pub receive_kept : (world : World) (memory' : List ℕ) (oldest : ℕ) (area : Area) → ChangesOnly world.memory memory' area
-    → IsDealt world.memory (receive_ring world) oldest (in_work world) → AreApart area (ring_area (receive_ring world))
+    → IsDealt world.memory (receive_ring world) oldest (slots_in_work world) → AreApart area (ring_area (receive_ring world))
     → All (AreApart area) (map (named world.memory) (finished oldest world))
     → All (AreApart area) (work_areas world.memory world.adapter.receiver.work) → ReceiveKept world memory' oldest
 receive_kept world memory' oldest area keeps dealt apart named_apart work_apart =
     receive_kept_by_slots world memory' oldest area keeps dealt
-    (same-outstanding world.memory memory' area (receive_ring world) oldest (in_work world) keeps apart dealt) named_apart work_apart
+    (same-outstanding world.memory memory' area (receive_ring world) oldest (slots_in_work world) keeps apart dealt) named_apart work_apart

@@ -10,7 +10,7 @@ use Rattle.adapter.specs.HostAreas.{buffer_size, ring_area}
 use Rattle.adapter.specs.HostFrames.{finished_pieces, frames_held, frames_to_send}
 use Rattle.adapter.specs.Rings.{ring_of}
 use Rattle.adapter.specs.Running.{CanRun}
-use Rattle.adapter.specs.Slots.{finished, written_back}
+use Rattle.adapter.specs.Slots.{finished, written_back_slots}
 use Rattle.adapter.specs.World.{World, receive_ring, transmit_ring, world_after_store, world_after_write}
 use Rattle.adapter.specs.declared.ring.RingRegisters.{RingRegisters}
 use Rattle.bus.specs.IdleRings.{IsIdle}
@@ -101,7 +101,7 @@ pub record FramesStay (driver : DriverState) (a b : World) : Type 0 where
   pub held : frames_held driver.oldest_receive b ≡ frames_held driver.oldest_receive a
   pub finished_same : finished driver.oldest_receive b ≡ finished driver.oldest_receive a
   pub pieces_same : finished_pieces driver.oldest_receive b ≡ finished_pieces driver.oldest_receive a
-  pub written_same : written_back driver.oldest_transmit b ≡ written_back driver.oldest_transmit a
+  pub written_same : written_back_slots driver.oldest_transmit b ≡ written_back_slots driver.oldest_transmit a
 
 -- The causes `causes` were enabled in the mask. The driver is ready, and frames, slots, MPC and the recorded causes
 -- are the same.

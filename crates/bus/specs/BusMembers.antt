@@ -4,7 +4,7 @@ use Rattle.std.specs.Prelude.{◌≡◌, ℕ}
 use Rattle.bus.specs.Pasts.{Past, joined, nothing}
 
 -- The properties of a bus that no access changes.
-pub record StaysWhole {B : Type 0} (size : B → ℕ) (same_lent : B → B → Type 0) (is_honest is_lively : B
+pub record KeepsProperties {B : Type 0} (size : B → ℕ) (same_lent : B → B → Type 0) (is_honest is_lively : B
     → Type 0) (old new : B) : Type 0 where
   -- The size of the bus's memory doesn't change.
   pub extent : size new ≡ size old

@@ -15,7 +15,7 @@ use Rattle.descriptors.specs.TxFields.{command_of, sent_of, tx_eop, tx_ifcs, tx_
 use Rattle.adapter.specs.declared.offsets.TheConstants.{ICR, RDT, TDT}
 use Rattle.rx_engine.specs.Pieces.{frames_of}
 use Rattle.adapter.specs.HostFrames.{finished_pieces, frames_held, frames_to_send}
-use Rattle.adapter.specs.Slots.{written_back}
+use Rattle.adapter.specs.Slots.{written_back_slots}
 use Rattle.adapter.specs.World.{World}
 use Rattle.bus.specs.Link.{KeepsLink}
 use Rattle.bus.specs.Pasts.{Past}
@@ -144,8 +144,8 @@ adds_exactly missed value = nat_lt value greatest_count && nat_lt (missed + valu
 
 -- The driver after this value, read from MPC, was added to the driver's sum, which saturates at the greatest u64. An exact sum remains
 -- exact only if the value is added exactly.
-abbrev pub with_missed : ℕ → DriverState → DriverState
-with_missed value driver = record driver
+abbrev pub missed_added : ℕ → DriverState → DriverState
+missed_added value driver = record driver
     { missed = min (driver.missed + value) (sum_limit - 1); exact = driver.exact && adds_exactly driver.missed value }
 
 -- What changes in an interval
@@ -166,8 +166,8 @@ pub record FlowsTo (up : Bool) (old new : DriverInWorld) (did : DriverDid) (past
   -- The number of outstanding transmit slots that aren't written back increases by one for each frame accepted. It decreases by one for
   -- each frame put on the wire.
   pub frees :
-      length (written_back old.driver.oldest_transmit old.world) + length past.put + new.driver.sending
-      ≡ old.driver.sending + length did.accepted + length (written_back new.driver.oldest_transmit new.world)
+      length (written_back_slots old.driver.oldest_transmit old.world) + length past.put + new.driver.sending
+      ≡ old.driver.sending + length did.accepted + length (written_back_slots new.driver.oldest_transmit new.world)
   -- The mask, IMS, doesn't change.
   pub mask : new.world.adapter.causes.mask ≡ old.world.adapter.causes.mask
   -- Missed frames are counted.

@@ -5,8 +5,8 @@ use Rattle.dma_memory.specs.Areas.{bytes_in, descriptor_area}
 use Rattle.descriptors.specs.declared.ring.Ring.{Ring}
 use Rattle.descriptors.specs.Ring.{address_of, count_of}
 use Rattle.rx_engine.specs.Descriptors.{named_address}
-use Rattle.tx_engine.specs.Fetching.{descriptor_at}
-use Rattle.adapter.specs.Slots.{finished, outstanding, written_back}
+use Rattle.tx_engine.specs.Fetching.{transmit_descriptor_at}
+use Rattle.adapter.specs.Slots.{finished, outstanding, written_back_slots}
 use Rattle.adapter.specs.HostFrames.{named}
 use Rattle.adapter.specs.Conditions.{Sound}
 use Rattle.bus.specs.Law.{Between, Happens}
@@ -52,8 +52,8 @@ pub record KeepsAllButStatus (a b : World) (descriptor : ℕ) : Type 0 where
       ≡ bytes_in a.memory (record { address = descriptor; size = 12 })
   pub behind : bytes_in b.memory (record { address = descriptor + 13; size = 3 })
       ≡ bytes_in a.memory (record { address = descriptor + 13; size = 3 })
-  pub fields : descriptor_at b.memory descriptor
-      ≡ record (descriptor_at a.memory descriptor) { status = (descriptor_at b.memory descriptor).status }
+  pub fields : transmit_descriptor_at b.memory descriptor
+      ≡ record (transmit_descriptor_at a.memory descriptor) { status = (transmit_descriptor_at b.memory descriptor).status }
 
 -- No transmit descriptor changes except for its status.
 abbrev pub RequestsStay : World → World → Type 0
@@ -70,7 +70,7 @@ pub record DriversSideStays (oldest_receive oldest_transmit : ℕ) (a b : World)
   pub between : Between oldest_receive oldest_transmit a b past
   pub outstanding_same : SameOutstanding oldest_receive oldest_transmit a b
   pub finished_stay : FinishedStay oldest_receive a b
-  pub written_stay : SlotsStay a b (written_back oldest_transmit a)
+  pub written_stay : SlotsStay a b (written_back_slots oldest_transmit a)
   pub receive_slots : DriversSlotsStay receive_ring oldest_receive a b
   pub transmit_slots : DriversSlotsStay transmit_ring oldest_transmit a b
   pub addresses : AddressesStay a b

@@ -4,7 +4,7 @@ use Rattle.dma_memory.specs.Areas.{AreApart, Area, descriptor_area}
 use Rattle.dma_memory.specs.HostMemory.{LiesIn}
 use Rattle.registers.specs.Bits.{HasBit}
 use Rattle.registers.specs.Places.{rctl_en}
-use Rattle.adapter.specs.Slots.{finished, outstanding, written_back}
+use Rattle.adapter.specs.Slots.{finished, outstanding, written_back_slots}
 use Rattle.adapter.specs.HostAreas.{buffer_size, frame_areas, IsForeign}
 use Rattle.adapter.specs.HostFrames.{finished_pieces, frames_held, frames_to_send}
 use Rattle.adapter.specs.Conditions.{AreCut, FitBuffers, Sound}
@@ -23,7 +23,7 @@ pub record SameFrames (oldest_receive oldest_transmit : ℕ) (a b : World) : Typ
   pub held : frames_held oldest_receive b ≡ frames_held oldest_receive a
   pub to_send : frames_to_send b ≡ frames_to_send a
   pub finished_same : finished oldest_receive b ≡ finished oldest_receive a
-  pub written_same : written_back oldest_transmit b ≡ written_back oldest_transmit a
+  pub written_same : written_back_slots oldest_transmit b ≡ written_back_slots oldest_transmit a
   pub pieces_same : finished_pieces oldest_receive b ≡ finished_pieces oldest_receive a
   -- Frames that are cut into buffers of some size are still cut in this way, if RCTL selects this size while RCTL.EN is set.
   pub whole : (size : ℕ) → (HasBit b.adapter.filter.rctl rctl_en → buffer_size b ≡ size)

@@ -15,7 +15,7 @@ use Rattle.adapter.specs.HostAreas.{IsForeign}
 use Rattle.adapter.specs.HostFrames.{finished_pieces, frames_held, frames_to_send}
 use Rattle.adapter.specs.Rings.{ring_of}
 use Rattle.adapter.specs.Running.{CanRun}
-use Rattle.adapter.specs.Slots.{finished, written_back}
+use Rattle.adapter.specs.Slots.{finished, written_back_slots}
 use Rattle.adapter.specs.State.{AdapterState, IsAdapter}
 use Rattle.adapter.specs.World.{World}
 use Rattle.adapter.specs.declared.ring.RingRegisters.{RingRegisters}
@@ -93,7 +93,7 @@ pub record PutsInOrder (oldest_transmit : ℕ) (a b : World) (past : Past) : Typ
   pub sends : past.put ++ frames_to_send b ≡ frames_to_send a
   -- The list of written-back slots, from the oldest on, grows at its end by one slot for each frame.
   pub reported : List ℕ
-  pub written : written_back oldest_transmit b ≡ written_back oldest_transmit a ++ reported
+  pub written : written_back_slots oldest_transmit b ≡ written_back_slots oldest_transmit a ++ reported
   pub each_reported : length reported ≡ length past.put
 
 -- The frames that were stored, and the slots that report them.

@@ -4,7 +4,7 @@ use Rattle.adapter.specs.declared.offsets.TheConstants.{ICR, MPC}
 use Rattle.adapter.specs.Registers.{answer_at}
 use Rattle.adapter.specs.World.{World, world_after_read}
 use Rattle.bus.specs.Pasts.{nothing}
-use Rattle.bus.specs.Calls.{FlowsTo, GoesTo, driver_did, driver_in, sum_limit, with_missed}
+use Rattle.bus.specs.Calls.{FlowsTo, GoesTo, driver_did, driver_in, sum_limit, missed_added}
 use Rattle.bus.specs.DriverState.{DriverState}
 use Rattle.bus.specs.ReadyDrivers.{ReadyWith}
 
@@ -13,7 +13,7 @@ use Rattle.bus.specs.ReadyDrivers.{ReadyWith}
 abbrev pub MissesAreRead : Type 0
 MissesAreRead =
     (up : Bool) (driver : DriverState) (world : World) → driver.missed < sum_limit → ReadyWith up driver world
-    → GoesTo up (driver_in driver world) (driver_in (with_missed (answer_at MPC world.adapter) driver) (world_after_read MPC world))
+    → GoesTo up (driver_in driver world) (driver_in (missed_added (answer_at MPC world.adapter) driver) (world_after_read MPC world))
     (driver_did [] []) nothing
 
 -- ICR was read, in an interval in which the driver didn't change. No cause is recorded after the read.

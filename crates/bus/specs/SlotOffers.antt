@@ -7,7 +7,7 @@ use Rattle.descriptors.specs.Ring.{address_of, count_of, next_of}
 use Rattle.registers.specs.Places.{rctl_en, tctl_psp}
 use Rattle.tx_engine.specs.Fetching.{fetched, frame_at}
 use Rattle.adapter.specs.HostAreas.{areas, buffer_of, data_of, IsForeign, reported_half, status_byte}
-use Rattle.adapter.specs.Slots.{finished, is_done, outstanding, written_back}
+use Rattle.adapter.specs.Slots.{finished, is_done, outstanding, written_back_slots}
 use Rattle.adapter.specs.HostFrames.{finished_pieces, frames_held, frames_to_send}
 use Rattle.adapter.specs.Conditions.{AreCut, FitBuffers, Reports, Sound}
 use Rattle.bus.specs.DriversStores.{SameFrames}
@@ -108,7 +108,7 @@ pub record OfferedFrame (oldest_receive oldest_transmit : ℕ) (a b : World) : T
   pub to_send : frames_to_send b ≡ frames_to_send a ++ frame_at true a.memory (address_of (transmit_ring a) a.adapter.transmit_ring.tail)
       ∷ []
   pub received : SameReceived oldest_receive a b
-  pub written_same : written_back oldest_transmit b ≡ written_back oldest_transmit a
+  pub written_same : written_back_slots oldest_transmit b ≡ written_back_slots oldest_transmit a
   -- The slot is the last outstanding slot.
   pub last : outstanding (transmit_ring b) oldest_transmit ≡ outstanding (transmit_ring a) oldest_transmit
       ++ address_of (transmit_ring a) a.adapter.transmit_ring.tail ∷ []

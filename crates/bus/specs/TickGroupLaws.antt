@@ -1,6 +1,6 @@
 -- Lemmas: the ticks played in some accesses, followed by those played in later accesses, are the ticks played in all of them.
 use Rattle.std.proofs.Common.{◌≡◌, ◌+◌, ◌++◌, ◌∷◌, [], Bool, true, false, ℕ, List, length, refl, sym, ap, ◌∙◌, append_assoc, arith}
-use Rattle.std.proofs.Common.{if◌then◌else◌, sum_by}
+use Rattle.std.proofs.Common.{if◌then◌else◌, sum_by, suc}
 use Rattle.std.proofs.lemmas.List.Sums.{sum_by-append, sum_by-cons}
 use Rattle.bus.specs.TickGroups.{behind_group, group_of, groups_of, played_in, waiting_after}
 use Rattle.bus.specs.declared.event.Access.{Access}
@@ -34,6 +34,10 @@ counts_more is_go go own count access later ticks none =
     let behind = played_in is_go go own later (behind_group is_go ticks) in
     omega (arith, none, sum_by-append count (own ++ group) (go ∷ behind), sum_by-append count own group, sum_by-cons count go behind)
 
+once_more : (once : Bool) (n : ℕ) → (if once then suc n else 0) ≡ (if once then 1 else 0) + (if once then n else 0)
+once_more true n = omega arith
+once_more false n = refl
+
 -- Let a Go count 0, and the bus's own ticks count 1 if `once` is true, and 0 otherwise. Then what is played counts as much as the groups of
 -- ticks, plus 1 for each access if `once` is true.
 pub played_counts :
@@ -43,23 +47,13 @@ pub played_counts :
     ≡ (if once then length accesses else 0) + sum_by count (groups_of is_go accesses ticks)
 played_counts is_go go own count true [] ticks none each = refl
 played_counts is_go go own count false [] ticks none each = refl
-played_counts is_go go own count true (access ∷ later) ticks none each =
+played_counts is_go go own count once (access ∷ later) ticks none each =
     let rest = behind_group is_go ticks in
-    let groups = sum_by-append count (group_of is_go ticks) (groups_of is_go later rest) in
     omega (
       arith,
       each,
+      once_more once (length later),
       counts_more is_go go own count access later ticks none,
-      played_counts is_go go own count true later rest none each,
-      groups,
-    )
-played_counts is_go go own count false (access ∷ later) ticks none each =
-    let rest = behind_group is_go ticks in
-    let groups = sum_by-append count (group_of is_go ticks) (groups_of is_go later rest) in
-    omega (
-      arith,
-      each,
-      counts_more is_go go own count access later ticks none,
-      played_counts is_go go own count false later rest none each,
-      groups,
+      played_counts is_go go own count once later rest none each,
+      sum_by-append count (group_of is_go ticks) (groups_of is_go later rest),
     )

@@ -6,7 +6,7 @@ use Rattle.dma_memory.specs.HostMemory.{bytes_at}
 use Rattle.dma_memory.specs.Layout.{Counts, TransmitBuffer, area_of, transmit_buffer_bytes, descriptor_bytes}
 use Rattle.descriptors.specs.Frames.{longest_frame, padded, shortest_sent}
 use Rattle.adapter.specs.HostFrames.{frames_to_send}
-use Rattle.adapter.specs.Slots.{is_done, written_back}
+use Rattle.adapter.specs.Slots.{is_done, written_back_slots}
 use Rattle.adapter.specs.World.{World, transmit_ring, world_after_store, world_after_write}
 use Rattle.bus.specs.Law.{Happens}
 use Rattle.bus.specs.SlotOffers.{offering_frame}
@@ -101,12 +101,12 @@ SlotIsFreed =
 abbrev pub NoneIsWrittenBack : Type 0
 NoneIsWrittenBack =
     (driver : DriverState) (world : World) → Ready driver world
-    → (driver.sending ≡ 0) ⊎ (is_done world.memory (oldest_slot driver) ≡ false) → written_back driver.oldest_transmit world ≡ []
+    → (driver.sending ≡ 0) ⊎ (is_done world.memory (oldest_slot driver) ≡ false) → written_back_slots driver.oldest_transmit world ≡ []
 
 -- The number of outstanding slots is the number of frames to be sent plus the number of slots that are written back.
 -- There are fewer frames to be sent than slots.
 pub record HasFrames (driver : DriverState) (world : World) : Type 0 where
-  pub count : length (frames_to_send world) + length (written_back driver.oldest_transmit world) ≡ driver.sending
+  pub count : length (frames_to_send world) + length (written_back_slots driver.oldest_transmit world) ≡ driver.sending
   pub most : length (frames_to_send world) + 1 ≤ driver.layout.tx
 
 -- `HasFrames` holds for a driver that is ready.

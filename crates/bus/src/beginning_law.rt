@@ -21,6 +21,7 @@ pub fn drivers_begin()
 /// - `causes`: a write of IMS, which changes only the mask.
 /// - `work`: after a write of IMS with RXT0, no work is forgotten if no frame ended in finished slots before, or RXT0
 ///   was recorded.
+#[tactic(auto, using(crate::proofs::Laws::registers_are_set))]
 pub fn registers_are_set()
     ensures receiver { ReceiverIsEnabled }
     ensures transmit_ring { TransmitRingIsWritten }

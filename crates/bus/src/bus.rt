@@ -2,7 +2,7 @@
 
 ghost use Rattle.std.specs.Prelude.{◌≡◌, ◌+◌, ◌≤◌, ℕ, length, min};
 ghost use Rattle.adapter.specs.Registers.{answer_at};
-ghost use Rattle.bus.specs.BusMembers.{Composes, StaysWhole};
+ghost use Rattle.bus.specs.BusMembers.{Composes, KeepsProperties};
 ghost use Rattle.bus.specs.Law.{Acts, view};
 ghost use Rattle.bus.specs.Pasts.{Past};
 ghost use Rattle.bus.specs.declared.event.Access.TheVariants.{Loads, Reads, Stores, Writes};
@@ -15,7 +15,7 @@ ghost use Rattle.dma_memory.specs.HostMemory.{bytes_at};
 /// Any type may implement `Bus`. A bus that isn't `honest` ensures only that its size and the values lent to it don't
 /// change. If such a bus is lively, it remains lively. An honest bus has one adapter and one memory. Before an access,
 /// only steps of the adapter and deliveries may happen. Then the access itself has exactly the effect that adapter and
-/// memory define.
+/// memory define. In a clause `acts`, `before` is the world after these steps and deliveries, not that of `self.old`.
 pub trait Bus {
     /// The number of bytes of memory.
     ghost extent: { Self → ℕ };
@@ -41,20 +41,20 @@ pub trait Bus {
 
     /// Reads the register at an offset in bytes, and returns its value.
     fn read(&mut self, offset: u32) -> u32
-        ensures keeps { StaysWhole extent lent_stays honest lively self.old self.new }
+        ensures keeps { KeepsProperties extent lent_stays honest lively self.old self.new }
         ensures acts { honest self.old → Acts (view world happened lively) self.old self.new (Reads offset result)
             (λ before after. (result ≡ answer_at offset before.adapter) × (after ≡ world_after_read offset before)) };
 
     /// Writes the register at an offset in bytes.
     fn write(&mut self, offset: u32, value: u32)
-        ensures keeps { StaysWhole extent lent_stays honest lively self.old self.new }
+        ensures keeps { KeepsProperties extent lent_stays honest lively self.old self.new }
         ensures acts { honest self.old → Acts (view world happened lively) self.old self.new (Writes offset value)
             (λ before after. after ≡ world_after_write offset value before) };
 
     /// Fills `into` with the bytes from `address` on. Their addresses must be below [`size`](Bus::size).
     fn load(&mut self, address: u64, into: &mut [u8])
         requires { address + length into.old ≤ extent self.old }
-        ensures keeps { StaysWhole extent lent_stays honest lively self.old self.new }
+        ensures keeps { KeepsProperties extent lent_stays honest lively self.old self.new }
         ensures length { length into.new ≡ length into.old }
         ensures acts { honest self.old → Acts (view world happened lively) self.old self.new
             (Loads address (length into.old))
@@ -63,7 +63,7 @@ pub trait Bus {
     /// Stores bytes from `address` on. Their addresses must be below [`size`](Bus::size).
     fn store(&mut self, address: u64, bytes: &[u8])
         requires { address + length bytes.now ≤ extent self.old }
-        ensures keeps { StaysWhole extent lent_stays honest lively self.old self.new }
+        ensures keeps { KeepsProperties extent lent_stays honest lively self.old self.new }
         ensures acts { honest self.old → Acts (view world happened lively) self.old self.new (Stores address bytes.now)
             (λ before after. after ≡ world_after_store address bytes.now before) };
 

@@ -54,6 +54,7 @@ pub fn drivers_go_on()
 /// - `few`: the buffers of the finished slots before the first end of a frame have together at most the size of the
 ///   longest frame.
 /// - `comes_back`: buffers whose pieces others held return to the pool.
+#[tactic(auto, using(crate::proofs::StagedSlotOffers::staged_can_be_offered, crate::proofs::TakenSlots::parts_are_few))]
 pub fn receive_slots_go_round()
     ensures staged { SlotsCanBeStaged }
     ensures offered { StagedCanBeOffered }

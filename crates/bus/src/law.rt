@@ -34,12 +34,14 @@ pub fn between_composes()
 
 /// Any list of adapter steps and deliveries may happen between two accesses, if each has an outcome that the adapter's
 /// contract allows.
+#[tactic(auto, using(crate::proofs::Trails::trails_happen))]
 pub fn any_steps_may_happen()
     ensures { TrailsHappen }
 {}
 
 /// Each step of an adapter, and each delivery of a frame to it, may happen between two accesses. This is true in every
 /// state of the adapter and its memory, whichever slots a driver counts as its oldest.
+#[tactic(auto, using(crate::proofs::StepInstances::arrivals_happen, crate::proofs::StepInstances::steps_happen))]
 pub fn steps_are_instances()
     ensures steps { StepsHappen }
     ensures arrivals { ArrivalsHappen }
@@ -47,6 +49,7 @@ pub fn steps_are_instances()
 
 /// If the conditions of the law hold and both engines can run, no step has the outcome `Fault`. By the law, both
 /// engines can still run afterwards.
+#[tactic(auto, using(crate::proofs::RunningEngines::faults_never_come))]
 pub fn faults_never_come()
     ensures { FaultsNeverCome }
 {}
@@ -84,6 +87,7 @@ pub fn drivers_slots_can_be_written()
 
 /// A driver knows a ring's base, its number of slots and its tail, and that the head is one of the slots. This remains
 /// true whatever happens between two accesses.
+#[tactic(auto, using(crate::proofs::Laws::known_rings_stay))]
 pub fn known_rings_stay()
     ensures received { KnownRingStays receive_ring }
     ensures sent { KnownRingStays transmit_ring }
@@ -149,6 +153,7 @@ pub fn areas_stay_apart()
 /// rings offer no slot, and are in memory, apart from each other. An idle adapter meets the conditions of the law, with
 /// the tails as the driver's oldest slots. An adapter is idle after power-on and after a reset, with a memory of any
 /// size.
+#[tactic(auto, using(crate::proofs::Laws::sound_idle_rings))]
 pub fn idle_rings_are_sound()
     ensures sound { IdleRingsAreSound }
     ensures after_power_on { IdleAfterPowerOn }
@@ -159,6 +164,7 @@ pub fn idle_rings_are_sound()
 /// accesses, whatever is read or stored, and after a write of any other register, even after a reset. They are idle
 /// after a write of a ring's register if head equals tail in each, and both are in memory, apart from each other. So
 /// the conditions of the law hold in each state of initialization up to the first offered slot.
+#[tactic(auto, using(crate::proofs::Laws::idle_rings_stay_idle))]
 pub fn idle_rings_stay_idle()
     ensures happenings { HappeningsKeepIdle }
     ensures reads { ReadsKeepIdle }
@@ -181,6 +187,7 @@ pub fn many_slots_can_be_offered()
 ///   and the ring must be inside memory, apart from all other areas. The conditions then hold with TDT as the oldest
 ///   slot. No transmit slot is outstanding, no frame is to be sent, and received frames are the same.
 /// - `others`, `reads`: a write of any other register, without a reset; a read of any register.
+#[tactic(auto, using(crate::proofs::Laws::registers_can_be_set))]
 pub fn registers_can_be_set()
     ensures receive_control { ReceiverCanBeSet }
     ensures transmit_control { TransmitterCanBeSet }

@@ -2,7 +2,8 @@
 //! its host's memory.
 //!
 //! The laws of a driver's actions use what a driver knows of its adapter and memory, and what happens in an interval of
-//! its run.
+//! its run. A law is a function with an empty body, and its clauses are theorems. A law's attribute `tactic` states the
+//! lemmas in `proofs` that prove it.
 //!
 //! Section numbers are those of Intel's "PCI/PCI-X Family of Gigabit Ethernet Controllers Software
 //! Developer's Manual".

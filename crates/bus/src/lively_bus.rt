@@ -23,6 +23,7 @@ impl<'a> LivelyBus<'a> {
     fn prepare(&mut self)
         ensures { IsPrepared self.old self.new }
     {
+        // `true`: the wire has room. These steps put no frame onto it.
         self.machine.step(StepKind::EepromTick, true);
         self.machine.step(StepKind::PhyTick, true);
         self.accesses = self.accesses.saturating_add(1);

@@ -3,7 +3,7 @@
 ghost use Rattle.std.specs.Prelude.{◌≡◌, ◌≤◌, ◌↔◌, ◌+◌, ◌++◌, [], length, not, IfNone, IfSome, IsNone, vec_capacity};
 ghost use Rattle.adapter.specs.HostFrames.{frames_held, frames_to_send};
 ghost use Rattle.adapter.specs.Pending.{CanReadHeld, CanReadSending};
-ghost use Rattle.adapter.specs.Outcomes.{framed, oldest};
+ghost use Rattle.adapter.specs.Outcomes.{framed, oldest_queued};
 ghost use Rattle.adapter.specs.Registers.{answer_at};
 ghost use Rattle.adapter.specs.State.{IsAdapter};
 ghost use Rattle.adapter.specs.Steps.{TellsWork};
@@ -31,6 +31,7 @@ use std::marker::Model;
 pub struct Machine {
     adapter: Adapter,
     memory: HostMemory,
+    /// The level of the interrupt line that counts as reported.
     reported: bool,
 }
 
@@ -75,7 +76,7 @@ impl Machine {
     /// [`Adapter::to_put`].
     pub fn to_put(&self) -> Option<&[u8]>
         ensures none { IsNone result ↔ (self.now.world.adapter.transmitter.buffer ≡ []) }
-        ensures oldest { IfSome result (λ frame. frame.now ≡ oldest self.now.world.adapter.transmitter.buffer) }
+        ensures oldest { IfSome result (λ frame. frame.now ≡ oldest_queued self.now.world.adapter.transmitter.buffer) }
         ensures fits { IfSome result (λ frame. length frame.now ≤ longest_frame) }
         ensures adapter { IsAdapter self.now.world.adapter }
     {
@@ -124,6 +125,7 @@ impl Machine {
         ensures loaded { into.new ≡ bytes_at self.now.world.memory address (length into.old) }
         ensures adapter { IsAdapter self.now.world.adapter }
     {
+        // The bytes are in memory, so the load succeeds.
         let _ = self.memory.load(address, into);
     }
 
@@ -133,6 +135,7 @@ impl Machine {
         ensures state { self.new ≡ after_event (Accesses (Stores address bytes.now)) self.old }
         ensures adapter { IsAdapter self.old.world.adapter }
     {
+        // The bytes are in memory, so the store succeeds.
         let _ = self.memory.store(address, bytes);
     }
 

@@ -11,6 +11,7 @@ ghost use Rattle.bus.specs.Resets.{RestKeepsMemory};
 /// - `memory`: an adapter at rest doesn't write memory, whatever happens between two accesses.
 /// - `rests`: the adapter remains at rest, and no frame is put on the wire, stored or missed, whatever happens between
 ///   two accesses.
+#[tactic(auto, using(crate::proofs::Laws::drivers_reset))]
 pub fn drivers_reset()
     ensures disabled { ReceiverIsDisabled }
     ensures forgets { ResetForgetsSlots }

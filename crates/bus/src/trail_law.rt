@@ -9,6 +9,7 @@ ghost use Rattle.bus.specs.TrailFaults.{FaultsStay, RunningEnginesMetNoFault};
 /// - `stays`: after any steps, deliveries and accesses without a reset, an engine that was stopped is
 ///   still stopped.
 /// - `none`: if both engines run at the end and there was no reset, no step had the outcome `Fault`.
+#[tactic(auto, using(crate::proofs::Laws::faults_stay_visible))]
 pub fn faults_stay_visible()
     ensures stays { FaultsStay }
     ensures none { RunningEnginesMetNoFault }
@@ -21,6 +22,7 @@ pub fn faults_stay_visible()
 /// - `mask`: the mask doesn't change if no access writes IMS or IMC or resets the adapter.
 /// - `stay`: a cause that a step or a delivery records is still recorded at the end. No access after this step or
 ///   delivery may read or write ICR, write ICS or reset the adapter.
+#[tactic(auto, using(crate::proofs::Laws::causes_of_steps))]
 pub fn causes_are_those_of_steps()
     ensures recorded { CausesAreThoseOfSteps }
     ensures mask { MasksStay }
@@ -32,6 +34,7 @@ pub fn causes_are_those_of_steps()
 /// - `interrupts`: these accesses aren't resets, and change neither the recorded causes nor the mask.
 /// - `rings`: a write of a ring's register, such as RDT or TDT, isn't a reset, and changes neither the recorded causes
 ///   nor the mask.
+#[tactic(auto, using(crate::proofs::Laws::quiet_accesses_leave_adapters))]
 pub fn quiet_accesses_leave_adapters()
     ensures adapters { QuietAccessesLeaveAdapters }
     ensures worlds { QuietAccessesLeaveWorlds }

@@ -18,6 +18,7 @@ pub fn transmit_slots_are_stored()
 /// the tail by one. The frame must have 14 to 1,518 bytes, and at least two slots must not be outstanding before the
 /// write. After the write, the frame, padded, is the last frame to be sent. The write of TDT is the last access of the
 /// call, after loads and stores.
+#[tactic(auto, using(crate::proofs::Laws::frames_are_offered))]
 pub fn frames_are_offered()
     ensures moved { TailIsMoved }
     ensures offered { FrameIsOffered }
@@ -27,6 +28,7 @@ pub fn frames_are_offered()
 /// A driver whose transmit side is set up may free its oldest outstanding transmit slot if DD is set in the slot's
 /// descriptor. If DD is clear, or no slot is outstanding, no slot is written back. The number of outstanding slots is
 /// the number of written-back slots plus the number of frames to be sent. There are fewer frames to be sent than slots.
+#[tactic(auto, using(crate::proofs::Laws::slots_are_freed))]
 pub fn slots_are_freed()
     ensures done { SlotIsFreed }
     ensures waits { NoneIsWrittenBack }

@@ -17,7 +17,7 @@ use Rattle.eeprom_phy.specs.Mdic.{has_work}
 use Rattle.bus.specs.TickGroups.{behind_group, group_of, without_go}
 use Rattle.bus.specs.Pasts.{Past}
 use Rattle.bus.specs.LivelyBuses.{most_accesses}
-use Rattle.solo_bus.specs.SoloBuses.{PlaysSoloTicks, Prepared, SoloState, has_room, is_go, lively_ticks, solo_after_arrival}
+use Rattle.solo_bus.specs.SoloBuses.{PlaysSoloTicks, Prepared, SoloState, wire_has_room, is_solo_go, lively_ticks, solo_after_arrival}
 use Rattle.solo_bus.specs.SoloBuses.{solo_after_step}
 use Rattle.solo_bus.specs.SoloBuses.{solo_tick_of}
 use Rattle.solo_bus.specs.SoloLaws.{are_free_joins}
@@ -77,10 +77,10 @@ put_alone PhyTick wire_free answer solo answers = ap put_by answers ∙ put_none
 
 pub plays_step :
     (a : SoloState) (kind : StepKind) (answer : FrameOutcome) (left : List SoloTick) → IsAdapter a.world.adapter
-    → Answers kind (has_room a) a.world.memory a.world.adapter answer
+    → Answers kind (wire_has_room a) a.world.memory a.world.adapter answer
     → PlaysSoloTicks (Step kind ∷ []) left a (solo_after_step kind answer (record a { waiting = left }))
 plays_step a kind answer left running answers =
-    let event = Steps kind (has_room a) answer in
+    let event = Steps kind (wire_has_room a) answer in
     record {
       events = event ∷ [];
       are = All-cons IsStep event [] tt (all-none IsStep);
@@ -89,7 +89,7 @@ plays_step a kind answer left running answers =
       waiting = refl;
       wire = record {
         free = (refl, tt);
-        frames = ap (λ (frames : List (List ℕ)). a.wire ++ frames) (put_alone kind (has_room a) answer a answers);
+        frames = ap (λ (frames : List (List ℕ)). a.wire ++ frames) (put_alone kind (wire_has_room a) answer a answers);
       };
       lively = refl;
       accesses = refl;
@@ -115,8 +115,8 @@ plays_arrival a frame fate left running is =
 -- For a list of waiting ticks, a loop plays the ticks of `plays`, and those of `waits` wait afterwards. If the first tick isn't Go, it is
 -- played.
 pub record GoesOn (plays waits : List SoloTick → List SoloTick) : Type 0 where
-  pub played : (tick : SoloTick) (later : List SoloTick) → is_go tick ≡ false → plays (tick ∷ later) ≡ tick ∷ plays later
-  pub left : (tick : SoloTick) (later : List SoloTick) → is_go tick ≡ false → waits (tick ∷ later) ≡ waits later
+  pub played : (tick : SoloTick) (later : List SoloTick) → is_solo_go tick ≡ false → plays (tick ∷ later) ≡ tick ∷ plays later
+  pub left : (tick : SoloTick) (later : List SoloTick) → is_solo_go tick ≡ false → waits (tick ∷ later) ≡ waits later
 
 -- From `a` to `s`, the loop has played `ticks`. In all, it plays these ticks, and then those that it plays of the ticks waiting in `s`.
 pub record PlaysOn (plays waits : List SoloTick → List SoloTick) (a s : SoloState) : Type 0 where
@@ -125,15 +125,15 @@ pub record PlaysOn (plays waits : List SoloTick → List SoloTick) (a s : SoloSt
   pub to_play : plays a.waiting ≡ ticks ++ plays s.waiting
   pub to_wait : waits a.waiting ≡ waits s.waiting
 
-pub group_goes_on : GoesOn (group_of is_go) (behind_group is_go)
+pub group_goes_on : GoesOn (group_of is_solo_go) (behind_group is_solo_go)
 group_goes_on = record { played = played; left = left }
   where
-    played : (tick : SoloTick) (later : List SoloTick) → is_go tick ≡ false → group_of is_go (tick ∷ later) ≡ tick ∷ group_of is_go later
+    played : (tick : SoloTick) (later : List SoloTick) → is_solo_go tick ≡ false → group_of is_solo_go (tick ∷ later) ≡ tick ∷ group_of is_solo_go later
     played Go later is = absurd (cc)
     played (Step kind) later is = refl
     played (Arrive frame) later is = refl
 
-    left : (tick : SoloTick) (later : List SoloTick) → is_go tick ≡ false → behind_group is_go (tick ∷ later) ≡ behind_group is_go later
+    left : (tick : SoloTick) (later : List SoloTick) → is_solo_go tick ≡ false → behind_group is_solo_go (tick ∷ later) ≡ behind_group is_solo_go later
     left Go later is = absurd (cc)
     left (Step kind) later is = refl
     left (Arrive frame) later is = refl
@@ -142,11 +142,11 @@ group_goes_on = record { played = played; left = left }
 abbrev pub none_left : List SoloTick → List SoloTick
 none_left ticks = []
 
-pub all_go_on : GoesOn (without_go is_go) none_left
+pub all_go_on : GoesOn (without_go is_solo_go) none_left
 all_go_on = record { played = played; left = λ tick later is. refl }
   where
-    played : (tick : SoloTick) (later : List SoloTick) → is_go tick ≡ false
-        → without_go is_go (tick ∷ later) ≡ tick ∷ without_go is_go later
+    played : (tick : SoloTick) (later : List SoloTick) → is_solo_go tick ≡ false
+        → without_go is_solo_go (tick ∷ later) ≡ tick ∷ without_go is_solo_go later
     played Go later is = absurd (cc)
     played (Step kind) later is = refl
     played (Arrive frame) later is = refl
@@ -154,7 +154,7 @@ all_go_on = record { played = played; left = λ tick later is. refl }
 -- The loop plays one more tick, the first one that waits.
 on_more :
     (plays waits : List SoloTick → List SoloTick) (a s b : SoloState) (tick : SoloTick) (left : List SoloTick) → GoesOn plays waits
-    → PlaysOn plays waits a s → is_go tick ≡ false → s.waiting ≡ tick ∷ left → b.waiting ≡ left → PlaysSoloTicks (tick ∷ []) b.waiting s b
+    → PlaysOn plays waits a s → is_solo_go tick ≡ false → s.waiting ≡ tick ∷ left → b.waiting ≡ left → PlaysSoloTicks (tick ∷ []) b.waiting s b
     → PlaysOn plays waits a b
 on_more plays waits a s b tick left on before isnt front behind one = record {
   ticks = before.ticks ++ tick ∷ [];
@@ -173,12 +173,12 @@ pub step_on :
     (tick : SoloTick)
     → GoesOn plays waits → PlaysOn plays waits a s → next ≡ slice_get s.waiting 0 → next ≡ Some tick → tick ≡ Step kind
     → s' ≡ record s { waiting = drop 1 s.waiting } → IsAdapter s'.world.adapter
-    → Answers kind (has_room s') s'.world.memory s'.world.adapter answer → b ≡ solo_after_step kind answer s' → PlaysOn plays waits a b
+    → Answers kind (wire_has_room s') s'.world.memory s'.world.adapter answer → b ≡ solo_after_step kind answer s' → PlaysOn plays waits a b
 step_on plays waits a s s' b kind answer next tick on before is some takes left running answers after =
     let front : s.waiting ≡ Step kind ∷ drop 1 s.waiting = front_rest s.waiting (Step kind) (sym is ∙ some ∙ ap Some takes) in
     let running_s : IsAdapter s.world.adapter = subst (λ (x : SoloState). IsAdapter x.world.adapter) left running in
-    let answers_s : Answers kind (has_room s) s.world.memory s.world.adapter answer = subst
-    (λ (x : SoloState). Answers kind (has_room x) x.world.memory x.world.adapter answer) left answers in
+    let answers_s : Answers kind (wire_has_room s) s.world.memory s.world.adapter answer = subst
+    (λ (x : SoloState). Answers kind (wire_has_room x) x.world.memory x.world.adapter answer) left answers in
     let at : b ≡ solo_after_step kind answer (record s { waiting = drop 1 s.waiting }) = after ∙ ap (solo_after_step kind answer) left in
     subst (λ (x : SoloState). PlaysOn plays waits a x) (sym at)
     (on_more plays waits a s _ (Step kind) (drop 1 s.waiting) on before refl front refl
@@ -205,7 +205,7 @@ arrive_on plays waits a s s' b frame bytes fate next tick on before is some take
 pub kinds_on :
     (kinds : List StepKind) (place : ℕ) (other : StepKind) (a s b : SoloState) (answer : FrameOutcome) → place < length kinds
     → PlaysSoloTicks (map Step (take place kinds)) a.waiting a s → IsAdapter s.world.adapter
-    → Answers (get_or kinds place other) (has_room s) s.world.memory s.world.adapter answer
+    → Answers (get_or kinds place other) (wire_has_room s) s.world.memory s.world.adapter answer
     → b ≡ solo_after_step (get_or kinds place other) answer s → PlaysSoloTicks (map Step (take (place + 1) kinds)) a.waiting a b
 kinds_on kinds place other a s b answer inside before running answers after =
     let kind = get_or kinds place other in
@@ -222,12 +222,12 @@ kinds_on kinds place other a s b answer inside before running answers after =
 -- The bus's own ticks, then the next group, then the count: together they are `Prepared`.
 pub prepared_on :
     (a m g b : SoloState) → PlaysSoloTicks (lively_ticks a.lively) a.waiting a m
-    → PlaysSoloTicks (group_of is_go m.waiting) (behind_group is_go m.waiting) m g
+    → PlaysSoloTicks (group_of is_solo_go m.waiting) (behind_group is_solo_go m.waiting) m g
     → b ≡ record g { accesses = min (g.accesses + 1) most_accesses } → Prepared a b
 prepared_on a m g b own group is =
-    let group_a : PlaysSoloTicks (group_of is_go a.waiting) (behind_group is_go a.waiting) m g = subst
-    (λ (ticks : List SoloTick). PlaysSoloTicks (group_of is_go ticks) (behind_group is_go ticks) m g) own.waiting group in
-    let whole = plays_trans (lively_ticks a.lively) (group_of is_go a.waiting) a.waiting (behind_group is_go a.waiting) a m g own group_a in
+    let group_a : PlaysSoloTicks (group_of is_solo_go a.waiting) (behind_group is_solo_go a.waiting) m g = subst
+    (λ (ticks : List SoloTick). PlaysSoloTicks (group_of is_solo_go ticks) (behind_group is_solo_go ticks) m g) own.waiting group in
+    let whole = plays_trans (lively_ticks a.lively) (group_of is_solo_go a.waiting) a.waiting (behind_group is_solo_go a.waiting) a m g own group_a in
     subst (λ (x : SoloState). Prepared a x) (sym is) (record {
       plays = record {
         events = whole.events;

@@ -13,7 +13,7 @@ use Rattle.descriptors.specs.Ring.{offered_places}
 use Rattle.descriptors.specs.RxDesc.{rx_desc_of}
 use Rattle.descriptors.specs.TxDesc.{tx_desc_of}
 use Rattle.descriptors.specs.TxFields.{command_bits}
-use Rattle.tx_engine.specs.Fetching.{IsTransmittable, descriptor_at, fetched}
+use Rattle.tx_engine.specs.Fetching.{IsTransmittable, transmit_descriptor_at, fetched}
 use Rattle.tx_engine.specs.ToSend.{to_send}
 use Rattle.descriptors.specs.Frames.{IsLegal}
 use Rattle.eeprom_phy.specs.declared.phy.Link.TheVariants.{Never}
@@ -31,12 +31,12 @@ use Rattle.adapter.specs.Outcomes.{FrameOutcome}
 use Rattle.adapter.specs.declared.outcome.Outcome.TheVariants.{Took, Part, Moved, Done, Nothing, Fault}
 use Rattle.adapter.specs.Registers.{new_adapter}
 use Rattle.adapter.specs.Table.{array_register_at, register_at}
-use Rattle.solo_bus.specs.SoundWorlds.{HasFinished, HasFramesInBuffer, HasFramesInRing, HasRings, HasWork}
+use Rattle.solo_bus.specs.SoundWorlds.{HasFinished, HasFramesInBuffer, HasFramesInRing, HasRings, HasPieceInWork}
 use Rattle.adapter.specs.HostAreas.{buffer_of, data_of}
 use Rattle.adapter.specs.Slots.{finished, is_done}
 use Rattle.bus.specs.IdleRings.{IsIdle}
 use Rattle.adapter.specs.Conditions.{Reports, Sound}
-use Rattle.bus.specs.SlotOffers.{CanOffer, CanSend}
+use Rattle.bus.specs.SlotOffers.{CanOffer, CanSend, HasRoom}
 use Rattle.solo_bus.specs.SoundBuses.{call, called, ready, finished_slot, request, requested, resting, sending, taken, working}
 use Rattle.bus.specs.StepsAndArrivals.{world_after_arrival, world_after_step}
 use Rattle.adapter.specs.State.{IsAdapter}
@@ -96,6 +96,14 @@ resting-idle size words fits =
 pub resting-sound : (size : ℕ) (words : List ℕ) → 4096 ≤ size → Sound 0 0 (resting size words)
 resting-sound size words fits = idle_rings_are_sound (resting size words) (resting-idle size words fits)
 
+unused-room : (base : ℕ) → HasRoom 0 (record { base_low = base; base_high = 0; length_bytes = 128; head = 0; tail = 0 })
+unused-room base = record {
+  oldest_slot = omega arith;
+  head_slot = omega arith;
+  tail_slot = omega arith;
+  room = λ same. absurd (omega (arith, same));
+}
+
 -- The world `ready`: the first receive slot is offered.
 
 pub resting-can_offer : (size : ℕ) (words : List ℕ) → 4096 ≤ size → CanOffer 0 (resting size words)
@@ -109,12 +117,7 @@ resting-can_offer size words fits =
     let buffer : Area = record { address = 0; size = 2048 } in
     let Apart : Area → Type 0 = λ area. AreApart area buffer in
     record {
-      ring = record {
-        oldest_slot = omega arith;
-        head_slot = omega arith;
-        tail_slot = omega arith;
-        room = λ same. absurd (omega (arith, same));
-      };
+      ring = unused-room 2048;
       fresh = zeros-open size 2048 (omega (arith, fits));
       lies = λ enabled. subst (λ (address : ℕ). LiesIn memory address 2048) (sym named_zero) (omega (arith, long, fits));
       apart = λ enabled.
@@ -184,7 +187,7 @@ data-moved size words fits Part answers = let more : true ≡ false = sym (calle
 data-moved size words fits Fault answers = absurd (answers.1 (called-can_move size words fits))
 data-moved size words fits _ answers = absurd answers
 
-pub working-has_work : (size : ℕ) (words : List ℕ) → HasWork (working size words)
+pub working-has_work : (size : ℕ) (words : List ℕ) → HasPieceInWork (working size words)
 working-has_work size words none = absurd (cc)
 
 -- The world `finished_slot`: the slot of the frame is finished.
@@ -272,12 +275,7 @@ requested-can_send size words fits =
     let is = requested-data size words fits in
     let Apart : Area → Type 0 = λ area. AreApart area frame in
     record {
-      ring = record {
-        oldest_slot = omega arith;
-        head_slot = omega arith;
-        tail_slot = omega arith;
-        room = λ same. absurd (omega (arith, same));
-      };
+      ring = unused-room 2176;
       fresh = ap (λ (bytes : List ℕ). is_set (slice_index bytes 12) 0) (requested-bytes size words fits);
       reports = requested-reports size words fits;
       pads = refl;
@@ -310,7 +308,7 @@ sending-busy size words (inr (inr (inl full))) = absurd (omega (arith, full))
 sending-busy size words (inr (inr (inr same))) = absurd (omega (arith, same))
 
 pub sending-fields : (size : ℕ) (words : List ℕ) → 4096 ≤ size
-    → IsTransmittable (requested size words).memory (descriptor_at (requested size words).memory 2176)
+    → IsTransmittable (requested size words).memory (transmit_descriptor_at (requested size words).memory 2176)
 unfolding tx_desc_of
 sending-fields size words fits =
     let memory = (requested size words).memory in

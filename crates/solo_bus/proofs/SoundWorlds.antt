@@ -9,18 +9,18 @@ use Rattle.dma_memory.specs.HostMemory.{with_bytes}
 use Rattle.descriptors.specs.Ring.{offered_places}
 use Rattle.descriptors.specs.Frames.{IsLegal}
 use Rattle.rx_engine.specs.Finishing.{finished_bytes}
-use Rattle.rx_engine.specs.Laws.{held-after_data}
+use Rattle.rx_engine.specs.Laws.{held-after_data, held-after_arrival}
 use Rattle.rx_engine.specs.Moving.{is_half_offered}
 use Rattle.rx_engine.specs.Receiver.{IsReceiver}
 use Rattle.rx_engine.specs.declared.data.Data.TheVariants.{Moved}
 use Rattle.rx_engine.specs.declared.engine.Work.{Work}
 use Rattle.tx_engine.specs.Fetching.{fetched}
 use Rattle.tx_engine.specs.Transmitter.{Queued}
-use Rattle.solo_bus.specs.SoundWorlds.{HasFinished, HasFramesInBuffer, HasFramesInRing, HasRings, HasWork, HasWrittenBack, SomeSound}
+use Rattle.solo_bus.specs.SoundWorlds.{HasFinished, HasFramesInBuffer, HasFramesInRing, HasRings, HasPieceInWork, HasWrittenBack, SomeSound}
 use Rattle.adapter.specs.HostFrames.{finished_pieces, named}
 use Rattle.adapter.specs.Rings.{ring_of}
 use Rattle.adapter.specs.Transmitting.{moved_on}
-use Rattle.adapter.specs.Slots.{finished, is_done, written_back}
+use Rattle.adapter.specs.Slots.{finished, is_done, written_back_slots}
 use Rattle.adapter.specs.Conditions.{FitBuffers, Sound}
 use Rattle.bus.specs.Law.{Between}
 use Rattle.bus.specs.Pasts.{Past, nothing}
@@ -37,6 +37,10 @@ use Rattle.solo_bus.proofs.SoundBuses.{call-legal, called-can_move, called-has_f
 use Rattle.solo_bus.proofs.SoundBuses.{requested-can_send, requested-idle, resting-can_offer, resting-sound, sending-fields}
 use Rattle.solo_bus.proofs.SoundBuses.{sending-has_frames, sending-sound, working-has_work}
 use Rattle.bus.proofs.TxTakeSteps.{between_padded, taken}
+use Rattle.bus.proofs.StepsBesideRings.{between_quiet, going}
+use Rattle.rx_engine.specs.declared.arrival.Fate.TheVariants.{Stored}
+use Rattle.bus.specs.StepsAndArrivals.{past_of_arrival}
+use Rattle.adapter.specs.HostAreas.{buffer_size}
 
 -- The engines can run.
 
@@ -86,33 +90,23 @@ sending-fits size words fits =
 
 -- The world `called`: a frame has arrived.
 
-called-sound : (size : ℕ) (words : List ℕ) → 4096 ≤ size → Sound 0 0 (called size words)
-called-sound size words fits =
+ready-receiver : (size : ℕ) (words : List ℕ) → IsReceiver (ready size words).adapter.receiver
+ready-receiver size words = record {
+  room = omega arith;
+  frames = all-none IsLegal;
+  begun = omega arith;
+  least = λ work none. absurd (none-some work none);
+  most = λ work none. absurd (none-some work none);
+}
+
+called-between : (size : ℕ) (words : List ℕ) → 4096 ≤ size
+    → Between 0 0 (ready size words) (called size words) (past_of_arrival Stored call)
+called-between size words fits =
+    let w = ready size words in
     let sound = ready-sound size words fits in
-    record {
-      receive_slots = sound.receive_slots;
-      transmit_slots = sound.transmit_slots;
-      separate = sound.separate;
-      reports = sound.reports;
-      begun = sound.begun;
-      pads = sound.pads;
-    }
-
-called-fits : (size : ℕ) (words : List ℕ) → 4096 ≤ size → FitBuffers 2048 0 (called size words)
-called-fits size words fits = let fit = ready-fits size words fits in record
-    { large = fit.large; finished_fit = fit.finished_fit; work_fits = fit.work_fits }
-
-called-runs : (size : ℕ) (words : List ℕ) → 4096 ≤ size → CanRun (called size words)
-called-runs size words fits =
-    let can = ready-runs size words fits in
-    record {
-      receiver_runs = can.receiver_runs;
-      transmitter_runs = can.transmitter_runs;
-      receive_indices = can.receive_indices;
-      transmit_indices = can.transmit_indices;
-      not_extended = can.not_extended;
-      transmittable = can.transmittable;
-    }
+    between_quiet 0 0 w (called size words).adapter (past_of_arrival Stored call) refl
+    (held-after_arrival Stored call w.memory (finished_pieces 0 w) w.adapter.receiver (ready-receiver size words) sound.begun)
+    (going w) sound
 
 called-receiver : (size : ℕ) (words : List ℕ) → IsReceiver (called size words).adapter.receiver
 called-receiver size words = record {
@@ -126,7 +120,7 @@ called-receiver size words = record {
 working-between : (size : ℕ) (words : List ℕ) → 4096 ≤ size → Between 0 0 (called size words) (working size words) nothing
 working-between size words fits =
     let w = called size words in
-    let sound = called-sound size words fits in
+    let sound = (called-between size words fits).sound in
     between_moved true [] 0 0 0 w (called-has_frame size words) (called-can_move size words fits) (called-last size words)
     (called-receiver size words)
     (held-after_data w.adapter.filter.rctl (receive_ring w) w.adapter.receiver w.memory (finished_pieces 0 w)
@@ -134,7 +128,7 @@ working-between size words fits =
     sound
 
 working-runs : (size : ℕ) (words : List ℕ) → 4096 ≤ size → CanRun (working size words)
-working-runs size words fits = (working-between size words fits).runs (called-runs size words fits)
+working-runs size words fits = (working-between size words fits).runs ((called-between size words fits).runs (ready-runs size words fits))
 
 abbrev work : Work
 work = record { descriptor = 2048; length = 60; ends = true }
@@ -188,7 +182,7 @@ put-written : (size : ℕ) (words : List ℕ) → 4096 ≤ size → HasWrittenBa
 unfolding offered_places
 put-written size words fits none =
     let sound = (put-between size words fits).sound in
-    let all : 2176 ∷ [] ≡ written_back 0 (put_with size words) ++ [] = sound.transmit_slots.classes in
+    let all : 2176 ∷ [] ≡ written_back_slots 0 (put_with size words) ++ [] = sound.transmit_slots.classes in
     let empty : (let one : List ℕ = 2176 ∷ [] in one) ≡ [] = all ∙ ap (λ (slots : List ℕ). slots ++ []) none in
     cc
 
@@ -197,60 +191,47 @@ put-written size words fits none =
 abbrev words : List ℕ
 words = replicate 64 0
 
+all_in : 4096 ≤ 4096
+all_in = omega arith
+
+called-fits : FitBuffers 2048 0 (called 4096 words)
+called-fits = (called-between 4096 words all_in).fits 2048 (ready-fits 4096 words all_in)
+
+-- A world at the end of an interval, if frames fit and engines can run at the beginning.
+reached : (Has : World → Type 0) (a b : World) (past : Past) → buffer_size b ≡ 2048 → Between 0 0 a b past → FitBuffers 2048 0 a
+    → CanRun a → Has b → SomeSound Has
+reached Has a b past size between fit can has =
+    (b, between.sound, subst (λ (n : ℕ). FitBuffers n 0 b) (sym size) (between.fits 2048 fit), between.runs can, has)
+
 pub rings_can : SomeSound HasRings
 rings_can =
-    let fits : 4096 ≤ 4096 = omega arith in
-    (ready 4096 words, ready-sound 4096 words fits, ready-fits 4096 words fits, ready-runs 4096 words fits, ready-has_rings 4096 words)
+    let w = ready 4096 words in
+    (w, ready-sound 4096 words all_in, ready-fits 4096 words all_in, ready-runs 4096 words all_in, ready-has_rings 4096 words)
 
-pub work_can : SomeSound HasWork
-work_can =
-    let fits : 4096 ≤ 4096 = omega arith in
-    let between = working-between 4096 words fits in (
-      working 4096 words,
-      between.sound,
-      between.fits 2048 (called-fits 4096 words fits),
-      working-runs 4096 words fits,
-      working-has_work 4096
-          words,
-    )
+pub work_can : SomeSound HasPieceInWork
+work_can = reached HasPieceInWork (called 4096 words) (working 4096 words) nothing refl (working-between 4096 words all_in) called-fits
+    ((called-between 4096 words all_in).runs (ready-runs 4096 words all_in)) (working-has_work 4096 words)
 
 pub finished_can : SomeSound HasFinished
-finished_can =
-    let fits : 4096 ≤ 4096 = omega arith in
-    let between = done-between 4096 words fits in
-    let fit = between.fits 2048 ((working-between 4096 words fits).fits 2048 (called-fits 4096 words fits)) in (
-      done_with 4096 words,
-      between.sound,
-      fit,
-      between.runs (working-runs 4096 words fits),
-      done-finished 4096 words fits,
-    )
+finished_can = reached HasFinished (working 4096 words) (done_with 4096 words) nothing refl (done-between 4096 words all_in)
+    ((working-between 4096 words all_in).fits 2048 called-fits) (working-runs 4096 words all_in) (done-finished 4096 words all_in)
 
 pub frames_can : SomeSound HasFramesInRing
-frames_can =
-    let fits : 4096 ≤ 4096 = omega arith in (
-      sending 4096 words,
-      sending-sound 4096 words fits,
-      sending-fits 4096 words fits,
-      sending-runs 4096 words fits,
-      sending-has_frames 4096
-          words,
-    )
+frames_can = (
+  sending 4096 words,
+  sending-sound 4096 words all_in,
+  sending-fits 4096 words all_in,
+  sending-runs 4096 words all_in,
+  sending-has_frames 4096 words,
+)
 
 pub buffered_can : SomeSound HasFramesInBuffer
-buffered_can =
-    let fits : 4096 ≤ 4096 = omega arith in
-    let between = took-between 4096 words fits in
-    (took 4096 words, between.sound, between.fits 2048 (sending-fits 4096 words fits), took-runs 4096 words fits, λ none. absurd (cc))
+buffered_can = reached HasFramesInBuffer (sending 4096 words) (took 4096 words) nothing refl (took-between 4096 words all_in)
+    (sending-fits 4096 words all_in) (sending-runs 4096 words all_in) (λ none. absurd (cc))
 
 pub written_can : SomeSound HasWrittenBack
 written_can =
-    let fits : 4096 ≤ 4096 = omega arith in
-    let between = put-between 4096 words fits in
-    let fit = between.fits 2048 ((took-between 4096 words fits).fits 2048 (sending-fits 4096 words fits)) in (
-      put_with 4096 words,
-      between.sound,
-      fit,
-      between.runs (took-runs 4096 words fits),
-      put-written 4096 words fits,
-    )
+    let past : Past = record nothing { put = (fetched_one 4096 words).frame ∷ [] } in
+    reached HasWrittenBack (took 4096 words) (put_with 4096 words) past refl (put-between 4096 words all_in)
+    ((took-between 4096 words all_in).fits 2048 (sending-fits 4096 words all_in)) (took-runs 4096 words all_in)
+    (put-written 4096 words all_in)

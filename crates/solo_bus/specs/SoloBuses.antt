@@ -39,17 +39,17 @@ abbrev pub most_ticks : ℕ
 most_ticks = 32
 
 -- Whether the wire has room: it has fewer than `wire_frames` frames.
-abbrev pub has_room : SoloState → Bool
-has_room solo = nat_lt (length solo.wire) wire_frames
+abbrev pub wire_has_room : SoloState → Bool
+wire_has_room solo = nat_lt (length solo.wire) wire_frames
 
 -- The outcome of a step from this state, with the frame that it put if the outcome is `Put`.
 abbrev pub solo_framed : Outcome (Unit {0}) → SoloState → FrameOutcome
 solo_framed outcome solo = framed outcome solo.world.adapter
 
 -- The frame that is put next, as a list: the oldest frame of a packet buffer, if there is one.
-abbrev pub next_frames : List Queued → List (List ℕ)
-next_frames [] = []
-next_frames (queued ∷ later) = queued.frame ∷ []
+abbrev pub frames_put_next : List Queued → List (List ℕ)
+frames_put_next [] = []
+frames_put_next (queued ∷ later) = queued.frame ∷ []
 
 -- The bus after a step. A frame that the step put is after the others on the wire.
 abbrev pub solo_after_step : StepKind → FrameOutcome → SoloState → SoloState
@@ -58,10 +58,10 @@ solo_after_step kind answer solo = record solo { world = world_after_step kind a
 abbrev pub solo_after_arrival : Fate → List ℕ → SoloState → SoloState
 solo_after_arrival fate frame solo = record solo { world = world_after_arrival fate frame solo.world }
 
-abbrev pub is_go : SoloTick → Bool
-is_go Go = true
-is_go (Step kind) = false
-is_go (Arrive frame) = false
+abbrev pub is_solo_go : SoloTick → Bool
+is_solo_go Go = true
+is_solo_go (Step kind) = false
+is_solo_go (Arrive frame) = false
 
 -- The tick of an event. The tick of an access is `Go`.
 abbrev pub solo_tick_of : Event → SoloTick
@@ -99,9 +99,9 @@ pub record Recounts (a b : SoloState) (past : Past) : Type 0 where
   pub past_is : past ≡ past_of events
   -- Before each access, the bus's own ticks and those of the next group were played, one event for each tick, in order. No event followed
   -- the last access.
-  pub played : map solo_tick_of events ≡ played_in is_go Go (lively_ticks a.lively) past.accesses a.waiting
+  pub played : map solo_tick_of events ≡ played_in is_solo_go Go (lively_ticks a.lively) past.accesses a.waiting
   -- One group was played for each access. All other ticks still wait.
-  pub waiting : b.waiting ≡ waiting_after is_go past.accesses a.waiting
+  pub waiting : b.waiting ≡ waiting_after is_solo_go past.accesses a.waiting
   pub wire : PutOnWire a b events past.put
   pub lively : b.lively ≡ a.lively
   pub count : min b.accesses most_accesses ≡ min (a.accesses + length past.accesses) most_accesses
@@ -122,8 +122,8 @@ lively_count lively accesses = if lively then length accesses else 0
 -- Before each access, a lively bus plays exactly one tick of the EEPROM and one tick of the PHY by itself. All other ticks are those of the
 -- groups that waited.
 pub record PlaysLively (a : SoloState) (past : Past) : Type 0 where
-  pub eeprom : past.eeprom_ticks ≡ lively_count a.lively past.accesses + sum_by eeprom_tick (groups_of is_go past.accesses a.waiting)
-  pub phy : past.phy_ticks ≡ lively_count a.lively past.accesses + sum_by phy_tick (groups_of is_go past.accesses a.waiting)
+  pub eeprom : past.eeprom_ticks ≡ lively_count a.lively past.accesses + sum_by eeprom_tick (groups_of is_solo_go past.accesses a.waiting)
+  pub phy : past.phy_ticks ≡ lively_count a.lively past.accesses + sum_by phy_tick (groups_of is_solo_go past.accesses a.waiting)
 
 -- From `a` to `b`, exactly these ticks are played, with one event for each tick and no access. In `b`, the ticks `left` wait.
 pub record PlaysSoloTicks (ticks left : List SoloTick) (a b : SoloState) : Type 0 where
@@ -138,6 +138,6 @@ pub record PlaysSoloTicks (ticks left : List SoloTick) (a b : SoloState) : Type 
 
 -- From `a` to `b`, the bus plays its own ticks and the next group before an access. The bus also counts the access, up to the greatest u64.
 pub record Prepared (a b : SoloState) : Type 0 where
-  pub plays : PlaysSoloTicks (lively_ticks a.lively ++ group_of is_go a.waiting) (behind_group is_go a.waiting) a
+  pub plays : PlaysSoloTicks (lively_ticks a.lively ++ group_of is_solo_go a.waiting) (behind_group is_solo_go a.waiting) a
       (record b { accesses = a.accesses })
   pub count : b.accesses ≡ min (a.accesses + 1) most_accesses

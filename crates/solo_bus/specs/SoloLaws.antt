@@ -9,7 +9,7 @@ use Rattle.adapter.specs.declared.step.StepKind.TheVariants.{TxTake, TxPut, RxDa
 use Rattle.bus.specs.TickGroupLaws.{played_counts, played_joins, waiting_joins}
 use Rattle.bus.specs.TickGroups.{played_in, waiting_after}
 use Rattle.bus.specs.LivelyBuses.{most_accesses}
-use Rattle.solo_bus.specs.SoloBuses.{AreFree, PlaysLively, Recounts, SoloState, eeprom_tick, is_go, lively_ticks, phy_tick}
+use Rattle.solo_bus.specs.SoloBuses.{AreFree, PlaysLively, Recounts, SoloState, eeprom_tick, is_solo_go, lively_ticks, phy_tick}
 use Rattle.solo_bus.specs.SoloBuses.{solo_tick_of}
 use Rattle.bus.specs.TrailLaws.{past_of-append, trail_joins}
 use Rattle.bus.specs.StepsAndArrivals.{past_of_step}
@@ -48,14 +48,14 @@ recounts_join a b c first later one two = record {
       ∙ sym (past_of-append one.events two.events);
   played = map-append solo_tick_of one.events two.events
       ∙ ap (λ (ticks : List SoloTick). ticks ++ map solo_tick_of two.events) one.played
-      ∙ ap (λ (ticks : List SoloTick). played_in is_go Go (lively_ticks a.lively) first.accesses a.waiting ++ ticks)
+      ∙ ap (λ (ticks : List SoloTick). played_in is_solo_go Go (lively_ticks a.lively) first.accesses a.waiting ++ ticks)
       (two.played
-      ∙ ap (λ (lively : Bool). played_in is_go Go (lively_ticks lively) later.accesses b.waiting) one.lively
-      ∙ ap (played_in is_go Go (lively_ticks a.lively) later.accesses) one.waiting)
-      ∙ sym (played_joins is_go Go (lively_ticks a.lively) first.accesses later.accesses a.waiting);
+      ∙ ap (λ (lively : Bool). played_in is_solo_go Go (lively_ticks lively) later.accesses b.waiting) one.lively
+      ∙ ap (played_in is_solo_go Go (lively_ticks a.lively) later.accesses) one.waiting)
+      ∙ sym (played_joins is_solo_go Go (lively_ticks a.lively) first.accesses later.accesses a.waiting);
   waiting = two.waiting
-      ∙ ap (waiting_after is_go later.accesses) one.waiting
-      ∙ sym (waiting_joins is_go first.accesses later.accesses a.waiting);
+      ∙ ap (waiting_after is_solo_go later.accesses) one.waiting
+      ∙ sym (waiting_joins is_solo_go first.accesses later.accesses a.waiting);
   wire = record {
     free = are_free_joins one.events two.events (length a.wire) (length b.wire)
         (ap length one.wire.frames ∙ length-append a.wire first.put ∙ ap (λ (p : Past). length a.wire + length p.put) one.past_is)
@@ -72,35 +72,27 @@ pub recounts_count : (a b : SoloState) (past : Past) → Recounts a b past
     → min b.accesses most_accesses ≡ min (min a.accesses most_accesses + length past.accesses) most_accesses
 recounts_count a b past recounts = omega (arith, recounts.count)
 
-is_eeprom_tick : (event : Event) → (past_of_event event).eeprom_ticks ≡ eeprom_tick (solo_tick_of event)
-is_eeprom_tick (Steps TxTake wire_free answer) = refl
-is_eeprom_tick (Steps TxPut wire_free answer) = refl
-is_eeprom_tick (Steps RxData wire_free answer) = refl
-is_eeprom_tick (Steps RxDone wire_free answer) = refl
-is_eeprom_tick (Steps EepromTick wire_free answer) = refl
-is_eeprom_tick (Steps PhyTick wire_free answer) = refl
-is_eeprom_tick (Arrives frame fate) = refl
-is_eeprom_tick (Accesses access) = refl
+-- The ticks of an event are those of its tick of the bus.
+ticks_told : (event : Event) → ((past_of_event event).eeprom_ticks ≡ eeprom_tick (solo_tick_of event))
+    × ((past_of_event event).phy_ticks ≡ phy_tick (solo_tick_of event))
+ticks_told (Steps TxTake wire_free answer) = (refl, refl)
+ticks_told (Steps TxPut wire_free answer) = (refl, refl)
+ticks_told (Steps RxData wire_free answer) = (refl, refl)
+ticks_told (Steps RxDone wire_free answer) = (refl, refl)
+ticks_told (Steps EepromTick wire_free answer) = (refl, refl)
+ticks_told (Steps PhyTick wire_free answer) = (refl, refl)
+ticks_told (Arrives frame fate) = (refl, refl)
+ticks_told (Accesses access) = (refl, refl)
 
-is_phy_tick : (event : Event) → (past_of_event event).phy_ticks ≡ phy_tick (solo_tick_of event)
-is_phy_tick (Steps TxTake wire_free answer) = refl
-is_phy_tick (Steps TxPut wire_free answer) = refl
-is_phy_tick (Steps RxData wire_free answer) = refl
-is_phy_tick (Steps RxDone wire_free answer) = refl
-is_phy_tick (Steps EepromTick wire_free answer) = refl
-is_phy_tick (Steps PhyTick wire_free answer) = refl
-is_phy_tick (Arrives frame fate) = refl
-is_phy_tick (Accesses access) = refl
-
-eeprom_ticks_of : (events : List Event) → (past_of events).eeprom_ticks ≡ sum_by eeprom_tick (map solo_tick_of events)
-eeprom_ticks_of [] = refl
-eeprom_ticks_of (event ∷ later) =
-    omega (arith, is_eeprom_tick event, eeprom_ticks_of later, sum_by-cons eeprom_tick (solo_tick_of event) (map solo_tick_of later))
-
-phy_ticks_of : (events : List Event) → (past_of events).phy_ticks ≡ sum_by phy_tick (map solo_tick_of events)
-phy_ticks_of [] = refl
-phy_ticks_of (event ∷ later) =
-    omega (arith, is_phy_tick event, phy_ticks_of later, sum_by-cons phy_tick (solo_tick_of event) (map solo_tick_of later))
+ticks_of : (events : List Event) → ((past_of events).eeprom_ticks ≡ sum_by eeprom_tick (map solo_tick_of events))
+    × ((past_of events).phy_ticks ≡ sum_by phy_tick (map solo_tick_of events))
+ticks_of [] = (refl, refl)
+ticks_of (event ∷ later) =
+    let one = ticks_told event in
+    let rest = ticks_of later in (
+      omega (arith, one.0, rest.0, sum_by-cons eeprom_tick (solo_tick_of event) (map solo_tick_of later)),
+      omega (arith, one.1, rest.1, sum_by-cons phy_tick (solo_tick_of event) (map solo_tick_of later)),
+    )
 
 lively_eeprom_tick : (lively : Bool) → sum_by eeprom_tick (lively_ticks lively) ≡ (if lively then 1 else 0)
 lively_eeprom_tick true = refl
@@ -114,12 +106,12 @@ pub recounts_lively : (a b : SoloState) (past : Past) → Recounts a b past → 
 recounts_lively a b past recounts = record {
   eeprom =
       ap (λ (p : Past). p.eeprom_ticks) recounts.past_is
-      ∙ eeprom_ticks_of recounts.events
+      ∙ (ticks_of recounts.events).0
       ∙ ap (sum_by eeprom_tick) recounts.played
-      ∙ played_counts is_go Go (lively_ticks a.lively) eeprom_tick a.lively past.accesses a.waiting refl (lively_eeprom_tick a.lively);
+      ∙ played_counts is_solo_go Go (lively_ticks a.lively) eeprom_tick a.lively past.accesses a.waiting refl (lively_eeprom_tick a.lively);
   phy =
       ap (λ (p : Past). p.phy_ticks) recounts.past_is
-      ∙ phy_ticks_of recounts.events
+      ∙ (ticks_of recounts.events).1
       ∙ ap (sum_by phy_tick) recounts.played
-      ∙ played_counts is_go Go (lively_ticks a.lively) phy_tick a.lively past.accesses a.waiting refl (lively_phy_tick a.lively);
+      ∙ played_counts is_solo_go Go (lively_ticks a.lively) phy_tick a.lively past.accesses a.waiting refl (lively_phy_tick a.lively);
 }

@@ -1,7 +1,7 @@
 -- Worlds in which the conditions of the law hold and the engines can run, so the conditions can be met.
 use Rattle.std.specs.Prelude.{◌≢◌, ◌<◌, []}
 use Rattle.descriptors.specs.Ring.{count_of}
-use Rattle.adapter.specs.Slots.{buffered, finished, in_work, offered, written_back}
+use Rattle.adapter.specs.Slots.{buffered, finished, slots_in_work, offered, written_back_slots}
 use Rattle.adapter.specs.HostAreas.{buffer_size}
 use Rattle.adapter.specs.HostFrames.{frames_to_send}
 use Rattle.adapter.specs.Conditions.{FitBuffers, Sound}
@@ -19,14 +19,14 @@ pub record HasRings (world : World) : Type 0 where
   pub transmits : 0 < count_of (transmit_ring world)
   pub offers : offered (receive_ring world) ≢ []
 
-abbrev pub HasWork : World → Type 0
-HasWork world = in_work world ≢ []
+abbrev pub HasPieceInWork : World → Type 0
+HasPieceInWork world = slots_in_work world ≢ []
 
 abbrev pub HasFinished : World → Type 0
 HasFinished world = finished 0 world ≢ []
 
 abbrev pub HasWrittenBack : World → Type 0
-HasWrittenBack world = written_back 0 world ≢ []
+HasWrittenBack world = written_back_slots 0 world ≢ []
 
 -- The transmit ring has offered slots, and frames are to be sent.
 pub record HasFramesInRing (world : World) : Type 0 where

@@ -1,6 +1,6 @@
 // The conditions of the law can be met.
 
-ghost use Rattle.solo_bus.specs.SoundWorlds.{HasFinished, HasFramesInBuffer, HasFramesInRing, HasRings, HasWork};
+ghost use Rattle.solo_bus.specs.SoundWorlds.{HasFinished, HasFramesInBuffer, HasFramesInRing, HasRings, HasPieceInWork};
 ghost use Rattle.solo_bus.specs.SoundWorlds.{HasWrittenBack, SomeSound};
 
 /// The conditions of the law can be met: worlds exist in which they hold, frames fit into their buffers, and both
@@ -9,7 +9,7 @@ ghost use Rattle.solo_bus.specs.SoundWorlds.{HasWrittenBack, SomeSound};
 /// buffered transmit frames.
 pub fn conditions_can_be_met()
     ensures rings { SomeSound HasRings }
-    ensures work { SomeSound HasWork }
+    ensures work { SomeSound HasPieceInWork }
     ensures finished { SomeSound HasFinished }
     ensures written { SomeSound HasWrittenBack }
     ensures in_ring { SomeSound HasFramesInRing }

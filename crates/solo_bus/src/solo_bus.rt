@@ -3,6 +3,8 @@
 ghost use Rattle.std.specs.Prelude.{◌≡◌, ◌≤◌, ◌<◌, ◌+◌, ◌++◌, ◌↔◌, [], drop, length, min, slice_get};
 ghost use Rattle.std.specs.Prelude.{IfOk, IfSome, IsNone, IsTrue, Some};
 ghost use Rattle.registers.specs.Bits.{Meet};
+ghost use Rattle.solo_bus.specs.SoloBuses.{SoloState};
+ghost use Rattle.solo_bus.specs.SoloView.{solo_of, HasQueues};
 
 use adapter::{Adapter, Fate, Outcome, StepKind};
 use bus::Machine;
@@ -36,18 +38,18 @@ pub enum SoloTick {
 #[derive(Drop)]
 pub struct SoloBus {
     machine: Machine,
+    /// Whether a tick of the EEPROM and a tick of the PHY are played before each access.
     lively: bool,
+    /// The ticks that wait to be played, in order.
     waiting: HeapCircularBuffer<SoloTick>,
+    /// The frames that the adapter put and [`take_put`](SoloBus::take_put) didn't remove yet, in order.
     wire: FrameQueue,
+    /// The number of accesses so far, up to the greatest `u64`.
     accesses: u64,
 }
 
 impl Model for SoloBus {
-    ghost use Rattle.solo_bus.specs.SoloBuses.{SoloState};
-
     ghost Value = { SoloState };
-
-    ghost use Rattle.solo_bus.specs.SoloView.{solo_of, HasQueues};
 
     ghost view = { solo_of };
 
@@ -60,8 +62,8 @@ impl SoloBus {
     ghost use Rattle.adapter.specs.Steps.{Answers};
     ghost use Rattle.bus.specs.TickGroups.{behind_group, group_of, without_go};
     ghost use Rattle.bus.specs.LivelyBuses.{most_accesses};
-    ghost use Rattle.solo_bus.specs.SoloBuses.{PlaysSoloTicks, Prepared, has_room, is_go, lively_ticks};
-    ghost use Rattle.solo_bus.specs.SoloBuses.{next_frames, solo_after_arrival, solo_after_step, solo_framed};
+    ghost use Rattle.solo_bus.specs.SoloBuses.{PlaysSoloTicks, Prepared, wire_has_room, is_solo_go, lively_ticks};
+    ghost use Rattle.solo_bus.specs.SoloBuses.{frames_put_next, solo_after_arrival, solo_after_step, solo_framed};
     ghost use Rattle.adapter.specs.State.{IsAdapter};
     ghost use Rattle.adapter.specs.World.{world_after_read, world_after_store, world_after_write};
     ghost use Rattle.dma_memory.specs.HostMemory.{bytes_at, LiesIn};
@@ -98,13 +100,14 @@ impl SoloBus {
     /// Plays a step of the adapter. The wire has room while fewer than 64 frames are on it. If the step puts a frame,
     /// the frame is on the wire, after the others, until [`take_put`](SoloBus::take_put) removes it.
     pub fn step(&mut self, kind: StepKind) -> Outcome<()>
-        ensures answer { Answers kind (has_room self.old) self.old.world.memory self.old.world.adapter
+        ensures answer { Answers kind (wire_has_room self.old) self.old.world.memory self.old.world.adapter
             (solo_framed result self.old) }
         ensures state { self.new ≡ solo_after_step kind (solo_framed result self.old) self.old }
         ensures running { IsAdapter self.old.world.adapter }
     {
         let wire_free = self.wire.len() < WIRE_FRAMES;
         if wire_free && kind == StepKind::TxPut {
+            // The step removes the frame from the adapter, so the frame is copied before.
             self.put_oldest();
         }
         self.machine.step(kind, wire_free)
@@ -115,7 +118,7 @@ impl SoloBus {
     fn put_oldest(&mut self)
         requires { length self.old.wire < WIRE_FRAMES }
         ensures { self.new ≡ record self.old {
-          wire = self.old.wire ++ next_frames self.old.world.adapter.transmitter.buffer;
+          wire = self.old.wire ++ frames_put_next self.old.world.adapter.transmitter.buffer;
         } }
     {
         if let Some(frame) = self.machine.to_put() {
@@ -150,6 +153,7 @@ impl SoloBus {
         ensures { self.new ≡ record self.old { waiting = self.old.waiting ++ ticks.now } }
     {
         for tick in ticks {
+            // There is room, so the buffer removes no older tick.
             let _ = self.waiting.push_back(copy_of(tick));
         }
     }
@@ -164,7 +168,7 @@ impl SoloBus {
 
     /// Plays all ticks that wait, and skips each [`Go`](SoloTick::Go).
     pub fn finish(&mut self)
-        ensures { PlaysSoloTicks (without_go is_go self.old.waiting) [] self.old self.new }
+        ensures { PlaysSoloTicks (without_go is_solo_go self.old.waiting) [] self.old self.new }
     {
         while let Some(tick) = self.next_tick() {
             match tick {
@@ -182,7 +186,7 @@ impl SoloBus {
     /// Plays the ticks up to the next [`Go`](SoloTick::Go), and removes these ticks and this `Go`. If no `Go` waits,
     /// plays and removes all ticks.
     fn play_group(&mut self)
-        ensures { PlaysSoloTicks (group_of is_go self.old.waiting) (behind_group is_go self.old.waiting) self.old
+        ensures { PlaysSoloTicks (group_of is_solo_go self.old.waiting) (behind_group is_solo_go self.old.waiting) self.old
             self.new }
     {
         while let Some(tick) = self.next_tick() {

@@ -5,7 +5,7 @@
 //! Slot 0 is the driver's oldest slot in both rings.
 
 ghost use Rattle.std.specs.Prelude.{◌≡◌, IfOk};
-ghost use Rattle.solo_bus.specs.SoundWorlds.{HasFinished, HasFramesInBuffer, HasFramesInRing, HasRings, HasWork};
+ghost use Rattle.solo_bus.specs.SoundWorlds.{HasFinished, HasFramesInBuffer, HasFramesInRing, HasRings, HasPieceInWork};
 ghost use Rattle.adapter.specs.Conditions.{Sound};
 ghost use Rattle.solo_bus.specs.SoundBuses.{ready, finished_slot, resting, sending, taken, working};
 
@@ -63,7 +63,7 @@ pub fn with_rings(alloc: Global, image: &Image) -> Result<SoloBus, AllocError>
 pub fn with_work(alloc: Global, image: &Image) -> Result<SoloBus, AllocError>
     ensures world { IfOk result (λ bus. bus.world ≡ working MEMORY_BYTES image.now) }
     ensures sound { IfOk result (λ bus. Sound 0 0 bus.world) }
-    ensures work { IfOk result (λ bus. HasWork bus.world) }
+    ensures work { IfOk result (λ bus. HasPieceInWork bus.world) }
 {
     let mut bus = with_rings(alloc, image)?;
     bus.arrive(&BROADCAST);
@@ -123,6 +123,7 @@ fn at_rest(alloc: Global, image: &Image) -> Result<SoloBus, AllocError>
 {
     let adapter = Adapter::new(alloc, image, Link::Never)?;
     let memory = HostMemory::new(alloc, MEMORY_BYTES)?;
+    // `false`: the bus isn't lively, so nothing happens before an access.
     let mut bus = SoloBus::new(alloc, adapter, memory, false)?;
     bus.write_now(RDBAL, RECEIVE_RING);
     bus.write_now(RDLEN, RING_BYTES);

@@ -2,7 +2,7 @@ use Rattle.std.proofs.Common.{◌≡◌, ap, sym, subst, arith}
 use Rattle.adapter.specs.declared.step.StepKind.TheVariants.{TxTake}
 use Rattle.solo_bus.specs.SoundWorlds.{HasFramesInBuffer}
 use Rattle.adapter.specs.Conditions.{Sound}
-use Rattle.solo_bus.specs.SoloBuses.{SoloState, has_room, solo_framed}
+use Rattle.solo_bus.specs.SoloBuses.{SoloState, wire_has_room, solo_framed}
 use Rattle.solo_bus.specs.SoundBuses.{taken}
 use Rattle.adapter.specs.World.{World}
 use Rattle.solo_bus.proofs.SoundBuses.{sent-found, sent-has_frames, stepped-sound}
@@ -21,7 +21,7 @@ pub returns-clause-sound : goal.returns-clause-sound
 returns-clause-sound c =
     let state : SoloState → World = λ solo. solo.world in
     subst (Sound 0 0) (sym (ap state c.step.ensures.state))
-    (stepped-sound TxTake (has_room c.in_ok-bus.bus) (solo_framed c.step.result c.in_ok-bus.bus) c.in_ok-bus.bus.world
+    (stepped-sound TxTake (wire_has_room c.in_ok-bus.bus) (solo_framed c.step.result c.in_ok-bus.bus) c.in_ok-bus.bus.world
     c.step.ensures.running c.step.ensures.answer c.in_ok-bus.ensures.sound)
 
 pub returns-clause-in_buffer : goal.returns-clause-in_buffer

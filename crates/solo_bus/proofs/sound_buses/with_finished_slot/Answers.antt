@@ -2,7 +2,7 @@ use Rattle.std.proofs.Common.{◌≡◌, ap, sym, subst}
 use Rattle.adapter.specs.declared.step.StepKind.TheVariants.{RxDone}
 use Rattle.solo_bus.specs.SoundWorlds.{HasFinished}
 use Rattle.adapter.specs.Conditions.{Sound}
-use Rattle.solo_bus.specs.SoloBuses.{SoloState, has_room, solo_framed}
+use Rattle.solo_bus.specs.SoloBuses.{SoloState, wire_has_room, solo_framed}
 use Rattle.solo_bus.specs.SoundBuses.{finished_slot}
 use Rattle.adapter.specs.World.{World}
 use Rattle.solo_bus.proofs.SoundBuses.{reported-found, reported-has_finished, stepped-sound}
@@ -18,7 +18,7 @@ sound-is : (c : goal.After-step) → Sound 0 0 c.step.new.self.world
 sound-is c =
     let state : SoloState → World = λ solo. solo.world in
     subst (Sound 0 0) (sym (ap state c.step.ensures.state))
-    (stepped-sound RxDone (has_room c.in_ok-bus.bus) (solo_framed c.step.result c.in_ok-bus.bus) c.in_ok-bus.bus.world
+    (stepped-sound RxDone (wire_has_room c.in_ok-bus.bus) (solo_framed c.step.result c.in_ok-bus.bus) c.in_ok-bus.bus.world
     c.step.ensures.running c.step.ensures.answer c.in_ok-bus.ensures.sound)
 
 pub returns-clause-world : goal.returns-clause-world

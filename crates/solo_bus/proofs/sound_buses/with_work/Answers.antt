@@ -1,8 +1,8 @@
 use Rattle.std.proofs.Common.{◌≡◌, ap, sym, subst, arith}
 use Rattle.adapter.specs.declared.step.StepKind.TheVariants.{RxData}
-use Rattle.solo_bus.specs.SoundWorlds.{HasWork}
+use Rattle.solo_bus.specs.SoundWorlds.{HasPieceInWork}
 use Rattle.adapter.specs.Conditions.{Sound}
-use Rattle.solo_bus.specs.SoloBuses.{SoloState, has_room, solo_framed}
+use Rattle.solo_bus.specs.SoloBuses.{SoloState, wire_has_room, solo_framed}
 use Rattle.solo_bus.specs.SoundBuses.{call, working}
 use Rattle.adapter.specs.World.{World}
 use Rattle.solo_bus.proofs.SoundBuses.{arrived-sound, stepped-sound, working-found, working-has_work}
@@ -25,8 +25,8 @@ returns-clause-sound c =
     c.in_ok-bus.ensures.sound in
     let before : Sound 0 0 c.arrive.new.self.world = subst (Sound 0 0) (sym (ap state c.arrive.ensures.state)) arrived in
     subst (Sound 0 0) (sym (ap state c.step.ensures.state))
-    (stepped-sound RxData (has_room c.arrive.new.self)
+    (stepped-sound RxData (wire_has_room c.arrive.new.self)
     (solo_framed c.step.result c.arrive.new.self) c.arrive.new.self.world c.step.ensures.running c.step.ensures.answer before)
 
 pub returns-clause-work : goal.returns-clause-work
-returns-clause-work c = subst HasWork (sym (world-is c)) (working-has_work 4096 c.args.image.now)
+returns-clause-work c = subst HasPieceInWork (sym (world-is c)) (working-has_work 4096 c.args.image.now)
