@@ -1,6 +1,6 @@
 -- Register writes as intervals of a driver's run, if the world right before each write is known.
 use Rattle.std.proofs.Common.{◌≡◌, ◌<◌, ◌+◌, ◌*◌, ◌⊎◌, ⊎_elim, ◌++◌, ◌∷◌, []}
-use Rattle.std.proofs.Common.{Bool, true, false, ℕ, List, length, Option, bit_and, inl}
+use Rattle.std.proofs.Common.{Bool, true, false, ℕ, List, length, bit_and, inl}
 use Rattle.std.proofs.Common.{inr, refl, sym, ap, subst, ◌∙◌, arith}
 use Rattle.std.proofs.lemmas.List.{append-nil, nil_from_length}
 use Rattle.registers.specs.Bits.{HasBit}
@@ -11,10 +11,7 @@ use Rattle.rx_engine.specs.Pieces.{frames_of}
 use Rattle.adapter.specs.HostAreas.{buffer_size}
 use Rattle.adapter.specs.HostFrames.{frames_held}
 use Rattle.adapter.specs.KnownRing.{KnowsRing}
-use Rattle.adapter.specs.Registers.{left_by_write}
-use Rattle.adapter.specs.TableLaws.{register_at-there}
 use Rattle.adapter.specs.World.{World, receive_ring, transmit_ring, world_after_write}
-use Rattle.adapter.specs.declared.register.Register.{Register}
 use Rattle.adapter.specs.declared.register.Register.TheVariants.{Rctl, Tctl}
 use Rattle.bus.specs.RegisterSetting.{with_receive_control, with_transmit_control}
 use Rattle.bus.specs.Keeping.{view_of}
@@ -36,7 +33,9 @@ use Rattle.bus.proofs.ReceiveControl.{receiver_is_enabled}
 use Rattle.bus.proofs.Steps.{goes-happens}
 use Rattle.bus.proofs.Intervals.{goes_join, joined-nothing}
 use Rattle.bring_up.specs.DriverSteps.{MakesAccesses, EnablesCauses, LeavesDriver, LetsFramesIn}
+use Rattle.bring_up.specs.SettingSteps.{WriteActs}
 use Rattle.bring_up.specs.RingRegisters.{receive_control, receive_writes, transmit_writes}
+use Rattle.bring_up.proofs.Steps.{register-written}
 
 -- Steps and deliveries, and then one access, form an interval of the driver's run. The access itself must be such an interval, from the
 -- world right before it.
@@ -57,10 +56,6 @@ ran_by-begins {first_up} {up} bus old new access effect d acts sets ready step =
           (goes_join d d d (bus.world old) acts.middle (bus.world new) [] [] [] [] acts.past nothing first (step first.flows.ready));
       follows = follows-acts bus old new access effect acts sets;
     }
-
-abbrev pub WriteActs : {B : Type 0} (bus : Ghosts B) (old new : B) (offset value : ℕ) → Type 0
-WriteActs bus old new offset value = Acts (view_of bus) old new (Writes offset value)
-    (λ before after. after ≡ world_after_write offset value before)
 
 unfoldable pub accessed-by : {B : Type 0} (bus : Ghosts B) (old new : B) (access : Access) (effect : World → World → Type 0)
     → Acts (view_of bus) old new access effect → SetsBy access effect (bus.world new) → MakesAccesses bus (access ∷ []) old new
@@ -89,8 +84,7 @@ receive_control-written : (promiscuous by_vlan : Bool) (world : World)
     → world_after_write 0x0100 (receive_control promiscuous by_vlan) world
     ≡ with_receive_control (receive_control promiscuous by_vlan) world
 receive_control-written promiscuous by_vlan world =
-    ap (λ (register : Option Register). let after : World = record world
-    { adapter = left_by_write register (receive_control promiscuous by_vlan) world.adapter } in after) (register_at-there Rctl tt)
+    register-written Rctl tt (receive_control promiscuous by_vlan) world
     ∙ ap (λ (control : ℕ). with_receive_control control world) (control-kept promiscuous by_vlan)
 
 not-extended : (promiscuous by_vlan : Bool) → ¬ (HasBit (receive_control promiscuous by_vlan) 25)
@@ -142,11 +136,6 @@ lets-frames-in bus old new promiscuous by_vlan value d is written ready none off
 
 -- A write of TCTL
 
-transmit_control-written : (world : World) → world_after_write 0x0400 0x000400FA world ≡ with_transmit_control 0x000400FA world
-transmit_control-written world =
-    ap (λ (register : Option Register). let after : World = record world
-    { adapter = left_by_write register 0x000400FA world.adapter } in after) (register_at-there Tctl tt)
-
 pub lets-frames-out : {B : Type 0} (bus : Ghosts B) (old new : B) (value : ℕ) (d : DriverState)
     → value ≡ 0x000400FA → WriteActs bus old new 0x0400 value → ReadyWith false d (bus.world old)
     → d.oldest_transmit < d.layout.tx
@@ -156,7 +145,7 @@ lets-frames-out bus old new value d is written ready below knows =
     let acts = subst (WriteActs bus old new 0x0400) is written in
     let middle = acts.middle in
     let still = known_transmit_ring_stays (bus.world old) middle acts.past _ _ _ acts.before.steady knows in
-    let done : bus.world new ≡ with_transmit_control 0x000400FA middle = acts.effect_is ∙ transmit_control-written middle in
+    let done : bus.world new ≡ with_transmit_control 0x000400FA middle = acts.effect_is ∙ register-written Tctl tt 0x000400FA middle in
     ran_by-begins bus old new (Writes 0x0400 0x000400FA) _ d acts (write-sets 0x0400 0x000400FA (bus.world new)) ready
     (λ there. subst (λ (w : World). Goes (driver_in d middle) (driver_in d w) (driver_did [] []) nothing) (sym done)
     (transmitter_is_enabled d 0x000400FA middle there below still refl))

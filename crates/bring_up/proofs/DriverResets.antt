@@ -1,20 +1,17 @@
 -- A driver disables the receiver and resets its adapter, access by access.
-use Rattle.std.proofs.Common.{◌≡◌, ◌≤◌, ◌++◌, ◌∷◌, [], ℕ, Bool, List, Option, length, refl, sym, ap, subst, ◌∙◌}
+use Rattle.std.proofs.Common.{◌≡◌, ◌≤◌, ◌++◌, ◌∷◌, [], ℕ, Bool, List, length, refl, sym, ap, subst, ◌∙◌}
 use Rattle.std.specs.List.{All}
 use Rattle.std.proofs.lemmas.List.Elements.{All-cons}
 use Rattle.registers.specs.Laws.{HasBit-zero}
 use Rattle.dma_memory.specs.Layout.{size_of}
 use Rattle.dma_memory.specs.Owners.{HaveSameNumbers}
-use Rattle.adapter.specs.Registers.{left_by_write}
 use Rattle.adapter.specs.TableLaws.{register_at-there}
 use Rattle.adapter.specs.World.{World, world_after_read, world_after_write}
-use Rattle.adapter.specs.declared.register.Register.{Register}
 use Rattle.adapter.specs.declared.register.Register.TheVariants.{Ctrl, Imc, Rctl}
 use Rattle.bus.specs.Keeping.{view_of}
 use Rattle.bus.specs.Law.{Acts}
 use Rattle.bus.specs.Link.{HasLink, IsNotOfPhy, LeavesPhy}
 use Rattle.bus.specs.Pasts.{nothing}
-use Rattle.bus.specs.RegisterSetting.{with_receive_control}
 use Rattle.bus.specs.Settings.{Write}
 use Rattle.bus.specs.declared.bus.Bus.{Ghosts}
 use Rattle.bus.specs.declared.event.Access.TheVariants.{Reads, Writes}
@@ -27,21 +24,16 @@ use Rattle.bus.specs.Resets.{RestsWith, reset_driver, reset_world}
 use Rattle.bus.proofs.DriverAccesses.{ran_by-acts, read-sets, write-sets}
 use Rattle.bus.proofs.Resets.{receiver_is_disabled, reset_forgets_slots}
 use Rattle.bus.proofs.Steps.{goes-happens}
-use Rattle.bring_up.specs.DriverResets.{ResetsDriver}
-use Rattle.bring_up.specs.DriverSteps.{LeavesDriver}
+use Rattle.bring_up.specs.DriverSteps.{LeavesDriver, ResetsDriver}
 use Rattle.bring_up.specs.RingRegisters.{disable_writes}
 use Rattle.bring_up.specs.SettingSteps.{IsAside, Sets}
 use Rattle.bring_up.specs.WrittenRegisters.{write_at}
-use Rattle.bring_up.proofs.DriverAccesses.{WriteActs, accessed-by, accessed-join}
-use Rattle.bring_up.proofs.Steps.{IntervalsJoin, no-frames, sets-access, sets-read, sets-write}
+use Rattle.bring_up.specs.SettingSteps.{WriteActs}
+use Rattle.bring_up.proofs.DriverAccesses.{accessed-by, accessed-join}
+use Rattle.bring_up.proofs.Steps.{IntervalsJoin, no-frames, register-written, sets-access, sets-read, sets-write}
 use Rattle.bring_up.proofs.WritesAtRest.{mask-aside, reset-written}
 
 -- The receiver is disabled: RCTL is written with 0
-
-disabled-written : (world : World) → world_after_write 0x0100 0 world ≡ with_receive_control 0 world
-disabled-written world =
-    ap (λ (register : Option Register). let after : World = record world
-    { adapter = left_by_write register 0 world.adapter } in after) (register_at-there Rctl tt)
 
 pub disables : {B : Type 0} (bus : Ghosts B) (up : Bool) (old new : B) (d : DriverState) → WriteActs bus old new 0x0100 0
     → ReadyWith up d (bus.world old) → LeavesDriver bus disable_writes up d old new
@@ -49,20 +41,18 @@ disables bus up old new d acts ready =
     ran_by-acts bus old new (Writes 0x0100 0) _ d d [] [] acts (write-sets 0x0100 0 (bus.world new)) ready
     (λ middle there written.
     subst (λ (w : World). GoesTo up (driver_in d middle) (driver_in d w) (driver_did [] []) nothing)
-    (sym (written ∙ disabled-written middle))
+    (sym (written ∙ register-written Rctl tt 0 middle))
     (receiver_is_disabled up d 0 middle there (HasBit-zero 1) (HasBit-zero 25)))
 
 pub disabled-off : {B : Type 0} (bus : Ghosts B) (old new : B) → WriteActs bus old new 0x0100 0
     → (bus.world new).adapter.filter.rctl ≡ 0
-disabled-off bus old new acts = ap (λ (w : World). w.adapter.filter.rctl) (acts.effect_is ∙ disabled-written acts.middle)
+disabled-off bus old new acts = ap (λ (w : World). w.adapter.filter.rctl) (acts.effect_is ∙ register-written Rctl tt 0 acts.middle)
 
 -- The link remains up
 
 pub link_control-keeps : (before after : World) → after ≡ world_after_write 0x0000 0x60 before → HasLink before → HasLink after
 link_control-keeps before after written link =
-    subst HasLink (sym (written
-    ∙ ap (λ (found : Option Register). let w : World = record before { adapter = left_by_write found 0x60 before.adapter } in w)
-    (register_at-there Ctrl tt))) (record { up = link.up; no_command = link.no_command })
+    subst HasLink (sym (written ∙ register-written Ctrl tt 0x60 before)) (record { up = link.up; no_command = link.no_command })
 
 mask-leaves_phy : All LeavesPhy (write_at 0x00D8 0xFFFFFFFF ∷ [])
 mask-leaves_phy =

@@ -102,10 +102,10 @@ answer-is : (adapter : AdapterState) → answer_at 0x0014 adapter ≡ shown adap
 answer-is adapter = ap (λ (found : Option Register). answer_of found adapter) at-eerd
 
 write-changes : (value : ℕ) (adapter : AdapterState)
-    → after_write 0x0014 value adapter ≡ record adapter { eerd = eeprom.after_write value adapter.eerd }
+    → after_write 0x0014 value adapter ≡ record adapter { eerd = eeprom.eerd_after_write value adapter.eerd }
 write-changes value adapter = ap (λ (found : Option Register). left_by_write found value adapter) at-eerd
 
-start-asks : (address : ℕ) (state : ReadState) → address < 256 → eeprom.after_write (address * 256 + 1) state ≡ Pending address
+start-asks : (address : ℕ) (state : ReadState) → address < 256 → eeprom.eerd_after_write (address * 256 + 1) state ≡ Pending address
 start-asks address state small =
     let starts : (address * 256 + 1) % 2 ≡ 1 = omega arith in
     let whole : (address * 256 + 1) / 256 % 256 ≡ address = omega arith in
@@ -144,7 +144,7 @@ module _ {B : Type 0} (bus : Ghosts B) where
     state = inl (
         ap (λ (w : World). w.adapter.eerd) acts.effect_is
         ∙ ap (λ (adapter : AdapterState). adapter.eerd) (write-changes value acts.middle.adapter)
-        ∙ ap (λ (v : ℕ). eeprom.after_write v acts.middle.adapter.eerd) is
+        ∙ ap (λ (v : ℕ). eeprom.eerd_after_write v acts.middle.adapter.eerd) is
         ∙ start-asks address acts.middle.adapter.eerd small);
   }
 

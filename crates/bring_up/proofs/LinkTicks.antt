@@ -10,7 +10,7 @@ use Rattle.eeprom_phy.specs.declared.phy.Link.TheVariants.{After, Never}
 use Rattle.eeprom_phy.specs.declared.phy.Negotiation.{Negotiation}
 use Rattle.eeprom_phy.specs.declared.phy.Negotiation.TheVariants.{NotStarted, Running, Complete}
 use Rattle.eeprom_phy.specs.Mdic.{MdicState}
-use Rattle.eeprom_phy.specs.Phy.{PhyState, after_tick, counted, is_complete, link_is_up}
+use Rattle.eeprom_phy.specs.Phy.{PhyState, after_tick, counted_down, is_complete, link_is_up}
 use Rattle.registers.specs.Bits.{HasBit, Meet}
 use Rattle.adapter.specs.State.{AdapterState}
 use Rattle.adapter.specs.World.{World}
@@ -29,7 +29,7 @@ latch-iterate (suc n) phy = latch-iterate n (after_tick phy)
 
 -- A link that is up remains up
 
-complete-stays : (negotiation : Negotiation) → is_complete negotiation ≡ true → is_complete (counted negotiation) ≡ true
+complete-stays : (negotiation : Negotiation) → is_complete negotiation ≡ true → is_complete (counted_down negotiation) ≡ true
 complete-stays NotStarted up = up
 complete-stays (Running left) up = absurd (false≢true up)
 complete-stays Complete up = refl
@@ -72,7 +72,7 @@ counted-less few many (After d) (Running left) less has = (let so = has.0 in ome
 counted-less few many (After d) Complete less has = tt
 
 counted-tick : (ticks : ℕ) (link : Link) (negotiation : Negotiation) → CountedFor ticks link negotiation
-    → CountedFor (ticks + 1) link (counted negotiation)
+    → CountedFor (ticks + 1) link (counted_down negotiation)
 counted-tick ticks Never negotiation has = tt
 counted-tick ticks (After d) NotStarted has = has
 counted-tick ticks (After d) (Running left) has = by_test (nat_le left 1) refl

@@ -1,24 +1,24 @@
 -- Calls that write only MDIC, with the least number of their accesses.
-use Rattle.std.proofs.Common.{◌≡◌, ◌≤◌, ◌+◌, ◌++◌, ◌∷◌, [], ℕ, List, length, refl, sym, ap, subst, ◌∙◌, arith, length-append}
+use Rattle.std.proofs.Common.{◌≡◌, ◌≤◌, ◌+◌, ◌∷◌, [], ℕ, List, length, refl, sym, ap, subst, ◌∙◌, arith, length-append}
 use Rattle.std.specs.List.{All}
-use Rattle.std.proofs.lemmas.List.Elements.{All-append, All-cons}
+use Rattle.std.proofs.lemmas.List.Elements.{All-cons}
 use Rattle.adapter.specs.Registers.{after_write}
 use Rattle.adapter.specs.State.{AdapterState}
 use Rattle.adapter.specs.Table.{register_at}
 use Rattle.adapter.specs.World.{World, world_after_read, world_after_write}
 use Rattle.bus.specs.Keeping.{view_of}
 use Rattle.bus.specs.Law.{Acts}
-use Rattle.bus.specs.Pasts.{Past, joined, nothing}
+use Rattle.bus.specs.Pasts.{nothing}
 use Rattle.bus.specs.declared.bus.Bus.{Ghosts}
 use Rattle.bus.specs.declared.event.Access.{Access}
 use Rattle.bus.specs.declared.event.Access.TheVariants.{Reads, Writes}
-use Rattle.bus.specs.AdaptersAtRest.{IsAtRest, IsElsewhere, NoFrame}
+use Rattle.bus.specs.AdaptersAtRest.{IsAtRest, IsElsewhere}
 use Rattle.bus.specs.Settings.{Write, settings_of, writes_in}
 use Rattle.bus.proofs.Lists.{all-none}
 use Rattle.bus.proofs.AdaptersAtRest.{accesses_keep_rest, happenings_keep_rest}
-use Rattle.bus.proofs.Settings.{happenings_leave_settings, reads-leave, writes-append}
+use Rattle.bus.proofs.Settings.{happenings_leave_settings, reads-leave}
 use Rattle.bring_up.specs.SettingSteps.{WritesOneRegister}
-use Rattle.bring_up.proofs.Steps.{IntervalsJoin, asks-nothing}
+use Rattle.bring_up.proofs.Steps.{IntervalsJoin, asks-join, asks-nothing}
 
 pub record AsksTimes {B : Type 0} (bus : Ghosts B) (old new : B) (offset times : ℕ) : Type 0 where
   pub asks : WritesOneRegister bus offset old new
@@ -66,39 +66,16 @@ asks-write bus old new offset value elsewhere leaves acts =
     (ap (λ (w : World). settings_of w.adapter) acts.effect_is ∙ leaves acts.middle.adapter)
     (λ rest. subst IsAtRest (sym acts.effect_is) (accesses_keep_rest (Writes offset value) acts.middle elsewhere refl rest))
 
-pub no-frames : (first later : Past) → NoFrame first → NoFrame later → NoFrame (joined first later)
-no-frames first later one two = record {
-  none_put = rw (one.none_put, two.none_put) refl;
-  none_stored = rw (one.none_stored, two.none_stored) refl;
-  none_missed = rw (one.none_missed, two.none_missed) refl;
-}
-
 abbrev pub asks-both : {B : Type 0} (bus : Ghosts B) → IntervalsJoin bus
     → (a b c : B) (offset m n : ℕ) → AsksTimes bus a b offset m → AsksTimes bus b c offset n
     → AsksTimes bus a c offset (m + n)
-asks-both bus joins a b c offset m n first later =
-    let one = first.asks in
-    let two = later.asks in
-    record {
-      asks = record {
-        past = joined one.past two.past;
-        reports = joins a b c one.past two.past one.reports two.reports;
-        only =
-            subst (All (λ write. write.offset ≡ offset)) (sym (writes-append one.past.accesses two.past.accesses))
-            (All-append (λ write. write.offset ≡ offset) (writes_in one.past.accesses) (writes_in two.past.accesses) one.only two.only);
-        settings = two.settings ∙ one.settings;
-        rests = λ rest.
-            let middle = one.rests rest in
-            let end = two.rests middle.0 in
-            (end.0, no-frames one.past two.past middle.1 end.1);
-      };
-      often =
-          let both : length (one.past.accesses ++ two.past.accesses)
-          ≡ length one.past.accesses + length two.past.accesses = length-append one.past.accesses two.past.accesses in
-          let m_often = first.often in
-          let n_often = later.often in
-          omega arith;
-    }
+asks-both bus joins a b c offset m n first later = record {
+  asks = asks-join bus joins a b c offset first.asks later.asks;
+  often =
+      let m_often = first.often in
+      let n_often = later.often in
+      omega (arith, length-append first.asks.past.accesses later.asks.past.accesses);
+}
 
 pub asks-none : {B : Type 0} (bus : Ghosts B) → ((b : B) → bus.happened b b nothing)
     → (b : B) (offset : ℕ) → AsksTimes bus b b offset 0

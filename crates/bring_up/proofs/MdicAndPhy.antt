@@ -5,7 +5,7 @@ use Rattle.std.specs.Fn.{iterate}
 use Rattle.eeprom_phy.specs.declared.mdic.Operation.{Operation}
 use Rattle.eeprom_phy.specs.declared.phy.Negotiation.{Negotiation}
 use Rattle.eeprom_phy.specs.declared.phy.Negotiation.TheVariants.{NotStarted, Running, Complete}
-use Rattle.eeprom_phy.specs.Mdic.{MdicState, after_write, ended, kept, operation_of, phy_ended, with_data, with_ready}
+use Rattle.eeprom_phy.specs.Mdic.{MdicState, mdic_after_write, ended, kept_bits, operation_of, phy_ended, with_data, with_ready}
 use Rattle.eeprom_phy.specs.Phy.{PhyState, after_tick, is_counting, link_is_up}
 use Rattle.bus.specs.Law.{Management, phy_ticked}
 use Rattle.bring_up.specs.Link.{EndsCommand, IsCommand, restart_word, status_word}
@@ -41,16 +41,10 @@ ticks-none n management none =
     ap (λ (l : Management). (iterate phy_ticked n l).phy) (quiet-of management none)
     ∙ ap (λ (l : Management). l.phy) (ticks-quiet n management.mdic.value management.phy)
 
-pub pending-none : (n : ℕ) (management : Management) → management.mdic.pending ≡ None → (iterate phy_ticked n management).mdic.pending
-    ≡ None
-pending-none n management none =
-    ap (λ (l : Management). (iterate phy_ticked n l).mdic.pending) (quiet-of management none)
-    ∙ ap (λ (l : Management). l.mdic.pending) (ticks-quiet n management.mdic.value management.phy)
-
 -- A command that was written
 
 abbrev pub commanded : ℕ → Management → Management
-commanded words management = record { mdic = after_write words; phy = management.phy }
+commanded words management = record { mdic = mdic_after_write words; phy = management.phy }
 
 by_command : (P : ℕ → Type 0) (words : ℕ) → IsCommand words → P restart_word → P status_word → P words
 by_command P words command restart status = elim command [
@@ -65,8 +59,8 @@ works false a b = refl
 -- The next tick ends the command.
 abbrev Ended : Management → ℕ → Type 0
 Ended management words = phy_ticked (commanded words management)
-    ≡ quiet (ended (operation_of words) (kept words) (after_tick management.phy))
-    (phy_ended (operation_of words) (kept words) (after_tick management.phy))
+    ≡ quiet (ended (operation_of words) (kept_bits words) (after_tick management.phy))
+    (phy_ended (operation_of words) (kept_bits words) (after_tick management.phy))
 
 tick-ends : (words : ℕ) → IsCommand words → (management : Management) → Ended management words
 tick-ends words command management =
@@ -74,12 +68,12 @@ tick-ends words command management =
 
 pub ticks-end : (words n : ℕ) → IsCommand words → (management : Management)
     → iterate phy_ticked (suc n) (commanded words management)
-    ≡ quiet (ended (operation_of words) (kept words) (after_tick management.phy))
-    (iterate after_tick n (phy_ended (operation_of words) (kept words) (after_tick management.phy)))
+    ≡ quiet (ended (operation_of words) (kept_bits words) (after_tick management.phy))
+    (iterate after_tick n (phy_ended (operation_of words) (kept_bits words) (after_tick management.phy)))
 ticks-end words n command management =
     ap (iterate phy_ticked n) (tick-ends words command management)
-    ∙ ticks-quiet n (ended (operation_of words) (kept words) (after_tick management.phy))
-    (phy_ended (operation_of words) (kept words) (after_tick management.phy))
+    ∙ ticks-quiet n (ended (operation_of words) (kept_bits words) (after_tick management.phy))
+    (phy_ended (operation_of words) (kept_bits words) (after_tick management.phy))
 
 -- What MDIC shows after a command
 
@@ -93,8 +87,8 @@ error_bit = 0x4000_0000
 abbrev pub shown_status : Bool → Bool → ℕ
 shown_status up latched = with_ready (with_data (cond up (cond latched 0x20 0x24) 0) status_word)
 
-not-ready-yet : (words : ℕ) → IsCommand words → bit_and (kept words) ready_bit ≡ 0
-not-ready-yet words command = by_command (λ w. bit_and (kept w) ready_bit ≡ 0) words command refl refl
+not-ready-yet : (words : ℕ) → IsCommand words → bit_and (kept_bits words) ready_bit ≡ 0
+not-ready-yet words command = by_command (λ w. bit_and (kept_bits w) ready_bit ≡ 0) words command refl refl
 
 status-bit : (bit want : ℕ) → bit_and (shown_status true true) bit ≡ want → bit_and (shown_status true false) bit ≡ want
     → bit_and (shown_status false false) bit ≡ want
@@ -103,14 +97,14 @@ status-bit bit want one two three true true = one
 status-bit bit want one two three true false = two
 status-bit bit want one two three false latched = three
 
-ready-then : (words : ℕ) → IsCommand words → (s : PhyState) → bit_and (ended (operation_of words) (kept words) s) ready_bit ≡ ready_bit
+ready-then : (words : ℕ) → IsCommand words → (s : PhyState) → bit_and (ended (operation_of words) (kept_bits words) s) ready_bit ≡ ready_bit
 ready-then words command s =
-    by_command (λ w. bit_and (ended (operation_of w) (kept w) s) ready_bit ≡ ready_bit) words command refl
+    by_command (λ w. bit_and (ended (operation_of w) (kept_bits w) s) ready_bit ≡ ready_bit) words command refl
     (status-bit ready_bit ready_bit refl refl refl (link_is_up s) s.latched_low)
 
-pub right-then : (words : ℕ) → IsCommand words → (s : PhyState) → bit_and (ended (operation_of words) (kept words) s) error_bit ≡ 0
+pub right-then : (words : ℕ) → IsCommand words → (s : PhyState) → bit_and (ended (operation_of words) (kept_bits words) s) error_bit ≡ 0
 right-then words command s =
-    by_command (λ w. bit_and (ended (operation_of w) (kept w) s) error_bit ≡ 0) words command refl
+    by_command (λ w. bit_and (ended (operation_of w) (kept_bits w) s) error_bit ≡ 0) words command refl
     (status-bit error_bit 0 refl refl refl (link_is_up s) s.latched_low)
 
 -- If MDIC doesn't show R, no tick was played since the command; if MDIC shows R, the command has ended.
@@ -119,7 +113,7 @@ pub not-ended : (words n : ℕ) → IsCommand words → (a b : Management) → b
     → bit_and b.mdic.value ready_bit ≡ 0 → n ≡ 0
 not-ended words zero command a b is unset = refl
 not-ended words (suc n) command a b is unset =
-    let shown : b.mdic.value ≡ ended (operation_of words) (kept words) (after_tick a.phy) = ap (λ (l : Management). l.mdic.value) (is
+    let shown : b.mdic.value ≡ ended (operation_of words) (kept_bits words) (after_tick a.phy) = ap (λ (l : Management). l.mdic.value) (is
     ∙ ticks-end words n command a) in
     let both : ready_bit ≡ 0 = sym (ready-then words command (after_tick a.phy)) ∙ ap (λ (v : ℕ). bit_and v ready_bit) (sym shown)
     ∙ unset in

@@ -11,7 +11,7 @@ use Rattle.std.proofs.lemmas.Option.{slice_get-get_or}
 use Rattle.registers.specs.Bits.{HasBit}
 use Rattle.rx_engine.specs.GroupLists.{Removes}
 use Rattle.rx_engine.specs.NumberTables.{HasNumbers, numbers_of_groups}
-use Rattle.bring_up.specs.Groups.{AreNamedOnce, IsWord, group_number_of}
+use Rattle.bring_up.specs.Groups.{AreNamedOnce, HasNumber, IsWord, group_number_of}
 use Rattle.bring_up.proofs.JoinedLists.{first-there, only-there}
 
 -- The list `big` contains the numbers of `small` and the number `added`, and no others.
@@ -36,7 +36,7 @@ added-between before after x = record {
   here = Contains-append_right before (x ∷ after) x (first-there x after);
 }
 
-pub group-added : (groups : List (List ℕ)) (group : List ℕ)
+group-added : (groups : List (List ℕ)) (group : List ℕ)
     → IsOneMore (group_number_of group) (numbers_of_groups groups) (numbers_of_groups (groups ++ group ∷ []))
 group-added groups group =
     let k = group_number_of group in
@@ -46,7 +46,7 @@ group-added groups group =
     (subst (λ (small : List ℕ). IsOneMore k small (numbers_of_groups groups ++ k ∷ [])) (append-nil (numbers_of_groups groups))
     (added-between (numbers_of_groups groups) [] k))
 
-pub group-removed : (groups fewer : List (List ℕ)) (group : List ℕ) → Removes group groups fewer
+group-removed : (groups fewer : List (List ℕ)) (group : List ℕ) → Removes group groups fewer
     → IsOneMore (group_number_of group) (numbers_of_groups fewer) (numbers_of_groups groups)
 group-removed groups fewer group removes =
     let k = group_number_of group in
@@ -59,40 +59,35 @@ group-removed groups fewer group removes =
     subst (IsOneMore k (numbers_of_groups fewer)) big
     (subst (λ (list : List ℕ). IsOneMore k list (first ++ k ∷ last)) small (added-between first last k))
 
-pub shared-more : (table small big : List ℕ) (k : ℕ) → IsOneMore k small big → Contains small k → HasNumbers table small
-    → HasNumbers table big
-shared-more table small big k more has holds = record {
+pub numbers-alike : {table old new : List ℕ} → ((n : ℕ) → Contains old n ↔ Contains new n) → HasNumbers table old → HasNumbers table new
+numbers-alike {table} {old} {new} same holds = record {
   words = holds.words;
-  bits = λ n below. (
-    (λ bit. more.keeps n ((holds.bits n below).0 bit)),
-    (λ there. (holds.bits n below).1 (elim (more.out n there) [
-      | inl old ↦ old
-      | inr same ↦ subst (Contains small) (sym same) has
-    ])),
-  );
+  bits = λ n below. (λ bit. (same n).0 ((holds.bits n below).0 bit), λ there. (holds.bits n below).1 ((same n).1 there));
 }
 
-pub shared-fewer : (table small big : List ℕ) (k : ℕ) → IsOneMore k small big → Contains small k → HasNumbers table big
-    → HasNumbers table small
-shared-fewer table small big k more has holds = record {
-  words = holds.words;
-  bits = λ n below. (
-    (λ bit. elim (more.out n ((holds.bits n below).0 bit)) [
-      | inl old ↦ old
-      | inr same ↦ subst (Contains small) (sym same) has
-    ]),
-    (λ there. (holds.bits n below).1 (more.keeps n there)),
-  );
-}
-
-pub elsewhere : (small big : List ℕ) (k n : ℕ) → IsOneMore k small big → (n / 32 ≡ k / 32 → ⊥) → Contains small n ↔ Contains big n
-elsewhere small big k n more apart = (
+-- Where the number is in `small` already, and everywhere else, both lists contain the same numbers.
+one-more-alike : {small big : List ℕ} {k : ℕ} (n : ℕ) → IsOneMore k small big → (n ≡ k → Contains small k)
+    → Contains small n ↔ Contains big n
+one-more-alike {small} n more has = (
   (λ there. more.keeps n there),
   (λ there. elim (more.out n there) [
     | inl old ↦ old
-    | inr same ↦ absurd (apart (ap (λ (m : ℕ). m / 32) same))
+    | inr same ↦ subst (Contains small) (sym same) (has same)
   ]),
 )
+
+-- The joined groups change from `groups` to `groups'` by one group, while the groups `kept` remain joined.
+pub record ChangesOne (kept : List (List ℕ)) (group : List ℕ) (groups groups' : List (List ℕ)) : Type 0 where
+  pub alike : (n : ℕ) → (n ≡ group_number_of group → HasNumber kept group)
+      → Contains (numbers_of_groups groups) n ↔ Contains (numbers_of_groups groups') n
+
+pub joins-one : (groups : List (List ℕ)) (group : List ℕ) → ChangesOne groups group groups (groups ++ group ∷ [])
+joins-one groups group = record { alike = λ n has. one-more-alike n (group-added groups group) has }
+
+pub leaves-one : {groups fewer : List (List ℕ)} {group : List ℕ} → Removes group groups fewer → ChangesOne fewer group groups fewer
+leaves-one {groups} {fewer} {group} removes = record {
+  alike = λ n has. let both = one-more-alike n (group-removed groups fewer group removes) has in (both.1, both.0);
+}
 
 pub word-of-table : (table numbers : List ℕ) (w : ℕ) → w < 128 → HasNumbers table numbers → IsWord w numbers (slice_index table w)
 word-of-table table numbers w within holds = λ place below.
@@ -127,9 +122,6 @@ word-written table old new w value within holds word same = record {
 
 pub word_below : (group : List ℕ) → group_number_of group / 32 < 128
 word_below group = let fits : group_number_of group < 4096 = mod_below _ 4096 (omega arith) in omega (arith, fits)
-
-pub turned : {P Q : Type 0} → P ↔ Q → Q ↔ P
-turned both = (both.1, both.0)
 
 -- The group at this place of the list has the same number as `group`.
 pub record HasNumberAt (groups : List (List ℕ)) (group : List ℕ) : Type 0 where
@@ -178,10 +170,5 @@ numbers-there xs ys all n has =
 
 pub same-numbers : (table : List ℕ) (named groups : List (List ℕ)) → AreNamedOnce named groups
     → HasNumbers table (numbers_of_groups named) → HasNumbers table (numbers_of_groups groups)
-same-numbers table named groups is holds = record {
-  words = holds.words;
-  bits = λ n below. (
-    (λ bit. numbers-there named groups (λ x. (is.same x).1) n ((holds.bits n below).0 bit)),
-    (λ there. (holds.bits n below).1 (numbers-there groups named (λ x. (is.same x).0) n there)),
-  );
-}
+same-numbers table named groups is =
+    numbers-alike (λ n. (numbers-there named groups (λ x. (is.same x).1) n, numbers-there groups named (λ x. (is.same x).0) n))

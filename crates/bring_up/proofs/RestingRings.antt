@@ -11,7 +11,7 @@ use Rattle.registers.specs.Laws.{HasBit-zero}
 use Rattle.dma_memory.specs.Areas.{AreApart, AreSeparate, Area}
 use Rattle.dma_memory.specs.HostMemory.{LiesIn}
 use Rattle.dma_memory.specs.Layout.{IsRingSize, size_of}
-use Rattle.dma_memory.specs.LayoutLaws.{begins}
+use Rattle.dma_memory.specs.LayoutLaws.{layout_begins}
 use Rattle.dma_memory.specs.Owners.{HasOneOwner}
 use Rattle.descriptors.specs.Ring.{count_of}
 use Rattle.rx_engine.specs.Held.{held}
@@ -22,13 +22,14 @@ use Rattle.adapter.specs.KnownRing.{KnowsRing}
 use Rattle.adapter.specs.Rings.{new_ring, ring_distance, ring_of, ring_written}
 use Rattle.adapter.specs.Slots.{finished, is_done, outstanding}
 use Rattle.adapter.specs.World.{World, receive_ring, transmit_ring}
+use Rattle.adapter.specs.declared.register.Register.TheVariants.{Receive}
 use Rattle.adapter.specs.declared.register.RingRegister.{RingRegister}
 use Rattle.adapter.specs.declared.register.RingRegister.TheVariants.{BaseHigh, BaseLow, Head, Length, Tail}
 use Rattle.adapter.specs.declared.ring.RingRegisters.{RingRegisters}
 use Rattle.bus.specs.AdaptersAtRest.{IsAtRest}
 use Rattle.bus.specs.Settings.{Write}
 use Rattle.bus.specs.declared.bus.Bus.{Ghosts}
-use Rattle.bus.proofs.IdleRings.{outstanding-none}
+use Rattle.bus.proofs.IdleRings.{none-to_send, outstanding-none}
 use Rattle.bus.proofs.Lists.{all-none, pairs-none}
 use Rattle.bus.proofs.AdaptersAtRest.{happenings_keep_rest, rest_is_idle}
 use Rattle.bus.proofs.Resets.{rest_keeps_memory}
@@ -36,13 +37,12 @@ use Rattle.bus.specs.Beginnings.{IsAtBeginning}
 use Rattle.bus.specs.DriverState.{owners}
 use Rattle.bus.specs.Resets.{reset_driver}
 use Rattle.bus.proofs.Beginnings.{drivers_begin}
-use Rattle.bus.proofs.Readiness.{none-to_send}
 use Rattle.bring_up.specs.RestingRings.{DriversBeginAgain, DriversBeginAtRest, HasNewRings, HasReceiveRing, SetsAtRest}
-use Rattle.bring_up.specs.RingRegisters.{ring_setup_writes}
-use Rattle.bring_up.proofs.DriverAccesses.{WriteActs}
-use Rattle.bring_up.proofs.RingWrites.{IsRingPlace, high-written, length-written, low-written, receive-written, ring-known, ring_at}
+use Rattle.bring_up.specs.RingRegisters.{WritesRing, ring_setup_writes}
+use Rattle.bring_up.specs.SettingSteps.{WriteActs}
+use Rattle.bring_up.proofs.RingWrites.{IsRingPlace, high-written, length-written, low-written, ring-known, ring_at}
 use Rattle.bring_up.proofs.RingWrites.{still-ring, with_receive_ring}
-use Rattle.bring_up.proofs.Steps.{IntervalsJoin, accesses-join, no-frames, sets-access, sets-join, sets-write}
+use Rattle.bring_up.proofs.Steps.{IntervalsJoin, accesses-join, no-frames, register-written, sets-access, sets-join, sets-write}
 
 -- The adapter is at rest, with these registers of the receive ring, and new registers of the transmit ring. Memory has room for `rx`
 -- receive descriptors.
@@ -66,14 +66,13 @@ alone memory rx ring room first short =
     }
 
 -- A write of one register of the receive ring changes its registers from `before` to `after`, and the adapter remains at rest.
-rests-write : {B : Type 0} (bus : Ghosts B) (old new : B) (part : RingRegister) (value word rx : ℕ) (before after : RingRegisters)
-    → value ≡ word → ring_written part word before ≡ after → after.head ≡ after.tail → (ring_of after).base ≡ 0
+rests-write : {B : Type 0} (bus : Ghosts B) (old new : B) (part : RingRegister) (word rx : ℕ) (before after : RingRegisters)
+    → ring_written part word before ≡ after → after.head ≡ after.tail → (ring_of after).base ≡ 0
     → count_of (ring_of after) ≤ rx
-    → WriteActs bus old new (0x2800 + ring_distance part) value
+    → WriteActs bus old new (0x2800 + ring_distance part) word
     → SetsAtRest bus (record { offset = 0x2800 + ring_distance part; value = word } ∷ []) (HasRing before rx) (HasRing after rx) old new
 unfolding sets-access sets-write
-rests-write bus old new part value word rx before after is written idle first short acted =
-    let acts = subst (WriteActs bus old new (0x2800 + ring_distance part)) is acted in
+rests-write bus old new part word rx before after written idle first short acts =
     let middle = acts.middle in
     let steady = acts.before.steady in
     record {
@@ -89,7 +88,7 @@ rests-write bus old new part value word rx before after is written idle first sh
           state.rest.rings.transmit rest.rings.transmit ∙ state.transmits in
           let room : 16 * rx ≤ length middle.memory = omega (arith, state.room, steady.size) in
           let done : bus.world new ≡ with_receive_ring after middle =
-          acts.effect_is ∙ receive-written part word middle
+          acts.effect_is ∙ register-written (Receive part) tt word middle
           ∙ ap (λ (ring : RingRegisters). with_receive_ring (ring_written part word ring) middle) receives
           ∙ ap (λ (ring : RingRegisters). with_receive_ring ring middle) written in
           let separate : AreSeparate middle.memory (ring_area (ring_of after) ∷ ring_area (transmit_ring middle) ∷ []) =
@@ -127,14 +126,10 @@ rests-join bus joins a b c first later P Q R one two = record {
 }
 
 -- The five writes set up the receive ring of an adapter at rest.
-pub rests-ring : {B : Type 0} (bus : Ghosts B) → IntervalsJoin bus
-    → (b0 b1 b2 b3 b4 b5 : B) (low high base bytes rx : ℕ) → low ≡ base % 2 ^ 32 → high ≡ base / 2 ^ 32 → base ≡ 0 → bytes ≡ 16 * rx
-    → IsRingSize rx
-    → WriteActs bus b0 b1 0x2800 low → WriteActs bus b1 b2 0x2804 high
-    → WriteActs bus b2 b3 0x2808 bytes
-    → WriteActs bus b3 b4 0x2810 0 → WriteActs bus b4 b5 0x2818 0
-    → SetsAtRest bus (ring_setup_writes 0x2800 base bytes) (HasNewRings rx) (HasReceiveRing rx) b0 b5
-rests-ring bus joins b0 b1 b2 b3 b4 b5 low high base bytes rx low_is high_is first long size one two three four five =
+pub rests-ring : {B : Type 0} {bus : Ghosts B} {base bytes rx : ℕ} {old new : B} → IntervalsJoin bus → base ≡ 0 → bytes ≡ 16 * rx
+    → IsRingSize rx → WritesRing bus 0x2800 base bytes old new
+    → SetsAtRest bus (ring_setup_writes 0x2800 base bytes) (HasNewRings rx) (HasReceiveRing rx) old new
+rests-ring {B} {bus} {base} {bytes} {rx} {old} {new} joins first long size w =
     let place : IsRingPlace base rx = record { sixteens = omega (arith, first); below = omega (arith, first); size = size } in
     let most = size.most in
     let start : (n : ℕ) → (ring_of (ring_at base n)).base ≡ 0 = λ n. omega (arith, first) in
@@ -142,18 +137,15 @@ rests-ring bus joins b0 b1 b2 b3 b4 b5 low high base bytes rx low_is high_is fir
     let P = λ (ring : RingRegisters). HasRing ring rx in
     let r0 = ring_at base 0 in
     let r1 = ring_at base bytes in
-    let all = rests-join bus joins b0 b1 b5 _ _ (P new_ring) (P r0) (P r1)
-    (rests-write bus b0 b1 BaseLow low (base % 2 ^ 32) rx new_ring r0 low_is (low-written base rx place) refl (start 0)
-    (omega arith) one)
-    (rests-join bus joins b1 b2 b5 _ _ (P r0) (P r0) (P r1)
-    (rests-write bus b1 b2 BaseHigh high (base / 2 ^ 32) rx r0 r0 high_is (high-written base rx place) refl (start 0)
-    (omega arith) two)
-    (rests-join bus joins b2 b3 b5 _ _ (P r0) (P r1) (P r1)
-    (rests-write bus b2 b3 Length bytes bytes rx r0 r1 refl (length-written base rx bytes place long) refl
-    (start bytes) short three)
-    (rests-join bus joins b3 b4 b5 _ _ (P r1) (P r1) (P r1)
-    (rests-write bus b3 b4 Head 0 0 rx r1 r1 refl refl refl (start bytes) short four)
-    (rests-write bus b4 b5 Tail 0 0 rx r1 r1 refl refl refl (start bytes) short five)))) in
+    let all = rests-join bus joins old w.b1 new _ _ (P new_ring) (P r0) (P r1)
+    (rests-write bus old w.b1 BaseLow (base % 2 ^ 32) rx new_ring r0 (low-written base rx place) refl (start 0) (omega arith) w.base_low)
+    (rests-join bus joins w.b1 w.b2 new _ _ (P r0) (P r0) (P r1)
+    (rests-write bus w.b1 w.b2 BaseHigh (base / 2 ^ 32) rx r0 r0 (high-written base rx place) refl (start 0) (omega arith) w.base_high)
+    (rests-join bus joins w.b2 w.b3 new _ _ (P r0) (P r1) (P r1)
+    (rests-write bus w.b2 w.b3 Length bytes rx r0 r1 (length-written base rx bytes place long) refl (start bytes) short w.length)
+    (rests-join bus joins w.b3 w.b4 new _ _ (P r1) (P r1) (P r1)
+    (rests-write bus w.b3 w.b4 Head 0 rx r1 r1 refl refl (start bytes) short w.head)
+    (rests-write bus w.b4 new Tail 0 rx r1 r1 refl refl (start bytes) short w.tail)))) in
     record {
       sets = all.sets;
       only = all.only;
@@ -186,7 +178,7 @@ pub drivers_begin_at_rest : DriversBeginAtRest
 drivers_begin_at_rest counts setup groups pool world allowed owner lies has =
     let rest = has.rest in
     let idle = rest_is_idle world rest in
-    let behind = begins counts in
+    let behind = layout_begins counts in
     let small : size_of counts < 2 ^ 64 = omega (arith, behind.first, allowed.rx.most, allowed.tx.most, allowed.buffers.most) in
     let buffer = ap (λ (transmitter : Transmitter). transmitter.buffer) rest.transmitter in
     let transmits = has.transmits in

@@ -1,38 +1,16 @@
 -- A ring's registers after the five writes that set up the ring.
-use Rattle.std.proofs.Common.{◌≡◌, ◌<◌, ◌+◌, ◌*◌, ◌/◌, ◌%◌, ◌^◌, ℕ, Option, bit_and, refl, sym, ap, ◌∙◌, arith}
+use Rattle.std.proofs.Common.{◌≡◌, ◌<◌, ◌*◌, ◌/◌, ◌%◌, ◌^◌, ℕ, bit_and, refl, sym, ap, ◌∙◌, arith}
 use Rattle.std.proofs.lemmas.Nat.Bits.{and_high_mask}
 use Rattle.dma_memory.specs.Layout.{IsRingSize}
 use Rattle.adapter.specs.KnownRing.{KnowsRing}
-use Rattle.adapter.specs.Registers.{left_by_write}
-use Rattle.adapter.specs.Rings.{new_ring, ring_distance, ring_of, ring_written}
-use Rattle.adapter.specs.TableLaws.{register_at-there}
-use Rattle.adapter.specs.World.{World, world_after_write}
-use Rattle.adapter.specs.declared.register.Register.{Register}
-use Rattle.adapter.specs.declared.register.Register.TheVariants.{Receive, Transmit}
-use Rattle.adapter.specs.declared.register.RingRegister.{RingRegister}
+use Rattle.adapter.specs.Rings.{new_ring, ring_of, ring_written}
+use Rattle.adapter.specs.World.{World}
 use Rattle.adapter.specs.declared.register.RingRegister.TheVariants.{BaseHigh, BaseLow, Length}
 use Rattle.adapter.specs.declared.ring.RingRegisters.{RingRegisters}
-use Rattle.bus.specs.RegisterSetting.{with_transmit_ring}
-
--- The registers after one of them was written
-
-pub transmit-written : (part : RingRegister) (value : ℕ) (world : World)
-    → world_after_write (0x3800 + ring_distance part) value world
-    ≡ with_transmit_ring (ring_written part value world.adapter.transmit_ring) world
-transmit-written part value world =
-    ap (λ (register : Option Register). let after : World = record world { adapter = left_by_write register value world.adapter } in after)
-    (register_at-there (Transmit part) tt)
 
 -- the world with these registers of the receive ring
 abbrev pub with_receive_ring : RingRegisters → World → World
 with_receive_ring ring world = record world { adapter = record world.adapter { receive_ring = ring } }
-
-pub receive-written : (part : RingRegister) (value : ℕ) (world : World)
-    → world_after_write (0x2800 + ring_distance part) value world
-    ≡ with_receive_ring (ring_written part value world.adapter.receive_ring) world
-receive-written part value world =
-    ap (λ (register : Option Register). let after : World = record world { adapter = left_by_write register value world.adapter } in after)
-    (register_at-there (Receive part) tt)
 
 pub still-ring : (a b : RingRegisters) → b ≡ record a { head = b.head } → a.head ≡ a.tail → b.head ≡ b.tail → b ≡ a
 still-ring a b same before behind =

@@ -1,9 +1,13 @@
 -- Calls of initialization over a bus: the accesses that they consist of, and how consecutive calls join.
-use Rattle.std.proofs.Common.{◌≡◌, ◌++◌, ◌∷◌, [], ℕ, List, refl, sym, ap, subst, ◌∙◌}
+use Rattle.std.proofs.Common.{◌≡◌, ◌++◌, ◌∷◌, [], ℕ, List, Option, refl, sym, ap, subst, ◌∙◌}
 use Rattle.std.specs.List.{All}
 use Rattle.std.proofs.lemmas.List.{map-append}
 use Rattle.std.proofs.lemmas.List.Elements.{All-append}
+use Rattle.adapter.specs.Registers.{left_by_write, write_of}
+use Rattle.adapter.specs.Table.{IsInTable, row_of}
+use Rattle.adapter.specs.TableLaws.{register_at-there}
 use Rattle.adapter.specs.World.{World, world_after_read, world_after_write}
+use Rattle.adapter.specs.declared.register.Register.{Register}
 use Rattle.bus.specs.Keeping.{view_of}
 use Rattle.bus.specs.Law.{Acts}
 use Rattle.bus.specs.Link.{HasLink, LeavesPhy}
@@ -12,14 +16,15 @@ use Rattle.bus.specs.declared.bus.Bus.{Ghosts}
 use Rattle.bus.specs.declared.event.Access.{Access}
 use Rattle.bus.specs.declared.event.Access.TheVariants.{Reads, Writes}
 use Rattle.bus.specs.AdaptersAtRest.{IsAtRest, NoFrame}
-use Rattle.bus.specs.Settings.{Settings, Write, settings_after_all, settings_of, writes_in}
+use Rattle.bus.specs.Settings.{Write, settings_after_all, settings_of, writes_in}
 use Rattle.bus.proofs.Links.{accesses_keep_link, happenings_keep_link}
 use Rattle.bus.proofs.Lists.{all-head, all-left, all-none, all-right}
 use Rattle.bus.proofs.AdaptersAtRest.{accesses_keep_rest, happenings_keep_rest}
 use Rattle.bus.proofs.Settings.{happenings_leave_settings, reads-leave, settings-append, writes-append, writes-set}
 use Rattle.bus.proofs.Resets.{rest_keeps_memory}
 use Rattle.bring_up.specs.DriverSteps.{accesses_of}
-use Rattle.bring_up.specs.SettingSteps.{WritesOneRegister, IsAside, Sets, SetsOnly}
+use Rattle.bring_up.specs.RingRegisters.{WritesRing, ring_setup_writes}
+use Rattle.bring_up.specs.SettingSteps.{WriteActs, WritesOneRegister, IsAside, Sets, SetsOnly}
 
 -- What happens in two consecutive intervals happens in both together: a law of the bus.
 abbrev pub IntervalsJoin : {B : Type 0} → Ghosts B → Type 0
@@ -106,6 +111,13 @@ sets-write bus old new offset value acts =
     (λ leaves link. subst HasLink (sym acts.effect_is) (accesses_keep_link (Writes offset value) acts.middle leaves link))
     (ap (λ (w : World). w.memory) acts.effect_is)
 
+-- A write of a register of the table
+pub register-written : (register : Register) → IsInTable register → (value : ℕ) (world : World)
+    → world_after_write (row_of register).offset value world ≡ record world { adapter = write_of register value world.adapter }
+register-written register within value world =
+    ap (λ (found : Option Register). let after : World = record world { adapter = left_by_write found value world.adapter } in after)
+    (register_at-there register within)
+
 -- Calls that make no other access
 
 pub accesses-join : (first later : Past) (xs ys : List Write) → first.accesses ≡ accesses_of xs → later.accesses ≡ accesses_of ys
@@ -127,36 +139,22 @@ only-join bus joins a b c first later one two = record {
   only = accesses-join one.sets.past two.sets.past first later one.only two.only;
 }
 
-pub only-write : {B : Type 0} (bus : Ghosts B) (old new : B) (offset value : ℕ)
-    → Acts (view_of bus) old new (Writes offset value) (λ before after. after ≡ world_after_write offset value before)
-    → SetsOnly bus (record { offset = offset; value = value } ∷ []) old new
+pub only-write : {B : Type 0} {bus : Ghosts B} {old new : B} {offset place value word : ℕ} → offset ≡ place → value ≡ word
+    → WriteActs bus old new offset value → SetsOnly bus (record { offset = place; value = word } ∷ []) old new
 unfolding sets-access sets-write
-only-write bus old new offset value acts = record { sets = sets-write bus old new offset value acts; only = acts.only }
+only-write {B} {bus} {old} {new} {offset} {place} {value} {word} at is acts =
+    subst (λ (o : ℕ). SetsOnly bus (record { offset = o; value = word } ∷ []) old new) at
+    (subst (λ (v : ℕ). SetsOnly bus (record { offset = offset; value = v } ∷ []) old new) is
+    (record { sets = sets-write bus old new offset value acts; only = acts.only }))
 
-pub only-word : {B : Type 0} (bus : Ghosts B) (old new : B) (offset value word : ℕ) → value ≡ word
-    → Acts (view_of bus) old new (Writes offset value) (λ before after. after ≡ world_after_write offset value before)
-    → SetsOnly bus (record { offset = offset; value = word } ∷ []) old new
-only-word bus old new offset value word is acts =
-    subst (λ (v : ℕ). SetsOnly bus (record { offset = offset; value = v } ∷ []) old new) is
-    (only-write bus old new offset value acts)
-
-pub only-at : {B : Type 0} (bus : Ghosts B) (old new : B) (offset place value : ℕ) → offset ≡ place
-    → Acts (view_of bus) old new (Writes offset value) (λ before after. after ≡ world_after_write offset value before)
-    → SetsOnly bus (record { offset = place; value = value } ∷ []) old new
-only-at bus old new offset place value is acts =
-    subst (λ (at : ℕ). SetsOnly bus (record { offset = at; value = value } ∷ []) old new) is
-    (only-write bus old new offset value acts)
-
--- Five consecutive writes join.
-pub only-five : {B : Type 0} (bus : Ghosts B) → IntervalsJoin bus
-    → (b0 b1 b2 b3 b4 b5 : B) (w1 w2 w3 w4 w5 : Write) → SetsOnly bus (w1 ∷ []) b0 b1 → SetsOnly bus (w2 ∷ []) b1 b2
-    → SetsOnly bus (w3 ∷ []) b2 b3
-    → SetsOnly bus (w4 ∷ []) b3 b4 → SetsOnly bus (w5 ∷ []) b4 b5 → SetsOnly bus (w1 ∷ w2 ∷ w3 ∷ w4 ∷ w5 ∷ []) b0 b5
-only-five bus joins b0 b1 b2 b3 b4 b5 w1 w2 w3 w4 w5 one two three four five =
-    only-join bus joins b0 b1 b5 (w1 ∷ []) _ one
-    (only-join bus joins b1 b2 b5 (w2 ∷ []) _ two
-    (only-join bus joins b2 b3 b5 (w3 ∷ []) _ three
-    (only-join bus joins b3 b4 b5 (w4 ∷ []) (w5 ∷ []) four five)))
+-- The five writes that set up a ring join.
+pub only-ring : {B : Type 0} {bus : Ghosts B} {offset base bytes : ℕ} {old new : B} → IntervalsJoin bus
+    → WritesRing bus offset base bytes old new → SetsOnly bus (ring_setup_writes offset base bytes) old new
+only-ring {B} {bus} {offset} {base} {bytes} {old} {new} joins w =
+    only-join bus joins old w.b1 new (_ ∷ []) _ (only-write refl refl w.base_low)
+    (only-join bus joins w.b1 w.b2 new (_ ∷ []) _ (only-write refl refl w.base_high)
+    (only-join bus joins w.b2 w.b3 new (_ ∷ []) _ (only-write refl refl w.length)
+    (only-join bus joins w.b3 w.b4 new (_ ∷ []) (_ ∷ []) (only-write refl refl w.head) (only-write refl refl w.tail))))
 
 -- Calls that write only one register, which isn't part of the settings
 
@@ -170,19 +168,7 @@ asks-nothing bus stays b offset = record {
   rests = λ rest. (rest, record { none_put = refl; none_stored = refl; none_missed = refl });
 }
 
-pub asks-of : {B : Type 0} (bus : Ghosts B) (old new : B) (offset : ℕ) (writes : List Write)
-    → Sets bus writes old new
-    → All (λ write. write.offset ≡ offset) writes → All IsAside writes
-    → ((settings : Settings) → settings_after_all writes settings ≡ settings) → WritesOneRegister bus offset old new
-asks-of bus old new offset writes sets only aside same = record {
-  past = sets.past;
-  reports = sets.reports;
-  only = subst (All (λ write. write.offset ≡ offset)) (sym sets.writes_are) only;
-  settings = sets.settings ∙ same (settings_of (bus.world old).adapter);
-  rests = sets.rests aside;
-}
-
-pub asks-join : {B : Type 0} (bus : Ghosts B) → IntervalsJoin bus
+abbrev pub asks-join : {B : Type 0} (bus : Ghosts B) → IntervalsJoin bus
     → (a b c : B) (offset : ℕ) → WritesOneRegister bus offset a b → WritesOneRegister bus offset b c → WritesOneRegister bus offset a c
 asks-join bus joins a b c offset one two = record {
   past = joined one.past two.past;

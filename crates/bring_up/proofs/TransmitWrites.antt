@@ -1,11 +1,12 @@
 -- The transmit ring is set up while the transmit side is off.
 use Rattle.std.proofs.Common.{false, ◌≡◌, ◌+◌, ◌*◌, ◌/◌, ◌%◌, ◌^◌, ◌++◌, ◌∷◌, [], ℕ, List, refl, sym, ap, subst, ◌∙◌, arith}
 use Rattle.dma_memory.specs.Areas.{IsInside}
-use Rattle.dma_memory.specs.Layout.{IsRingSize, TransmitRing, area_of}
+use Rattle.dma_memory.specs.Layout.{TransmitRing, area_of}
 use Rattle.adapter.specs.HostAreas.{ring_area}
 use Rattle.adapter.specs.KnownRing.{KnowsRing}
 use Rattle.adapter.specs.Rings.{new_ring, ring_distance, ring_of, ring_written}
 use Rattle.adapter.specs.World.{World}
+use Rattle.adapter.specs.declared.register.Register.TheVariants.{Transmit}
 use Rattle.adapter.specs.declared.register.RingRegister.{RingRegister}
 use Rattle.adapter.specs.declared.register.RingRegister.TheVariants.{BaseHigh, BaseLow, Head, Length, Tail}
 use Rattle.adapter.specs.declared.ring.RingRegisters.{RingRegisters}
@@ -20,12 +21,12 @@ use Rattle.bus.specs.ReadyDrivers.{ReadyWith}
 use Rattle.bus.proofs.DriverAccesses.{ran_by-join, write-sets}
 use Rattle.bus.proofs.Steps.{goes-happens}
 use Rattle.bus.proofs.TransmitRing.{transmit_ring_is_written}
-use Rattle.bring_up.specs.DriverSteps.{SetsTransmitRing}
-use Rattle.bring_up.specs.RingRegisters.{ring_setup_writes}
-use Rattle.bring_up.proofs.DriverAccesses.{WriteActs, ran_by-begins}
+use Rattle.bring_up.specs.DriverSteps.{CanSetTransmitRing, SetsTransmitRing}
+use Rattle.bring_up.specs.RingRegisters.{WritesRing, ring_setup_writes}
+use Rattle.bring_up.specs.SettingSteps.{WriteActs}
+use Rattle.bring_up.proofs.DriverAccesses.{ran_by-begins}
 use Rattle.bring_up.proofs.RingWrites.{IsRingPlace, high-written, length-written, low-written, ring-known, ring_at, still-ring}
-use Rattle.bring_up.proofs.RingWrites.{transmit-written}
-use Rattle.bring_up.proofs.Steps.{IntervalsJoin}
+use Rattle.bring_up.proofs.Steps.{IntervalsJoin, register-written}
 
 -- `Ran` holds for the accesses, with the transmit side off, and the transmit ring has the registers `after` at the end.
 record LeavesRing {B : Type 0} (bus : Ghosts B) (accesses : List Access) (old new : B) (d : DriverState)
@@ -40,21 +41,19 @@ record IsIdleRing (d : DriverState) (ring : RingRegisters) : Type 0 where
   inside : IsInside (ring_area (ring_of ring)) (area_of d.layout TransmitRing)
 
 -- A write of one register of the transmit ring changes its registers from `before` to `after`, and the driver remains ready.
-transmit-write : {B : Type 0} (bus : Ghosts B) (old new : B) (part : RingRegister) (value word : ℕ) (d : DriverState)
-    (before after : RingRegisters)
-    → value ≡ word → ring_written part word before ≡ after → IsIdleRing d after
-    → WriteActs bus old new (0x3800 + ring_distance part) value
+transmit-write : {B : Type 0} (bus : Ghosts B) (old new : B) (part : RingRegister) (word : ℕ) (d : DriverState)
+    (before after : RingRegisters) → ring_written part word before ≡ after → IsIdleRing d after
+    → WriteActs bus old new (0x3800 + ring_distance part) word
     → ReadyWith false d (bus.world old) → (bus.world old).adapter.transmit_ring ≡ before
     → LeavesRing bus (Writes (0x3800 + ring_distance part) word ∷ []) old new d after
-transmit-write bus old new part value word d before after is written fits acted ready known =
-    let acts = subst (WriteActs bus old new (0x3800 + ring_distance part)) is acted in
+transmit-write bus old new part word d before after written fits acts ready known =
     let middle = acts.middle in
     let there = (goes-happens d (bus.world old) middle acts.past ready acts.before).flows.ready in
     let same : middle.adapter.transmit_ring ≡ before =
     still-ring (bus.world old).adapter.transmit_ring middle.adapter.transmit_ring acts.before.steady.transmit_ring.others
     ready.transmit.idle there.transmit.idle ∙ known in
     let done : bus.world new ≡ with_transmit_ring after middle =
-    acts.effect_is ∙ transmit-written part word middle
+    acts.effect_is ∙ register-written (Transmit part) tt word middle
     ∙ ap (λ (ring : RingRegisters). with_transmit_ring (ring_written part word ring) middle) same
     ∙ ap (λ (ring : RingRegisters). with_transmit_ring ring middle) written in
     let goes : GoesTo false (driver_in d middle) (driver_in d (with_transmit_ring after middle)) (driver_did [] []) nothing =
@@ -80,37 +79,30 @@ transmit-then bus joins xs ys a b c d between after one rest =
     record { ran = ran_by-join bus joins xs ys a b c d d d [] [] [] [] one.ran two.ran; ring = two.ring }
 
 -- The five writes set up the transmit ring while the transmit side is off.
-pub sets-transmit_ring : {B : Type 0} (bus : Ghosts B) → IntervalsJoin bus
-    → (b0 b1 b2 b3 b4 b5 : B) (low high base bytes : ℕ) (d : DriverState) → low ≡ base % 2 ^ 32 → high ≡ base / 2 ^ 32
-    → base ≡ 16 * d.layout.rx → bytes ≡ 16 * d.layout.tx
-    → IsRingSize d.layout.rx → IsRingSize d.layout.tx → d.oldest_transmit ≡ 0
-    → WriteActs bus b0 b1 0x3800 low → WriteActs bus b1 b2 0x3804 high
-    → WriteActs bus b2 b3 0x3808 bytes
-    → WriteActs bus b3 b4 0x3810 0 → WriteActs bus b4 b5 0x3818 0
-    → ReadyWith false d (bus.world b0) → (bus.world b0).adapter.transmit_ring ≡ new_ring
-    → SetsTransmitRing bus (ring_setup_writes 0x3800 base bytes) d b0 b5
-sets-transmit_ring bus joins b0 b1 b2 b3 b4 b5 low high base bytes d low_is high_is first long rx tx oldest one two three
-    four five ready new =
-    let place : IsRingPlace base d.layout.tx = record { sixteens = omega (arith, first); below = omega (arith, first, rx.most); size = tx }
-    in
+pub sets-transmit_ring : {B : Type 0} {bus : Ghosts B} {base bytes : ℕ} {d : DriverState} {old new : B} → IntervalsJoin bus
+    → CanSetTransmitRing base bytes d (bus.world old) → WritesRing bus 0x3800 base bytes old new → ReadyWith false d (bus.world old)
+    → SetsTransmitRing bus (ring_setup_writes 0x3800 base bytes) d old new
+sets-transmit_ring {B} {bus} {base} {bytes} {d} {old} {new} joins can w ready =
+    let first = can.begins in
+    let long = can.long in
+    let rx = can.receive_size in
+    let place : IsRingPlace base d.layout.tx = record
+    { sixteens = omega (arith, first); below = omega (arith, first, rx.most); size = can.transmit_size } in
     let r0 = ring_at base 0 in
     let r1 = ring_at base bytes in
     let fits0 : IsIdleRing d r0 = record
-    { idle = refl; last = sym oldest; inside = record { from = omega (arith, first); to = omega (arith, first) } } in
+    { idle = refl; last = sym can.oldest; inside = record { from = omega (arith, first); to = omega (arith, first) } } in
     let fits1 : IsIdleRing d r1 = record
-    { idle = refl; last = sym oldest; inside = record { from = omega (arith, first); to = omega (arith, first, long) } } in
-    let all = transmit-then bus joins _ _ b0 b1 b5 d r0 r1
-    (transmit-write bus b0 b1 BaseLow low (base % 2 ^ 32) d new_ring r0 low_is
-    (low-written base d.layout.tx place) fits0 one ready new)
-    (λ ready1 ring1. transmit-then bus joins _ _ b1 b2 b5 d r0 r1
-    (transmit-write bus b1 b2 BaseHigh high (base / 2 ^ 32) d r0 r0 high_is
-    (high-written base d.layout.tx place) fits0 two ready1 ring1)
-    (λ ready2 ring2. transmit-then bus joins _ _ b2 b3 b5 d r1 r1
-    (transmit-write bus b2 b3 Length bytes bytes d r0 r1 refl
-    (length-written base d.layout.tx bytes place long) fits1 three ready2 ring2)
-    (λ ready3 ring3. transmit-then bus joins _ _ b3 b4 b5 d r1 r1
-    (transmit-write bus b3 b4 Head 0 0 d r1 r1 refl refl fits1 four ready3 ring3)
-    (λ ready4 ring4. transmit-write bus b4 b5 Tail 0 0 d r1 r1 refl refl fits1 five ready4 ring4)))) in
+    { idle = refl; last = sym can.oldest; inside = record { from = omega (arith, first); to = omega (arith, first, long) } } in
+    let all = transmit-then bus joins _ _ old w.b1 new d r0 r1
+    (transmit-write bus old w.b1 BaseLow (base % 2 ^ 32) d new_ring r0 (low-written base d.layout.tx place) fits0 w.base_low ready can.new)
+    (λ ready1 ring1. transmit-then bus joins _ _ w.b1 w.b2 new d r0 r1
+    (transmit-write bus w.b1 w.b2 BaseHigh (base / 2 ^ 32) d r0 r0 (high-written base d.layout.tx place) fits0 w.base_high ready1 ring1)
+    (λ ready2 ring2. transmit-then bus joins _ _ w.b2 w.b3 new d r1 r1
+    (transmit-write bus w.b2 w.b3 Length bytes d r0 r1 (length-written base d.layout.tx bytes place long) fits1 w.length ready2 ring2)
+    (λ ready3 ring3. transmit-then bus joins _ _ w.b3 w.b4 new d r1 r1
+    (transmit-write bus w.b3 w.b4 Head 0 d r1 r1 refl fits1 w.head ready3 ring3)
+    (λ ready4 ring4. transmit-write bus w.b4 new Tail 0 d r1 r1 refl fits1 w.tail ready4 ring4)))) in
     record {
       ran = all.ran;
       knows = subst (λ (ring : RingRegisters). KnowsRing (ring_of ring) (16 * d.layout.rx) d.layout.tx 0) (sym all.ring)

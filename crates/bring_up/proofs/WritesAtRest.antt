@@ -1,5 +1,5 @@
 -- Writes after which an adapter is still at rest. After a reset an adapter is at rest, and a read of ICR clears the recorded causes.
-use Rattle.std.proofs.Common.{◌≡◌, ◌∷◌, [], ℕ, Option, Some, refl, sym, ap, subst, ◌∙◌}
+use Rattle.std.proofs.Common.{◌≡◌, ◌∷◌, [], ℕ, Some, refl, sym, ap, subst, ◌∙◌}
 use Rattle.std.specs.List.{All}
 use Rattle.std.proofs.lemmas.List.Elements.{All-cons}
 use Rattle.adapter.specs.Table.{IsInTable, register_at, row_of}
@@ -7,13 +7,13 @@ use Rattle.adapter.specs.TableLaws.{register_at-there}
 use Rattle.adapter.specs.World.{World, world_after_read, world_after_write}
 use Rattle.adapter.specs.declared.register.Register.{Register}
 use Rattle.adapter.specs.declared.register.Register.TheVariants.{Ctrl, Imc, Pba}
-use Rattle.adapter.specs.Registers.{left_by_write}
 use Rattle.bus.specs.AdaptersAtRest.{IsAtRest, IsElsewhere}
 use Rattle.bus.proofs.Lists.{all-none}
 use Rattle.bus.proofs.AdaptersAtRest.{rest_after_reset}
 use Rattle.bus.specs.Resets.{reset_world}
 use Rattle.bring_up.specs.SettingSteps.{IsAside}
 use Rattle.bring_up.specs.WrittenRegisters.{allocation_writes, enable_link_writes, write_at}
+use Rattle.bring_up.proofs.Steps.{register-written}
 
 pub aside-of : (register : Register) (value : ℕ) → IsInTable register → IsElsewhere (Some register)
     → All IsAside (write_at (row_of register).offset value ∷ [])
@@ -31,9 +31,7 @@ pub link-aside : All IsAside enable_link_writes
 link-aside = aside-of Ctrl 0x60 tt tt
 
 pub reset-written : (world : World) → world_after_write 0x0000 0x04000000 world ≡ reset_world world
-reset-written world =
-    ap (λ (found : Option Register). let after : World = record world
-    { adapter = left_by_write found 0x04000000 world.adapter } in after) (register_at-there Ctrl tt)
+reset-written = register-written Ctrl tt 0x04000000
 
 pub reset-rests : (value : ℕ) (before after : World) → value ≡ 0x04000000 → after ≡ world_after_write 0x0000 value before → IsAtRest after
 reset-rests value before after is written =

@@ -1,23 +1,27 @@
--- What a driver knows after each part of initialization that follows the setup of the receive ring (our choice).
-use Rattle.std.specs.Prelude.{◌≡◌, ◌⊎◌, ◌*◌, ◌++◌, ℕ, Bool, true, false, List, [], ◌∷◌, map}
+-- What a driver knows after each part of initialization that follows the setup of the receive ring, and after a reset of its adapter
+-- (our choice).
+use Rattle.std.specs.Prelude.{◌≡◌, ◌⊎◌, ◌<◌, ◌*◌, ◌++◌, ℕ, Bool, true, false, List, [], ◌∷◌, map}
 use Rattle.registers.specs.Bits.{HasBit}
-use Rattle.registers.specs.Places.{rxt0}
+use Rattle.registers.specs.Places.{alone, ctrl_rst, rxt0}
 use Rattle.dma_memory.specs.Layout.{IsRingSize, descriptor_bytes}
 use Rattle.adapter.specs.HostFrames.{frames_held}
 use Rattle.adapter.specs.KnownRing.{KnowsRing}
 use Rattle.adapter.specs.Rings.{new_ring}
 use Rattle.adapter.specs.Slots.{finished}
 use Rattle.adapter.specs.World.{World, transmit_ring}
-use Rattle.adapter.specs.declared.offsets.TheConstants.{IMS}
+use Rattle.adapter.specs.declared.offsets.TheConstants.{CTRL, ICR, IMC, IMS}
+use Rattle.bus.specs.AdaptersAtRest.{NoFrame}
+use Rattle.bus.specs.Link.{HasLink}
 use Rattle.bus.specs.Pasts.{Past}
-use Rattle.bus.specs.Settings.{NoArrival, Write}
+use Rattle.bus.specs.Settings.{IsOff, NoArrival, Write}
 use Rattle.bus.specs.declared.bus.Bus.{Ghosts}
 use Rattle.bus.specs.declared.event.Access.{Access}
-use Rattle.bus.specs.declared.event.Access.TheVariants.{Writes}
+use Rattle.bus.specs.declared.event.Access.TheVariants.{Reads, Writes}
 use Rattle.bus.specs.Beginnings.{Enabled}
-use Rattle.bus.specs.Calls.{FollowsWrites, Goes, HasNoForgottenWork, Ran, at, driver_did, driver_in, frames_ended, only}
-use Rattle.bus.specs.DriverState.{DriverState}
+use Rattle.bus.specs.Calls.{FollowsWrites, Goes, GoesTo, HasNoForgottenWork, Ran, at, driver_did, driver_in, frames_ended, only}
+use Rattle.bus.specs.DriverState.{DriverState, transmit_tail}
 use Rattle.bus.specs.ReadyDrivers.{Ready}
+use Rattle.bus.specs.Resets.{RestsWith, reset_driver, reset_world}
 
 -- These register writes, as accesses.
 abbrev pub accesses_of : List Write → List Access
@@ -27,6 +31,11 @@ accesses_of writes = map (λ (write : Write). Writes write.offset write.value) w
 -- accepted. After the writes its transmit side is set up if `up` is true, and off otherwise.
 abbrev pub LeavesDriver : {B : Type 0} → Ghosts B → List Write → (up : Bool) → DriverState → (old new : B) → Type 0
 LeavesDriver bus writes up d old new = Ran bus up (only (accesses_of writes)) (at old d) (at new d)
+
+-- RCTL.EN is 0, and no received frame is held.
+pub record ReceiverIsOff (d : DriverState) (world : World) : Type 0 where
+  pub off : IsOff world
+  pub none_held : frames_held d.oldest_receive world ≡ []
 
 -- These writes enable the receiver of a driver that holds no frame. No frame is stored or missed in the interval.
 -- After the writes no frame is held, and no slot is finished.
@@ -51,6 +60,11 @@ pub record SetsTransmitRing {B : Type 0} (bus : Ghosts B) (writes : List Write) 
   pub ran : LeavesDriver bus writes false d old new
   pub knows : KnowsRing (transmit_ring (bus.world new)) (descriptor_bytes * d.layout.rx) d.layout.tx 0
 
+-- The transmit ring agrees with the driver, and the driver's oldest transmit slot is a slot of this ring.
+pub record HasTransmitRing (d : DriverState) (world : World) : Type 0 where
+  pub oldest : d.oldest_transmit < d.layout.tx
+  pub knows : KnowsRing (transmit_ring world) (descriptor_bytes * d.layout.rx) d.layout.tx (transmit_tail d)
+
 -- The accesses in an interval are exactly these. `FollowsWrites` states what the writes among them determine.
 pub record MakesAccesses {B : Type 0} (bus : Ghosts B) (accesses : List Access) (old new : B) : Type 0 where
   pub past : Past
@@ -73,3 +87,23 @@ pub record EnablesCauses {B : Type 0} (bus : Ghosts B) (causes : ℕ) (d : Drive
   -- No work is forgotten if no frame ended in finished slots before, or RXT0 was recorded.
   pub work : (frames_ended (driver_in d (bus.world old)) ≡ []) ⊎ HasBit (bus.world old).adapter.causes.recorded rxt0
       → HasNoForgottenWork d (bus.world new)
+
+-- A driver resets its adapter: it writes CTRL with RST, writes IMC, and reads ICR. After that, the free buffers are
+-- `pool`.
+pub record ResetsDriver {B : Type 0} (bus : Ghosts B) (up : Bool) (pool : List ℕ) (d : DriverState) (old new : B) : Type 0 where
+  -- the bus right after the write of CTRL
+  pub middle : B
+  pub first : MakesAccesses bus (Writes CTRL (alone ctrl_rst) ∷ []) old middle
+  -- the value read from ICR
+  pub causes : ℕ
+  pub later : MakesAccesses bus (Writes IMC 0xFFFFFFFF ∷ Reads ICR causes ∷ []) middle new
+  -- the world right before the write of CTRL takes effect: the frames that are held or to be sent in this world are
+  -- lost
+  pub last : World
+  pub goes : GoesTo up (driver_in d (bus.world old)) (driver_in d last) (driver_did [] []) first.past
+  pub is_reset : bus.world middle ≡ reset_world last
+  -- After the write of CTRL, no frame is put on the wire, stored or missed, and the driver has no slots.
+  pub no_frame : NoFrame later.past
+  pub rests : RestsWith (reset_driver pool d) (bus.world new)
+  -- If the link is up and no MDIC command is pending, both remain true.
+  pub link : HasLink (bus.world old) → HasLink (bus.world new)

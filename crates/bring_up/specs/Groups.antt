@@ -1,7 +1,8 @@
 -- The groups that a host has joined, and the bits of the group table for them ("13.5.1 Multicast Table Array"). That a
 -- host keeps a list of at most 32 groups is our choice.
-use Rattle.std.specs.Prelude.{⊤, ◌≡◌, ◌≤◌, ◌<◌, ◌⊎◌, ◌↔◌, ◌+◌, ◌*◌, ◌/◌, ◌∷◌, [], ℕ, All, Bool, List, length, slice_set}
+use Rattle.std.specs.Prelude.{⊤, ◌≡◌, ◌≤◌, ◌<◌, ◌⊎◌, ◌↔◌, ◌+◌, ◌*◌, ◌/◌, ◌∷◌, [], ℕ, All, Bool, List, Result, length, slice_set}
 use Rattle.std.specs.List.{Contains}
+use Rattle.std.specs.Result.{OnOk}
 use Rattle.registers.specs.Bits.{HasBit}
 use Rattle.registers.specs.ReceiveControl.{shift_of}
 use Rattle.registers.specs.declared.receive_control.GroupOffset.TheVariants.{Bits47To36}
@@ -12,10 +13,11 @@ use Rattle.adapter.specs.declared.offsets.TheConstants.{MTA, REGISTER_BYTES}
 use Rattle.bring_up.specs.ConfiguredAdapters.{AreWords}
 use Rattle.bring_up.specs.WrittenRegisters.{register_limit}
 use Rattle.bring_up.specs.declared.config.TheConstants.{MOST_GROUPS}
+use Rattle.bring_up.specs.declared.groups.GroupError.{GroupError}
 use Rattle.bus.specs.declared.bus.Bus.{Ghosts}
 use Rattle.bus.specs.declared.event.Access.{Access}
 use Rattle.bus.specs.declared.event.Access.TheVariants.{Writes}
-use Rattle.bus.specs.Calls.{Moment, Ran, at, only}
+use Rattle.bus.specs.Calls.{IsReadyOver, Moment, Ran, at, only}
 use Rattle.bus.specs.DriverState.{DriverState}
 
 -- No group is in the list twice.
@@ -98,6 +100,14 @@ pub record ChangesJoined {B : Type 0} (bus : Ghosts B) (up : Bool) (kept : List 
     pub sets : SetsTable kept group new.driver.groups accesses
     pub ran : Ran bus up (only accesses) old new
     pub table : HasTable old.driver.groups (bus.world old.bus) → HasTable new.driver.groups (bus.world new.bus)
+
+-- `join` or `leave`, over a bus that obeys the law. If the result is Ok, the joined groups changed from `groups` to `groups'`, while the
+-- groups `kept` remained joined. `ChangesJoined` holds for the driver that has joined `groups`, whatever else its state is.
+abbrev pub ChangesGroups : {B : Type 0} → Ghosts B → Result (Unit {0}) GroupError → (kept : List (List ℕ)) → (group : List ℕ)
+    → (groups groups' : List (List ℕ)) → (old new : B) → Type 0
+ChangesGroups bus result kept group groups groups' old new =
+    (up : Bool) (d : DriverState) → IsReadyOver bus up (at old d)
+    → OnOk result (ChangesJoined bus up kept group (at old (with_groups groups d)) (at new (with_groups groups' d)))
 
 -- The only access wrote the word of the group table that contains this group's bit, with exactly the bits of the numbers of `groups`. The
 -- other words of the table are the same.

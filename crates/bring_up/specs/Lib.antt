@@ -2,7 +2,6 @@ pub mod ClearedDescriptors
 pub mod Configuration
 pub mod ConfiguredAdapters
 pub mod Device
-pub mod DriverResets
 pub mod DriverSteps
 pub mod EepromReading
 pub mod FilterSetting

@@ -4,7 +4,7 @@ use Rattle.std.specs.Fn.{iterate}
 use Rattle.adapter.specs.declared.offsets.TheConstants.{MDIC}
 use Rattle.eeprom_phy.specs.declared.phy.Link.{Link}
 use Rattle.eeprom_phy.specs.declared.phy.Link.TheVariants.{After, Never}
-use Rattle.eeprom_phy.specs.Mdic.{ended, kept, operation_of, phy_ended}
+use Rattle.eeprom_phy.specs.Mdic.{ended, kept_bits, operation_of, phy_ended}
 use Rattle.eeprom_phy.specs.Phy.{PhyState, after_tick, negotiation_of}
 use Rattle.eeprom_phy.specs.Places.{control_enable, control_restart, mdic_op, mdic_phyadd, mdic_regadd}
 use Rattle.registers.specs.Bits.{HasBit}
@@ -66,9 +66,9 @@ pub record EndsCommand (lively : Type 0) (word all : ℕ) (a b : Management) (an
   -- the PHY after the tick that ends the command
   pub phy : PhyState
   pub counted : phy ≡ after_tick (iterate phy_ticked ticks.before a).phy
-  pub answers : answer ≡ ended (operation_of word) (kept word) phy
+  pub answers : answer ≡ ended (operation_of word) (kept_bits word) phy
   pub mdic : b.mdic ≡ record { value = answer; pending = None }
-  pub leaves : b.phy ≡ iterate after_tick ticks.later (phy_ended (operation_of word) (kept word) phy)
+  pub leaves : b.phy ≡ iterate after_tick ticks.later (phy_ended (operation_of word) (kept_bits word) phy)
 
 -- A command is written to MDIC, and its end is awaited, with this result.
 pub record Commands {B : Type 0} (bus : Ghosts B) (word : ℕ) (result : Result ℕ InitError) (old new : B) : Type 0 where

@@ -1,5 +1,6 @@
 -- What remains true while a driver sets up its receive ring, before receiver and transmitter are enabled (our choice).
-use Rattle.std.specs.Prelude.{⊤, ◌≡◌, [], All, Option, Some, false}
+use Rattle.std.specs.Prelude.{⊤, ◌≡◌, ℕ, List, [], All, Option, Some, false}
+use Rattle.dma_memory.specs.Layout.{Counts}
 use Rattle.adapter.specs.HostFrames.{frames_held, frames_to_send}
 use Rattle.adapter.specs.Rings.{new_ring}
 use Rattle.adapter.specs.Table.{register_at}
@@ -10,8 +11,9 @@ use Rattle.bus.specs.Pasts.{Past}
 use Rattle.bus.specs.AdaptersAtRest.{NoFrame}
 use Rattle.bus.specs.Settings.{AreSet, IsOff, LeavesReceiver, WhileOff, Write, writes_in}
 use Rattle.bus.specs.DriverState.{DriverState}
-use Rattle.bus.specs.Calls.{GoesTo, driver_did, driver_in}
+use Rattle.bus.specs.Calls.{GoesTo, driver_did, driver_in, stores_from}
 use Rattle.bus.specs.ReadyDrivers.{ReadyWith}
+use Rattle.bring_up.specs.ClearedDescriptors.{clears_from}
 
 -- RCTL.EN is 0, no received frame is held, and no frame is to be sent.
 pub record HasNoFrames (d : DriverState) (world : World) : Type 0 where
@@ -41,3 +43,11 @@ abbrev pub NewTransmitRingStays : Type 0
 NewTransmitRingStays =
     (d : DriverState) (a b : World) (past : Past) → ReadyWith false d b → AreSet a b past → All LeavesTransmitRing (writes_in past.accesses)
     → a.adapter.transmit_ring ≡ new_ring → b.adapter.transmit_ring ≡ new_ring
+
+-- The stores of a ring's descriptors, for staged slots, write no register.
+abbrev pub StagingWritesNoRegister : Type 0
+StagingWritesNoRegister = (counts : Counts) (slot : ℕ) (numbers : List ℕ) → writes_in (stores_from counts slot numbers) ≡ []
+
+-- The stores that clear descriptors write no register.
+abbrev pub ClearingWritesNoRegister : Type 0
+ClearingWritesNoRegister = (first count : ℕ) → writes_in (clears_from first count) ≡ []

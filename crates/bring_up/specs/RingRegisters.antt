@@ -4,6 +4,8 @@ use Rattle.adapter.specs.declared.offsets.TheConstants.{RCTL, TCTL}
 use Rattle.adapter.specs.Rings.{ring_distance}
 use Rattle.adapter.specs.declared.register.RingRegister.TheVariants.{BaseHigh, Length, Head, Tail}
 use Rattle.bus.specs.Settings.{Write}
+use Rattle.bus.specs.declared.bus.Bus.{Ghosts}
+use Rattle.bring_up.specs.SettingSteps.{WriteActs}
 use Rattle.bring_up.specs.WrittenRegisters.{register_limit, write_at}
 use Rattle.registers.specs.Places.{alone, rctl_bam, rctl_bsize, rctl_en, rctl_mpe, rctl_secrc, rctl_upe, rctl_vfe}
 use Rattle.registers.specs.Places.{tctl_cold, tctl_ct, tctl_en, tctl_psp}
@@ -18,6 +20,18 @@ ring_setup_writes offset base bytes =
     ∷ write_at (offset + ring_distance Head) 0
     ∷ write_at (offset + ring_distance Tail) 0
     ∷ []
+
+-- The five writes that set up a ring, one after the other. After each of the first four, the bus is `b1`, `b2`, `b3` and `b4`.
+pub record WritesRing {B : Type 0} (bus : Ghosts B) (offset base bytes : ℕ) (old new : B) : Type 0 where
+  pub b1 : B
+  pub b2 : B
+  pub b3 : B
+  pub b4 : B
+  pub base_low : WriteActs bus old b1 offset (base % register_limit)
+  pub base_high : WriteActs bus b1 b2 (offset + ring_distance BaseHigh) (base / register_limit)
+  pub length : WriteActs bus b2 b3 (offset + ring_distance Length) bytes
+  pub head : WriteActs bus b3 b4 (offset + ring_distance Head) 0
+  pub tail : WriteActs bus b4 new (offset + ring_distance Tail) 0
 
 -- The value of RCTL: EN, BAM, BSIZE 11b (buffers of 256 bytes) and SECRC; UPE and MPE if `promiscuous`; VFE if
 -- `by_vlan`.

@@ -1,13 +1,17 @@
 -- The register writes of a call of initialization over a bus (our choice).
 use Rattle.std.specs.Prelude.{⊤, ◌≡◌, ℕ, List, All, Option, Some}
 use Rattle.adapter.specs.Table.{register_at}
+use Rattle.adapter.specs.World.{world_after_write}
 use Rattle.adapter.specs.declared.register.Register.{Register}
 use Rattle.adapter.specs.declared.register.Register.TheVariants.{Icr, Ics}
 use Rattle.bus.specs.AdaptersAtRest.{IsAtRest, IsElsewhere, NoFrame}
+use Rattle.bus.specs.Keeping.{view_of}
+use Rattle.bus.specs.Law.{Acts}
 use Rattle.bus.specs.Link.{HasLink, LeavesPhy}
 use Rattle.bus.specs.Pasts.{Past}
 use Rattle.bus.specs.Settings.{Write, settings_after_all, settings_of, writes_in}
 use Rattle.bus.specs.declared.bus.Bus.{Ghosts}
+use Rattle.bus.specs.declared.event.Access.TheVariants.{Writes}
 use Rattle.bring_up.specs.DriverSteps.{accesses_of}
 
 -- The write is neither a write of RCTL nor of a register of a ring.
@@ -45,6 +49,11 @@ pub record Sets {B : Type 0} (bus : Ghosts B) (writes : List Write) (old new : B
 pub record SetsOnly {B : Type 0} (bus : Ghosts B) (writes : List Write) (old new : B) : Type 0 where
   pub sets : Sets bus writes old new
   pub only : sets.past.accesses ≡ accesses_of writes
+
+-- One write of a register: steps and deliveries may happen before it, and there is no other access.
+abbrev pub WriteActs : {B : Type 0} → Ghosts B → (old new : B) → (offset value : ℕ) → Type 0
+WriteActs bus old new offset value =
+    Acts (view_of bus) old new (Writes offset value) (λ before after. after ≡ world_after_write offset value before)
 
 -- The call writes no register except the one at `offset`, and the settings don't change. An adapter at rest remains at rest, and then no
 -- frame is put on the wire, stored or missed.

@@ -3,6 +3,7 @@
 ghost use Rattle.std.specs.Prelude.{◌≡◌, ◌↔◌, IfErr, IfOk, IsOk, IsTrue};
 ghost use Rattle.adapter.specs.PacketBuffer.{IsAllocation};
 
+use crate::groups::is_group;
 use crate::init_error::InitError;
 use arrayvec::ArrayVec;
 use dma_memory::Layout;
@@ -71,7 +72,7 @@ impl Config {
         ensures { IsTrue result ↔ HasRightNumbers self.now }
     {
         is_allocation(self.rxa)
-            && self.groups.iter().all(|group| group[0] % 2 == 1)
+            && self.groups.iter().all(|group| is_group(group))
             && match &self.vlans {
                 Some(vlans) => vlans.iter().all(|vlan| *vlan < VLAN_NUMBERS),
                 None => true,

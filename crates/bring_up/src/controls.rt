@@ -5,8 +5,7 @@ ghost use Rattle.dma_memory.specs.Owners.{HaveSameNumbers};
 ghost use Rattle.bus.specs.AdaptersAtRest.{IsAtRest};
 ghost use Rattle.bus.specs.Keeping.{Keeps};
 ghost use Rattle.bus.specs.Link.{HasLink};
-ghost use Rattle.bring_up.specs.DriverResets.{ResetsDriver};
-ghost use Rattle.bring_up.specs.DriverSteps.{EnablesCauses};
+ghost use Rattle.bring_up.specs.DriverSteps.{EnablesCauses, ResetsDriver};
 ghost use Rattle.bring_up.specs.SettingSteps.{Sets, SetsOnly};
 ghost use Rattle.bring_up.specs.WrittenRegisters.{allocation_writes, handled_causes, enable_link_writes};
 ghost use Rattle.bring_up.specs.WrittenRegisters.{mask_writes, reset_writes};
@@ -19,8 +18,8 @@ use bus::Bus;
 use registers::{Cause, Ctrl};
 
 /// Resets the device, disables all interrupt causes and clears the recorded causes ("14.3 General Initialization"). If
-/// a driver was ready before, all buffers of its slots are free after the reset. Pieces of frames that others hold are
-/// still in their buffers.
+/// a driver was ready before, all buffers of its slots are free after the reset: `pool` contains them and the free
+/// buffers, in any order. Pieces of frames that others hold are still in their buffers.
 pub fn reset_device<B: Bus>(bus: &mut B)
     ensures keeps { Keeps B.Bus bus.old bus.new }
     ensures sets { B.honest bus.old → Sets B.Bus reset_writes bus.old bus.new }

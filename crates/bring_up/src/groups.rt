@@ -11,7 +11,7 @@ ghost use Rattle.bring_up.specs.WrittenRegisters.{register_limit};
 ghost use Rattle.bus.specs.declared.event.Access.TheVariants.{Writes};
 ghost use Rattle.bus.specs.Calls.{IsReadyOver, Ran, at, only};
 ghost use Rattle.bus.specs.DriverState.{DriverState};
-ghost use Rattle.bring_up.specs.Groups.{AreNamedOnce, ChangesJoined, HasNumber, RewritesWord, with_groups};
+ghost use Rattle.bring_up.specs.Groups.{AreNamedOnce, ChangesGroups, HasNumber, RewritesWord};
 ghost use Rattle.bring_up.specs.declared.groups.GroupError.TheVariants.{GroupsFull, Joined, NotGroup, NotJoined};
 
 use crate::{MOST_GROUPS, group_table};
@@ -57,6 +57,13 @@ impl Model for Groups {
     ghost invariant = { λ groups. AreJoined groups.list.items };
 }
 
+/// Returns whether an address is that of a group: the low bit of its first byte is set.
+pub(crate) fn is_group(address: &[u8; 6]) -> bool
+    ensures { IsTrue result ↔ IsGroup address.now }
+{
+    address[0] % 2 == 1
+}
+
 impl Groups {
     ghost use Rattle.bring_up.specs.Groups.{AreJoined};
 
@@ -90,6 +97,7 @@ impl Groups {
         ensures is { IsTrue result ↔ Contains self.now group.now }
         ensures joined { AreJoined self.now }
     {
+        // For the proof of `joined`: the invariant is known where a field is read.
         let _list = &self.list;
         self.place_of(group).is_some()
     }
@@ -107,7 +115,8 @@ impl Groups {
         None
     }
 
-    /// Returns whether a joined group has the same number as this group.
+    /// Returns whether a joined group has the same number as this group: bits 47:36 of the address, which select a bit
+    /// of the group table.
     fn has_number(&self, group: &[u8; 6]) -> bool
         ensures { IsTrue result ↔ HasNumber self.now group.now }
     {
@@ -143,11 +152,9 @@ impl Groups {
         ensures quiet { HasNumber self.old group → bus.new ≡ bus.old }
 
         // Over a bus that obeys the law.
-        ensures changes { (up : Bool) (d : DriverState) → IsReadyOver B.Bus up (at bus.old d)
-            → OnOk result (ChangesJoined B.Bus up self.old group (at bus.old (with_groups self.old d))
-            (at bus.new (with_groups self.new d))) }
+        ensures changes { ChangesGroups B.Bus result self.old group self.old self.new bus.old bus.new }
     {
-        if group[0] % 2 == 0 {
+        if !is_group(&group) {
             return Err(GroupError::NotGroup);
         }
         if self.contains(&group) {
@@ -184,11 +191,9 @@ impl Groups {
         ensures quiet { HasNumber self.new group → bus.new ≡ bus.old }
 
         // Over a bus that obeys the law.
-        ensures changes { (up : Bool) (d : DriverState) → IsReadyOver B.Bus up (at bus.old d)
-            → OnOk result (ChangesJoined B.Bus up self.new group (at bus.old (with_groups self.old d))
-            (at bus.new (with_groups self.new d))) }
+        ensures changes { ChangesGroups B.Bus result self.new group self.old self.new bus.old bus.new }
     {
-        if group[0] % 2 == 0 {
+        if !is_group(&group) {
             return Err(GroupError::NotGroup);
         }
         let Some(place) = self.place_of(&group) else {
@@ -196,8 +201,7 @@ impl Groups {
         };
         self.list.remove(place);
         if !self.has_number(&group) {
-            let left = self.list.as_slice();
-            write_word(bus, left, &group);
+            write_word(bus, self.list.as_slice(), &group);
         }
         Ok(())
     }
@@ -215,7 +219,7 @@ fn write_word<B: Bus>(bus: &mut B, groups: &[[u8; 6]], group: &[u8; 6])
     set_word(bus, word, table[usize::from(word)]);
 }
 
-/// Writes a word of the group table.
+/// Writes a word of the group table. `fits`: the value has 32 bits, as each word of the table.
 fn set_word<B: Bus>(bus: &mut B, word: u8, value: u32)
     requires { word < TABLE_WORDS }
     ensures keeps { Keeps B.Bus bus.old bus.new }

@@ -1,11 +1,7 @@
 // Laws of a driver that begins with an adapter at rest.
 
-ghost use Rattle.std.specs.Prelude.{◌≡◌, ℕ, List, []};
-ghost use Rattle.dma_memory.specs.Layout.{Counts};
-ghost use Rattle.bus.specs.Settings.{writes_in};
-ghost use Rattle.bus.specs.Calls.{stores_from};
-ghost use Rattle.bring_up.specs.ClearedDescriptors.{clears_from};
-ghost use Rattle.bring_up.specs.NoFrames.{NewTransmitRingStays, NoFramesStay};
+ghost use Rattle.bring_up.specs.NoFrames.{ClearingWritesNoRegister, NewTransmitRingStays, NoFramesStay};
+ghost use Rattle.bring_up.specs.NoFrames.{StagingWritesNoRegister};
 ghost use Rattle.bring_up.specs.RestingRings.{DriversBeginAgain, DriversBeginAtRest};
 
 /// Let an adapter be at rest, its receive ring be set up with no slot offered, and its transmit ring have its reset
@@ -30,7 +26,6 @@ pub fn drivers_begin_again()
 pub fn drivers_without_frames_stay_so()
     ensures quiet { NoFramesStay }
     ensures transmit_ring { NewTransmitRingStays }
-    ensures staged { (counts : Counts) (slot : ℕ) (numbers : List ℕ)
-        → writes_in (stores_from counts slot numbers) ≡ [] }
-    ensures cleared { (first count : ℕ) → writes_in (clears_from first count) ≡ [] }
+    ensures staged { StagingWritesNoRegister }
+    ensures cleared { ClearingWritesNoRegister }
 {}

@@ -1,23 +1,20 @@
 //! The registers of both rings, and RCTL and TCTL, which enable receiver and transmitter ("14.4 Receive
 //! Initialization", "14.5 Transmit Initialization").
 
-ghost use Rattle.std.specs.Prelude.{◌≡◌, ◌%◌, ◌/◌, ◌*◌, ◌<◌, ℕ, Bool, [], true, false};
+ghost use Rattle.std.specs.Prelude.{◌≡◌, ◌%◌, ◌/◌, ◌*◌, ◌≤◌, ℕ, Bool, true, false};
 ghost use Rattle.dma_memory.specs.Layout.{IsRingSize, descriptor_bytes};
-ghost use Rattle.adapter.specs.HostFrames.{frames_held};
-ghost use Rattle.adapter.specs.KnownRing.{KnowsRing};
-ghost use Rattle.adapter.specs.World.{transmit_ring};
 ghost use Rattle.bus.specs.Keeping.{Keeps};
-ghost use Rattle.bus.specs.Settings.{IsOff};
 ghost use Rattle.bus.specs.Calls.{IsReadyOver, at};
-ghost use Rattle.bus.specs.DriverState.{DriverState, transmit_tail};
-ghost use Rattle.bring_up.specs.DriverSteps.{CanSetTransmitRing, LeavesDriver, LetsFramesIn, SetsTransmitRing};
+ghost use Rattle.bus.specs.DriverState.{DriverState};
+ghost use Rattle.bring_up.specs.DriverSteps.{CanSetTransmitRing, HasTransmitRing, LeavesDriver, LetsFramesIn};
+ghost use Rattle.bring_up.specs.DriverSteps.{ReceiverIsOff, SetsTransmitRing};
 ghost use Rattle.bring_up.specs.RestingRings.{HasNewRings, HasReceiveRing, SetsAtRest};
-ghost use Rattle.bring_up.specs.RingRegisters.{disable_writes, receive_control, receive_writes, ring_setup_writes};
-ghost use Rattle.bring_up.specs.RingRegisters.{transmit_control, transmit_writes};
+ghost use Rattle.bring_up.specs.RingRegisters.{WritesRing, disable_writes, receive_control, receive_writes};
+ghost use Rattle.bring_up.specs.RingRegisters.{ring_setup_writes, transmit_control, transmit_writes};
 ghost use Rattle.bring_up.specs.SettingSteps.{SetsOnly};
 ghost use Rattle.bring_up.specs.WrittenRegisters.{register_limit};
 
-use adapter::offsets::{RCTL, RDBAH, RDBAL, RDH, RDLEN, RDT, TCTL, TDBAH, TDBAL, TDH, TDLEN, TDT};
+use adapter::offsets::{RCTL, RDBAH, RDBAL, RDH, RDLEN, RDT, TCTL, TDBAL};
 use bitflags::Flags;
 use bus::Bus;
 use registers::{Rctl, Tctl};
@@ -28,6 +25,18 @@ const COLLISION_THRESHOLD: u32 = 0x0F << 4;
 
 /// The collision distance of full duplex, 0x40, in TCTL.COLD. The distance has no effect in the adapter's model.
 const COLLISION_DISTANCE: u32 = 0x40 << 12;
+
+/// The distance of RDBAH from RDBAL, and of TDBAH from TDBAL, in bytes.
+const BASE_HIGH: u32 = RDBAH - RDBAL;
+
+/// The distance of a ring's length from RDBAL or TDBAL.
+const LENGTH: u32 = RDLEN - RDBAL;
+
+/// The distance of a ring's head from RDBAL or TDBAL.
+const HEAD: u32 = RDH - RDBAL;
+
+/// The distance of a ring's tail from RDBAL or TDBAL.
+const TAIL: u32 = RDT - RDBAL;
 
 /// The number of values of a 32-bit register.
 const WORD: u64 = 1 << 32;
@@ -52,11 +61,7 @@ pub fn set_receive_ring<B: Bus>(bus: &mut B, ring: RingPlace)
         → SetsAtRest B.Bus (ring_setup_writes RDBAL ring.base ring.bytes) (HasNewRings rx) (HasReceiveRing rx)
         bus.old bus.new }
 {
-    bus.write(RDBAL, low_word(ring.base));
-    bus.write(RDBAH, high_word(ring.base));
-    bus.write(RDLEN, ring.bytes);
-    bus.write(RDH, 0);
-    bus.write(RDT, 0);
+    write_ring(bus, RDBAL, ring);
 }
 
 /// Sets up the transmit ring, with no slot offered. Before the call, let a driver be ready with its transmit side off.
@@ -69,11 +74,20 @@ pub fn set_transmit_ring<B: Bus>(bus: &mut B, ring: RingPlace)
         → CanSetTransmitRing ring.base ring.bytes d (B.world bus.old)
         → SetsTransmitRing B.Bus (ring_setup_writes TDBAL ring.base ring.bytes) d bus.old bus.new }
 {
-    bus.write(TDBAL, low_word(ring.base));
-    bus.write(TDBAH, high_word(ring.base));
-    bus.write(TDLEN, ring.bytes);
-    bus.write(TDH, 0);
-    bus.write(TDT, 0);
+    write_ring(bus, TDBAL, ring);
+}
+
+/// Writes the registers of a ring, with 0 as head and tail. `first` is the offset of RDBAL or TDBAL.
+fn write_ring<B: Bus>(bus: &mut B, first: u32, ring: RingPlace)
+    requires { first ≤ TDBAL }
+    ensures keeps { Keeps B.Bus bus.old bus.new }
+    ensures writes { B.honest bus.old → WritesRing B.Bus first ring.base ring.bytes bus.old bus.new }
+{
+    bus.write(first, low_word(ring.base));
+    bus.write(first + BASE_HIGH, high_word(ring.base));
+    bus.write(first + LENGTH, ring.bytes);
+    bus.write(first + HEAD, 0);
+    bus.write(first + TAIL, 0);
 }
 
 /// Disables the receiver by writing 0 to RCTL. A driver that is ready remains ready, even if frames end in its slots.
@@ -94,8 +108,7 @@ pub fn disable_receiver<B: Bus>(bus: &mut B)
 pub fn enable_receiver<B: Bus>(bus: &mut B, promiscuous: bool, by_vlan: bool)
     ensures keeps { Keeps B.Bus bus.old bus.new }
     ensures sets { B.honest bus.old → SetsOnly B.Bus (receive_writes promiscuous by_vlan) bus.old bus.new }
-    ensures ran { (d : DriverState) → IsReadyOver B.Bus false (at bus.old d)
-        → frames_held d.oldest_receive (B.world bus.old) ≡ [] → IsOff (B.world bus.old)
+    ensures ran { (d : DriverState) → IsReadyOver B.Bus false (at bus.old d) → ReceiverIsOff d (B.world bus.old)
         → LetsFramesIn B.Bus (receive_writes promiscuous by_vlan) d bus.old bus.new }
 {
     bus.write(RCTL, receive_control(promiscuous, by_vlan));
@@ -124,8 +137,7 @@ fn receive_control(promiscuous: bool, by_vlan: bool) -> u32
 pub fn enable_transmitter<B: Bus>(bus: &mut B)
     ensures keeps { Keeps B.Bus bus.old bus.new }
     ensures sets { B.honest bus.old → SetsOnly B.Bus transmit_writes bus.old bus.new }
-    ensures ran { (d : DriverState) → IsReadyOver B.Bus false (at bus.old d) → d.oldest_transmit < d.layout.tx
-        → KnowsRing (transmit_ring (B.world bus.old)) (descriptor_bytes * d.layout.rx) d.layout.tx (transmit_tail d)
+    ensures ran { (d : DriverState) → IsReadyOver B.Bus false (at bus.old d) → HasTransmitRing d (B.world bus.old)
         → LeavesDriver B.Bus transmit_writes true d bus.old bus.new }
 {
     bus.write(TCTL, transmit_control());

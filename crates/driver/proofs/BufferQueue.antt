@@ -4,8 +4,7 @@ use Rattle.std.proofs.Common.{refl, ◌≡◌, ◌≤◌, ◌<◌, ◌+◌, ◌-
 use Rattle.std.proofs.Common.{◌∙◌, length-append, length-drop, arith}
 use Rattle.dma_memory.specs.Numbers.{Numbers}
 use Rattle.dma_memory.specs.Owners.{HasNoSecondOwner, HaveSameNumbers, copies}
-use Rattle.dma_memory.specs.OwnersLaws.{copies-append, copies-cons, copies-push, no_second-given}
-use Rattle.dma_memory.specs.OwnersLaws.{taken-first}
+use Rattle.dma_memory.specs.OwnersLaws.{copies-append, copies-cons, copies-push}
 use Rattle.circular_buffer.specs.Buffer.{Buffer, buffer, keep_last}
 use Rattle.descriptors.specs.QueueLaws.{keep_last-room}
 use Rattle.std.proofs.Math.Seq.{drop-length, take-length}
@@ -149,20 +148,17 @@ owners-offered d receives k =
     omega (arith, owners-count k shown, owners-count k later, copies-append k shown.buffers shown.staged)
     ∙ ap (λ (s : DriverState). copies k (owners s)) (sym (offered-inside d receives))
 
-pub given-inside : (d : Inside) (m : ℕ) (pool : Numbers) → Receives d → m < d.layout.buffers → copies m (owners (driver_state_of d)) ≡ 0
-    → HaveSameNumbers (m ∷ d.pool.free) pool.free → pool.buffers ≡ d.pool.buffers
-    → Receives (record d { pool = pool })
-given-inside d m pool receives known out given count = record {
+-- Another pool with the same number of buffers.
+pub pool-inside : (d : Inside) (pool : Numbers) → Receives d → pool.buffers ≡ d.pool.buffers
+    → HasNoSecondOwner d.layout.buffers (pool.free ++ d.buffers.items) → Receives (record d { pool = pool })
+pool-inside d pool receives count once = record {
   oldest_slot = receives.oldest_slot;
   room = receives.room;
   next_slot = receives.next_slot;
   capacity = receives.capacity;
   some_staged = receives.some_staged;
   buffers = count ∙ receives.buffers;
-  owners =
-      no_second-given d.layout.buffers m (d.pool.free ++ d.buffers.items) (pool.free ++ d.buffers.items) receives.owners known
-      (copies-append m d.pool.free d.buffers.items ∙ sym (owners-inside d receives m)
-      ∙ out) (taken-first m d.pool.free pool.free d.buffers.items given);
+  owners = once;
 }
 
 -- RDT is written if any slot is staged

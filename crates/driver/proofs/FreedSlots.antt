@@ -8,7 +8,7 @@ use Rattle.dma_memory.specs.HostMemory.{bytes_at}
 use Rattle.dma_memory.specs.Layout.{Counts}
 use Rattle.descriptors.specs.Ring.{slots_from}
 use Rattle.descriptors.specs.RingLaws.{next-below, place}
-use Rattle.adapter.specs.Slots.{written_back}
+use Rattle.adapter.specs.Slots.{written_back_slots}
 use Rattle.bus.specs.Law.{Acts}
 use Rattle.bus.specs.Pasts.{Past, joined, nothing}
 use Rattle.bus.specs.Keeping.{Keeps, view_of}
@@ -18,7 +18,7 @@ use Rattle.bus.specs.declared.event.Access.TheVariants.{Loads}
 use Rattle.bus.proofs.DriverAccesses.{ran_by-stays}
 use Rattle.bus.proofs.Calls.{ran-on, ready-on}
 use Rattle.bus.proofs.Places.{place-next}
-use Rattle.bus.proofs.RunsWith.{RanWith}
+use Rattle.bus.proofs.DriverAccesses.{RanWith}
 use Rattle.bus.proofs.TransmitRuns.{run-frees, run-waits}
 use Rattle.bus.specs.DriverState.{DriverState, holding, transmit_slot, transmit_tail}
 use Rattle.bus.specs.Calls.{Moment, Ran, WhereUp, at, held_at, only, transmit_loads}
@@ -92,10 +92,10 @@ pub waits-oldest : {B : Type 0} (bus : Ghosts B) (old new : B) (d : DriverState)
     → LoadsAt bus old new bytes address
     → Ready d (bus.world old)
     → RanWith bus true (only (transmit_loads d.layout d.oldest_transmit (min d.sending 1))) (at old d) (at new d)
-    (λ after. written_back d.oldest_transmit after ≡ [])
+    (λ after. written_back_slots d.oldest_transmit after ≡ [])
 waits-oldest bus old new d address bytes address_is some clear acts ready =
     subst (λ (accesses : List Access). RanWith bus true (only accesses) (at old d) (at new d)
-    (λ after. written_back d.oldest_transmit after ≡ [])) (sym (loads-one d some))
+    (λ after. written_back_slots d.oldest_transmit after ≡ [])) (sym (loads-one d some))
     (run-waits bus old new d bytes clear (subst (LoadsAt bus old new bytes) address_is acts) ready)
 
 -- The loads for k freed slots, and then the load for the oldest remaining slot, are `total` loads from the oldest slot on.

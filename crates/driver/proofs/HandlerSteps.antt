@@ -24,7 +24,7 @@ use Rattle.bus.proofs.Intervals.{flows_join, work_kept}
 use Rattle.bus.proofs.TakenSlots.{parts_are_few}
 use Rattle.bus.specs.Calls.{GoesTo, HasNoForgottenWork, Moment, Ran, ReadsCauses, at, call_did, driver_did, driver_in}
 use Rattle.bus.specs.Calls.{frames_ended, held_at, in_world_of, only}
-use Rattle.bus.specs.Calls.{receive_loads, stores_from, tail_write, takes_from, with_missed}
+use Rattle.bus.specs.Calls.{receive_loads, stores_from, tail_write, takes_from, missed_added}
 use Rattle.bus.specs.DriverState.{DriverState, HandedOut, frame_of, holding, next_receive, piece_numbers, with_owners}
 use Rattle.bus.specs.ReadyDrivers.{ReadyWith}
 use Rattle.driver.specs.HandlerSteps.{HandlesIt, IsLook, Scene, TakesAll, Works, held_in, moment, offering_accesses, taking_accesses}
@@ -40,14 +40,14 @@ handled-timer causes fits bit = (Meet-places causes handled_causes fits).1 (7, b
 
 -- The states of the driver: d1 at the beginning, d2 after the read of MPC, d3 after slots were taken, and d4 after refilling.
 pub record Follows (misses slots : ℕ) (d1 d2 d3 d4 : DriverState) : Type 0 where
-  pub counted : d2 ≡ with_missed misses d1
+  pub counted : d2 ≡ missed_added misses d1
   pub taken : d3 ≡ record d2 { oldest_receive = d3.oldest_receive; buffers = d3.buffers; pool = d3.pool; bad = d3.bad }
   pub place : d3.oldest_receive ≡ place d2.layout.rx d2.oldest_receive slots
   pub count : slots + length d3.buffers ≡ length d2.buffers
   pub refilled : d4 ≡ with_owners d3 d4.buffers [] d4.pool []
 
 changed : {misses slots : ℕ} (d1 d2 d3 d4 : DriverState) → Follows misses slots d1 d2 d3 d4
-    → d3 ≡ record (with_missed misses d1) { oldest_receive = d3.oldest_receive; buffers = d3.buffers; pool = d3.pool; bad = d3.bad }
+    → d3 ≡ record (missed_added misses d1) { oldest_receive = d3.oldest_receive; buffers = d3.buffers; pool = d3.pool; bad = d3.bad }
 changed d1 d2 d3 d4 follows =
     follows.taken ∙ ap (λ (d : DriverState). let s : DriverState = record d
     { oldest_receive = d3.oldest_receive; buffers = d3.buffers; pool = d3.pool; bad = d3.bad } in s) follows.counted

@@ -2,6 +2,9 @@
 use Rattle.std.proofs.Common.{Bool, IsTrue, Option, None, Some, is_some, true, false, ◌≡◌, ◌≤◌, ◌<◌, ◌+◌, ◌-◌, ◌*◌, ◌++◌, ◌∷◌, [], ℕ, List}
 use Rattle.std.proofs.Common.{length, map, inl, refl, sym, ap, subst, ◌∙◌, append_assoc, arith}
 use Rattle.std.specs.List.{All}
+use Rattle.std.specs.Prelude.{Err, IfErr, Result}
+use Rattle.std.specs.Result.{IsErrAnd}
+use Rattle.std.proofs.lemmas.Result.{err_from_is_err_and}
 use Rattle.std.proofs.lemmas.List.{append-nil}
 use Rattle.std.proofs.lemmas.List.Elements.{All-cons}
 use Rattle.arrayvec.specs.declared.array_vec.ArrayVec.{ArrayVec}
@@ -21,7 +24,7 @@ use Rattle.adapter.specs.declared.ring.RingRegisters.{RingRegisters}
 use Rattle.adapter.specs.declared.register.Register.TheVariants.{Rctl, Receive}
 use Rattle.adapter.specs.declared.register.RingRegister.TheVariants.{Tail}
 use Rattle.bus.specs.Link.{HasLink, KeepsLink, LeavesPhy}
-use Rattle.bus.specs.Pasts.{Past, joined}
+use Rattle.bus.specs.Pasts.{Past, joined, nothing}
 use Rattle.bus.specs.AdaptersAtRest.{NoFrame}
 use Rattle.bus.specs.Settings.{AreSet, IsNotReceiveControl, WhileOff, LeavesReceiver, Settings, Write, settings_after_all, settings_of}
 use Rattle.bus.specs.Settings.{writes_in}
@@ -40,7 +43,10 @@ use Rattle.bring_up.specs.Configuration.{CanBeHad, configured_counts, vlans_of}
 use Rattle.bring_up.specs.ConfiguredAdapters.{HasSetup, IsConfigured, names_vlans, setup_of, writes_before_rings}
 use Rattle.bring_up.specs.DriverSteps.{LeavesDriver, LetsFramesIn, SetsTransmitRing, EnablesCauses, accesses_of}
 use Rattle.bring_up.specs.NoFrames.{IsNotTransmitRing, HasNoFrames, LeavesTransmitRing}
-use Rattle.bring_up.specs.Device.{IsFound}
+use Rattle.bring_up.specs.Device.{IsBeforeAccess, IsFound}
+use Rattle.bring_up.specs.declared.init_error.InitError.{InitError}
+use Rattle.bring_up.specs.declared.init_error.InitError.TheVariants.{Checksum, EepromTimeout, Memory, NoLink, PhyTimeout}
+use Rattle.bring_up.specs.declared.init_error.InitError.TheVariants as errors
 use Rattle.bring_up.specs.FilterSetting.{SetsFilter}
 use Rattle.bring_up.specs.FilterTables.{address_writes, table_writes}
 use Rattle.bring_up.specs.RestingRings.{HasNewRings, HasReceiveRing, SetsAtRest}
@@ -56,7 +62,7 @@ use Rattle.bring_up.proofs.Steps.{IntervalsJoin}
 use Rattle.bring_up.proofs.NoFrames.{clears-write_none, new_transmit_ring_stays, quiet_stays, stores-write_none}
 use Rattle.bring_up.specs.Groups.{AreNamedOnce}
 use Rattle.bring_up.proofs.Numbers.{same-numbers}
-use Rattle.driver.specs.Initialisation.{HasFoundRing, Initialises, first_accesses, transmit_accesses}
+use Rattle.driver.specs.Initialisation.{HasFoundRing, Initialises, RefusesInit, first_accesses, transmit_accesses}
 use Rattle.driver.proofs.FirstSlots.{head-first, offering}
 
 -- The register writes of each part
@@ -441,3 +447,21 @@ initialises bus joins b0 b1 b2 b3 b4 b5 config size address groups pool numbers 
 pub vlans-named : (vlans : Option (ArrayVec ℕ 32 (Unit {0}))) → is_some vlans ≡ names_vlans vlans
 vlans-named None = refl
 vlans-named (Some list) = refl
+
+-- Initialization is refused before any access
+
+before-access : {B : Type 0} {bus : Ghosts B} {b : B} (error : InitError) → bus.happened b b nothing → IsBeforeAccess error
+    → RefusesInit bus b b error
+before-access Memory stays before = record { past = nothing; reports = stays; why = refl; why_lively = λ lively. tt }
+before-access errors.Config stays before = record { past = nothing; reports = stays; why = refl; why_lively = λ lively. tt }
+before-access EepromTimeout stays before = absurd before
+before-access Checksum stays before = absurd before
+before-access PhyTimeout stays before = absurd before
+before-access NoLink stays before = absurd before
+
+pub refused : {T B : Type 0} (bus : Ghosts B) (b : B) {from error : InitError} (result : Result T InitError) → bus.happened b b nothing
+    → IsErrAnd result (λ y. y ≡ from) → from ≡ error → IsBeforeAccess error → IfErr result (RefusesInit bus b b)
+refused {T} {B} bus b {from} {error} result stays told is before =
+    let err = err_from_is_err_and result told in
+    subst (λ (r : Result T InitError). IfErr r (RefusesInit bus b b)) (sym (err.1 ∙ ap Err (err.2 ∙ is)))
+    (before-access error stays before)

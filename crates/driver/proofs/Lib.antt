@@ -2,7 +2,6 @@ pub mod FreedSlots
 pub mod SentFrames
 pub mod BufferQueue
 pub mod PlacesOfParts
-pub mod PartsGiven
 pub mod BuffersGiven
 pub mod SeenSlots
 pub mod ReadFrames

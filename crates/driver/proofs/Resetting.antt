@@ -29,7 +29,7 @@ use Rattle.bus.proofs.Lists.{all-left, all-none, all-right, append-empty}
 use Rattle.bus.proofs.Settings.{settings-append, settings_join, writes-append}
 use Rattle.bus.proofs.DriverAccesses.{follows-join}
 use Rattle.bus.proofs.Intervals.{misses-stay}
-use Rattle.bus.specs.Calls.{IsRefilled, Ran, at, driver_in, only, stores_from, with_missed}
+use Rattle.bus.specs.Calls.{IsRefilled, Ran, at, driver_in, only, stores_from, missed_added}
 use Rattle.bus.specs.DriverState.{DriverSetup, DriverState, receive_slot, with_owners}
 use Rattle.bus.specs.ReadyDrivers.{Ready, ReadyWith, Stands}
 use Rattle.bus.specs.Resets.{RestsWith, reset_driver}
@@ -44,7 +44,7 @@ use Rattle.bring_up.proofs.WritesOf.{link-first, rings-last}
 use Rattle.bring_up.specs.ClearedDescriptors.{clears_from}
 use Rattle.bring_up.specs.Configuration.{CanBeHad, configured_counts, vlans_of}
 use Rattle.bring_up.specs.ConfiguredAdapters.{AreWords, FilterHasSetup, HasSetup, names_vlans, setup_of, writes_before_rings}
-use Rattle.bring_up.specs.DriverResets.{ResetsDriver}
+use Rattle.bring_up.specs.DriverSteps.{ResetsDriver}
 use Rattle.bring_up.specs.DriverSteps.{EnablesCauses, LetsFramesIn}
 use Rattle.bring_up.specs.FilterSetting.{SetsFilter}
 use Rattle.bring_up.specs.FilterTables.{address_writes, table_writes}
@@ -216,7 +216,7 @@ set-by a b past writes set are = set ∙ ap (λ (list : List Write). settings_af
 
 pub resets-all : {B : Type 0} (bus : Ghosts B) → IntervalsJoin bus → (up : Bool) (b0 b2 b3 b4 b5 b6 b7 b8 b9 b10 b11 : B)
     (config : Config) (address : List ℕ) (size v : ℕ) (e0 : DriverState) (pool numbers left : List ℕ)
-    → (let e2 = with_missed v e0 in
+    → (let e2 = missed_added v e0 in
     let again = reset_driver pool e2 in
     let e8 = with_owners again numbers [] left e0.handed_out in
     e0.layout ≡ configured_counts config → e0.setup ≡ setup_of config address → CanBeHad config size
@@ -242,7 +242,7 @@ resets-all bus joins up b0 b2 b3 b4 b5 b6 b7 b8 b9 b10 b11 config address size v
     layout setup had room stop off zero resets set3 s4 s5 link5 s6 s7 same refilled offers enables transmits masking =
     let world = bus.world in
     let counts = configured_counts config in
-    let e2 = with_missed v e0 in
+    let e2 = missed_added v e0 in
     let again = reset_driver pool e2 in
     let e8 = with_owners again numbers [] left e0.handed_out in
     let k = length numbers in

@@ -19,7 +19,7 @@ use Rattle.rx_engine.specs.PieceLaws.{begun-parts, frames-append, frames-parts}
 use Rattle.rx_engine.specs.Pieces.{IsCut, IsLastSize, Piece, begun_from, frames_from, frames_of, parts}
 use Rattle.rx_engine.specs.Pieces.Piece.{Last, Part}
 use Rattle.adapter.specs.HostFrames.{finished_pieces, piece_in, pieces_in_slots}
-use Rattle.adapter.specs.Slots.{finished, in_work as slot_in_work, offered}
+use Rattle.adapter.specs.Slots.{finished, slots_in_work as slot_in_work, offered}
 use Rattle.adapter.specs.World.{World, receive_ring}
 use Rattle.bus.proofs.Lists.{all-head, all-left, all-none, all-right, all-weaker}
 use Rattle.bus.specs.Pasts.{Past, joined, nothing}

@@ -2,7 +2,7 @@
 use Rattle.std.proofs.Common.{true, ◌≡◌, ◌<◌, ◌+◌, ◌-◌, Err, Ok, ◌%◌, ◌++◌, ◌∷◌, [], ℕ, List, length, refl, sym, ap, subst, ◌∙◌, arith}
 use Rattle.dma_memory.specs.Layout.{Counts}
 use Rattle.descriptors.specs.RingLaws.{place}
-use Rattle.adapter.specs.Slots.{written_back}
+use Rattle.adapter.specs.Slots.{written_back_slots}
 use Rattle.bus.specs.Pasts.{Past, joined}
 use Rattle.bus.specs.declared.bus.Bus.{Ghosts}
 use Rattle.bus.specs.declared.event.Access.{Access}
@@ -39,7 +39,7 @@ was-full bus old new is reclaims others tail full =
     let flows = reclaims.ran.goes.flows in
     let count = flows.frees in
     let layout = flows.layout in
-    let none : length (written_back old.driver.oldest_transmit (bus.world old.bus)) ≡ 0 = omega
+    let none : length (written_back_slots old.driver.oldest_transmit (bus.world old.bus)) ≡ 0 = omega
     (arith, full, count, room, ap length reclaims.none) in
     let sending : old.driver.sending ≡ new.driver.sending = omega (arith, full, count, room, ap length reclaims.none) in
     let ends : place old.driver.layout.tx new.driver.oldest_transmit new.driver.sending
@@ -50,7 +50,7 @@ was-full bus old new is reclaims others tail full =
     (subst (λ (counts : Counts). new.driver.oldest_transmit < counts.tx) layout flows.ready.transmit.oldest_slot)
     is.ready.transmit.oldest_slot (omega (arith, full)) ends in
     record {
-      at_entry = (omega (arith, full, sending), none-of (written_back old.driver.oldest_transmit (bus.world old.bus)) none);
+      at_entry = (omega (arith, full, sending), none-of (written_back_slots old.driver.oldest_transmit (bus.world old.bus)) none);
       at_return = (full ∙ sym (ap (λ (counts : Counts). counts.tx) layout), reclaims.none);
       same = others ∙ ap (λ (slot : ℕ). with_transmit_slots old.driver slot new.driver.sending) oldest
           ∙ ap (λ (n : ℕ). with_transmit_slots old.driver old.driver.oldest_transmit n) (sym sending);

@@ -13,9 +13,10 @@ use Rattle.dma_memory.specs.Owners.{HasNoSecondOwner, HaveSameNumbers, copies}
 use Rattle.dma_memory.specs.OwnersLaws.{copies-append, copies-itself, known_from_no_second}
 use Rattle.bus.proofs.Lists.{all-head, all-none, all-tail}
 use Rattle.bus.proofs.Owners.{all-copies, owners-count}
-use Rattle.bus.specs.Calls.{OffersAll, with_missed}
+use Rattle.bus.specs.Calls.{OffersAll, missed_added}
 use Rattle.bus.specs.DriverState.{DriverState, HandedOut, holding, piece_numbers, owners, with_owners}
 use Rattle.driver.specs.Answers.{ReceiverAnswers}
+use Rattle.driver.specs.GrowsLaws.{grows-join}
 use Rattle.driver.specs.HandlerSteps.{
   GrowsBy,
   PassesOn,
@@ -131,16 +132,6 @@ known-all n numbers others once =
     (λ m some. known_from_no_second n m (numbers ++ others) once (omega (arith, some, copies-append m numbers others)))
 
 -- Several runs are passed on
-
-grows : (a b c m n : ℕ) → GrowsBy a b m → GrowsBy b c n → GrowsBy a c (m + n)
-grows a b c m n one two = record {
-  least = omega (arith, one.least, two.least);
-  most = omega (arith, one.most, two.most);
-  exactly = λ below.
-      let later = two.exactly below in
-      let before = one.exactly (omega (arith, two.least, below)) in
-      omega (arith, before, later);
-}
 
 pub shows-none : {R : Type 0} (took : R → R → List Received → List Received → Type 0) → ((r : R) → took r r [] []) → (r : R)
     (pool : List ℕ) → ShowsAll took r r [] pool pool
@@ -283,7 +274,7 @@ slots-next receivers also r s t d1 d2 d3 d4 n m run parts whole more size some f
             length-append (whole_frames slots.runs) (whole_frames (one ∷ [])),
           );
       bad = subst (GrowsBy d1.bad d4.bad) (sym (sum_by-append (λ (x : RunOfSlots). cond (not x.whole) 1 0) slots.runs (one ∷ [])))
-          (grows d1.bad d2.bad d4.bad (bad_runs slots.runs) (bad_runs (one ∷ [])) slots.bad
+          (grows-join d1.bad d2.bad d4.bad (bad_runs slots.runs) (bad_runs (one ∷ [])) slots.bad
           (subst (λ (k : ℕ). GrowsBy k d4.bad (bad_runs (one ∷ []))) bad hands.bad));
       shows = shows-more receivers.took also r s t slots.runs (one ∷ []) d1.pool d2.pool d4.pool slots.shows
           (subst (λ (list : List ℕ). ShowsAll receivers.took s t (one ∷ []) list d4.pool) pool hands.shows);
@@ -374,14 +365,14 @@ none-held [] none = refl
 none-held (one ∷ later) none = absurd (omega (arith, none one.number, copies-itself one.number (piece_numbers later)))
 
 pub served : {R : Type 0} (receivers : OfReceiver R) (n misses : ℕ) (before after : R) (d between d' : DriverState)
-    → TakesSlots receivers n before after (with_missed misses d) between → OffersAll between d' → OffersAfter between d'
+    → TakesSlots receivers n before after (missed_added misses d) between → OffersAll between d' → OffersAfter between d'
     → HaveSameNumbers (owners between) (owners d') → ServesReceiver receivers before after d d' n
 served receivers n misses before after d between d' takes offers order same =
     let kept = buffers_of takes.shows.receiver.kept in
     let shape : DriverState → DriverState = λ s. record d
     { oldest_receive = s.oldest_receive; buffers = s.buffers; staged = []; pool = s.pool; missed = s.missed; exact = s.exact; bad = s.bad }
     in
-    let made : DriverState = with_owners (record (with_missed misses d)
+    let made : DriverState = with_owners (record (missed_added misses d)
     { oldest_receive = between.oldest_receive; buffers = between.buffers; pool = between.pool; bad = between.bad }) d'.buffers [] d'.pool []
     in
     let is : d' ≡ made = offers.others ∙ ap (λ (s : DriverState). with_owners s d'.buffers [] d'.pool []) takes.others in
@@ -429,7 +420,7 @@ served receivers n misses before after d between d' takes offers order same =
       owners = λ k.
           omega (
             arith,
-            slots-owners receivers n before after (with_missed misses d) between takes k,
+            slots-owners receivers n before after (missed_added misses d) between takes k,
             same k,
             copies-append k (owners between) kept,
             copies-append k (owners d') kept,

@@ -19,7 +19,7 @@ use Rattle.bus.specs.declared.event.Access.TheVariants.{Reads}
 use Rattle.bus.specs.Calls.{Did, FlowsTo, HasNoForgottenWork, IsReadyOver, IsRefilled, Moment, Ran, ReadsCauses, at, call_did}
 use Rattle.bus.specs.Calls.{driver_did}
 use Rattle.bus.specs.Calls.{ether_type_load, frames_ended, held_at, in_world_of, only, receive_loads, stores_from, tail_write}
-use Rattle.bus.specs.Calls.{takes_from, with_missed}
+use Rattle.bus.specs.Calls.{takes_from, missed_added}
 use Rattle.bus.specs.DriverState.{DriverState, HandedOut, frame_of, holding, next_receive, piece_numbers, owners}
 use Rattle.bus.specs.ReceiveSteps.{after_slots}
 use Rattle.driver.specs.Parts.{AreFrames, FillBuffers, FitIntoBuffers, IsFrameSize, IsWholeFrame, buffers_in, buffers_of}
@@ -346,10 +346,10 @@ pub record ReadsMisses (d d' : DriverState) : Type 0 where
   -- the value that was added
   pub misses : ℕ
   -- the sum grew by this value, up to the greatest u64
-  pub missed : d'.missed ≡ (with_missed misses d).missed
+  pub missed : d'.missed ≡ (missed_added misses d).missed
   -- the sum is exact exactly if it was exact before, the value is below MPC's greatest value, and the sum didn't
   -- saturate
-  pub exact : d'.exact ≡ (with_missed misses d).exact
+  pub exact : d'.exact ≡ (missed_added misses d).exact
 
 -- The oldest slots, with the buffers `taken`, left the ring. After the remaining slots, the staged slots and new slots were offered. No run
 -- was bad.

@@ -14,7 +14,7 @@ use Rattle.bus.specs.declared.event.Access.{Access}
 use Rattle.bus.specs.declared.event.Access.TheVariants.{Reads, Writes}
 use Rattle.bring_up.specs.ClearedDescriptors.{clears_from}
 use Rattle.bring_up.specs.ConfiguredAdapters.{HasSetup}
-use Rattle.bring_up.specs.DriverResets.{ResetsDriver}
+use Rattle.bring_up.specs.DriverSteps.{ResetsDriver}
 use Rattle.bring_up.specs.DriverSteps.{MakesAccesses, accesses_of}
 use Rattle.bring_up.specs.FilterTables.{address_writes, table_writes}
 use Rattle.bring_up.specs.RingRegisters.{disable_writes, receive_writes, ring_setup_writes}
@@ -31,7 +31,7 @@ use Rattle.bus.specs.Calls.{
   only,
   stores_from,
 }
-use Rattle.bus.specs.Calls.{with_missed}
+use Rattle.bus.specs.Calls.{missed_added}
 use Rattle.bus.specs.DriverState.{DriverSetup, DriverState, HandedOut, receive_slot, with_owners}
 use Rattle.bus.specs.ReadyDrivers.{Ready}
 use Rattle.bus.specs.Resets.{reset_driver}
@@ -87,7 +87,7 @@ pub record OffersFree {B : Type 0} (bus : Ghosts B) (old new : Moment B) : Type 
 -- The receiver was disabled, and the value `misses` was read from MPC and added to the sum. The driver is still ready.
 pub record StopsReceiver {B : Type 0} (bus : Ghosts B) (up : Bool) (old stopped : Moment B) : Type 0 where
   pub misses : ℕ
-  pub counted : stopped.driver ≡ with_missed misses old.driver
+  pub counted : stopped.driver ≡ missed_added misses old.driver
   pub ran : Ran bus up (only (stop_accesses misses)) old stopped
 
 -- The driver that begins again after a reset with this pool. Slots with the buffers `numbers` are outstanding, and the other buffers of the

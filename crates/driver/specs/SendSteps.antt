@@ -2,7 +2,7 @@
 use Rattle.std.specs.Prelude.{⊤, Bool, ◌≡◌, ◌≤◌, ◌<◌, ◌+◌, ◌-◌, ◌++◌, ◌∷◌, ℕ, true, List, [], Result, Ok, Err, length, min}
 use Rattle.std.specs.Bool.{OnFalse}
 use Rattle.descriptors.specs.Frames.{padded}
-use Rattle.adapter.specs.Slots.{written_back}
+use Rattle.adapter.specs.Slots.{written_back_slots}
 use Rattle.bus.specs.declared.bus.Bus.{Ghosts}
 use Rattle.bus.specs.declared.event.Access.{Access}
 use Rattle.bus.specs.DriverState.{DriverState, transmit_tail}
@@ -32,7 +32,7 @@ pub record FreesOldest (d d' : DriverState) : Type 0 where
 -- freed, no outstanding slot is written back at the end.
 pub record LooksBack {B : Type 0} (bus : Ghosts B) (freed : Bool) (old new : Moment B) : Type 0 where
   pub ran : Ran bus true (only (oldest_loads old.driver (min old.driver.sending 1))) old new
-  pub none : OnFalse freed (written_back new.driver.oldest_transmit (bus.world new.bus) ≡ [])
+  pub none : OnFalse freed (written_back_slots new.driver.oldest_transmit (bus.world new.bus) ≡ [])
 
 -- the number of descriptors that are loaded: one for each slot that is freed, and one more if any slot is left
 abbrev pub slots_looked_at : (outstanding left : ℕ) → ℕ
@@ -46,7 +46,7 @@ loads_to_free d left = oldest_loads d (slots_looked_at d.sending left)
 -- oldest remaining slot if any slot is left. After these loads, no outstanding slot is written back.
 pub record Reclaims {B : Type 0} (bus : Ghosts B) (old new : Moment B) : Type 0 where
   pub ran : Ran bus true (only (loads_to_free old.driver new.driver.sending)) old new
-  pub none : written_back new.driver.oldest_transmit (bus.world new.bus) ≡ []
+  pub none : written_back_slots new.driver.oldest_transmit (bus.world new.bus) ≡ []
 
 -- the result of `transmit`: Ok, or the reason why the frame wasn't accepted
 abbrev pub SendAnswer : Type 0
@@ -68,12 +68,12 @@ accesses_by (Err RingFull) d d' frame = loads_to_free d d'.sending
 
 -- All transmit slots except one are outstanding, and no slot is written back. So no slot can be freed.
 abbrev pub IsFull : {B : Type 0} → Ghosts B → Moment B → Type 0
-IsFull bus now = (now.driver.sending + 1 ≡ now.driver.layout.tx) × (written_back now.driver.oldest_transmit (bus.world now.bus) ≡ [])
+IsFull bus now = (now.driver.sending + 1 ≡ now.driver.layout.tx) × (written_back_slots now.driver.oldest_transmit (bus.world now.bus) ≡ [])
 
 -- The frame was accepted: the slots that were written back were freed, and the frame's slot is outstanding.
 pub record AcceptsForSending {B : Type 0} (bus : Ghosts B) (old new : Moment B) : Type 0 where
   -- At least the slots that were written back before the call were freed. The + 1 is the frame's own slot.
-  pub freed : length (written_back old.driver.oldest_transmit (bus.world old.bus)) + new.driver.sending ≤ old.driver.sending + 1
+  pub freed : length (written_back_slots old.driver.oldest_transmit (bus.world old.bus)) + new.driver.sending ≤ old.driver.sending + 1
   -- At least one slot is outstanding.
   pub some : 0 < new.driver.sending
 

@@ -3,7 +3,8 @@
 ghost use Rattle.std.specs.Prelude.{◌≡◌, ◌+◌, ◌<◌, IsTrue, length};
 ghost use Rattle.registers.specs.Counting.{greatest_count};
 ghost use Rattle.dma_memory.specs.Owners.{HasNoSecondOwner};
-ghost use Rattle.bus.specs.DriverState.{owners};
+ghost use Rattle.bus.specs.DriverState.{owners, DriverState};
+ghost use Rattle.driver.specs.InsideDriver.{IsConsistentDriver, driver_state_of};
 
 use crate::setup::Setup;
 use bring_up::Groups;
@@ -47,11 +48,7 @@ pub struct Driver {
 }
 
 impl Model for Driver {
-    ghost use Rattle.bus.specs.DriverState.{DriverState};
-
     ghost Value = { DriverState };
-
-    ghost use Rattle.driver.specs.InsideDriver.{IsConsistentDriver, driver_state_of};
 
     ghost view = { driver_state_of };
 

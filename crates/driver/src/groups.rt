@@ -38,9 +38,9 @@ impl Driver {
         ensures room { OnOk result (length self.old.groups < MOST_GROUPS) }
         ensures quiet { HasNumber self.old.groups group → bus.new ≡ bus.old }
 
-        // Over a bus that obeys the law.
+        // Over a bus that obeys the law. The groups of `self.old` were joined both before and after the call.
         ensures joins { WhereReady B.Bus (at bus.old self.old) (at bus.new self.new)
-            (λ up old new. OnOk result (ChangesJoined B.Bus up self.old.groups group old new)) }
+            (λ transmit_up old new. OnOk result (ChangesJoined B.Bus transmit_up self.old.groups group old new)) }
     {
         self.groups.join(bus, group)
     }
@@ -65,9 +65,9 @@ impl Driver {
         ensures left { OnOk result (Removes group self.old.groups self.new.groups) }
         ensures quiet { HasNumber self.new.groups group → bus.new ≡ bus.old }
 
-        // Over a bus that obeys the law.
+        // Over a bus that obeys the law. The groups of `self.new` were joined both before and after the call.
         ensures leaves { WhereReady B.Bus (at bus.old self.old) (at bus.new self.new)
-            (λ up old new. OnOk result (ChangesJoined B.Bus up self.new.groups group old new)) }
+            (λ transmit_up old new. OnOk result (ChangesJoined B.Bus transmit_up self.new.groups group old new)) }
     {
         self.groups.leave(bus, group)
     }

@@ -5,7 +5,7 @@ ghost use Rattle.registers.specs.Bits.{Meet};
 ghost use Rattle.dma_memory.specs.Layout.{size_of};
 ghost use Rattle.bus.specs.declared.event.Access.TheVariants.{Reads};
 ghost use Rattle.bus.specs.Keeping.{Keeps};
-ghost use Rattle.bus.specs.Calls.{Runs, at, only, with_missed};
+ghost use Rattle.bus.specs.Calls.{Runs, at, only, missed_added};
 ghost use Rattle.bus.specs.Calls as calls;
 ghost use Rattle.driver.specs.HandlerSteps.{Handles, IfHandled, IfNotMine, OnlyReceives};
 ghost use Rattle.driver.specs.HandlerSteps.{ServesReceiver, WhereReadyIn, scene};
@@ -48,10 +48,11 @@ fn adds_exactly(missed: u64, value: u32) -> bool
 
 impl Driver {
     /// Reads MPC, adds its value to the sum of missed frames, up to the greatest `u64`, and returns this value. The
-    /// sum remains exact only if the value is added exactly (`adds_exactly`).
+    /// sum remains exact only if the value is added exactly (`adds_exactly`). RCTL doesn't change (`settings`): a reset
+    /// disables the receiver before this call.
     pub(crate) fn count_missed<B: Bus>(&mut self, bus: &mut B) -> u32
         ensures keeps { Keeps B.Bus bus.old bus.new }
-        ensures others { self.new ≡ with_missed result self.old }
+        ensures others { self.new ≡ missed_added result self.old }
         ensures cleared { B.honest bus.old → (B.world bus.new).adapter.missed_packets ≡ 0 }
         ensures settings { B.honest bus.old
             → (B.world bus.new).adapter.filter.rctl ≡ (B.world bus.old).adapter.filter.rctl }
@@ -71,8 +72,8 @@ impl Driver {
     /// - It reads ICR. If the value has none of TXDW, RXDMT0, RXO and RXT0, the result is `NotMine`, and there is no
     ///   other access.
     /// - It reads MPC.
-    /// - It looks at slots, takes frames, and loads bytes 12 and 13 of each frame, until no frame ends in finished slots.
-    ///   These frames include all frames that ended in finished slots at the beginning.
+    /// - It looks at slots, takes frames, and loads bytes 12 and 13 of each frame, until no frame ends in finished
+    ///   slots. These frames include all frames that ended in finished slots at the beginning.
     /// - It refills the ring.
     ///
     /// ICR is read before the slots are looked at, so a frame that ends later records RXT0 again. If RXT0 is in IMS at

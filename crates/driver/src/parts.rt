@@ -19,7 +19,9 @@ pub struct Part {
 /// Up to six pieces, in order.
 #[derive(Drop)]
 pub struct Parts {
+    /// The pieces, and `None` after the last piece.
     places: [Option<Part>; MOST_PARTS],
+    /// The number of pieces.
     count: usize,
 }
 

@@ -100,7 +100,9 @@ impl Driver {
         ensures keeps { Keeps B.Bus bus.old bus.new }
         ensures whole { result ≡ run.now.whole }
         ensures others { self.new ≡ record self.old { pool = self.new.pool; bad = self.new.bad } }
+        // Who owns the buffers after the call, over any bus.
         ensures hands { PassesOn R.took receiver.old receiver.new (run_with parts result) self.old self.new }
+        // The access of a whole frame, over a bus that obeys the law.
         ensures over { WhereTaken B.Bus parts result
             (scene bus.old self.old receiver.old) (scene bus.new self.new receiver.new)
             (HandsOver B.Bus R.Receiver) }
@@ -136,13 +138,12 @@ impl Driver {
         ensures takes { WhereReadyIn B.Bus (scene bus.old self.old receiver.old) (scene bus.new self.new receiver.new)
             (TakesAll B.Bus R.Receiver result) }
     {
+        // For the proof of `one_owner`: no receive buffer has two owners before the call.
         let _ = self.receiving();
         let mut taken = 0;
         while let Some(run) = self.look(bus) {
             let parts = self.take_run(&run);
-            if self.pass_on(bus, parts, &run, receiver) {
-                taken += 1;
-            }
+            taken += usize::from(self.pass_on(bus, parts, &run, receiver));
         }
         taken
     }

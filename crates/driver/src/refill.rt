@@ -6,6 +6,7 @@ ghost use Rattle.dma_memory.specs.Layout.{descriptor_bytes, size_of};
 ghost use Rattle.dma_memory.specs.Owners.{HasNoSecondOwner, HaveSameNumbers};
 ghost use Rattle.descriptors.specs.RxDesc.{rx_desc_bytes};
 ghost use Rattle.bus.specs.Keeping.{Keeps};
+ghost use Rattle.bus.specs.declared.event.Access.TheVariants.{Writes};
 ghost use Rattle.bus.specs.Calls.{OffersAll, Runs, WhereReady, at, only, tail_write};
 ghost use Rattle.bus.specs.DriverState.{next_receive, owners, with_owners};
 ghost use Rattle.bus.specs.ReadyDrivers.{empty_descriptor};
@@ -76,6 +77,7 @@ impl Driver {
         let descriptor = descriptor_of(self.layout.receive_buffer(buffer.number()));
         bus.store(receive_slot(self.next_receive), &descriptor.to_bytes());
         self.next_receive = (self.next_receive + 1) % count;
+        // The queue has room for one buffer for each receive slot, so it drops no buffer.
         let _ = self.buffers.push_back(buffer);
         self.staged += 1;
         true
@@ -93,7 +95,20 @@ impl Driver {
         while self.stage(bus) {}
     }
 
-    /// Offers all staged slots by one write of RDT. If no slot is staged, there is no access.
+    /// Offers all staged slots by one write of RDT. Writes RDT even if no slot is staged.
+    pub(crate) fn offer_all<B: Bus>(&mut self, bus: &mut B)
+        ensures keeps { Keeps B.Bus bus.old bus.new }
+        ensures others { self.new ≡ with_owners self.old (self.old.buffers ++ self.old.staged) [] self.old.pool [] }
+        ensures owners { HaveSameNumbers (owners self.old) (owners self.new) }
+        ensures one_owner { HasNoSecondOwner self.new.layout.buffers (owners self.new) }
+        ensures ran { Runs B.Bus (only (Writes RDT (next_receive self.old) ∷ []))
+            (at bus.old self.old) (at bus.new self.new) }
+    {
+        bus.write(RDT, u32::from(self.next_receive));
+        self.staged = 0;
+    }
+
+    /// Offers all staged slots, as [`offer_all`](Driver::offer_all) does. If no slot is staged, there is no access.
     pub(crate) fn offer<B: Bus>(&mut self, bus: &mut B)
         ensures keeps { Keeps B.Bus bus.old bus.new }
         ensures others { self.new ≡ with_owners self.old (self.old.buffers ++ self.old.staged) [] self.old.pool [] }
@@ -105,8 +120,7 @@ impl Driver {
         if self.staged == 0 {
             return;
         }
-        bus.write(RDT, u32::from(self.next_receive));
-        self.staged = 0;
+        self.offer_all(bus);
     }
 
     /// Puts the buffers of a frame's pieces back into the pool.

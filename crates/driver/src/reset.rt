@@ -1,19 +1,17 @@
 // Resetting an adapter that is running.
 
-ghost use Rattle.std.specs.Prelude.{◌≡◌, ◌≤◌, ◌<◌, ◌+◌, ◌++◌, ◌∷◌, [], length};
+ghost use Rattle.std.specs.Prelude.{◌≡◌, ◌≤◌, ◌<◌, ◌+◌, ◌++◌, [], length};
 ghost use Rattle.dma_memory.specs.Layout.{size_of};
 ghost use Rattle.dma_memory.specs.Owners.{HasNoSecondOwner, HaveSameNumbers};
 ghost use Rattle.bus.specs.Keeping.{Keeps};
-ghost use Rattle.bus.specs.declared.event.Access.TheVariants.{Writes};
-ghost use Rattle.bus.specs.Calls.{Runs, WhereReady, at, only};
-ghost use Rattle.bus.specs.DriverState.{next_receive, owners, with_owners};
+ghost use Rattle.bus.specs.Calls.{WhereReady, at};
+ghost use Rattle.bus.specs.DriverState.{owners};
 ghost use Rattle.bus.specs.Resets.{reset_driver};
 ghost use Rattle.driver.specs.Resetting.{OffersFree, Resets};
 
 use crate::Driver;
 use crate::init::{place_of, set_up_transmitter};
 use crate::refill::receive_slot;
-use adapter::offsets::RDT;
 use bring_up::{
     allocate_packet_buffer, clear_descriptors, disable_receiver, enable_interrupts,
     enable_receiver, named_vlans, reset_device, set_filter, set_link_up, set_receive_ring,
@@ -57,17 +55,6 @@ impl Driver {
         self.oldest_transmit = 0;
         self.next_transmit = 0;
         self.sending = 0;
-    }
-
-    /// Offers all staged slots by one write of RDT. Writes RDT even if no slot is staged.
-    fn offer_all<B: Bus>(&mut self, bus: &mut B)
-        ensures keeps { Keeps B.Bus bus.old bus.new }
-        ensures others { self.new ≡ with_owners self.old (self.old.buffers ++ self.old.staged) [] self.old.pool [] }
-        ensures ran { Runs B.Bus (only (Writes RDT (next_receive self.old) ∷ []))
-            (at bus.old self.old) (at bus.new self.new) }
-    {
-        bus.write(RDT, u32::from(self.next_receive));
-        self.staged = 0;
     }
 
     /// Returns the number of staged slots.

@@ -11,9 +11,13 @@ use bring_up::{Config, MOST_VLANS};
 /// The parts of the configuration that a reset needs, and the adapter's address.
 #[derive(Drop)]
 pub(crate) struct Setup {
+    /// The size in kilobytes of the packet buffer for received frames (PBA.RXA).
     pub(crate) rxa: u8,
+    /// Whether frames to every destination pass the filter.
     pub(crate) promiscuous: bool,
+    /// The VLANs whose tagged frames pass the filter; `None` if tagged frames of all VLANs pass.
     pub(crate) vlans: Option<ArrayVec<u16, MOST_VLANS>>,
+    /// The Ethernet address in the adapter's EEPROM.
     pub(crate) address: [u8; 6],
 }
 
@@ -48,6 +52,7 @@ fn copy_of(list: &ArrayVec<u16, MOST_VLANS>) -> ArrayVec<u16, MOST_VLANS>
     ensures { result ≡ list.now }
 {
     let mut copy = ArrayVec::new();
+    // The copy has room for as many VLANs as `list`, so all VLANs fit.
     let _fits = copy.try_extend_from_slice(list.as_slice());
     copy
 }

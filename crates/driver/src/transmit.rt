@@ -56,7 +56,7 @@ fn shows_done(bytes: &[u8; TX_DESC_BYTES]) -> bool
 
 /// Returns the transmit descriptor of a frame of `size` bytes at the address `buffer`. The descriptor has EOP, IFCS
 /// (insert the frame check sequence) and RS (report status).
-fn whole_packet(buffer: u64, size: u16) -> [u8; TX_DESC_BYTES]
+fn whole_descriptor(buffer: u64, size: u16) -> [u8; TX_DESC_BYTES]
     ensures { result ≡ whole_descriptor buffer size }
 {
     TxDesc {
@@ -124,7 +124,7 @@ impl Driver {
     {
         let layout = self.layout;
         let buffer = layout.transmit_buffer(self.next_transmit);
-        let descriptor = whole_packet(buffer, frame.len() as u16);
+        let descriptor = whole_descriptor(buffer, frame.len() as u16);
         bus.store(buffer, frame);
         bus.store(descriptor_address(layout, self.next_transmit), &descriptor);
         self.next_transmit = (self.next_transmit + 1) % layout.tx();

@@ -7,13 +7,11 @@ use Rattle.std.specs.Result.{OnErr, OnOk}
 use Rattle.std.proofs.lemmas.List.Elements.{All-cons}
 use Rattle.std.proofs.lemmas.Bool.{cases_eq}
 use Rattle.bus.proofs.Lists.{all-none}
-use Rattle.bus.specs.Pasts.{nothing}
 use Rattle.bus.specs.declared.bus.Bus.{Ghosts}
 use Rattle.bus.specs.declared.event.Access.{Access}
 use Rattle.bus.specs.declared.event.Access.TheVariants.{Writes}
 use Rattle.rx_engine.specs.Addresses.{IsGroup}
 use Rattle.rx_engine.specs.GroupLists.{Removes}
-use Rattle.bus.proofs.Intervals.{joined-nothing}
 use Rattle.bus.specs.Calls.{IsRefilled, Moment, held_at}
 use Rattle.bus.specs.DriverState.{DriverState}
 use Rattle.bring_up.specs.Groups.{ChangesJoined, SetsTable, with_groups, word_of}
@@ -22,7 +20,7 @@ use Rattle.bring_up.proofs.Numbers.{word_below}
 use Rattle.packet_socket.specs.HostActs.{IsGroupWrite, OnlyLastWrites, OverBus, SetsGroups}
 use Rattle.packet_socket.specs.HostCalls.{HostMoment, IsReadyHost, driver_at, host_at}
 use Rattle.packet_socket.specs.HostEffects.{GroupAnswer, JoinEffect, LeaveEffect, groups_act}
-use Rattle.packet_socket.proofs.DriverActs.{driver-acts, makes-none}
+use Rattle.packet_socket.proofs.DriverActs.{driver-acts, last-stage, makes-none}
 use Rattle.packet_socket.proofs.Intervals.{with_driver}
 
 -- No access, or one write of a word of the group table
@@ -51,16 +49,7 @@ groups-act bus old new kept group changes is others =
     driver-acts bus old new [] SetsGroups _ ran.past is (λ from to done happened it. it)
     (λ refilled. subst (λ (d : DriverState). IsRefilled d) (sym others) refilled)
     (λ offered. subst (λ (d : DriverState). d.staged ≡ []) (sym others) offered)
-    (record {
-      middle = new.bus;
-      before = ran.past;
-      reports = ran.reports;
-      made_are = ran.only;
-      holds = changes.table;
-      behind = nothing;
-      later = (refl, refl);
-      whole = sym (joined-nothing ran.past);
-    })
+    (last-stage new.bus ran.reports ran.only changes.table)
     (own-sets kept group new.driver.groups changes.accesses changes.sets)
     (last-sets kept group new.driver.groups changes.accesses changes.sets) ran.goes ran.follows
 

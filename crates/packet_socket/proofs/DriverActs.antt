@@ -3,17 +3,32 @@ use Rattle.std.proofs.Common.{Bool, ◌≡◌, [], ℕ, List, refl, sym, subst}
 use Rattle.std.specs.List.{All}
 use Rattle.bus.proofs.Composition.{happens_none}
 use Rattle.bus.proofs.Lists.{all-none}
-use Rattle.bus.specs.Pasts.{Past, nothing}
+use Rattle.adapter.specs.World.{World}
+use Rattle.bus.specs.Pasts.{Past, joined, nothing}
+use Rattle.bus.specs.declared.event.Access.{Access}
 use Rattle.bus.specs.declared.bus.Bus.{Ghosts}
-use Rattle.bus.proofs.Intervals.{work_kept}
+use Rattle.bus.proofs.Intervals.{joined-nothing, work_kept}
 use Rattle.bus.specs.Calls.{DriverDid, DriverInWorld, FollowsWrites, GoesTo, IsRefilled, Moment, driver_did, driver_in}
 use Rattle.bus.specs.DriverState.{DriverState, holding}
-use Rattle.packet_socket.specs.HostActs.{ActKind, CallStages, IsAccessOf, IsOfDriver, OnlyLastWrites, OverBus, PassesStages, accesses_in}
-use Rattle.packet_socket.specs.HostActs.{changed_by, no_act}
+use Rattle.packet_socket.specs.HostActs.{ActKind, CallStages, IsAccessOf, IsOfDriver, OnlyLastWrites, OverBus, PassesStage, PassesStages}
+use Rattle.packet_socket.specs.HostActs.{Ends, accesses_in, changed_by, no_act}
 use Rattle.packet_socket.specs.HostCalls.{HostMoment, IsReadyHost, driver_at, driver_of, host_at}
 use Rattle.packet_socket.specs.HostEffects.{MakesNoAccess}
 use Rattle.packet_socket.specs.HostState.{HostState}
 use Rattle.packet_socket.proofs.Intervals.{accounts-stay, driver-stays, host-happens, with_driver}
+
+-- The stages of a call
+pub stage : {B : Type 0} {bus : Ghosts B} {made : List Access} {Holds : World → Past → World → Type 0} {Later : B → Past → Type 0} {old : B}
+    {past : Past} (middle : B) (before behind : Past) → bus.happened old middle before → before.accesses ≡ made
+    → Holds (bus.world old) before (bus.world middle) → Later middle behind → past ≡ joined before behind
+    → PassesStage bus made Holds old past Later
+stage middle before behind told are held later whole =
+    record { middle = middle; before = before; reports = told; made_are = are; holds = held; behind = behind; later = later; whole = whole }
+
+pub last-stage : {B : Type 0} {bus : Ghosts B} {made : List Access} {Holds : World → Past → World → Type 0} {old : B} {past : Past}
+    (new : B) → bus.happened old new past → past.accesses ≡ made → Holds (bus.world old) past (bus.world new)
+    → PassesStage bus made Holds old past (λ middle behind. PassesStages bus Ends middle new behind)
+last-stage {past = past} new told are holds = stage new past nothing told are holds (refl, refl) (sym (joined-nothing past))
 
 -- A call that makes no access
 

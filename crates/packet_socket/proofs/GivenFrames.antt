@@ -10,11 +10,11 @@ use Rattle.std.proofs.lemmas.Simd.{map-map}
 use Rattle.dma_memory.specs.Layout.{Counts}
 use Rattle.bus.proofs.Lists.{all-head, all-right, all-without}
 use Rattle.descriptors.specs.Frames.{longest_frame}
-use Rattle.bus.specs.Pasts.{Past, joined, nothing}
+use Rattle.bus.specs.Pasts.{Past, joined}
 use Rattle.bus.specs.declared.bus.Bus.{Ghosts}
 use Rattle.bus.specs.declared.event.Access.{Access}
 use Rattle.bus.proofs.DriverAccesses.{ran_by-join}
-use Rattle.bus.proofs.Intervals.{joined-nothing, work_kept}
+use Rattle.bus.proofs.Intervals.{work_kept}
 use Rattle.bus.specs.Calls.{GoesTo, IsRefilled, Ran, at, driver_did, driver_in, only, stores_from, tail_write}
 use Rattle.bus.specs.DriverState.{DriverState, HandedOut, frame_of, holding, next_receive, piece_numbers, with_owners}
 use Rattle.bus.specs.ReadyDrivers.{ReadyWith, Stands}
@@ -28,6 +28,7 @@ use Rattle.packet_socket.specs.HostCalls.{waiting_frame, waiting_frames, waiting
 use Rattle.packet_socket.specs.HostState.{HostState, SocketsState, all_of, queue_at}
 use Rattle.packet_socket.specs.InsideHost.{host_with}
 use Rattle.packet_socket.specs.declared.socket_kind.SocketKind.{SocketKind}
+use Rattle.packet_socket.proofs.DriverActs.{last-stage}
 use Rattle.packet_socket.proofs.Accounts.{accounts}
 use Rattle.packet_socket.proofs.QueueParts.{Splits}
 use Rattle.packet_socket.proofs.WaitingFrames.{AreLong, AreSame, IsLong, all-long, all-same, ends-as, parts-waiting, queue-frames-same}
@@ -169,16 +170,7 @@ host-receives {up} bus joins old new b socket size received bytes is parts leave
       newest = refills.offered;
       runs = record {
         past = from.past;
-        stages = record {
-          middle = c;
-          before = from.past;
-          reports = from.reports;
-          made_are = from.only;
-          holds = front;
-          behind = nothing;
-          later = (refl, refl);
-          whole = sym (joined-nothing from.past);
-        };
+        stages = last-stage c from.reports from.only front;
         own = receives-of_driver counts h.driver h'.driver received.parts refills.numbers below;
         last_writes = receives-last h.driver h'.driver received.parts refills.numbers;
         changed = record {

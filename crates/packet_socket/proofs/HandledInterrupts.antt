@@ -11,10 +11,11 @@ use Rattle.dma_memory.specs.OwnersLaws.{copies-append, length-no_second}
 use Rattle.adapter.specs.World.{World}
 use Rattle.bus.proofs.Composition.{happens_none}
 use Rattle.bus.proofs.Lists.{all-left, all-right}
-use Rattle.bus.specs.Pasts.{joined, nothing}
+use Rattle.bus.specs.Pasts.{Past, joined, nothing}
+use Rattle.bus.specs.declared.event.Access.TheVariants.{Reads}
 use Rattle.bus.proofs.TakenSlots.{buffers_can_come_back}
 use Rattle.bus.specs.declared.bus.Bus.{Ghosts}
-use Rattle.bus.specs.Calls.{FlowsTo, FollowsWrites, GoesTo, at, driver_did, driver_in}
+use Rattle.bus.specs.Calls.{FlowsTo, FollowsWrites, GoesTo, Moment, at, driver_did, driver_in}
 use Rattle.bus.proofs.Intervals.{joined-nothing}
 use Rattle.bus.proofs.Places.{place-below}
 use Rattle.bus.specs.DriverState.{DriverState, HandedOut, frame_of, holding, next_receive, piece_numbers, owners}
@@ -28,14 +29,15 @@ use Rattle.driver.specs.declared.interrupt.Handled.TheVariants.{NotMine}
 use Rattle.driver.specs.declared.interrupt.Handled.TheVariants as answers
 use Rattle.driver.specs.declared.receiver.Received.{Received}
 use Rattle.driver.proofs.ShownRuns.{served-few}
-use Rattle.packet_socket.specs.HostActs.{OverBus}
+use Rattle.packet_socket.specs.HostActs.{OverBus, PassesStage}
 use Rattle.packet_socket.specs.HostCalls.{HostMoment, HostReadyWith, IsReadyHost, Queues}
 use Rattle.packet_socket.specs.HostCalls.{driver_at, driver_of, socket_entries, host_at, socket_frames, waiting_frame, waiting_frames}
 use Rattle.packet_socket.specs.HostCalls.{waiting_pieces, without_socket}
-use Rattle.packet_socket.specs.HostEffects.{FindsNoCause, HandlesFrames, InterruptEffect}
+use Rattle.packet_socket.specs.HostEffects.{ClearsCauses, FindsNoCause, HandlesFrames, InterruptEffect}
 use Rattle.packet_socket.specs.HostState.{HostState, SocketsState, all_of, queue_at}
 use Rattle.packet_socket.specs.InsideHost.{AreOfHost, host_with}
 use Rattle.packet_socket.specs.Sorting.{Sorts}
+use Rattle.packet_socket.proofs.DriverActs.{last-stage, stage}
 use Rattle.packet_socket.proofs.Accounts.{accounts}
 use Rattle.packet_socket.proofs.DriversAccesses.{causes-of_driver, handles-last, handles-of_driver}
 use Rattle.packet_socket.proofs.ShownFrames.{part-length, queue-frames, unclaimed-frames}
@@ -45,11 +47,20 @@ use Rattle.packet_socket.proofs.WaitingFrames.{AreLong, AreSame, IsLong, all-lon
 use Rattle.packet_socket.proofs.WaitingFrames.{read-pieces, read-stands}
 use Rattle.bus.proofs.Steps.{goes-happens}
 use Rattle.bus.proofs.DriverAccesses.{follows-join}
-use Rattle.packet_socket.proofs.Intervals.{accounts-stay, driver-stays, flows-hold, goes-hold, queues-stand}
+use Rattle.bring_up.proofs.AlikeDrivers.{flows-alike, goes-alike}
+use Rattle.packet_socket.proofs.Intervals.{accounts-stay, driver-stays, queues-stand}
 
 -- the moment of a host with this driver and these sockets
 abbrev pub host_in : {B : Type 0} → Scene B SocketsState → HostMoment B
 host_in now = record { bus = now.bus; host = host_with now.driver now.receiver }
+
+-- The first stage of the handler: a read of ICR.
+reads-first : {up : Bool} {B : Type 0} {bus : Ghosts B} {old : Moment B} {Later : B → Past → Type 0} {past : Past}
+    (behind : Past) (asked : Asked bus up old) → Later asked.after_read behind → past ≡ joined asked.reads.past behind
+    → PassesStage bus (Reads 0x00C0 asked.causes ∷ []) (ClearsCauses asked.causes) old.bus past Later
+reads-first behind asked later whole =
+    let reads = asked.reads in
+    stage asked.after_read reads.past behind reads.reports reads.only (record { seen = reads.seen; cleared = reads.cleared }) later whole
 
 leaves : {up : Bool} {B : Type 0} (bus : Ghosts B) (old : HostMoment B) (new : B) (asked : Asked bus up (driver_at bus old))
     → IsReadyHost bus up old → DoesNothing bus (driver_at bus old) (at new (driver_at bus old).driver) asked
@@ -68,16 +79,7 @@ leaves {up} {B} bus old new asked is it =
       stays = refl;
       runs = record {
         past = reads.past;
-        stages = record {
-          middle = asked.after_read;
-          before = reads.past;
-          reports = reads.reports;
-          made_are = reads.only;
-          holds = record { seen = reads.seen; cleared = reads.cleared };
-          behind = nothing;
-          later = (it.still, refl);
-          whole = sym (joined-nothing reads.past);
-        };
+        stages = reads-first nothing asked (it.still, refl) (sym (joined-nothing reads.past));
         own = causes-of_driver h.driver.layout asked.causes;
         last_writes = tt;
         changed = record {
@@ -264,34 +266,12 @@ works {up} bus old new n sound sound' is asked it serves only_receives =
       loads = w.loads;
       runs = record {
         past = past;
-        stages = record {
-          middle = asked.after_read;
-          before = reads.past;
-          reports = reads.reports;
-          made_are = reads.only;
-          holds = record { seen = reads.seen; cleared = reads.cleared };
-          behind = w.ran.past;
-          later = record {
-            middle = w.split.middle;
-            before = w.split.before;
-            reports = w.split.reaches;
-            made_are = w.split.first_made;
-            holds = record { none_left = w.look.none_left; short = w.look.short; loads_are = w.look.loads_are };
-            behind = w.split.behind;
-            later = record {
-              middle = new.bus;
-              before = w.split.behind;
-              reports = w.split.leaves;
-              made_are = w.split.later_made;
-              holds = λ enabled. let behind = handles.work enabled in record { enabled = behind.enabled; asked = behind.asked };
-              behind = nothing;
-              later = (refl, refl);
-              whole = sym (joined-nothing w.split.behind);
-            };
-            whole = w.split.whole;
-          };
-          whole = refl;
-        };
+        stages = reads-first w.ran.past asked
+            (stage w.split.middle w.split.before w.split.behind w.split.reaches w.split.first_made
+            (record { none_left = w.look.none_left; short = w.look.short; loads_are = w.look.loads_are })
+            (last-stage new.bus w.split.leaves w.split.later_made
+            (λ enabled. let behind = handles.work enabled in record { enabled = behind.enabled; asked = behind.asked }))
+            w.split.whole) refl;
         own = handles-of_driver h.driver.layout h.driver asked.causes w.misses.misses (map piece_numbers frames.taken) w.loads
             w.served.offered (next_receive driver') below;
         last_writes = handles-last h.driver asked.causes w.misses.misses (map piece_numbers frames.taken) w.loads w.served.offered
@@ -299,15 +279,14 @@ works {up} bus old new n sound sound' is asked it serves only_receives =
         changed = record {
           sizes = sound'.sizes;
           driver = record {
-            flows = flows-hold d a last b joined_taken [] past (driver_of h' b).handed_out handles.flows all.ready;
+            flows = flows-alike d.groups last.groups d.handed_out (driver_of h' b).handed_out handles.flows all.ready;
             asked = bus.world asked.after_read;
             causes = asked.causes;
             first = reads.past;
             reads = reads.only;
             later = w.ran.past;
             whole = refl;
-            goes = goes-hold d (bus.world asked.after_read) last b joined_taken [] w.ran.past (driver_of h' b).handed_out w.ran.goes
-                all.ready;
+            goes = goes-alike d.groups last.groups d.handed_out (driver_of h' b).handed_out w.ran.goes all.ready;
           };
           accounts = accounts h a h' b [] joined_taken past.stored frames.shown.kinds handles.flows.holds all.frames grows;
         };
@@ -337,7 +316,3 @@ host-handles {up} {B} bus old new NotMine sound sound' is stays serves only_rece
     (leaves bus (host_in old) new.bus it.asked is left)
 host-handles {up} {B} bus old new (answers.Handled taken) sound sound' is stays serves only_receives it =
     works bus old new taken sound sound' is it.asked it.then_does serves only_receives
-
-pub taken-less : (result : Handled) (P Q : ℕ → Type 0) → ((n : ℕ) → P n → Q n) → IfHandled result P → IfHandled result Q
-taken-less NotMine P Q less holds = tt
-taken-less (answers.Handled taken) P Q less holds = less taken holds

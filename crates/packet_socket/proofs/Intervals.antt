@@ -8,9 +8,9 @@ use Rattle.adapter.specs.World.{World}
 use Rattle.bus.specs.Law.{Happens}
 use Rattle.bus.specs.Pasts.{Past, joined}
 use Rattle.bus.proofs.Steps.{goes-happens}
-use Rattle.bus.specs.Calls.{DriverDid, DriverInWorld, FlowsTo, GoesTo, driver_did, driver_in}
-use Rattle.bus.specs.DriverState.{DriverState, HandedOut, holding}
-use Rattle.bus.specs.ReadyDrivers.{ReadyWith, Stands}
+use Rattle.bus.specs.Calls.{DriverDid, DriverInWorld, GoesTo, driver_did, driver_in}
+use Rattle.bus.specs.DriverState.{DriverState, holding}
+use Rattle.bus.specs.ReadyDrivers.{Stands}
 use Rattle.packet_socket.specs.HostCalls.{Accounts, HostDid, HostGoesTo, HostInWorld, HostInterval, HostReadyWith}
 use Rattle.packet_socket.specs.HostCalls.{did_both, did_nothing, driver_of, in_world, waiting_frame, waiting_frames}
 use Rattle.packet_socket.specs.HostState.{HostState, all_of, queue_at}
@@ -45,39 +45,6 @@ accounts-stay h d a b stored host counts stand holds =
     ∙ queue-frames-same h.driver.layout a.memory b.memory h.queues same socket
     ∙ sym (append-nil (waiting_frames h socket a)))
     (record { least = omega arith; most = omega arith; exactly = λ below. omega arith })
-
--- `FlowsTo` also holds if others hold other pieces at the end, provided that the driver is ready with these pieces.
-abbrev pub flows-hold : {up : Bool} (d : DriverState) (a : World) (e : DriverState) (b : World) (taken sent : List (List ℕ)) (past : Past)
-    (held : List HandedOut) → FlowsTo up (driver_in d a) (driver_in e b) (driver_did taken sent) past → ReadyWith up (holding held e) b
-    → FlowsTo up (driver_in d a) (driver_in (holding held e) b) (driver_did taken sent) past
-flows-hold d a e b taken sent past held flows ready = record {
-  ready = ready;
-  layout = flows.layout;
-  sends = flows.sends;
-  holds = flows.holds;
-  least = flows.least;
-  frees = flows.frees;
-  mask = flows.mask;
-  misses = record {
-    sum = flows.misses.sum;
-    counted = flows.misses.counted;
-    sticks = flows.misses.sticks;
-    at_most = flows.misses.at_most;
-    exactly = λ exact below_greatest. let all =
-        flows.misses.exactly exact below_greatest in record { exact = all.exact; below_greatest = all.below_greatest; sum = all.sum };
-    stays_exact = flows.misses.stays_exact;
-    small = flows.misses.small;
-  };
-}
-
-abbrev pub goes-hold : {up : Bool} (d : DriverState) (a : World) (e : DriverState) (b : World) (taken sent : List (List ℕ)) (past : Past)
-    (held : List HandedOut) → GoesTo up (driver_in d a) (driver_in e b) (driver_did taken sent) past → ReadyWith up (holding held e) b
-    → GoesTo up (driver_in d a) (driver_in (holding held e) b) (driver_did taken sent) past
-goes-hold d a e b taken sent past held goes ready = record {
-  flows = flows-hold d a e b taken sent past held goes.flows ready;
-  causes = goes.causes;
-  recorded = goes.recorded;
-}
 
 pub host-happens : {up : Bool} (h : HostState) (a b : World) (past : Past) → HostReadyWith up h a → Happens a b past
     → HostGoesTo up (in_world h a) (in_world h b) did_nothing past

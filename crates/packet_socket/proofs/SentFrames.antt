@@ -4,15 +4,15 @@ use Rattle.std.specs.List.{All}
 use Rattle.std.specs.Prelude.{Err, Ok, ◌↔◌}
 use Rattle.dma_memory.specs.Layout.{Counts}
 use Rattle.descriptors.specs.Frames.{longest_frame, padded, shortest_sent}
-use Rattle.adapter.specs.Slots.{written_back}
+use Rattle.adapter.specs.Slots.{written_back_slots}
 use Rattle.adapter.specs.World.{World}
 use Rattle.adapter.specs.declared.offsets.TheConstants.{TDT}
-use Rattle.bus.specs.Pasts.{Past, joined, nothing}
+use Rattle.bus.specs.Pasts.{Past, joined}
 use Rattle.bus.specs.declared.bus.Bus.{Ghosts}
 use Rattle.bus.specs.declared.event.Access.{Access}
 use Rattle.bus.specs.declared.event.Access.TheVariants.{Stores, Writes}
 use Rattle.bus.proofs.FramesCounted.{slots_have_frames}
-use Rattle.bus.proofs.Intervals.{goes_join, joined-nothing}
+use Rattle.bus.proofs.Intervals.{goes_join}
 use Rattle.bus.specs.Calls.{FollowsWrites, GoesTo, IsRefilled, Moment, driver_did, driver_in, held_at, send_accesses}
 use Rattle.bus.specs.Calls.{transmit_buffer, whole_descriptor}
 use Rattle.bus.specs.DriverState.{DriverState, holding, transmit_slot, transmit_tail}
@@ -24,7 +24,7 @@ use Rattle.packet_socket.specs.HostCalls.{HostMoment, IsReadyHost, driver_at, dr
 use Rattle.packet_socket.specs.HostEffects.{AreLeft, IsSendable, SendEffect}
 use Rattle.packet_socket.specs.HostState.{HostState}
 use Rattle.packet_socket.proofs.DriversAccesses.{frees-last, frees-of_driver, sends-last, sends-of_driver}
-use Rattle.packet_socket.proofs.DriverActs.{driver-acts, makes-none}
+use Rattle.packet_socket.proofs.DriverActs.{driver-acts, last-stage, makes-none, stage}
 use Rattle.bus.proofs.DriverAccesses.{follows-join}
 use Rattle.packet_socket.proofs.Intervals.{with_driver}
 
@@ -47,7 +47,7 @@ send-acts bus old new accepted stages past is others passes own last goes follow
     (λ refilled. subst (λ (host : HostState). IsRefilled host.driver) (sym others) refilled)
     (λ offered. subst (λ (host : HostState). host.driver.staged ≡ []) (sym others) offered) passes own last goes follows
 
-left-over : (d : DriverState) (world : World) → Ready d world → written_back d.oldest_transmit world ≡ []
+left-over : (d : DriverState) (world : World) → Ready d world → written_back_slots d.oldest_transmit world ≡ []
     → AreLeft d.oldest_transmit d.sending world
 left-over d world ready none =
     let count = (slots_have_frames d world ready).count in
@@ -88,16 +88,8 @@ host-sends bus old new frame (Err RingFull) is short long none others sent =
       stays = others ∙ ap (λ (s : DriverState). let host : HostState = record h
           { driver = with_transmit_slots h.driver s.oldest_transmit s.sending } in host) full.same;
       runs = send-acts bus old new [] _ ran.past is others
-          (record {
-            middle = new.bus;
-            before = ran.past;
-            reports = ran.reports;
-            made_are = ran.only;
-            holds = left-over (holding d.handed_out new.driver) (bus.world new.bus) ran.goes.flows.ready sent.frees_first.none;
-            behind = nothing;
-            later = (refl, refl);
-            whole = sym (joined-nothing ran.past);
-          })
+          (last-stage new.bus ran.reports ran.only
+          (left-over (holding d.handed_out new.driver) (bus.world new.bus) ran.goes.flows.ready sent.frees_first.none))
           (frees-of_driver h.driver.layout h.driver new.driver.sending) (frees-last h.driver new.driver.sending) ran.goes ran.follows;
     }
 host-sends bus old new frame (Ok u) is short long none others sent =
@@ -121,27 +113,11 @@ host-sends bus old new frame (Ok u) is short long none others sent =
       some = sent.answer.some;
       others = others;
       runs = send-acts bus old new (padded frame ∷ []) _ (joined frees.past sends.past) is others
-          (record {
-            middle = between;
-            before = frees.past;
-            reports = frees.reports;
-            made_are = frees.only ∙ ap (λ (n : ℕ). loads_to_free h.driver n) left;
-            holds = subst (λ (n : ℕ). AreLeft new.driver.oldest_transmit n (bus.world between)) left
-                (subst (λ (slot : ℕ). AreLeft slot freed.sending (bus.world between)) (sym oldest)
-                (left-over freed (bus.world between) frees.goes.flows.ready parts.reclaims.none));
-            behind = sends.past;
-            later = record {
-              middle = new.bus;
-              before = sends.past;
-              reports = sends.reports;
-              made_are = sends.only ∙ sends-same h.driver freed frame layout parts.tail;
-              holds = tt;
-              behind = nothing;
-              later = (refl, refl);
-              whole = sym (joined-nothing sends.past);
-            };
-            whole = refl;
-          })
+          (stage between frees.past sends.past frees.reports (frees.only ∙ ap (λ (n : ℕ). loads_to_free h.driver n) left)
+          (subst (λ (n : ℕ). AreLeft new.driver.oldest_transmit n (bus.world between)) left
+          (subst (λ (slot : ℕ). AreLeft slot freed.sending (bus.world between)) (sym oldest)
+          (left-over freed (bus.world between) frees.goes.flows.ready parts.reclaims.none)))
+          (last-stage new.bus sends.reports (sends.only ∙ sends-same h.driver freed frame layout parts.tail) tt) refl)
           (sends-of_driver h.driver.layout h.driver (new.driver.sending - 1) frame refl some)
           (sends-last h.driver (new.driver.sending - 1) frame)
           (goes_join d freed (holding d.handed_out new.driver) a (bus.world between) c [] [] [] (padded frame ∷ []) frees.past sends.past

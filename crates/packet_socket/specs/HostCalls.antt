@@ -104,11 +104,11 @@ pub record Accounts (h : HostState) (a : World) (h' : HostState) (b : World) (gi
   -- if the count at the end is below the greatest u64, this number grows by exactly the number of such frames stored
   pub exactly : h'.unclaimed < count_limit - 1 → unclaimed_in h' b ≡ unclaimed_in h a + without_socket h.kinds stored
 
--- A host with its world, at one point of a run.
+-- A host with its world, which is its adapter and memory, at one point of a run.
 pub record HostInWorld : Type 0 where
   -- the host
   pub host : HostState
-  -- the host's adapter and memory
+  -- its adapter and memory
   pub world : World
 
 -- this host in this world

@@ -9,7 +9,7 @@ use Rattle.descriptors.specs.Frames.{longest_frame, shortest_sent}
 use Rattle.rx_engine.specs.Addresses.{IsGroup}
 use Rattle.rx_engine.specs.GroupLists.{Removes}
 use Rattle.adapter.specs.HostFrames.{frames_to_send}
-use Rattle.adapter.specs.Slots.{written_back}
+use Rattle.adapter.specs.Slots.{written_back_slots}
 use Rattle.adapter.specs.World.{World}
 use Rattle.adapter.specs.declared.offsets.TheConstants.{ICR}
 use Rattle.bring_up.specs.WrittenRegisters.{handled_causes}
@@ -48,7 +48,7 @@ pub record MakesNoAccess (h h' : HostState) (Runs : HostAct → Type 0) : Type 0
 -- Of the transmit slots from the index `oldest` on, no slot is written back, and `left` frames are still to be sent.
 pub record AreLeft (oldest left : ℕ) (world : World) : Type 0 where
   -- no outstanding slot is written back
-  pub none : written_back oldest world ≡ []
+  pub none : written_back_slots oldest world ≡ []
   -- `left` frames are still to be sent
   pub frames : length (frames_to_send world) ≡ left
 
@@ -65,7 +65,7 @@ pub record AcceptsFrame (frame : List ℕ) (h h' : HostState) (Runs : HostAct �
   -- the frame has a valid size
   pub sendable : IsSendable frame
   -- the number of freed slots is at least the number of slots that were written back when the call began
-  pub freed : length (written_back h.driver.oldest_transmit world) + h'.driver.sending ≤ h.driver.sending + 1
+  pub freed : length (written_back_slots h.driver.oldest_transmit world) + h'.driver.sending ≤ h.driver.sending + 1
   -- at least the frame's slot is outstanding
   pub some : 0 < h'.driver.sending
   -- In the host, only the outstanding transmit slots change.

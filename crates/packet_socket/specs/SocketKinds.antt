@@ -9,9 +9,9 @@ is_of_type ether_type (Ether own) = own == ether_type
 is_of_type ether_type All = false
 
 -- whether a socket is an `All` socket
-abbrev pub takes_all : SocketKind → Bool
-takes_all (Ether own) = false
-takes_all All = true
+abbrev pub is_all : SocketKind → Bool
+is_all (Ether own) = false
+is_all All = true
 
 -- the first socket number if there is one, else the second
 abbrev pub number_or_else : Option ℕ → Option ℕ → Option ℕ
@@ -21,7 +21,7 @@ number_or_else None second = second
 -- The socket of an EtherType: the first `Ether` socket of this EtherType in the table, else the first `All` socket,
 -- else no socket.
 abbrev pub socket_of : List SocketKind → ℕ → Option ℕ
-socket_of kinds ether_type = number_or_else (position (is_of_type ether_type) kinds) (position takes_all kinds)
+socket_of kinds ether_type = number_or_else (position (is_of_type ether_type) kinds) (position is_all kinds)
 
 -- whether a position was found, and is the number of this socket
 abbrev pub is_position : ℕ → Option ℕ → Bool

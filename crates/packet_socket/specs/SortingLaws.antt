@@ -8,6 +8,7 @@ use Rattle.std.proofs.lemmas.List.{append-nil, length-set}
 use Rattle.std.proofs.lemmas.List.Elements.{filter-append}
 use Rattle.std.proofs.lemmas.List.Sorted.{IsPermutation-append_left, IsPermutation-refl, IsPermutation-trans, length_permutation}
 use Rattle.std.proofs.lemmas.List.Sums.{sum_by-append, sum_by-cons}
+use Rattle.driver.specs.GrowsLaws.{grows-join, grows-none}
 use Rattle.driver.specs.HandlerSteps.{GrowsBy, count_limit}
 use Rattle.driver.specs.declared.receiver.Received.{Received}
 use Rattle.packet_socket.specs.SocketKinds.{goes_to, has_none, has_socket, socket_of}
@@ -18,19 +19,6 @@ use Rattle.packet_socket.specs.declared.socket_kind.SocketKind.{SocketKind}
 use Rattle.packet_socket.specs.QueueLaws.{queue-within, queues-pushed}
 
 -- Counts that saturate
-
-grows-none : (a : ℕ) → GrowsBy a a 0
-grows-none a = record { least = omega arith; most = omega arith; exactly = λ below. omega arith }
-
-pub grows-join : (a b c m n : ℕ) → GrowsBy a b m → GrowsBy b c n → GrowsBy a c (m + n)
-grows-join a b c m n one two = record {
-  least = omega (arith, one.least, two.least);
-  most = omega (arith, one.most, two.most);
-  exactly = λ below.
-      let later = two.exactly below in
-      let before = one.exactly (omega (arith, two.least, below)) in
-      omega (arith, before, later);
-}
 
 grows-one : (a b : ℕ) → a < count_limit → b ≡ min (a + 1) (count_limit - 1) → GrowsBy a b 1
 grows-one a b fits is = record

@@ -17,7 +17,8 @@ ghost use Rattle.driver.specs.declared.transmit.SendError.TheVariants as SendErr
 ghost use Rattle.packet_socket.specs.HostActs.{CallsUp};
 ghost use Rattle.packet_socket.specs.HostCalls.{HostReady, host_at};
 ghost use Rattle.packet_socket.specs.HostEffects.{SendEffect};
-ghost use Rattle.packet_socket.specs.HostState.{IsNewHost, all_of, queue_at};
+ghost use Rattle.packet_socket.specs.HostState.{IsNewHost, all_of, queue_at, HostState};
+ghost use Rattle.packet_socket.specs.InsideHost.{IsConsistentHost, host_inside};
 
 use crate::SocketKind;
 use crate::sockets::{MOST_SOCKETS, Sockets};
@@ -37,11 +38,7 @@ pub struct Host {
 }
 
 impl Model for Host {
-    ghost use Rattle.packet_socket.specs.HostState.{HostState};
-
     ghost Value = { HostState };
-
-    ghost use Rattle.packet_socket.specs.InsideHost.{IsConsistentHost, host_inside};
 
     ghost view = { host_inside };
 

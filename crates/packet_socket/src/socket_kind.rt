@@ -15,7 +15,7 @@ pub enum SocketKind {
 
 impl SocketKind {
     /// Returns whether this is an `Ether` socket of this EtherType.
-    fn is_of(self, ether_type: u16) -> bool
+    fn is_of_type(self, ether_type: u16) -> bool
         ensures { result ≡ kinds.is_of_type ether_type self }
     {
         match self {
@@ -25,8 +25,8 @@ impl SocketKind {
     }
 
     /// Returns whether this is an `All` socket.
-    fn takes_all(self) -> bool
-        ensures { result ≡ kinds.takes_all self }
+    fn is_all(self) -> bool
+        ensures { result ≡ kinds.is_all self }
     {
         match self {
             SocketKind::Ether(_) => false,
@@ -36,17 +36,17 @@ impl SocketKind {
 }
 
 /// Returns the index of the first `Ether` socket of this EtherType, if there is such a socket.
-fn first_of(table: &[SocketKind], ether_type: u16) -> Option<usize>
+fn first_of_type(table: &[SocketKind], ether_type: u16) -> Option<usize>
     ensures { result ≡ position (kinds.is_of_type ether_type) table.now }
 {
-    table.iter().position(|kind| kind.is_of(ether_type))
+    table.iter().position(|kind| kind.is_of_type(ether_type))
 }
 
 /// Returns the index of the first `All` socket, if there is such a socket.
-fn first_for_all(table: &[SocketKind]) -> Option<usize>
-    ensures { result ≡ position kinds.takes_all table.now }
+fn first_all(table: &[SocketKind]) -> Option<usize>
+    ensures { result ≡ position kinds.is_all table.now }
 {
-    table.iter().position(|kind| kind.takes_all())
+    table.iter().position(|kind| kind.is_all())
 }
 
 /// Returns the index of the socket that takes frames of this EtherType. This is the first `Ether` socket of the
@@ -55,8 +55,8 @@ pub(crate) fn socket_of(table: &[SocketKind], ether_type: u16) -> Option<usize>
     ensures socket { result ≡ kinds.socket_of table.now ether_type }
     ensures there { IfSome result (λ socket. socket < length table.now) }
 {
-    match first_of(table, ether_type) {
+    match first_of_type(table, ether_type) {
         Some(own) => Some(own),
-        None => first_for_all(table),
+        None => first_all(table),
     }
 }

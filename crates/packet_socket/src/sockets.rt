@@ -1,8 +1,9 @@
 // The sockets of a host, each with a queue of received frames.
 
 ghost use Rattle.std.specs.Prelude.{◌≡◌, ◌<◌, ◌∷◌, [], IfNone, IfOk, IfSome, length, replicate, slice_set};
-ghost use Rattle.packet_socket.specs.HostState.{queue_at};
+ghost use Rattle.packet_socket.specs.HostState.{queue_at, SocketsState};
 ghost use Rattle.packet_socket.specs.Sorting.{Sorts};
+ghost use Rattle.packet_socket.specs.InsideSockets.{AreConsistent, sockets_of};
 
 use crate::SocketKind;
 use crate::socket_kind::socket_of;
@@ -18,6 +19,7 @@ pub const MOST_SOCKETS: usize = 8;
 /// The sockets of a host, each with a queue of received frames, the oldest first.
 #[derive(Drop)]
 pub(crate) struct Sockets {
+    /// Which frames each socket takes, in the order of the table.
     kinds: ArrayVec<SocketKind, MOST_SOCKETS>,
     /// The queue of each socket.
     queues: Vec<HeapCircularBuffer<Received>>,
@@ -28,11 +30,7 @@ pub(crate) struct Sockets {
 }
 
 impl Model for Sockets {
-    ghost use Rattle.packet_socket.specs.HostState.{SocketsState};
-
     ghost Value = { SocketsState };
-
-    ghost use Rattle.packet_socket.specs.InsideSockets.{AreConsistent, sockets_of};
 
     ghost view = { sockets_of };
 
@@ -117,6 +115,7 @@ impl Receiver for Sockets {
             self.unclaimed = self.unclaimed.saturating_add(1);
             return received.parts;
         };
+        // In a host, the queue has room, so it drops no frame.
         let _ = self.queues[socket].push_back(received);
         Parts::new()
     }

@@ -1,12 +1,11 @@
-use Rattle.std.proofs.Common.{◌≡◌, ◌∙◌}
+use Rattle.std.proofs.Common.{◌≡◌, ◌∙◌, refl}
 use Rattle.bring_up.proofs.DriverAccesses.{enables-causes}
-use Rattle.bring_up.proofs.Steps.{only-word}
+use Rattle.bring_up.proofs.Steps.{only-write}
 use Rattle.bring_up.proofs.controls.enable_interrupts.Goals as goal
 
 pub returns-clause-sets : goal.returns-clause-sets
 returns-clause-sets g c honest =
-    only-word g.B.Bus c.args.bus.now c.write.new.self 0x00D0 c.bits.result 0xD1
-    (c.bits.ensures tt ∙ c.interrupt_causes.ensures) (c.write.ensures.acts honest)
+    only-write refl (c.bits.ensures tt ∙ c.interrupt_causes.ensures) (c.write.ensures.acts honest)
 
 pub returns-clause-enables : goal.returns-clause-enables
 returns-clause-enables g c d is =

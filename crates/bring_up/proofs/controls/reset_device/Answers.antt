@@ -3,7 +3,7 @@ use Rattle.adapter.specs.World.{World}
 use Rattle.bus.proofs.Lists.{all-none}
 use Rattle.bring_up.proofs.WritesAtRest.{mask-aside, read-forgets, reset-rests}
 use Rattle.bring_up.specs.SettingSteps.{IsAside}
-use Rattle.bring_up.proofs.Steps.{only-word, sets-join, sets-read, sets-write}
+use Rattle.bring_up.proofs.Steps.{sets-join, sets-read, sets-write}
 use Rattle.bring_up.proofs.DriverResets.{resets}
 use Rattle.bring_up.proofs.controls.reset_device.Goals as goal
 
@@ -11,8 +11,7 @@ pub returns-clause-sets : goal.returns-clause-sets
 returns-clause-sets g c honest =
     let joins = g.met.B.Bus.composes.joins in
     let start = c.args.bus.now in
-    let one = (only-word g.B.Bus start c.write.new.self 0x0000 c.bits.result 0x04000000 (c.bits.ensures tt)
-    (c.write.ensures.acts honest)).sets in
+    let one = sets-write g.B.Bus start c.write.new.self 0x0000 0x04000000 (rw (c.bits.ensures tt) at (c.write.ensures.acts honest)) in
     let still = c.write.ensures.keeps.honest honest in
     let two = sets-write g.B.Bus c.write.new.self c.write-2.new.self 0x00D8 0xFFFFFFFF (c.write-2.ensures.acts still) in
     let three = sets-read g.B.Bus c.write-2.new.self c.read.new.self 0x00C0 c.read.result _

@@ -1,14 +1,13 @@
-use Rattle.std.proofs.Common.{◌∙◌, ℕ, ap}
+use Rattle.std.proofs.Common.{◌∙◌, ℕ, ap, refl}
 use Rattle.adapter.specs.World.{world_after_write}
 use Rattle.bus.proofs.Links.{happenings_keep_link}
 use Rattle.bring_up.proofs.DriverResets.{link_control-keeps}
-use Rattle.bring_up.proofs.Steps.{only-word}
+use Rattle.bring_up.proofs.Steps.{only-write}
 use Rattle.bring_up.proofs.controls.set_link_up.Goals as goal
 
 pub returns-clause-sets : goal.returns-clause-sets
 returns-clause-sets g c honest =
-    only-word g.B.Bus c.args.bus.now c.write.new.self 0x0000 c.bits.result 0x60 (c.bits.ensures tt
-    ∙ c.union.ensures tt) (c.write.ensures.acts honest)
+    only-write refl (c.bits.ensures tt ∙ c.union.ensures tt) (c.write.ensures.acts honest)
 
 pub returns-clause-link : goal.returns-clause-link
 returns-clause-link g c honest link =

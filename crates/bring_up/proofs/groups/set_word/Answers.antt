@@ -1,5 +1,5 @@
 use Rattle.std.proofs.Common.{◌+◌, ◌*◌}
-use Rattle.bring_up.proofs.DriverAccesses.{WriteActs}
+use Rattle.bring_up.specs.SettingSteps.{WriteActs}
 use Rattle.bring_up.proofs.Words.{table-after, word-ran}
 use Rattle.bring_up.proofs.groups.set_word.Goals as goal
 

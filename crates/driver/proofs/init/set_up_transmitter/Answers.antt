@@ -39,4 +39,5 @@ returns-clause-ran g c d is counts oldest none new =
       long = ap (λ (ring : RingPlace). ring.bytes) place ∙ ap (λ (s : Counts). 16 * s.tx) (sym counts);
     })))
     (λ there below knows.
-    c.enable_transmitter.ensures.ran d (record { honest = c.set_transmit_ring.ensures.keeps.honest h1; ready = there }) below knows)
+    c.enable_transmitter.ensures.ran d (record { honest = c.set_transmit_ring.ensures.keeps.honest h1; ready = there })
+    (record { oldest = below; knows = knows }))

@@ -1,30 +1,25 @@
 use Rattle.std.proofs.Common.{◌++◌, ℕ, List, drop, length, refl, sym, ap, subst, ◌∙◌, arith}
-use Rattle.dma_memory.specs.Owners.{HasNoSecondOwner, copies}
+use Rattle.dma_memory.specs.Owners.{HasNoSecondOwner, HaveSameNumbers, copies}
+use Rattle.dma_memory.specs.OwnersLaws.{copies-append}
 use Rattle.circular_buffer.specs.Buffer.{Buffer}
 use Rattle.std.proofs.lemmas.List.{append-nil}
-use Rattle.driver.proofs.BuffersGiven.{back-given, back-known, front-first, none-left}
+use Rattle.driver.proofs.BuffersGiven.{Splits, can-return, front-first, none-left, returned, splits-queue}
+use Rattle.driver.proofs.reset.give_buffers.Goals.{In-Some}
 use Rattle.driver.proofs.reset.give_buffers.Goals as goal
 
 pub loop-buffer-init : goal.loop-buffer-init
 loop-buffer-init c = record { same = λ k. refl; buffers = refl; capacity = refl }
 
-pub give-requires-clause-known : goal.give-requires-clause-known
-give-requires-clause-known c =
-    let i = c.loop-buffer.invariant in
-    let items = c.loop-buffer.buffers.items in
-    let all = c.args.pool.now.free ++ c.args.buffers.now.items in
-    (back-known c.loop-buffer.pool.buffers all c.in-Some.buffer (drop 1 items) items c.loop-buffer.pool.free
-    (front-first items c.in-Some.buffer c.in-Some.ensures.value)
-    i.same (subst (λ (n : ℕ). HasNoSecondOwner n all) (sym i.buffers) c.requires)).0
+left : (c : In-Some)
+    → Splits (c.args.pool.now.free ++ c.args.buffers.now.items) c.in-Some.buffer (drop 1 c.loop-buffer.buffers.items) c.loop-buffer.pool.free
+left c = splits-queue _ c.loop-buffer.buffers.items _ c.in-Some.ensures.value c.loop-buffer.invariant.same
 
-pub give-requires-clause-out : goal.give-requires-clause-out
-give-requires-clause-out c =
-    let i = c.loop-buffer.invariant in
-    let items = c.loop-buffer.buffers.items in
-    let all = c.args.pool.now.free ++ c.args.buffers.now.items in
-    (back-known c.loop-buffer.pool.buffers all c.in-Some.buffer (drop 1 items) items c.loop-buffer.pool.free
-    (front-first items c.in-Some.buffer c.in-Some.ensures.value)
-    i.same (subst (λ (n : ℕ). HasNoSecondOwner n all) (sym i.buffers) c.requires)).1
+pub give-requires : goal.give-requires
+give-requires c =
+    let can = can-return (left (goal.at.give-requires c).In-Some)
+    (subst (λ (n : ℕ). HasNoSecondOwner n (c.args.pool.now.free ++ c.args.buffers.now.items)) (sym c.loop-buffer.invariant.buffers)
+    c.requires) in
+    record { known = can.known; out = can.out }
 
 pub loop-buffer-smaller : goal.loop-buffer-smaller
 loop-buffer-smaller c =
@@ -36,13 +31,12 @@ loop-buffer-smaller c =
 pub loop-buffer-preserved : goal.loop-buffer-preserved
 loop-buffer-preserved c =
     let i = c.loop-buffer.invariant in
-    let items = c.loop-buffer.buffers.items in
-    let all = c.args.pool.now.free ++ c.args.buffers.now.items in
+    let rest = drop 1 c.loop-buffer.buffers.items in
+    let free = c.give.new.self.free in
+    let given = returned free (left (goal.at.loop-buffer-preserved c).In-Some) c.give.ensures.given in
     record {
-      same = subst (λ (b : Buffer ℕ). Rattle.dma_memory.specs.Owners.HaveSameNumbers all (c.give.new.self.free ++ b.items))
-          (sym c.in-Some.ensures.items)
-          (back-given all c.in-Some.buffer (drop 1 items) items c.loop-buffer.pool.free c.give.new.self.free
-          (front-first items c.in-Some.buffer c.in-Some.ensures.value) i.same c.give.ensures.given);
+      same = subst (λ (b : Buffer ℕ). HaveSameNumbers (c.args.pool.now.free ++ c.args.buffers.now.items) (free ++ b.items))
+          (sym c.in-Some.ensures.items) (λ k. omega (arith, given k, copies-append k rest free, copies-append k free rest));
       buffers = c.give.ensures.buffers ∙ i.buffers;
       capacity = ap (λ (b : Buffer ℕ). b.capacity) c.in-Some.ensures.items ∙ i.capacity;
     }

@@ -1,11 +1,11 @@
 use Rattle.std.proofs.Common.{rules, ◌≡◌, ◌≤◌, ◌<◌, ◌++◌, ◌∷◌, [], ℕ, List, length, sym, ap, subst, ◌∙◌, arith}
-use Rattle.std.specs.Prelude.{true, false, IsTrue, ◌==◌}
+use Rattle.std.specs.Prelude.{false, ◌==◌}
+use Rattle.std.proofs.lemmas.Bool.{false≢true}
 use Rattle.std.proofs.lemmas.Bool.Decides.{nat_tests}
 use Rattle.rx_engine.specs.Addresses.{IsGroup}
-use Rattle.rx_engine.specs.NumberTables.{numbers_of_groups}
 use Rattle.bus.specs.Calls.{at}
-use Rattle.bring_up.specs.Groups.{AreJoined, ChangesJoined, HasNumber, group_number_of, with_groups}
-use Rattle.bring_up.proofs.Numbers.{elsewhere, group-added, shared-more}
+use Rattle.bring_up.specs.Groups.{AreJoined, ChangesJoined, with_groups}
+use Rattle.bring_up.proofs.Numbers.{joins-one}
 use Rattle.bring_up.proofs.JoinedLists.{joined-more}
 use Rattle.bring_up.proofs.Words.{changes-shared, changes-written}
 use Rattle.bring_up.proofs.groups.Groups.join.Goals.{then-not-shares, else-not-shares}
@@ -31,37 +31,22 @@ invariant_of-self g c =
     let room : length old < 32 = returns-clause-room g c in
     let is : IsGroup group = search rules in
     subst (λ (l : List (List ℕ)). AreJoined l) (sym list)
-    (joined-more old group joined room is (λ has. absurd (let t : IsTrue c.contains.result = c.contains.ensures.is.1 has in
-    let never : true ≡ false = sym t ∙ c.if-contains.false in cc)))
+    (joined-more old group joined room is (λ has. absurd (false≢true (sym c.if-contains.false ∙ c.contains.ensures.is.1 has))))
 
 pub returns-clause-changes : goal.returns-clause-changes
 returns-clause-changes g c up d is_ready =
-    let bus = g.B.Bus in
     let b = c.args.bus.now in
-    let group = c.args.group in
     let old = c.args.self.now in
-    let new = old ++ group ∷ [] in
-    let list : c.push.new.self.items ≡ new = c.push.ensures.items ∙ ap (λ (l : List (List ℕ)). l ++ group ∷ []) c.self.view_is in
-    let more = group-added old group in
-    subst (λ (l : List (List ℕ)). ChangesJoined bus up old group (at b (with_groups old d)) (at c.if-not-shares.bus (with_groups l d)))
-    (sym list)
-    (elim c.if-not-shares.branch [
-      | then-not-shares w ↦
-          let apart : ¬ (HasNumber old group) = λ has. absurd (
-          let t : IsTrue c.has_number-shares.result = c.has_number-shares.ensures.1 has in
-          let never : true ≡ false = sym t ∙ w.if-not-shares.true in cc) in
-          subst (λ x. ChangesJoined bus up old group (at b (with_groups old d)) (at x (with_groups new d))) (sym w.bus-is)
-          (changes-written bus b w.write_word.new.bus d old old new group apart
-          (λ n other. elsewhere (numbers_of_groups old) (numbers_of_groups new) (group_number_of group) n more other)
+    let new = old ++ c.args.group ∷ [] in
+    let one = joins-one old c.args.group in
+    let list : c.push.new.self.items ≡ new = c.push.ensures.items ∙ ap (λ (l : List (List ℕ)). l ++ c.args.group ∷ []) c.self.view_is in
+    subst (λ (l : List (List ℕ)). ChangesJoined g.B.Bus up old c.args.group (at b (with_groups old d))
+    (at c.if-not-shares.bus (with_groups l d))) (sym list) (elim c.if-not-shares.branch [
+      | then-not-shares w ↦ subst (λ x. ChangesJoined g.B.Bus up old c.args.group (at b (with_groups old d)) (at x (with_groups new d)))
+          (sym w.bus-is)
+          (changes-written one (λ has. absurd (false≢true (sym w.if-not-shares.true ∙ c.has_number-shares.ensures.1 has)))
           (rw (w.as_slice.ensures.value, list) at (w.write_word.ensures.rewrites up d is_ready)))
-      | else-not-shares w ↦
-          let shared : HasNumber old group = c.has_number-shares.ensures.0 w.if-not-shares.false in
-          subst (λ x. ChangesJoined bus up old group (at b (with_groups old d)) (at x (with_groups new d))) (sym w.bus-is)
-          (changes-shared bus g.met.B.Bus.composes.stays b d old old new group is_ready.ready shared
-          (λ had. record {
-            numbers = shared-more (bus.world b).adapter.filter.mta (numbers_of_groups old) (numbers_of_groups new) (group_number_of group)
-                more
-                shared had.numbers;
-            words = had.words;
-          }))
+      | else-not-shares w ↦ subst (λ x. ChangesJoined g.B.Bus up old c.args.group (at b (with_groups old d)) (at x (with_groups new d)))
+          (sym w.bus-is)
+          (changes-shared g.met.B.Bus.composes.stays b d one is_ready.ready (c.has_number-shares.ensures.0 w.if-not-shares.false))
     ])

@@ -1,11 +1,11 @@
 use Rattle.std.proofs.Common.{◌≡◌, ℕ, List, sym, ap, subst, ◌∙◌}
-use Rattle.std.specs.Prelude.{true, false, IsTrue, slice_get, Some}
+use Rattle.std.specs.Prelude.{slice_get, Some}
+use Rattle.std.proofs.lemmas.Bool.{false≢true}
 use Rattle.std.specs.List.{remove}
-use Rattle.rx_engine.specs.NumberTables.{numbers_of_groups}
 use Rattle.rx_engine.specs.GroupLists.{Removes}
 use Rattle.bus.specs.Calls.{at}
-use Rattle.bring_up.specs.Groups.{AreJoined, ChangesJoined, HasNumber, group_number_of, with_groups}
-use Rattle.bring_up.proofs.Numbers.{elsewhere, group-removed, shared-fewer, turned}
+use Rattle.bring_up.specs.Groups.{AreJoined, ChangesJoined, with_groups}
+use Rattle.bring_up.proofs.Numbers.{leaves-one}
 use Rattle.bring_up.proofs.JoinedLists.{joined-fewer, removed-at, removed-had}
 use Rattle.bring_up.proofs.Words.{changes-shared, changes-written}
 use Rattle.bring_up.proofs.groups.Groups.leave.Goals.{then-not-has_number, else-not-has_number}
@@ -40,28 +40,16 @@ returns-clause-not_joined g c = (
 
 pub returns-clause-changes : goal.returns-clause-changes
 returns-clause-changes g c up d is_ready =
-    let bus = g.B.Bus in
     let b = c.args.bus.now in
-    let group = c.args.group in
     let old = c.args.self.now in
     let new = c.remove.new.self.items in
-    let more = group-removed old new group (returns-clause-list g c) in
+    let one = leaves-one (returns-clause-list g c) in
     elim c.if-not-has_number.branch [
       | then-not-has_number w ↦
-          let apart : ¬ (HasNumber new group) = λ has. absurd (let t : IsTrue c.has_number.result = c.has_number.ensures.1 has in
-          let never : true ≡ false = sym t ∙ w.if-not-has_number.true in cc) in
-          subst (λ x. ChangesJoined bus up new group (at b (with_groups old d)) (at x (with_groups new d))) (sym w.bus-is)
-          (changes-written bus b w.write_word.new.bus d new old new group apart
-          (λ n other. turned (elsewhere (numbers_of_groups new) (numbers_of_groups old) (group_number_of group) n more other))
-          (rw w.as_slice-left.ensures.value at (w.write_word.ensures.rewrites up d is_ready)))
+          subst (λ x. ChangesJoined g.B.Bus up new c.args.group (at b (with_groups old d)) (at x (with_groups new d))) (sym w.bus-is)
+          (changes-written one (λ has. absurd (false≢true (sym w.if-not-has_number.true ∙ c.has_number.ensures.1 has)))
+          (rw w.as_slice.ensures.value at (w.write_word.ensures.rewrites up d is_ready)))
       | else-not-has_number w ↦
-          let shared : HasNumber new group = c.has_number.ensures.0 w.if-not-has_number.false in
-          subst (λ x. ChangesJoined bus up new group (at b (with_groups old d)) (at x (with_groups new d))) (sym w.bus-is)
-          (changes-shared bus g.met.B.Bus.composes.stays b d new old new group is_ready.ready shared
-          (λ had. record {
-            numbers = shared-fewer (bus.world b).adapter.filter.mta (numbers_of_groups new) (numbers_of_groups old) (group_number_of group)
-                more
-                shared had.numbers;
-            words = had.words;
-          }))
+          subst (λ x. ChangesJoined g.B.Bus up new c.args.group (at b (with_groups old d)) (at x (with_groups new d))) (sym w.bus-is)
+          (changes-shared g.met.B.Bus.composes.stays b d one is_ready.ready (c.has_number.ensures.0 w.if-not-has_number.false))
     ]

@@ -1,10 +1,10 @@
-use Rattle.std.proofs.Common.{◌≡◌, ◌≤◌, ◌<◌, ◌+◌, ◌++◌, ◌∷◌, [], ℕ, List, add-one, get_or, length, sym, ap, subst, take, ◌∙◌, arith}
+use Rattle.std.proofs.Common.{◌≡◌, ◌≤◌, ◌<◌, ◌+◌, ◌++◌, ◌∷◌, [], ℕ, List, get_or, length, sym, ap, subst, take, ◌∙◌, arith}
 use Rattle.std.specs.Prelude.{true, false, IsTrue}
 use Rattle.std.specs.List.{Contains}
 use Rattle.std.proofs.lemmas.List.{length-append}
-use Rattle.std.proofs.Math.Seq.{take-suc}
 use Rattle.bring_up.specs.Groups.{AreJoined, AreNamedOnce}
 use Rattle.bring_up.proofs.JoinedLists.{joined-more, named-again, named-new}
+use Rattle.bring_up.proofs.Tables.{take-more}
 use Rattle.bring_up.proofs.groups.Groups.of.Goals.{then-not-contains, else-not-contains}
 use Rattle.bring_up.proofs.groups.Groups.of.Goals as goal
 
@@ -31,8 +31,7 @@ loop-group-preserved c =
     let old = c.loop-group.groups in
     let before : AreNamedOnce (take i named) old = c.loop-group.invariant.0 in
     let most : length old ≤ i = c.loop-group.invariant.1 in
-    let more : take i named ++ group ∷ [] ≡ take (i + 1) named = sym (take-suc named i [] c.loop-group-test.true)
-    ∙ ap (λ (n : ℕ). take n named) (sym (add-one i)) in
+    let more = take-more named i [] c.loop-group-test.true in
     elim c.if-not-contains.branch [
       | then-not-contains w ↦
           let none : ¬ (Contains old group) = λ has. absurd (

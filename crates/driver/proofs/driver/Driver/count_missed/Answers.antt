@@ -9,7 +9,7 @@ use Rattle.driver.proofs.driver.Driver.count_missed.Goals.{then-self, else-self}
 use Rattle.adapter.specs.Table.{register_at}
 use Rattle.adapter.specs.World.{World, world_after_read}
 use Rattle.rx_engine.specs.Registers.{FilterRegisters}
-use Rattle.bus.specs.Calls.{Ran, adds_exactly, at, only, with_missed}
+use Rattle.bus.specs.Calls.{Ran, adds_exactly, at, only, missed_added}
 
 is_exact : (g : Over) (c : goal.After-self-2-1 g)
     → c.if-self.self ≡ (c.self.inside.exact && adds_exactly c.self.inside.missed c.read-value.result)
@@ -22,7 +22,7 @@ is_exact g c =
 
 left : (g : Over) (c : goal.After-self-2-1 g)
     → driver_state_of (record c.self.inside { missed = c.saturating_add-self-inside.result; exact = c.if-self.self })
-    ≡ with_missed c.read-value.result (driver_state_of c.self.inside)
+    ≡ missed_added c.read-value.result (driver_state_of c.self.inside)
 left g c =
     let shape : ℕ → Bool → DriverState = λ missed exact. record (driver_state_of c.self.inside) { missed = missed; exact = exact } in
     let sum : c.saturating_add-self-inside.result

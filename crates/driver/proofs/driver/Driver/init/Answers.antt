@@ -1,40 +1,32 @@
-use Rattle.std.proofs.Common.{List, ℕ, ◌≡◌, ◌≤◌, [], Bool, true, Err, IfErr, length, ap, refl, sym, subst, ◌∙◌, arith, inr}
-use Rattle.std.proofs.lemmas.Result.{err_from_is_err_and}
+use Rattle.std.proofs.Common.{List, ℕ, ◌≡◌, ◌≤◌, [], Bool, true, length, ap, refl, sym, subst, ◌∙◌, arith, inr}
 use Rattle.dma_memory.specs.Layout.{Counts, size_of}
 use Rattle.dma_memory.specs.Owners.{HasOneOwner}
 use Rattle.bring_up.specs.Configuration.{CanBeHad, configured_counts}
 use Rattle.bring_up.specs.ConfiguredAdapters.{names_vlans, setup_of}
 use Rattle.bring_up.specs.DriverSteps.{LetsFramesIn}
 use Rattle.bring_up.specs.RingRegisters.{receive_writes}
-use Rattle.bring_up.specs.declared.init_error.InitError.TheVariants.{Memory}
-use Rattle.bring_up.specs.declared.init_error.InitError.TheVariants as errors
 use Rattle.bring_up.proofs.RestingRings.{drivers_begin_at_rest}
 use Rattle.bus.specs.Beginnings.{new_driver}
 use Rattle.bus.specs.DriverState.{DriverSetup, DriverState, owners}
 use Rattle.bus.specs.Calls.{Ran, at, only}
 use Rattle.bus.proofs.Keeping.{keeps-on}
-use Rattle.bus.specs.Pasts.{nothing}
 use Rattle.bring_up.specs.Groups.{AreNamedOnce}
-use Rattle.driver.specs.Initialisation.{OffersFirst, RefusesInit, transmit_accesses}
+use Rattle.driver.specs.Initialisation.{OffersFirst, transmit_accesses}
 use Rattle.driver.specs.InsideSetup.{setup_in}
-use Rattle.driver.proofs.Initialisation.{initialises, new-still, stays-quiet, vlans-named}
+use Rattle.driver.proofs.Initialisation.{initialises, new-still, refused, stays-quiet, vlans-named}
 use Rattle.driver.proofs.FirstSlots.{offering, owners-offered}
 use Rattle.driver.proofs.driver.Driver.init.Given.{Over}
 use Rattle.driver.proofs.driver.Driver.init.Goals as goal
 
 pub returns-in_err-layout-clause-refuses : goal.returns-in_err-layout-clause-refuses
 returns-in_err-layout-clause-refuses g c honest =
-    let told = err_from_is_err_and c.from_residual.result c.from_residual.ensures.1 in
-    let is : c.from_residual.result ≡ Err errors.Config = told.1 ∙ ap Err (told.2 ∙ c.in_err-layout.ensures.err) in
-    subst (λ result. IfErr result (RefusesInit g.B.Bus c.args.bus.now c.args.bus.now)) (sym is)
-    (record { past = nothing; reports = g.met.B.Bus.composes.stays c.args.bus.now; why = refl; why_lively = λ lively. tt })
+    refused g.B.Bus c.args.bus.now c.from_residual.result (g.met.B.Bus.composes.stays c.args.bus.now) c.from_residual.ensures.1
+    c.in_err-layout.ensures.err tt
 
 pub returns-in_err-driver-clause-refuses : goal.returns-in_err-driver-clause-refuses
 returns-in_err-driver-clause-refuses g c honest =
-    let told = err_from_is_err_and c.from_residual-in_err-driver.result c.from_residual-in_err-driver.ensures.1 in
-    let is : c.from_residual-in_err-driver.result ≡ Err Memory = told.1 ∙ ap Err told.2 in
-    subst (λ result. IfErr result (RefusesInit g.B.Bus c.args.bus.now c.args.bus.now)) (sym is)
-    (record { past = nothing; reports = g.met.B.Bus.composes.stays c.args.bus.now; why = refl; why_lively = λ lively. tt })
+    refused g.B.Bus c.args.bus.now c.from_residual-in_err-driver.result (g.met.B.Bus.composes.stays c.args.bus.now)
+    c.from_residual-in_err-driver.ensures.1 refl tt
 
 -- the setup of the configuration, with the address in the EEPROM
 abbrev kept : (g : Over) (c : goal.After-enable_interrupts g) → DriverSetup
@@ -129,7 +121,8 @@ returns-clause-initialises g c honest =
     let tagged : c.is_some.result ≡ names_vlans config.vlans = c.is_some.ensures ∙ vlans-named config.vlans in
     let lets : LetsFramesIn g.B.Bus (receive_writes config.promiscuous (names_vlans config.vlans)) d b2 b3 =
     subst (λ (by_vlan : Bool). LetsFramesIn g.B.Bus (receive_writes config.promiscuous by_vlan) d b2 b3) tagged
-    (c.enable_receiver.ensures.ran d (record { honest = h2; ready = first.goes.flows.ready }) still.0.none_held still.0.off) in
+    (c.enable_receiver.ensures.ran d (record { honest = h2; ready = first.goes.flows.ready })
+    (record { off = still.0.off; none_held = still.0.none_held })) in
     let new = new-still config.promiscuous (names_vlans config.vlans) d (world b2) (world b3) lets.ran.past lets.ran.only
     lets.ran.goes.flows.ready lets.ran.follows.set still.1.0 in
     let same : d.layout ≡ counts = ap (λ (s : DriverState). s.layout) o.others in

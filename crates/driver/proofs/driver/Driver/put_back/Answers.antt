@@ -1,6 +1,6 @@
 use Rattle.driver.specs.Parts.{buffers_in}
 use Rattle.driver.proofs.BufferQueue.{no_second-inside}
-use Rattle.driver.proofs.PartsGiven.{parts-inside, parts-out}
+use Rattle.driver.proofs.BuffersGiven.{parts-inside, parts-out}
 use Rattle.driver.proofs.driver.Driver.put_back.Goals as goal
 
 pub give_all-requires : goal.give_all-requires

@@ -18,7 +18,7 @@ use Rattle.bring_up.specs.RestingRings.{HasNewRings, HasReceiveRing, SetsAtRest}
 use Rattle.bring_up.specs.RingRegisters.{receive_writes, ring_setup_writes}
 use Rattle.bring_up.specs.declared.ring_registers.RingPlace.{RingPlace}
 use Rattle.bus.proofs.DriverAccesses.{ran_by-join}
-use Rattle.bus.specs.Calls.{IsRefilled, Ran, at, only, with_missed}
+use Rattle.bus.specs.Calls.{IsRefilled, Ran, at, only, missed_added}
 use Rattle.bus.specs.DriverState.{DriverSetup, DriverState, holding, owners, with_owners}
 use Rattle.bus.specs.ReadyDrivers.{ReadyWith}
 use Rattle.bus.specs.Resets.{reset_driver}
@@ -27,6 +27,8 @@ use Rattle.driver.specs.InsideSetup.{setup_in}
 use Rattle.driver.proofs.Initialisation.{vlans-named}
 use Rattle.driver.proofs.ResetOwners.{reset-owners}
 use Rattle.driver.proofs.Resetting.{resets-all}
+use Rattle.driver.proofs.driver.Driver.reset.Given.{Over}
+use Rattle.driver.proofs.driver.Driver.reset.Goals.{After-offer_free}
 use Rattle.driver.proofs.driver.Driver.reset.Goals as goal
 
 pub returns-clause-keeps : goal.returns-clause-keeps
@@ -44,23 +46,22 @@ returns-clause-keeps g c =
     let k10 = on c.enable_receiver.new.bus c.set_up_transmitter.new.bus k9 c.set_up_transmitter.ensures.keeps in
     on c.set_up_transmitter.new.bus c.enable_interrupts.new.bus k10 c.enable_interrupts.ensures.keeps
 
+-- The driver after the reset: the count of missed frames, and the owners of buffers, are new.
+others : (g : Over) (c : After-offer_free g) → c.offer_free.new.self
+    ≡ with_owners (reset_driver c.forget_slots.new.self.pool (missed_added c.count_missed.result c.args.self.now))
+    c.offer_free.ensures.offers.numbers [] c.offer_free.new.self.pool []
+others g c = c.offer_free.ensures.offers.others ∙ ap
+    (λ (d : DriverState). with_owners d c.offer_free.ensures.offers.numbers [] c.offer_free.new.self.pool [])
+    (c.forget_slots.ensures.others ∙ ap (reset_driver c.forget_slots.new.self.pool) c.count_missed.ensures.others)
+
 pub returns-clause-layout : goal.returns-clause-layout
-returns-clause-layout g c =
-    ap (λ (d : DriverState). d.layout) c.offer_free.ensures.offers.others
-    ∙ ap (λ (d : DriverState). d.layout) c.forget_slots.ensures.others
-    ∙ ap (λ (d : DriverState). d.layout) c.count_missed.ensures.others
+returns-clause-layout g c = ap (λ (d : DriverState). d.layout) (others g (goal.at.returns-clause-layout g c).After-offer_free)
 
 pub returns-clause-setup : goal.returns-clause-setup
-returns-clause-setup g c =
-    ap (λ (d : DriverState). d.setup) c.offer_free.ensures.offers.others
-    ∙ ap (λ (d : DriverState). d.setup) c.forget_slots.ensures.others
-    ∙ ap (λ (d : DriverState). d.setup) c.count_missed.ensures.others
+returns-clause-setup g c = ap (λ (d : DriverState). d.setup) (others g (goal.at.returns-clause-setup g c).After-offer_free)
 
 pub returns-clause-groups : goal.returns-clause-groups
-returns-clause-groups g c =
-    ap (λ (d : DriverState). d.groups) c.offer_free.ensures.offers.others
-    ∙ ap (λ (d : DriverState). d.groups) c.forget_slots.ensures.others
-    ∙ ap (λ (d : DriverState). d.groups) c.count_missed.ensures.others
+returns-clause-groups g c = ap (λ (d : DriverState). d.groups) (others g (goal.at.returns-clause-groups g c).After-offer_free)
 
 pub returns-clause-owners : goal.returns-clause-owners
 returns-clause-owners g c =
@@ -124,11 +125,11 @@ returns-clause-resets g c up held is =
     let pool = d3.pool in
     let o = c.offer_free.ensures.offers in
     let left = c.offer_free.new.self.pool in
-    let e2 = with_missed v e0 in
+    let e2 = missed_added v e0 in
     let again = reset_driver pool e2 in
     let e8 = with_owners again o.numbers [] left held in
-    let counted : d2 ≡ with_missed v d0 = c.count_missed.ensures.others in
-    let again_is : d3 ≡ reset_driver pool (with_missed v d0) =
+    let counted : d2 ≡ missed_added v d0 = c.count_missed.ensures.others in
+    let again_is : d3 ≡ reset_driver pool (missed_added v d0) =
     c.forget_slots.ensures.others ∙ ap (reset_driver pool) counted in
     let again_held : holding held d3 ≡ with_owners again [] [] pool held = ap (holding held) again_is in
     let last_is : holding held c.offer_free.new.self ≡ e8 =
@@ -200,7 +201,7 @@ returns-clause-resets g c up held is =
     subst (λ (promiscuous : Bool). LetsFramesIn bus (receive_writes promiscuous (names_vlans config.vlans)) e8 b8 b9)
     (ap (λ (kept : DriverSetup). kept.promiscuous) same)
     (subst (λ (by_vlan : Bool). LetsFramesIn bus (receive_writes c.self-2.inside.setup.promiscuous by_vlan) e8 b8 b9) tagged
-    (c.enable_receiver.ensures.ran e8 (record { honest = h8; ready = ready }) none off_there)))
+    (c.enable_receiver.ensures.ran e8 (record { honest = h8; ready = ready }) (record { off = off_there; none_held = none }))))
     (λ ready new.
     c.set_up_transmitter.ensures.ran e8 (record { honest = h9; ready = ready }) layout refl refl new)
     (λ ready. c.enable_interrupts.ensures.enables e8 (record { honest = h10; ready = ready })) in

@@ -46,15 +46,15 @@ returns-clause-sends g c held is =
     let slot : c.descriptor_address.result ≡ transmit_slot d.layout (transmit_tail d) =
     c.descriptor_address.ensures.start ∙ ap (transmit_slot s.layout) next
     ∙ ap (λ (state : DriverState). transmit_slot state.layout (transmit_tail state)) c.self.view_is in
-    let bytes : c.whole_packet-descriptor.result ≡ whole_descriptor (transmit_buffer d.layout (transmit_tail d)) (length frame) =
-    c.whole_packet-descriptor.ensures ∙ ap (λ (address : ℕ). whole_descriptor address (length frame)) buffer in
+    let bytes : c.whole_descriptor-descriptor.result ≡ whole_descriptor (transmit_buffer d.layout (transmit_tail d)) (length frame) =
+    c.whole_descriptor-descriptor.ensures ∙ ap (λ (address : ℕ). whole_descriptor address (length frame)) buffer in
     let tail : c.from.result ≡ (transmit_tail d + 1) % d.layout.tx =
     c.from.ensures ∙ ap (λ (n : ℕ). (s.next_transmit + 1) % n) c.tx.ensures.count ∙ ap (λ (place : ℕ). (place + 1) % s.layout.tx) next
     ∙ ap (λ (state : DriverState). (transmit_tail state + 1) % state.layout.tx) c.self.view_is in
     let ran =
     run-sends g.B.Bus g.met.B.Bus.composes.joins c.args.bus.now c.store.new.self c.store-2.new.self
     c.write.new.self d frame c.requires.room c.requires.least c.requires.most
-    c.transmit_buffer-buffer.result c.descriptor_address.result c.from.result c.whole_packet-descriptor.result buffer slot bytes tail
+    c.transmit_buffer-buffer.result c.descriptor_address.result c.from.result c.whole_descriptor-descriptor.result buffer slot bytes tail
     (c.store.ensures.acts is.honest) (c.store-2.ensures.acts first) (c.write.ensures.acts second) is.ready in
     let sent = ap (λ (state : DriverState). let more : DriverState = record (holding held state) { sending = state.sending + 1 } in more)
     (sym c.self.view_is) in

@@ -1,7 +1,9 @@
-use Rattle.std.proofs.Common.{Bool, ◌≡◌, ◌+◌, ◌++◌, ◌∷◌, [], length, sum, ap, sym, subst, ◌∙◌, arith}
+use Rattle.std.proofs.Common.{Bool, true, false, ℕ, List, ◌≡◌, ◌≤◌, ◌+◌, ◌++◌, ◌∷◌, [], length, sum, ap, sym, subst, ◌∙◌, arith}
 use Rattle.bus.proofs.Keeping.{keeps-here, keeps-on}
 use Rattle.dma_memory.specs.Layout.{size_of}
 use Rattle.bus.specs.DriverState.{DriverState}
+use Rattle.std.specs.Int.{from_bool}
+use Rattle.driver.specs.declared.parts.Part.{Part}
 use Rattle.driver.specs.HandlerSteps.{run_with, whole_frames}
 use Rattle.driver.specs.Parts.{FitIntoBuffers, pieces_of}
 use Rattle.driver.proofs.SeenSlots.{fills-fit}
@@ -28,42 +30,32 @@ pass_on-requires-clause-parts g c =
       fits = λ whole. subst FitIntoBuffers (sym lengths) (fills-fit _ (found.full whole));
     }
 
--- A run was passed on: its frame was shown, or the run is bad.
+-- A run was passed on: its frame was shown, and is counted, or the run is bad.
 
-pub loop-run-preserved-then-pass_on : goal.loop-run-preserved-then-pass_on
-loop-run-preserved-then-pass_on g c =
-    let l = c.loop-run.invariant in
-    let look = c.in-Some.ensures in
-    let h = c.pass_on.ensures in
-    let same : c.loop-run.taken + length (whole_frames (run_with c.take_run-parts.result c.pass_on.result ∷ [])) ≡ c.loop-run.taken + 1 =
-    ap (λ (b : Bool). c.loop-run.taken + length (whole_frames (run_with c.take_run-parts.result b ∷ []))) c.if-pass_on.true ∙ omega arith in
-    record {
-      keeps = keeps-on g.B.Bus g.met.B.Bus.composes.lent_stays_on _ _ _ l.keeps
-          (keeps-on g.B.Bus g.met.B.Bus.composes.lent_stays_on _ _ _ look.keeps h.keeps);
-      walks = walks-next g.B.Bus g.R.Receiver g.met.B.Bus.composes.stays g.met.B.Bus.composes.joins
-          g.met.R.Receiver.joins c.args.bus.now c.loop-run.bus c.look.new.bus c.pass_on.new.bus
-          c.args.receiver.now c.loop-run.receiver c.pass_on.new.receiver c.args.self.now c.loop-run.self c.take_run-parts.new.self
-          c.pass_on.new.self c.loop-run.taken (c.loop-run.taken + 1) _ c.in-Some.run' c.take_run-parts.result c.pass_on.result same
-          l.keeps look.keeps l.walks look.finds look.looks c.take_run-parts.ensures.leaves h.others h.hands
-          h.whole h.over;
-    }
+counted : (taken : ℕ) (parts : List Part) (shown : Bool)
+    → taken + length (whole_frames (run_with parts shown ∷ [])) ≡ taken + from_bool shown
+counted taken parts true = omega arith
+counted taken parts false = omega arith
+
+at-most-one : (shown : Bool) → from_bool shown ≤ 1
+at-most-one true = omega arith
+at-most-one false = omega arith
 
 pub loop-run-preserved : goal.loop-run-preserved
 loop-run-preserved g c =
     let l = c.loop-run.invariant in
     let look = c.in-Some.ensures in
     let h = c.pass_on.ensures in
-    let same : c.loop-run.taken + length (whole_frames (run_with c.take_run-parts.result c.pass_on.result ∷ [])) ≡ c.loop-run.taken =
-    ap (λ (b : Bool). c.loop-run.taken + length (whole_frames (run_with c.take_run-parts.result b ∷ []))) c.if-pass_on.false
-    ∙ omega arith in
+    let same = counted c.loop-run.taken c.take_run-parts.result c.pass_on.result
+    ∙ ap (λ (n : ℕ). c.loop-run.taken + n) (sym c.from-taken.ensures) in
     record {
       keeps = keeps-on g.B.Bus g.met.B.Bus.composes.lent_stays_on _ _ _ l.keeps
           (keeps-on g.B.Bus g.met.B.Bus.composes.lent_stays_on _ _ _ look.keeps h.keeps);
       walks = walks-next g.B.Bus g.R.Receiver g.met.B.Bus.composes.stays g.met.B.Bus.composes.joins
           g.met.R.Receiver.joins c.args.bus.now c.loop-run.bus c.look.new.bus c.pass_on.new.bus
           c.args.receiver.now c.loop-run.receiver c.pass_on.new.receiver c.args.self.now c.loop-run.self c.take_run-parts.new.self
-          c.pass_on.new.self c.loop-run.taken c.loop-run.taken _ c.in-Some.run' c.take_run-parts.result c.pass_on.result same
-          l.keeps look.keeps l.walks look.finds look.looks c.take_run-parts.ensures.leaves h.others h.hands
+          c.pass_on.new.self c.loop-run.taken (c.loop-run.taken + c.from-taken.result) _ c.in-Some.run' c.take_run-parts.result
+          c.pass_on.result same l.keeps look.keeps l.walks look.finds look.looks c.take_run-parts.ensures.leaves h.others h.hands
           h.whole h.over;
     }
 
@@ -78,6 +70,8 @@ overflow_add-taken g c =
       c.in-Some.ensures.finds.inside,
       c.receiving.ensures.count,
       c.receiving.type_inv,
+      at-most-one c.pass_on.result,
+      c.from-taken.ensures,
     )
 
 pub returns-clause-one_owner : goal.returns-clause-one_owner

@@ -1,29 +1,21 @@
-use Rattle.std.proofs.Common.{◌≡◌, Err, IfErr, ap, refl, sym, subst, ◌∙◌}
-use Rattle.std.proofs.lemmas.Result.{err_from_is_err_and}
+use Rattle.std.proofs.Common.{ap, refl, sym, subst, ◌∙◌}
 use Rattle.dma_memory.specs.Layout.{Counts}
 use Rattle.dma_memory.specs.OwnersLaws.{no_second_from_one}
 use Rattle.bring_up.specs.Configuration.{CanBeHad}
-use Rattle.bring_up.specs.declared.init_error.InitError.TheVariants.{Memory}
-use Rattle.bring_up.specs.declared.init_error.InitError.TheVariants as errors
-use Rattle.bus.specs.Pasts.{nothing}
 use Rattle.bus.specs.DriverState.{owners}
-use Rattle.driver.specs.Initialisation.{RefusesInit}
+use Rattle.driver.proofs.Initialisation.{refused}
 use Rattle.packet_socket.proofs.ConsistentHosts.{new-host, new-ready}
 use Rattle.packet_socket.proofs.host.Host.new.Goals as goal
 
 pub returns-in_err-layout-clause-refuses : goal.returns-in_err-layout-clause-refuses
 returns-in_err-layout-clause-refuses g c honest =
-    let told = err_from_is_err_and c.from_residual.result c.from_residual.ensures.1 in
-    let is : c.from_residual.result ≡ Err errors.Config = told.1 ∙ ap Err (told.2 ∙ c.in_err-layout.ensures.err) in
-    subst (λ result. IfErr result (RefusesInit g.B.Bus c.args.bus.now c.args.bus.now)) (sym is)
-    (record { past = nothing; reports = g.met.B.Bus.composes.stays c.args.bus.now; why = refl; why_lively = λ lively. tt })
+    refused g.B.Bus c.args.bus.now c.from_residual.result (g.met.B.Bus.composes.stays c.args.bus.now) c.from_residual.ensures.1
+    c.in_err-layout.ensures.err tt
 
 pub returns-in_err-sockets-clause-refuses : goal.returns-in_err-sockets-clause-refuses
 returns-in_err-sockets-clause-refuses g c honest =
-    let told = err_from_is_err_and c.from_residual-in_err-sockets.result c.from_residual-in_err-sockets.ensures.1 in
-    let is : c.from_residual-in_err-sockets.result ≡ Err Memory = told.1 ∙ ap Err told.2 in
-    subst (λ result. IfErr result (RefusesInit g.B.Bus c.args.bus.now c.args.bus.now)) (sym is)
-    (record { past = nothing; reports = g.met.B.Bus.composes.stays c.args.bus.now; why = refl; why_lively = λ lively. tt })
+    refused g.B.Bus c.args.bus.now c.from_residual-in_err-sockets.result (g.met.B.Bus.composes.stays c.args.bus.now)
+    c.from_residual-in_err-sockets.ensures.1 refl tt
 
 pub invariant_of-result : goal.invariant_of-result
 invariant_of-result g c =
