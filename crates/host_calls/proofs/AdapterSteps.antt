@@ -10,7 +10,7 @@ use Rattle.std.proofs.lemmas.List.Elements.{All-cons}
 use Rattle.circular_buffer.proofs.Places.{slice_get-some}
 use Rattle.dma_memory.specs.Layout.{receive_buffer_bytes}
 use Rattle.rx_engine.specs.Moving.{left_bytes}
-use Rattle.rx_engine.specs.Receiver.{oldest}
+use Rattle.rx_engine.specs.Receiver.{Receiver, oldest}
 use Rattle.rx_engine.specs.declared.engine.Work.{Work}
 use Rattle.adapter.specs.HostAreas.{buffer_size}
 use Rattle.adapter.specs.HostFrames.{frames_held}
@@ -32,6 +32,11 @@ use Rattle.bus.specs.declared.event.Event.TheVariants.{Steps}
 use Rattle.stations.specs.AtomicSteps.{At, AtomicStep, OccursAt}
 use Rattle.stations.specs.Stations.{StationState, stations_after, wire_of, world_at}
 use Rattle.stations.proofs.HostTrails.{world-here}
+use Rattle.stations.proofs.Lengths.{length-event}
+use Rattle.host_calls.specs.NetworkView.{HasStations, network_in}
+use Rattle.host_calls.specs.Networks.{NetworkState}
+use Rattle.host_calls.proofs.HostsOfNetworks.{station-there}
+use Rattle.host_calls.specs.declared.network.Network.TheInside.{Inside}
 use Rattle.stations.specs.AtomicRuns.{IsTick, LeadsTo, events_at, past_at}
 use Rattle.host_calls.specs.Happenings.{Moved, happened_in}
 use Rattle.packet_socket.specs.HostState.{HostState}
@@ -46,6 +51,28 @@ use Rattle.host_calls.proofs.SocketCounts.{held-flows}
 use Rattle.host_calls.proofs.PiecesLeft.{count_ending, ending-most, held-counted, left-last, left-part}
 use Rattle.packet_socket.specs.HostCalls.{host_did}
 use Rattle.host_calls.specs.ConnectedHosts.{connected}
+
+-- Host `number` exists, and its adapter takes a step of this kind with this result. The step leads from the stations `a`
+-- to `b`.
+pub record HasStepped (number : ℕ) (kind : StepKind) (result : Outcome (Unit {0})) (a b : List StationState) : Type 0 where
+  pub there : number < length a
+  pub occurs : Occurs (Steps kind true (framed result (world_at a number).adapter)) (world_at a number)
+  pub state : b ≡ stations_after number (Steps kind true (framed result (world_at a number).adapter)) a
+
+pub has-stepped : {inside : Inside} {n : NetworkState} {b : List StationState} (number : ℕ) (kind : StepKind) (result : Outcome (Unit {0}))
+    → network_in inside ≡ n → HasStations inside → number < length n.hosts
+    → Occurs (Steps kind true (framed result (world_at inside.stations number).adapter)) (world_at inside.stations number)
+    → b ≡ stations_after number (Steps kind true (framed result (world_at inside.stations number).adapter)) inside.stations
+    → HasStepped number kind result inside.stations b
+has-stepped number kind result shown have below occurs state =
+    record { there = station-there shown have below; occurs = occurs; state = state }
+
+pub same-stepped : {inside : Inside} {number : ℕ} {kind : StepKind} {result : Outcome (Unit {0})} {b : List StationState}
+    → HasStations inside → HasStepped number kind result inside.stations b → length b ≡ length inside.hosts.items
+same-stepped {inside} {number} {kind} {result} have stepped =
+    ap (λ (list : List StationState). length list) stepped.state
+    ∙ length-event number (Steps kind true (framed result (world_at inside.stations number).adapter)) inside.stations
+    ∙ have.same
 
 -- The adapter of host `number` takes a step of this kind with the outcome `answer`, which leads from the stations `a`
 -- to `b`.
@@ -195,35 +222,49 @@ idle-steps number kind a b h receives stands takes same =
     step-on 0 0 number kind outcome.Nothing a b h receives stands takes refl (omega (arith, buffer))
     (ap (λ (s : AdapterState). s.filter) same) (omega (arith, left, ends, pending)) (omega (arith, left, work))
 
-pub finishes-done : (number : ℕ) (a b : List StationState) (h : HostState) (result : Outcome (Unit {0})) → number < length a
-    → Occurs (Steps RxDone true (framed result (world_at a number).adapter)) (world_at a number)
-    → b ≡ stations_after number (Steps RxDone true (framed result (world_at a number).adapter)) a → result ≡ outcome.Done
+pub finishes-done : {number : ℕ} {a b : List StationState} {h : HostState} (result : Outcome (Unit {0}))
+    → HasStepped number RxDone result a b → result ≡ outcome.Done
     → CanBeDrained h (world_at a number) → StepsOn 1 number [] (connected h a) (connected h b)
-finishes-done number a b h outcome.Done below occurs is same stands =
-    done-steps number a b h stands (takes-step number RxDone outcome.Done a b below (λ e. absurd (cc e)) occurs is)
-finishes-done number a b h result below occurs is same stands = absurd (cc same)
+finishes-done {number} {a} {b} {h} outcome.Done it same stands =
+    done-steps number a b h stands (takes-step number RxDone outcome.Done a b it.there (λ e. absurd (cc e)) it.occurs it.state)
+finishes-done {number} {a} {b} {h} result it same stands = absurd (cc same)
 
-pub finishes-none : (number : ℕ) (a b : List StationState) (h : HostState) (result : Outcome (Unit {0})) → number < length a
-    → Occurs (Steps RxDone true (framed result (world_at a number).adapter)) (world_at a number)
-    → b ≡ stations_after number (Steps RxDone true (framed result (world_at a number).adapter)) a → result ≢ outcome.Done
+pub finishes-none : {number : ℕ} {a b : List StationState} {h : HostState} (result : Outcome (Unit {0}))
+    → HasStepped number RxDone result a b → result ≢ outcome.Done
     → CanBeDrained h (world_at a number) → StepsOn 0 number [] (connected h a) (connected h b)
-finishes-none number a b h outcome.Nothing below occurs is other stands =
-    let takes = takes-step number RxDone outcome.Nothing a b below (λ e. absurd (cc e)) occurs is in
+finishes-none {number} {a} {b} {h} outcome.Nothing it other stands =
+    let takes = takes-step number RxDone outcome.Nothing a b it.there (λ e. absurd (cc e)) it.occurs it.state in
     idle-steps number RxDone a b h (inr refl) stands takes (ap (λ (w : World). w.adapter) takes.world)
-finishes-none number a b h outcome.Done below occurs is other stands = absurd (other refl)
-finishes-none number a b h result below occurs is other stands = absurd occurs.1
+finishes-none {number} {a} {b} {h} outcome.Done it other stands = absurd (other refl)
+finishes-none {number} {a} {b} {h} result it other stands = absurd it.occurs.1
 
-pub finishes-free : (number : ℕ) (a b : List StationState) (result : Outcome (Unit {0})) → number < length a
-    → Occurs (Steps RxDone true (framed result (world_at a number).adapter)) (world_at a number)
-    → b ≡ stations_after number (Steps RxDone true (framed result (world_at a number).adapter)) a
+pub finishes-free : {number : ℕ} {a b : List StationState} (result : Outcome (Unit {0})) → HasStepped number RxDone result a b
     → (world_at b number).adapter.receiver.work ≡ None
-finishes-free number a b outcome.Done below occurs is =
-    let takes = takes-step number RxDone outcome.Done a b below (λ e. absurd (cc e)) occurs is in
+finishes-free {number} {a} {b} outcome.Done it =
+    let takes = takes-step number RxDone outcome.Done a b it.there (λ e. absurd (cc e)) it.occurs it.state in
     ap (λ (w : World). w.adapter.receiver.work) takes.world
-finishes-free number a b outcome.Nothing below occurs is =
-    let takes = takes-step number RxDone outcome.Nothing a b below (λ e. absurd (cc e)) occurs is in
-    ap (λ (w : World). w.adapter.receiver.work) takes.world ∙ occurs.1
-finishes-free number a b result below occurs is = absurd occurs.1
+finishes-free {number} {a} {b} outcome.Nothing it =
+    let takes = takes-step number RxDone outcome.Nothing a b it.there (λ e. absurd (cc e)) it.occurs it.state in
+    ap (λ (w : World). w.adapter.receiver.work) takes.world ∙ it.occurs.1
+finishes-free {number} {a} {b} result it = absurd it.occurs.1
+
+-- No piece was in progress, and now a piece is in progress.
+record Begun (a b : World) : Type 0 where
+  none : count_work a ≡ 0
+  one : count_work b ≡ 1
+  asked : count_asked a ≡ count_line a.adapter.causes
+  asks : count_asked b ≡ 3
+
+begun : (a b : World) → a.adapter.receiver.work ≡ None → b.adapter.receiver.work ≢ None → Begun a b
+begun a b free some =
+    let before = work-none a.adapter.receiver.work free in
+    let behind = work-counted b.adapter.receiver.work some in
+    record {
+      none = before.0;
+      one = behind.0;
+      asked = before.1 (count_line a.adapter.causes);
+      asks = behind.1 (count_line b.adapter.causes);
+    }
 
 -- RxData moves the last piece of a frame out of the packet buffer
 
@@ -231,73 +272,64 @@ some-buffered : (frames : List (List ℕ)) → frames ≢ [] → 0 < length fram
 some-buffered [] some = absurd (some refl)
 some-buffered (frame ∷ frames) some = omega arith
 
-moved-steps : (number : ℕ) (a b : List StationState) (h : HostState) → CanBeDrained h (world_at a number)
-    → (world_at a number).adapter.receiver.work ≡ None → TakesStep number RxData outcome.Moved a b
-    → StepsOn 1 number [] (connected h a) (connected h b)
-moved-steps number a b h stands free takes =
-    let world = world_at a number in
-    let engine = world.adapter.receiver in
-    let before = work-none engine.work free in
-    let behind : (count_work (world_at b number) ≡ 1) × ((line : ℕ) → count_pending (world_at b number).adapter.receiver.work line ≡ 3) =
-    work-counted (world_at b number).adapter.receiver.work
-    (λ none. let e = sym (ap (λ (w : World). w.adapter.receiver.work) takes.world) ∙ none in absurd (cc e)) in
-    let some = takes.answers.0.ready.frames in
-    let long = some-buffered engine.buffer some in
-    let fewer : count_buffered (world_at b number) ≡ count_buffered world - 1 =
-    ap (λ (w : World). count_buffered w) takes.world ∙ length-drop 1 engine.buffer in
-    let left : count_left (world_at b number) ≡ pieces_left 0 (drop 1 engine.buffer) = ap (λ (w : World). count_left w) takes.world in
-    let ends : count_ends (world_at b number) ≡ 1 = ap (λ (w : World). count_ends w) takes.world in
-    let short = leb-true (left_bytes engine) (buffer_size world) takes.answers.2 in
-    let one = left-last engine.moved engine.buffer some takes.adapter.receiver.frames takes.adapter.receiver.begun
-    (omega (arith, short, stands.ready.ready.law.whole.sized stands.enabled)) in
-    let pending = before.1 (count_line world.adapter.causes) in
-    let pending' = behind.1 (count_line (world_at b number).adapter.causes) in
-    step-on 1 1 number RxData outcome.Moved a b h (inl refl) stands takes refl (omega (arith, long, fewer))
-    (ap (λ (w : World). w.adapter.filter) takes.world)
-    (omega (arith, left, one, ends, ap (λ (work : Option Work). count_ending work) free, pending, pending'))
-    (omega (arith, before.0, behind.0, left, one))
+module _ (number : ℕ) (a b : List StationState) (h : HostState) (stands : CanBeDrained h (world_at a number))
+    (free : (world_at a number).adapter.receiver.work ≡ None) where
+  abbrev world : World
+  world = world_at a number
 
-part-steps : (number : ℕ) (a b : List StationState) (h : HostState) → CanBeDrained h (world_at a number)
-    → (world_at a number).adapter.receiver.work ≡ None → TakesStep number RxData outcome.Part a b
-    → StepsOn 1 number [] (connected h a) (connected h b)
-part-steps number a b h stands free takes =
-    let world = world_at a number in
-    let engine = world.adapter.receiver in
-    let before = work-none engine.work free in
-    let behind : (count_work (world_at b number) ≡ 1) × ((line : ℕ) → count_pending (world_at b number).adapter.receiver.work line ≡ 3) =
-    work-counted (world_at b number).adapter.receiver.work
-    (λ none. let e = sym (ap (λ (w : World). w.adapter.receiver.work) takes.world) ∙ none in absurd (cc e)) in
-    let same : count_buffered (world_at b number) ≡ count_buffered world = ap (λ (w : World). count_buffered w) takes.world in
-    let more = leb-false (left_bytes engine) (buffer_size world) takes.answers.2 in
-    let sized : buffer_size world ≡ receive_buffer_bytes = stands.ready.ready.law.whole.sized stands.enabled in
-    let size : piece_size world.adapter ≡ receive_buffer_bytes =
-    omega (
-      arith,
-      length-take (buffer_size world) (drop engine.moved (oldest engine.buffer)),
-      length-drop engine.moved (oldest engine.buffer),
-      more,
-      sized,
-    ) in
-    let left : count_left (world_at b number) ≡ pieces_left (engine.moved + receive_buffer_bytes) engine.buffer =
-    ap (λ (w : World). count_left w) takes.world ∙ ap (λ (n : ℕ). pieces_left (engine.moved + n) engine.buffer) size in
-    let one = left-part engine.moved engine.buffer (omega (arith, more, sized)) in
-    let pending = before.1 (count_line world.adapter.causes) in
-    let pending' = behind.1 (count_line (world_at b number).adapter.causes) in
-    step-on 1 0 number RxData outcome.Part a b h (inl refl) stands takes refl (omega (arith, same))
-    (ap (λ (w : World). w.adapter.filter) takes.world)
-    (omega (arith, left, one, ap (λ (work : Option Work). count_ending work) free, pending, pending'))
-    (omega (arith, before.0, behind.0, left, one))
+  abbrev engine : Receiver
+  engine = world.adapter.receiver
 
-pub moves-piece : (number : ℕ) (a b : List StationState) (h : HostState) (result : Outcome (Unit {0})) → number < length a
-    → Occurs (Steps RxData true (framed result (world_at a number).adapter)) (world_at a number)
-    → b ≡ stations_after number (Steps RxData true (framed result (world_at a number).adapter)) a
+  moved-steps : TakesStep number RxData outcome.Moved a b → StepsOn 1 number [] (connected h a) (connected h b)
+  moved-steps takes =
+      let piece = begun world (world_at b number) free
+      (λ none. let e = sym (ap (λ (w : World). w.adapter.receiver.work) takes.world) ∙ none in absurd (cc e)) in
+      let some = takes.answers.0.ready.frames in
+      let long = some-buffered engine.buffer some in
+      let fewer : count_buffered (world_at b number) ≡ count_buffered world - 1 =
+      ap (λ (w : World). count_buffered w) takes.world ∙ length-drop 1 engine.buffer in
+      let left : count_left (world_at b number) ≡ pieces_left 0 (drop 1 engine.buffer) = ap (λ (w : World). count_left w) takes.world in
+      let ends : count_ends (world_at b number) ≡ 1 = ap (λ (w : World). count_ends w) takes.world in
+      let short = leb-true (left_bytes engine) (buffer_size world) takes.answers.2 in
+      let one = left-last engine.moved engine.buffer some takes.adapter.receiver.frames takes.adapter.receiver.begun
+      (omega (arith, short, stands.ready.ready.law.whole.sized stands.enabled)) in
+      step-on 1 1 number RxData outcome.Moved a b h (inl refl) stands takes refl (omega (arith, long, fewer))
+      (ap (λ (w : World). w.adapter.filter) takes.world)
+      (omega (arith, left, one, ends, ap (λ (work : Option Work). count_ending work) free, piece.asked, piece.asks))
+      (omega (arith, piece.none, piece.one, left, one))
+
+  part-steps : TakesStep number RxData outcome.Part a b → StepsOn 1 number [] (connected h a) (connected h b)
+  part-steps takes =
+      let piece = begun world (world_at b number) free
+      (λ none. let e = sym (ap (λ (w : World). w.adapter.receiver.work) takes.world) ∙ none in absurd (cc e)) in
+      let same : count_buffered (world_at b number) ≡ count_buffered world = ap (λ (w : World). count_buffered w) takes.world in
+      let more = leb-false (left_bytes engine) (buffer_size world) takes.answers.2 in
+      let sized : buffer_size world ≡ receive_buffer_bytes = stands.ready.ready.law.whole.sized stands.enabled in
+      let size : piece_size world.adapter ≡ receive_buffer_bytes =
+      omega (
+        arith,
+        length-take (buffer_size world) (drop engine.moved (oldest engine.buffer)),
+        length-drop engine.moved (oldest engine.buffer),
+        more,
+        sized,
+      ) in
+      let left : count_left (world_at b number) ≡ pieces_left (engine.moved + receive_buffer_bytes) engine.buffer =
+      ap (λ (w : World). count_left w) takes.world ∙ ap (λ (n : ℕ). pieces_left (engine.moved + n) engine.buffer) size in
+      let one = left-part engine.moved engine.buffer (omega (arith, more, sized)) in
+      step-on 1 0 number RxData outcome.Part a b h (inl refl) stands takes refl (omega (arith, same))
+      (ap (λ (w : World). w.adapter.filter) takes.world)
+      (omega (arith, left, one, ap (λ (work : Option Work). count_ending work) free, piece.asked, piece.asks))
+      (omega (arith, piece.none, piece.one, left, one))
+
+pub moves-piece : {number : ℕ} {a b : List StationState} {h : HostState} (result : Outcome (Unit {0}))
+    → HasStepped number RxData result a b
     → (result ≡ outcome.Part) ⊎ (result ≡ outcome.Moved) → CanBeDrained h (world_at a number)
     → (world_at a number).adapter.receiver.work ≡ None → StepsOn 1 number [] (connected h a) (connected h b)
-moves-piece number a b h outcome.Part below occurs is one stands free =
-    part-steps number a b h stands free (takes-step number RxData outcome.Part a b below (λ e. absurd (cc e)) occurs is)
-moves-piece number a b h outcome.Moved below occurs is one stands free =
-    moved-steps number a b h stands free (takes-step number RxData outcome.Moved a b below (λ e. absurd (cc e)) occurs is)
-moves-piece number a b h result below occurs is one stands free = elim one [ inl same ↦ absurd (cc same) | inr same ↦ absurd (cc same) ]
+moves-piece {number} {a} {b} {h} outcome.Part it one stands free =
+    part-steps number a b h stands free (takes-step number RxData outcome.Part a b it.there (λ e. absurd (cc e)) it.occurs it.state)
+moves-piece {number} {a} {b} {h} outcome.Moved it one stands free =
+    moved-steps number a b h stands free (takes-step number RxData outcome.Moved a b it.there (λ e. absurd (cc e)) it.occurs it.state)
+moves-piece {number} {a} {b} {h} result it one stands free = elim one [ inl same ↦ absurd (cc same) | inr same ↦ absurd (cc same) ]
 
 -- RxData moved no piece, and changed no adapter. The outcome is Nothing, not Fault, because no engine is stopped.
 pub record MovesNone (number : ℕ) (a b : List StationState) (h : HostState) : Type 0 where
@@ -305,19 +337,18 @@ pub record MovesNone (number : ℕ) (a b : List StationState) (h : HostState) : 
   pub takes : TakesStep number RxData outcome.Nothing a b
   pub same : (world_at b number).adapter ≡ (world_at a number).adapter
 
-pub moves-none : (number : ℕ) (a b : List StationState) (h : HostState) (result : Outcome (Unit {0})) → number < length a
-    → Occurs (Steps RxData true (framed result (world_at a number).adapter)) (world_at a number)
-    → b ≡ stations_after number (Steps RxData true (framed result (world_at a number).adapter)) a → result ≢ outcome.Part
+pub moves-none : {number : ℕ} {a b : List StationState} {h : HostState} (result : Outcome (Unit {0}))
+    → HasStepped number RxData result a b → result ≢ outcome.Part
     → result ≢ outcome.Moved → CanBeDrained h (world_at a number) → MovesNone number a b h
-moves-none number a b h outcome.Nothing below occurs is not_part other stands =
-    let takes = takes-step number RxData outcome.Nothing a b below (λ e. absurd (cc e)) occurs is in
+moves-none {number} {a} {b} {h} outcome.Nothing it not_part other stands =
+    let takes = takes-step number RxData outcome.Nothing a b it.there (λ e. absurd (cc e)) it.occurs it.state in
     let same = ap (λ (w : World). w.adapter) takes.world in
     record { on = idle-steps number RxData a b h (inl refl) stands takes same; takes = takes; same = same }
-moves-none number a b h outcome.Fault below occurs is not_part other stands =
-    let takes = takes-step number RxData outcome.Fault a b below (λ e. absurd (cc e)) occurs is in
+moves-none {number} {a} {b} {h} outcome.Fault it not_part other stands =
+    let takes = takes-step number RxData outcome.Fault a b it.there (λ e. absurd (cc e)) it.occurs it.state in
     let runs = (step-runs number RxData outcome.Fault a b h stands takes).flows.driver.ready.law.runs.receiver_runs in
     let stopped = ap (λ (w : World). w.adapter.receiver.stopped) takes.world in
     let contrary : true ≡ false = sym stopped ∙ runs in absurd (cc contrary)
-moves-none number a b h outcome.Part below occurs is not_part other stands = absurd (not_part refl)
-moves-none number a b h outcome.Moved below occurs is not_part other stands = absurd (other refl)
-moves-none number a b h result below occurs is not_part other stands = absurd occurs.1
+moves-none {number} {a} {b} {h} outcome.Part it not_part other stands = absurd (not_part refl)
+moves-none {number} {a} {b} {h} outcome.Moved it not_part other stands = absurd (other refl)
+moves-none {number} {a} {b} {h} result it not_part other stands = absurd it.occurs.1

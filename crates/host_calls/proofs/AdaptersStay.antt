@@ -23,7 +23,7 @@ use Rattle.rx_engine.specs.declared.arrival.Fate.{Fate}
 use Rattle.rx_engine.specs.declared.arrival.Fate.TheVariants.{Missed, Stored}
 use Rattle.rx_engine.specs.declared.engine.Work.{Work}
 use Rattle.adapter.specs.AdapterLaws.{HasRegisters-after_event}
-use Rattle.adapter.specs.History.{AdapterEvent, Arrive, Read, Step, Write, after_event}
+use Rattle.adapter.specs.History.{AdapterEvent, Arrive, Read, Step, Write, adapter_after}
 use Rattle.adapter.specs.HistoryLaws.{image-after_event}
 use Rattle.adapter.specs.Outcomes.{FrameOutcome}
 use Rattle.adapter.specs.Receiving.{DataAnswers, IsFate, after_arrive, after_data, after_done}
@@ -205,8 +205,8 @@ after-arriving _ frame state is fated = is.receiver
 
 -- The whole adapter
 
-of-event : (event : AdapterEvent) (state : AdapterState) → IsAdapter state → IsReceiver (after_event event state).receiver
-    → IsAdapter (after_event event state)
+of-event : (event : AdapterEvent) (state : AdapterState) → IsAdapter state → IsReceiver (adapter_after event state).receiver
+    → IsAdapter (adapter_after event state)
 of-event event state is receiver = record {
   registers = HasRegisters-after_event event state is.registers;
   receiver = receiver;

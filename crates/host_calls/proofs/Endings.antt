@@ -17,7 +17,7 @@ use Rattle.rx_engine.specs.RoomLaws.{count-fits}
 use Rattle.rx_engine.specs.declared.engine.TheConstants.{MOST_FRAMES}
 use Rattle.rx_engine.specs.declared.engine.Work.{Work}
 use Rattle.adapter.specs.HostFrames.{finished_pieces, frames_held, frames_to_send, piece_in, pieces_in_slots}
-use Rattle.adapter.specs.Slots.{finished, in_work, offered, outstanding, slot_of_work}
+use Rattle.adapter.specs.Slots.{finished, slots_in_work, offered, outstanding, slot_of_work}
 use Rattle.adapter.specs.State.{IsAdapter}
 use Rattle.adapter.specs.World.{World, receive_ring}
 use Rattle.bus.specs.declared.event.Event.{Event}
@@ -44,7 +44,7 @@ use Rattle.host_calls.specs.DrainSteps.{StepsInto, StepsOn, count_line, count_pe
 use Rattle.host_calls.proofs.AdapterSteps.{MovesNone, work-none}
 use Rattle.host_calls.proofs.JoinedSteps.{moves-missed, moves-put, moves-reached, moves-toward, nothing-stored}
 use Rattle.host_calls.proofs.PiecesLeft.{asked-most, count_ending, ending-most, finished-few, held-counted, pieces-append}
-use Rattle.host_calls.proofs.PiecesLeft.{pieces-least, pieces-most, queued-least}
+use Rattle.host_calls.proofs.PiecesLeft.{pieces-within, queued-least}
 use Rattle.host_calls.proofs.SocketCounts.{ended-few}
 
 none-long : {X : Type 0} (xs : List X) → length xs ≡ 0 → xs ≡ []
@@ -75,7 +75,7 @@ buffers-counted h world stands =
 
 slots-counted : (h : HostState) (world : World) → CanBeDrained h world
     → length h.driver.buffers
-    ≡ length (finished h.driver.oldest_receive world) + (length (in_work world) + length (offered (receive_ring world)))
+    ≡ length (finished h.driver.oldest_receive world) + (length (slots_in_work world) + length (offered (receive_ring world)))
 slots-counted h world stands =
     let ring = receive_ring world in
     let o = h.driver.oldest_receive in
@@ -85,8 +85,8 @@ slots-counted h world stands =
       arith,
       classes,
       names,
-      length-append (finished o world) (in_work world ++ offered ring),
-      length-append (in_work world) (offered ring),
+      length-append (finished o world) (slots_in_work world ++ offered ring),
+      length-append (slots_in_work world) (offered ring),
       length-map (outstanding ring o) (named_address world.memory),
       length-map h.driver.buffers (buffer_at h.driver.layout),
     )
@@ -192,7 +192,7 @@ steps-most h world stands =
       held-counted o world,
       length-append in_slots engine.buffer,
       pieces-append in_slots engine.buffer,
-      pieces-least in_slots stands.ready.ready.law.whole.legal,
+      (pieces-within in_slots stands.ready.ready.law.whole.legal).0,
       queued-least (all_of h.queues) stands.ready.sizes,
     )
 
@@ -202,7 +202,7 @@ steps-fit h world stands adapter =
     omega (
       arith,
       asked-most _ world (count_line world.adapter.causes) stands.ready.ready (line-few world.adapter.causes),
-      pieces-most engine.buffer adapter.receiver.frames,
+      (pieces-within engine.buffer adapter.receiver.frames).1,
       held-counted h.driver.oldest_receive world,
       held-at_most h world stands adapter,
       stands.ready.ready.driver_is.addresses,
@@ -306,12 +306,12 @@ drains steps number a b h h' given on none stands adapter =
       };
     }
 
-pub drains-into : (steps number : ℕ) (a b : List StationState) (h h' : HostState) (before behind : List Given) (room left : ℕ)
+pub drains-into : {steps number room left : ℕ} {a b : List StationState} {h h' : HostState} {before behind : List Given}
     → StepsInto steps number (frame_sink before room) (frame_sink behind left) (connected h a) (connected h' b)
     → HoldsNothing h' (world_at b number)
     → CanBeDrained h (world_at a number) → IsAdapter (world_at a number).adapter
     → DrainsInto steps number before behind (connected h a) (connected h' b)
-drains-into steps number a b h h' before behind room left into none stands adapter = record {
+drains-into {steps} {number} {a = a} {b} {h} {h'} into none stands adapter = record {
   given = into.given;
   appended = into.appended;
   drains = drains steps number a b h h' into.given into.on none stands adapter;

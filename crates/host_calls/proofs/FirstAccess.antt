@@ -9,7 +9,7 @@ use Rattle.bus.specs.Trails.{IsAnswered, past_of}
 use Rattle.bus.specs.declared.event.Access.{Access}
 use Rattle.bus.specs.declared.event.Event.TheVariants.{Accesses, Arrives, Steps}
 use Rattle.bus.proofs.StepsThenAccess.{no_access}
-use Rattle.stations.specs.AtomicSteps.{At, AtomicStep, CanHappen, Idles, after}
+use Rattle.stations.specs.AtomicSteps.{At, AtomicStep, CanHappen, Idles, after_atomic}
 use Rattle.stations.specs.Stations.{StationState, world_at}
 use Rattle.stations.proofs.HostTrails.{steps-alone}
 use Rattle.stations.specs.AtomicRunLaws.{past_join}
@@ -27,7 +27,7 @@ pub record FirstAccess (caller : ℕ) (steps : List AtomicStep) (a : List Statio
   pub answered : IsAnswered access (world_at middle caller)
 
 behind-tick : (caller : ℕ) (step : AtomicStep) (steps : List AtomicStep) (a : List StationState) (access : Access) → IsTick step
-    → CanHappen step a → IsOfCall caller step → FirstAccess caller steps (after step a) access → FirstAccess caller (step ∷ steps) a access
+    → CanHappen step a → IsOfCall caller step → FirstAccess caller steps (after_atomic step a) access → FirstAccess caller (step ∷ steps) a access
 behind-tick caller step steps a access is happens of_call first = record {
   early = step ∷ first.early;
   later = first.later;
@@ -51,11 +51,11 @@ first-access caller [] a b access more leads is = absurd (cc)
 first-access caller (At host (Steps kind wire_free answer) ∷ later) a b access more leads is =
     let step = At host (Steps kind wire_free answer) in
     behind-tick caller step later a access tt leads.0 leads.1
-    (first-access caller later (after step a) b access more leads.2 (sym (tick-accesses caller step later tt) ∙ is))
+    (first-access caller later (after_atomic step a) b access more leads.2 (sym (tick-accesses caller step later tt) ∙ is))
 first-access caller (At host (Arrives frame fate) ∷ later) a b access more leads is =
     let step = At host (Arrives frame fate) in
     behind-tick caller step later a access tt leads.0 leads.1
-    (first-access caller later (after step a) b access more leads.2 (sym (tick-accesses caller step later tt) ∙ is))
+    (first-access caller later (after_atomic step a) b access more leads.2 (sym (tick-accesses caller step later tt) ∙ is))
 first-access caller (Idles tick ∷ later) a b access more leads is =
     behind-tick caller (Idles tick) later a access leads.1 leads.0 leads.1
     (first-access caller later a b access more leads.2 is)

@@ -1,5 +1,5 @@
 -- Calls that neither join nor leave a group.
-use Rattle.std.proofs.Common.{◌≡◌, ◌++◌, [], List, Result, Ok, Err, ℕ, sym, ap, subst, ◌∙◌}
+use Rattle.std.proofs.Common.{◌≡◌, ◌++◌, [], List, Result, Ok, Err, ℕ, refl, sym, ap, subst, ◌∙◌}
 use Rattle.std.specs.List.{All}
 use Rattle.std.proofs.lemmas.List.Elements.{All-append}
 use Rattle.adapter.specs.World.{World}
@@ -49,52 +49,36 @@ stay-join k first later a b c counts one two = record {
 
 -- Each call except a join or a leave
 
+stay-so : (k : ℕ) (steps : List AtomicStep) (old new : ConnectedHost) {h : HostState} → new.host ≡ h
+    → h.driver.groups ≡ old.host.driver.groups → h.driver.setup ≡ old.host.driver.setup
+    → All (IsOfDriver old.host.driver.layout) (past_at k steps).accesses → GroupsStay k steps old new
+stay-so k steps old new same groups setup own = record {
+  groups = ap (λ (h : HostState). h.driver.groups) same ∙ groups;
+  setup = ap (λ (h : HostState). h.driver.setup) same ∙ setup;
+  accesses = own;
+}
+
 pub none-stay : (k : ℕ) (given : List Given) (steps : List AtomicStep) (old new : ConnectedHost)
     → MakesNoAccess old.host new.host (InSteps k given steps old new) → GroupsStay k steps old new
-none-stay k given steps old new it =
-    record {
-      groups = ap (λ (h : HostState). h.driver.groups) it.stays;
-      setup = ap (λ (h : HostState). h.driver.setup) it.stays;
-      accesses = it.runs.own;
-    }
+none-stay k given steps old new it = stay-so k steps old new it.stays refl refl it.runs.own
 
 pub send-stay : (frame : List ℕ) (result : SendAnswer) (k : ℕ) (given : List Given) (steps : List AtomicStep) (old new : ConnectedHost)
     (world : World) → SendEffect frame result old.host new.host (InSteps k given steps old new) world → GroupsStay k steps old new
-send-stay frame (Ok u) k given steps old new world it =
-    record {
-      groups = ap (λ (h : HostState). h.driver.groups) it.others;
-      setup = ap (λ (h : HostState). h.driver.setup) it.others;
-      accesses = it.runs.own;
-    }
+send-stay frame (Ok u) k given steps old new world it = stay-so k steps old new it.others refl refl it.runs.own
 send-stay frame (Err TooShort) k given steps old new world it = none-stay k given steps old new it.1
 send-stay frame (Err TooLong) k given steps old new world it = none-stay k given steps old new it.1
-send-stay frame (Err RingFull) k given steps old new world it =
-    record {
-      groups = ap (λ (h : HostState). h.driver.groups) it.stays;
-      setup = ap (λ (h : HostState). h.driver.setup) it.stays;
-      accesses = it.runs.own;
-    }
+send-stay frame (Err RingFull) k given steps old new world it = stay-so k steps old new it.stays refl refl it.runs.own
 
 pub recv-stay : (socket : ℕ) (result : Result (List ℕ) RecvError) (k : ℕ) (given : List Given) (steps : List AtomicStep)
     (old new : ConnectedHost) (world : World) → RecvEffect socket result old.host new.host (InSteps k given steps old new) world
     → GroupsStay k steps old new
-recv-stay socket (Ok frame) k given steps old new world it =
-    record {
-      groups = ap (λ (h : HostState). h.driver.groups) it.others;
-      setup = ap (λ (h : HostState). h.driver.setup) it.others;
-      accesses = it.runs.own;
-    }
+recv-stay socket (Ok frame) k given steps old new world it = stay-so k steps old new it.others refl refl it.runs.own
 recv-stay socket (Err NoSocket) k given steps old new world it = none-stay k given steps old new it.1
 recv-stay socket (Err Empty) k given steps old new world it = none-stay k given steps old new it.2
 
 pub interrupt-stay : (result : Handled) (k : ℕ) (given : List Given) (steps : List AtomicStep) (old new : ConnectedHost) (world : World)
     → InterruptEffect result old.host new.host (InSteps k given steps old new) world → GroupsStay k steps old new
-interrupt-stay NotMine k given steps old new world it =
-    record {
-      groups = ap (λ (h : HostState). h.driver.groups) it.stays;
-      setup = ap (λ (h : HostState). h.driver.setup) it.stays;
-      accesses = it.runs.own;
-    }
+interrupt-stay NotMine k given steps old new world it = stay-so k steps old new it.stays refl refl it.runs.own
 interrupt-stay (answers.Handled n) k given steps old new world it =
     record { groups = it.only_receives.groups; setup = it.only_receives.setup; accesses = it.runs.own }
 

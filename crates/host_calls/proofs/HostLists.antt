@@ -21,7 +21,7 @@ use Rattle.bus.specs.Trails.{Occurs, Trail, past_of, past_of_event, world_after}
 use Rattle.bus.specs.declared.event.Event.{Event}
 use Rattle.bus.specs.declared.event.Event.TheVariants.{Accesses, Arrives, Steps}
 use Rattle.stations.proofs.PlayedTicks.{put-is}
-use Rattle.stations.specs.AtomicSteps.{At, AtomicStep, Idles, after, outcome_of_event}
+use Rattle.stations.specs.AtomicSteps.{At, AtomicStep, Idles, after_atomic, outcome_of_event}
 use Rattle.stations.specs.Stations.{StationState, world_at}
 use Rattle.stations.proofs.HostTrails.{trail-of}
 use Rattle.stations.specs.AtomicRuns.{LeadsTo, events_at, past_at}
@@ -54,13 +54,10 @@ never-ticked false frame fate is = absurd (cc)
 
 never-delivers : (kind : StepKind) (wire_free : Bool) (world : World) (frame : List ℕ) (fate : Fate)
     → Occurs (Steps kind wire_free (outcome.Delivered frame fate)) world → ⊥
-never-delivers TxTake wire_free world frame fate occurs = occurs.1
-never-delivers TxPut wire_free world frame fate occurs = occurs.1
-never-delivers RxData wire_free world frame fate occurs = occurs.1
-never-delivers RxDone wire_free world frame fate occurs = occurs.1
 never-delivers EepromTick wire_free world frame fate occurs = never-ticked (is_pending world.adapter.eerd) frame fate occurs.1
 never-delivers PhyTick wire_free world frame fate occurs =
     never-ticked (has_work world.adapter.mdic world.adapter.phy) frame fate occurs.1
+never-delivers _ wire_free world frame fate occurs = occurs.1
 
 pub step-told :
     {X : Type 0} (f : Happening → List X) (host : ℕ) (puts : List ℕ → List X) (moves : List X)
@@ -109,7 +106,7 @@ by-events f g caller k [] a b leads each = refl
 by-events {X} f g caller k (At host event ∷ later) a b leads each =
     flat_map-append f (outcome_happenings host (outcome_of_event event)) (happened_in later)
     ∙ ap (λ (front : List X). front ++ flat_map f (happened_in later)) (each host event (world_at a host) leads.0.occurs)
-    ∙ ap (λ (behind : List X). of_host k host (g event) ++ behind) (by-events f g caller k later (after (At host event) a) b leads.2 each)
+    ∙ ap (λ (behind : List X). of_host k host (g event) ++ behind) (by-events f g caller k later (after_atomic (At host event) a) b leads.2 each)
     ∙ sym (chosen-more g (k == host) event (events_at k later))
 by-events f g caller k (Idles tick ∷ later) a b leads each = by-events f g caller k later a b leads.2 each
 
@@ -146,25 +143,33 @@ put-told caller k steps a b leads =
 
 -- Frames stored
 
+-- The frames that an event at a host gives, if only an arrival gives frames.
+abbrev pub by_arrival : (List ℕ → Fate → List (List ℕ)) → Event → List (List ℕ)
+by_arrival of_frame (Steps kind wire_free answer) = []
+by_arrival of_frame (Arrives frame fate) = of_frame frame fate
+by_arrival of_frame (Accesses access) = []
+
+arrival-event : (f : Happening → List (List ℕ)) (of_frame : List ℕ → Fate → List (List ℕ)) (k : ℕ)
+    → ((host : ℕ) (frame : List ℕ) → f (Put host frame) ≡ []) → ((host : ℕ) → f (Moved host) ≡ [])
+    → ((host : ℕ) (frame : List ℕ) (fate : Fate) → f (Reached host frame fate) ≡ of_host k host (of_frame frame fate))
+    → Tells f (by_arrival of_frame) k
+arrival-event f of_frame k put moved came host (Steps kind wire_free answer) world occurs =
+    step-told f host (λ frame. []) [] kind wire_free answer world occurs (put host) (moved host)
+    ∙ none-told answer ∙ none-chosen (k == host)
+arrival-event f of_frame k put moved came host (Arrives frame fate) world occurs =
+    append-nil (f (Reached host frame fate)) ∙ came host frame fate
+arrival-event f of_frame k put moved came host (Accesses access) world occurs = none-chosen (k == host)
+
 abbrev pub kept_in : Event → List (List ℕ)
-kept_in (Steps kind wire_free answer) = []
-kept_in (Arrives frame fate) = kept fate frame
-kept_in (Accesses access) = []
+kept_in event = by_arrival (λ frame fate. kept fate frame) event
 
 stored-event : (k : ℕ) → Tells (stored_by k) kept_in k
-stored-event k host (Steps kind wire_free answer) world occurs =
-    step-told (stored_by k) host (λ frame. []) [] kind wire_free answer world occurs (λ frame. refl) refl
-    ∙ none-told answer ∙ none-chosen (k == host)
-stored-event k host (Arrives frame fate) world occurs = append-nil (stored_by k (Reached host frame fate))
-stored-event k host (Accesses access) world occurs = none-chosen (k == host)
+stored-event k =
+    arrival-event (stored_by k) (λ frame fate. kept fate frame) k (λ host frame. refl) (λ host. refl) (λ host frame fate. refl)
 
 none-stored : (kind : StepKind) (answer : FrameOutcome) → [] ≡ (past_of_step kind answer).stored
-none-stored TxTake answer = refl
 none-stored TxPut answer = refl
-none-stored RxData answer = refl
-none-stored RxDone answer = refl
-none-stored EepromTick answer = refl
-none-stored PhyTick answer = refl
+none-stored _ answer = refl
 
 stored-is : (event : Event) → kept_in event ≡ (past_of_event event).stored
 stored-is (Steps kind wire_free answer) = none-stored kind answer
@@ -226,23 +231,18 @@ missed-told caller k (At host event ∷ later) a b leads =
     sum_by-append (missed_of k) (outcome_happenings host (outcome_of_event event)) (happened_in later)
     ∙ ap (λ (n : ℕ). n + missed k (happened_in later)) (event-missed k host event (world_at a host) leads.0.occurs)
     ∙ ap (λ (n : ℕ). (if k == host then (past_of_event event).missed else 0) + n)
-    (missed-told caller k later (after (At host event) a) b leads.2)
+    (missed-told caller k later (after_atomic (At host event) a) b leads.2)
     ∙ sym (chosen-missed (k == host) event (events_at k later))
 missed-told caller k (Idles tick ∷ later) a b leads = missed-told caller k later a b leads.2
 
 -- Frames that reached the host
 
 abbrev pub arrived_in : Event → List (List ℕ)
-arrived_in (Steps kind wire_free answer) = []
-arrived_in (Arrives frame fate) = frame ∷ []
-arrived_in (Accesses access) = []
+arrived_in event = by_arrival (λ frame fate. frame ∷ []) event
 
 reached-event : (k : ℕ) → Tells (reached_by k) arrived_in k
-reached-event k host (Steps kind wire_free answer) world occurs =
-    step-told (reached_by k) host (λ frame. []) [] kind wire_free answer world occurs (λ frame. refl) refl
-    ∙ none-told answer ∙ none-chosen (k == host)
-reached-event k host (Arrives frame fate) world occurs = append-nil (reached_by k (Reached host frame fate))
-reached-event k host (Accesses access) world occurs = none-chosen (k == host)
+reached-event k =
+    arrival-event (reached_by k) (λ frame fate. frame ∷ []) k (λ host frame. refl) (λ host. refl) (λ host frame fate. refl)
 
 pub reached-told : (caller k : ℕ) (steps : List AtomicStep) (a b : List StationState) → LeadsTo caller steps a b
     → reached k (happened_in steps) ≡ flat_map arrived_in (events_at k steps)

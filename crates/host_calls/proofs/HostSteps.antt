@@ -15,9 +15,9 @@ use Rattle.eeprom_phy.specs.declared.mdic.Ticked.{Ticked}
 use Rattle.eeprom_phy.specs.declared.phy.Negotiation.{Negotiation}
 use Rattle.eeprom_phy.specs.declared.phy.Negotiation.TheVariants.{NotStarted, Running, Complete}
 use Rattle.eeprom_phy.specs.Mdic.{has_work, phy_after_tick, told}
-use Rattle.eeprom_phy.specs.Phy.{PhyState, counted, is_running}
+use Rattle.eeprom_phy.specs.Phy.{PhyState, counted_down, is_running}
 use Rattle.rx_engine.specs.declared.arrival.Fate.{Fate}
-use Rattle.rx_engine.specs.declared.arrival.Fate.TheVariants.{Off, Illegal, Filtered, Missed, Stored}
+use Rattle.rx_engine.specs.declared.arrival.Fate.TheVariants.{Off, Stored}
 use Rattle.rx_engine.specs.Receiver.{oldest}
 use Rattle.adapter.specs.Receiving.{after_arrive}
 use Rattle.adapter.specs.Registers.{left_by_read, left_by_write, read_of, write_of}
@@ -26,7 +26,7 @@ use Rattle.adapter.specs.Steps.{Answers, after_phy_told, ticked}
 use Rattle.adapter.specs.Table.{register_at}
 use Rattle.adapter.specs.World.{World}
 use Rattle.adapter.specs.declared.register.Register.{Register}
-use Rattle.adapter.specs.declared.register.Register.TheVariants.{Icr, Mpc, Gprc, Gptc, Rnbc, Ctrl, Eerd, Mdic, Rctl, Tctl, Receive}
+use Rattle.adapter.specs.declared.register.Register.TheVariants.{Icr, Ctrl, Eerd, Mdic, Rctl, Tctl, Receive}
 use Rattle.adapter.specs.declared.register.Register.TheVariants.{Transmit}
 use Rattle.adapter.specs.declared.register.RingRegister.TheVariants.{Tail}
 use Rattle.adapter.specs.declared.step.StepKind.{StepKind}
@@ -148,7 +148,7 @@ eeprom-goes answer wire_free w answers = read-left w.adapter.image w.adapter.eer
 -- The PHY
 
 lowered : (negotiation : Negotiation) → is_running negotiation ≡ true
-    → negotiation_ticks (counted negotiation) ≡ negotiation_ticks negotiation - 1
+    → negotiation_ticks (counted_down negotiation) ≡ negotiation_ticks negotiation - 1
 lowered NotStarted runs = absurd (cc)
 lowered Complete runs = absurd (cc)
 lowered (Running left) runs = elim (leb_tells left 1) [
@@ -207,20 +207,13 @@ left-stored moved (first ∷ frames) frame begun =
 
 arrival-goes : (fate : Fate) (frame : List ℕ) (a : AdapterState) → IsAdapter a
     → counts_of (after_arrive fate frame a) ≡ counts_after (Arrives frame fate) (counts_of a)
-arrival-goes Off frame a is = none-stored a
-arrival-goes Illegal frame a is = none-stored a
-arrival-goes Filtered frame a is = none-stored a
-arrival-goes Missed frame a is = none-stored a
 arrival-goes Stored frame a is = with-left (counts_of a) _ _ (left-stored a.receiver.moved a.receiver.buffer frame is.receiver.begun)
+arrival-goes _ frame a is = none-stored a
 
 -- Accesses
 
 read-goes : (register : Register) (a : AdapterState) → counts_of (read_of register a) ≡ counts_of a
 read-goes Icr a = refl
-read-goes Mpc a = refl
-read-goes Gprc a = refl
-read-goes Gptc a = refl
-read-goes Rnbc a = refl
 read-goes _ a = refl
 
 found-read : (found : Option Register) (a : AdapterState) → counts_of (left_by_read found a) ≡ counts_of a
@@ -239,44 +232,44 @@ started false address state = refl
 
 write-goes : (register : Register) (value : ℕ) (a : AdapterState) → IsNotMdic register
     → counts_of (write_of register value a) ≡ counts_after_write (Some register) value (counts_of a)
-write-goes (Receive BaseLow) value a counted = refl
-write-goes (Receive BaseHigh) value a counted = refl
-write-goes (Receive Length) value a counted = refl
-write-goes (Receive Head) value a counted = refl
-write-goes (Receive Tail) value a counted = refl
-write-goes (Transmit BaseLow) value a counted = refl
-write-goes (Transmit BaseHigh) value a counted = refl
-write-goes (Transmit Length) value a counted = refl
-write-goes (Transmit Head) value a counted = refl
-write-goes (Transmit Tail) value a counted = refl
-write-goes Ctrl value a counted = reset-goes (is_set value ctrl_rst) a _ refl
-write-goes Rctl value a counted = refl
-write-goes Tctl value a counted = refl
-write-goes Eerd value a counted = with-reading (counts_of a) _ _ (started (eeprom.has_start value) (eeprom.addr value) a.eerd)
-write-goes Mdic value a counted = absurd counted
-write-goes _ value a counted = refl
+write-goes (Receive BaseLow) value a counted_down = refl
+write-goes (Receive BaseHigh) value a counted_down = refl
+write-goes (Receive Length) value a counted_down = refl
+write-goes (Receive Head) value a counted_down = refl
+write-goes (Receive Tail) value a counted_down = refl
+write-goes (Transmit BaseLow) value a counted_down = refl
+write-goes (Transmit BaseHigh) value a counted_down = refl
+write-goes (Transmit Length) value a counted_down = refl
+write-goes (Transmit Head) value a counted_down = refl
+write-goes (Transmit Tail) value a counted_down = refl
+write-goes Ctrl value a counted_down = reset-goes (is_set value ctrl_rst) a _ refl
+write-goes Rctl value a counted_down = refl
+write-goes Tctl value a counted_down = refl
+write-goes Eerd value a counted_down = with-reading (counts_of a) _ _ (started (eeprom.has_start value) (eeprom.addr value) a.eerd)
+write-goes Mdic value a counted_down = absurd counted_down
+write-goes _ value a counted_down = refl
 
 found-written : (found : Option Register) (value : ℕ) (a : AdapterState) → IfSome found IsNotMdic
     → counts_of (left_by_write found value a) ≡ counts_after_write found value (counts_of a)
-found-written None value a counted = refl
-found-written (Some register) value a counted = write-goes register value a counted
+found-written None value a counted_down = refl
+found-written (Some register) value a counted_down = write-goes register value a counted_down
 
 -- Events
 
 event-goes : (event : Event) (w : World) → All IsCounted (past_of_event event).accesses → Occurs event w
     → counts_of (world_after event w).adapter ≡ counts_after event (counts_of w.adapter)
-event-goes (Steps kind wire_free answer) w counted occurs = step-goes kind wire_free answer w occurs.1
-event-goes (Arrives frame fate) w counted occurs = arrival-goes fate frame w.adapter occurs.0
-event-goes (Accesses (Reads offset value)) w counted occurs = found-read (register_at offset) w.adapter
-event-goes (Accesses (Writes offset value)) w counted occurs =
-    found-written (register_at offset) value w.adapter (all-head IsCounted (Writes offset value) [] counted)
-event-goes (Accesses (Loads address size)) w counted occurs = refl
-event-goes (Accesses (Stores address bytes)) w counted occurs = refl
+event-goes (Steps kind wire_free answer) w counted_down occurs = step-goes kind wire_free answer w occurs.1
+event-goes (Arrives frame fate) w counted_down occurs = arrival-goes fate frame w.adapter occurs.0
+event-goes (Accesses (Reads offset value)) w counted_down occurs = found-read (register_at offset) w.adapter
+event-goes (Accesses (Writes offset value)) w counted_down occurs =
+    found-written (register_at offset) value w.adapter (all-head IsCounted (Writes offset value) [] counted_down)
+event-goes (Accesses (Loads address size)) w counted_down occurs = refl
+event-goes (Accesses (Stores address bytes)) w counted_down occurs = refl
 
 pub trail-goes : (events : List Event) (a b : World) → All IsCounted (past_of events).accesses → Trail events a b
     → counts_of b.adapter ≡ counts_behind events (counts_of a.adapter)
-trail-goes [] a b counted trail = ap (λ (w : World). counts_of w.adapter) trail
-trail-goes (event ∷ later) a b counted trail =
-    let first = all-left IsCounted (past_of_event event).accesses (past_of later).accesses counted in
-    let behind = all-right IsCounted (past_of_event event).accesses (past_of later).accesses counted in
+trail-goes [] a b counted_down trail = ap (λ (w : World). counts_of w.adapter) trail
+trail-goes (event ∷ later) a b counted_down trail =
+    let first = all-left IsCounted (past_of_event event).accesses (past_of later).accesses counted_down in
+    let behind = all-right IsCounted (past_of_event event).accesses (past_of later).accesses counted_down in
     trail-goes later (world_after event a) b behind trail.1 ∙ ap (counts_behind later) (event-goes event a first trail.0)

@@ -9,7 +9,7 @@ use Rattle.bus.specs.Law.{Happens}
 use Rattle.bus.specs.Trails.{IsStep}
 use Rattle.bus.specs.declared.event.Event.{Event}
 use Rattle.bus.specs.declared.event.Event.TheVariants.{Accesses, Arrives, Steps}
-use Rattle.stations.specs.AtomicSteps.{At, AtomicStep, Idles, after}
+use Rattle.stations.specs.AtomicSteps.{At, AtomicStep, Idles, after_atomic}
 use Rattle.stations.specs.Stations.{StationState, world_at}
 use Rattle.stations.proofs.HostTrails.{steps-alone, trail-of}
 use Rattle.stations.specs.AtomicRuns.{IsOfCall, IsTick, LeadsTo, events_at, past_at}
@@ -38,7 +38,7 @@ pub steps-elsewhere : (caller k : ℕ) (steps : List AtomicStep) (a b : List Sta
 steps-elsewhere caller k [] a b other leads = all-none IsStep
 steps-elsewhere caller k (At host event ∷ later) a b other leads =
     elsewhere caller k host event other leads.1 (events_at k later)
-    (steps-elsewhere caller k later (after (At host event) a) b other leads.2)
+    (steps-elsewhere caller k later (after_atomic (At host event) a) b other leads.2)
 steps-elsewhere caller k (Idles tick ∷ later) a b other leads = steps-elsewhere caller k later a b other leads.2
 
 pub happens-elsewhere : (caller k : ℕ) (steps : List AtomicStep) (a b : List StationState) → k ≢ caller → LeadsTo caller steps a b

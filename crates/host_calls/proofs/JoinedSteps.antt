@@ -1,5 +1,5 @@
 -- Consecutive steps of a drain are joined, and are steps into a sink.
-use Rattle.std.proofs.Common.{◌≡◌, ◌<◌, length, ◌+◌, ◌++◌, [], ℕ, zero, suc, Bool, false, List, replicate, refl, sym, ap, subst, ◌∙◌}
+use Rattle.std.proofs.Common.{◌≡◌, ◌+◌, ◌++◌, [], ℕ, zero, suc, Bool, false, true, List, replicate, refl, sym, ap, subst, ◌∙◌}
 use Rattle.std.proofs.Common.{arith, length-append}
 use Rattle.std.proofs.lemmas.List.{replicate-append-replicate}
 use Rattle.std.proofs.lemmas.List.Elements.{All-append}
@@ -21,13 +21,13 @@ use Rattle.host_calls.proofs.Calling.{ready-behind, runs-alone, runs-join}
 use Rattle.host_calls.proofs.GroupsKept.{stay-alone, stay-join}
 use Rattle.host_calls.proofs.HostTrails.{happens-alone, none-alone}
 use Rattle.host_calls.specs.DrainedHosts.{CanBeDrained, IsDrainStep}
-use Rattle.host_calls.specs.ConnectedHosts.{connected}
-use Rattle.host_calls.specs.DrainSteps.{StepsInto, StepsOn, frame_sink, steps_of}
+use Rattle.host_calls.specs.ConnectedHosts.{ConnectedHost, connected}
+use Rattle.host_calls.specs.DrainSteps.{FrameSinkState, StepsInto, StepsOn, frame_sink, steps_of}
 
-pub stands-on : (steps number : ℕ) (a b : List StationState) (h h' : HostState) (given : List Given)
+pub stands-on : {steps number : ℕ} {a b : List StationState} {h h' : HostState} {given : List Given}
     → StepsOn steps number given (connected h a) (connected h' b)
     → CanBeDrained h (world_at a number) → CanBeDrained h' (world_at b number)
-stands-on steps number a b h h' given on stands = record {
+stands-on {number = number} {a} {b} {h} {h'} {given} on stands = record {
   ready = ready-behind h (world_at a number) h' (world_at b number) on.taken given [] (past_at number on.played) on.runs.flows;
   work = on.runs.work stands.work;
   refilled = on.runs.refilled stands.refilled;
@@ -49,10 +49,10 @@ steps-none number a h stands = record {
   counts = record { most = omega arith; least = omega arith; held = omega arith };
 }
 
-pub steps-join : (m n number : ℕ) (a b c : List StationState) (h1 h2 h3 : HostState) (given more : List Given)
+steps-join : {m n number : ℕ} {a b c : List StationState} {h1 h2 h3 : HostState} {given more : List Given}
     → StepsOn m number given (connected h1 a) (connected h2 b) → StepsOn n number more (connected h2 b) (connected h3 c)
     → StepsOn (m + n) number (given ++ more) (connected h1 a) (connected h3 c)
-steps-join m n number a b c h1 h2 h3 given more one two =
+steps-join {number = number} {a} {b} {c} {h1} {h2} {h3} {given} {more} one two =
     let both = length-append given more in
     record {
       played = one.played ++ two.played;
@@ -84,14 +84,13 @@ steps-join m n number a b c h1 h2 h3 given more one two =
       };
     }
 
-pub steps-after : (first : Bool) (n number : ℕ) (a b c : List StationState) (h m h' : HostState) (given : List Given) → first ≡ false
+pub steps-after : {first : Bool} {n number : ℕ} {a b c : List StationState} {h m h' : HostState} {given : List Given} → first ≡ false
     → StepsOn (steps_of first) number [] (connected h a) (connected m b) → StepsOn n number given (connected m b) (connected h' c)
     → StepsOn n number given (connected h a) (connected h' c)
-steps-after first n number a b c h m h' given none one two =
+steps-after {n = n} {number} {a} {b} {c} {h} {m} {h'} {given} none one two =
     let nothing : 0 + n ≡ n = omega arith in
     subst (λ (k : ℕ). StepsOn k number given (connected h a) (connected h' c)) nothing
-    (steps-join 0 n number a b c h m h' [] given
-    (subst (λ (stepped : Bool). StepsOn (steps_of stepped) number [] (connected h a) (connected m b)) none one) two)
+    (steps-join (subst (λ (stepped : Bool). StepsOn (steps_of stepped) number [] (connected h a) (connected m b)) none one) two)
 
 -- If frames are only moved to memory, no frame is put, reaches a host, is stored or is missed.
 
@@ -122,25 +121,39 @@ nothing-stored number k played a b n leads moved =
 
 -- The frames that sockets returned are appended to a sink.
 
-pub into-none : (number : ℕ) (a b : List StationState) (h h' : HostState) (had : List Given) (room steps : ℕ)
+pub into-none : {steps number room : ℕ} {a b : List StationState} {h h' : HostState} {had : List Given}
     → StepsOn steps number [] (connected h a) (connected h' b)
     → StepsInto steps number (frame_sink had room) (frame_sink had room) (connected h a) (connected h' b)
-into-none number a b h h' had room steps on = record {
+into-none {had = had} on = record {
   given = [];
   appended = sym (Rattle.std.proofs.lemmas.List.append-nil had);
   room = omega arith;
   on = on;
 }
 
-pub into-join : (m n number : ℕ) (a b c : List StationState) (h1 h2 h3 : HostState) (x y z : List Given) (p q r : ℕ)
+pub into-join : {m n number : ℕ} {a b c : List StationState} {h1 h2 h3 : HostState} {x y z : List Given} {p q r : ℕ}
     → StepsInto m number (frame_sink x p) (frame_sink y q) (connected h1 a) (connected h2 b)
     → StepsInto n number (frame_sink y q) (frame_sink z r) (connected h2 b) (connected h3 c)
     → StepsInto (m + n) number (frame_sink x p) (frame_sink z r) (connected h1 a) (connected h3 c)
-into-join m n number a b c h1 h2 h3 x y z p q r one two = record {
+into-join {x = x} one two = record {
   given = one.given ++ two.given;
   appended =
       two.appended ∙ ap (λ (list : List Given). list ++ two.given) one.appended
       ∙ Rattle.std.proofs.Common.append_assoc x one.given two.given;
   room = omega (arith, one.room, two.room, length-append one.given two.given);
-  on = steps-join m n number a b c h1 h2 h3 one.given two.given one.on two.on;
+  on = steps-join one.on two.on;
 }
+
+-- The step of a drain was taken, or no step applied.
+
+pub one-step : {stepped : Bool} {number : ℕ} {before after : FrameSinkState} {old new : ConnectedHost} → stepped ≡ true
+    → StepsInto (steps_of stepped) number before after old new → StepsInto 1 number before after old new
+one-step {number = number} {before} {after} {old} {new} took =
+    subst (λ (stepped : Bool). StepsInto (steps_of stepped) number before after old new) took
+
+pub no-step : {stepped : Bool} {n number : ℕ} {before after : FrameSinkState} {old new : ConnectedHost} → stepped ≡ false
+    → StepsInto (n + steps_of stepped) number before after old new → StepsInto n number before after old new
+no-step {n = n} {number} {before} {after} {old} {new} none into =
+    let same : n + 0 ≡ n = omega arith in
+    subst (λ (m : ℕ). StepsInto m number before after old new) same
+    (subst (λ (stepped : Bool). StepsInto (n + steps_of stepped) number before after old new) none into)

@@ -6,7 +6,7 @@ use Rattle.bus.specs.TickGroups.{behind_group, group_of, played_in}
 use Rattle.bus.specs.declared.event.Access.{Access}
 use Rattle.bus.specs.declared.event.Event.TheVariants.{Accesses, Arrives, Steps}
 use Rattle.stations.specs.AtomicRuns.{IsOfCall, LeadsTo, is_go}
-use Rattle.stations.specs.AtomicSteps.{At, AtomicStep, Idles, IsNoAccess, after, tick_of}
+use Rattle.stations.specs.AtomicSteps.{At, AtomicStep, Idles, IsNoAccess, after_atomic, tick_of}
 use Rattle.stations.specs.LentBuses.{HappenedLent}
 use Rattle.stations.specs.LentBusLaws.{lent_happened_join}
 use Rattle.stations.specs.Stations.{StationState}
@@ -17,11 +17,11 @@ use Rattle.stations.specs.declared.tick.Tick.{Tick}
 use Rattle.stations.specs.declared.tick.Tick.TheVariants.{Go}
 use Rattle.host_calls.specs.CallsOfHosts.{EndsWithAccess}
 
-pub lent_intervals-join : {O : Type 0} {g : OfObserver O} → ComposesTold g.heard
-    → (a b c : LentBus O g) (first later : Past) (one : HappenedLent a b first) (two : HappenedLent b c later)
+pub lent_intervals-join : {O : Type 0} {g : OfObserver O} {a b c : LentBus O g} {first later : Past} → ComposesTold g.heard
+    → (one : HappenedLent a b first) (two : HappenedLent b c later)
     → ((both : HappenedLent a c (joined first later)) × (both.steps ≡ one.steps ++ two.steps))
 unfolding lent_happened_join
-lent_intervals-join composes a b c first later one two = (lent_happened_join composes a b c first later one two, refl)
+lent_intervals-join {a = a} {b} {c} {first} {later} composes one two = (lent_happened_join composes a b c first later one two, refl)
 
 -- The ticks that are played end with a Go
 
@@ -57,7 +57,7 @@ steps-end : (caller : ℕ) (steps : List AtomicStep) (a b : List StationState) �
 unfolding EndsWithGo
 steps-end caller [] a b leads ends = tt
 steps-end caller (step ∷ []) a b leads ends = access-at-go caller step leads.1 ends
-steps-end caller (step ∷ next ∷ later) a b leads ends = steps-end caller (next ∷ later) (after step a) b leads.2 ends
+steps-end caller (step ∷ next ∷ later) a b leads ends = steps-end caller (next ∷ later) (after_atomic step a) b leads.2 ends
 
 pub lent_interval-ends : {O : Type 0} {g : OfObserver O} (a b : LentBus O g) (past : Past) (interval : HappenedLent a b past)
     → EndsWithAccess interval.steps

@@ -15,6 +15,8 @@ use Rattle.stations.specs.Stations.{StationState, world_at}
 use Rattle.stations.specs.ToldTicks.{ComposesTold}
 use Rattle.stations.specs.declared.lent_bus.LentBus.{LentBus}
 use Rattle.stations.specs.declared.observer.Observer.{Ghosts as OfObserver}
+use Rattle.packet_socket.specs.CallEffects.{EffectOf, Request, accepted_in, given_in}
+use Rattle.packet_socket.specs.declared.call.HostAnswer.{HostAnswer}
 use Rattle.packet_socket.specs.HostActs.{HostAct, OverBus, Effect, Ends, IsAccessOf, OnlyLastWrites, PassesStages, CallStages, Then}
 use Rattle.packet_socket.specs.HostCalls.{
   Given,
@@ -30,8 +32,8 @@ use Rattle.packet_socket.specs.HostCalls.{
 use Rattle.packet_socket.specs.HostState.{HostState}
 use Rattle.packet_socket.specs.SocketKinds.{goes_to}
 use Rattle.packet_socket.specs.declared.socket_kind.SocketKind.{SocketKind}
-use Rattle.packet_socket.proofs.Effects.{Maps, own-host, flows-changed, passes-accesses}
-use Rattle.host_calls.specs.CallsInSteps.{Calls, InSteps, MakesStages}
+use Rattle.packet_socket.proofs.Effects.{Maps, call-map, own-host, flows-changed, passes-accesses}
+use Rattle.host_calls.specs.CallsInSteps.{Calls, InSteps, MakesCall, MakesStages}
 use Rattle.host_calls.specs.CallsOfHosts.{CallRuns, HostRuns}
 use Rattle.host_calls.specs.ConnectedHosts.{connected}
 use Rattle.host_calls.specs.LentCalls.{lent}
@@ -57,7 +59,7 @@ stages-told {O} {g} composes (Then made Holds later) a m last past none it =
     let one = it.reports in
     let host = one.lent.host in
     let rest = stages-told composes later it.middle m last it.behind none it.later in
-    let both = lent_intervals-join composes a it.middle m it.before it.behind one rest.0 in
+    let both = lent_intervals-join composes one rest.0 in
     subst (Told (Then made Holds later) a m last) (sym it.whole) (
       both.0,
       record {
@@ -155,7 +157,7 @@ lift-act composes a m b h h' given accepted zero ready finished act it =
 
 -- A call over a lent bus has the same effect in the steps of the network, for each effect whose acts can be replaced
 -- (`Maps`).
-pub lift-calls : {O : Type 0} {g : OfObserver O} → ComposesTold g.heard → (a m b : LentBus O g) (h h' : HostState) (given : List Given)
+lift-calls : {O : Type 0} {g : OfObserver O} → ComposesTold g.heard → (a m b : LentBus O g) (h h' : HostState) (given : List Given)
     (accepted : List (List ℕ)) (Does : Effect) → Maps Does → a.accesses ≡ 0 → HostReady h (world_here a) → Finished m b
     → Does h h' (OverBus lent true given accepted (host_at a h) (host_at m h')) (world_here a)
     → Calls (lent_call a b) given accepted Does (connected h a.stations.now) (connected h' b.stations.now)
@@ -165,3 +167,13 @@ lift-calls composes a m b h h' given accepted Does maps zero ready finished does
     (λ runs. InSteps a.host given runs.steps (connected h a.stations.now) (connected h' b.stations.now))
     (lift-act composes a m b h h' given accepted zero ready finished) does in
     record { runs = made.0; does = made.1 }
+
+-- A call over a lent bus is this call in the steps of the network.
+pub lift-call : {O : Type 0} {g : OfObserver O} {m b : LentBus O g} {h h' : HostState} → ComposesTold g.heard → (a : LentBus O g)
+    (request : Request) (answer : HostAnswer (List ℕ)) → a.accesses ≡ 0 → HostReady h (world_here a) → Finished m b
+    → EffectOf request answer h h'
+    (OverBus lent true (given_in request answer) (accepted_in request answer) (host_at a h) (host_at m h')) (world_here a)
+    → MakesCall (lent_call a b) request answer (connected h a.stations.now) (connected h' b.stations.now)
+lift-call {m = m} {b} {h} {h'} composes a request answer =
+    lift-calls composes a m b h h' (given_in request answer) (accepted_in request answer) (EffectOf request answer)
+    (call-map request answer)

@@ -14,7 +14,7 @@ use Rattle.adapter.specs.declared.outcome.Outcome.TheVariants as outcome
 use Rattle.bus.specs.LivelyBuses.{most_accesses}
 use Rattle.bus.specs.declared.event.Event.TheVariants.{Accesses, Arrives, Steps}
 use Rattle.stations.specs.AtomicRuns.{LeadsTo, past_at, steps_told}
-use Rattle.stations.specs.AtomicSteps.{At, AtomicStep, Idles, after}
+use Rattle.stations.specs.AtomicSteps.{At, AtomicStep, Idles, after_atomic}
 use Rattle.stations.specs.Stations.{StationState}
 use Rattle.stations.specs.ToldTicks.{TickTold, tick_told}
 use Rattle.host_calls.specs.Happenings.{Happening, happened_in, put, put_in_one, stored, stored_by, outcome_happenings}
@@ -96,19 +96,19 @@ all-picked test frames by are k limit n (At host (Steps kind wire_free answer) �
     let step = At host (Steps kind wire_free answer) in
     let count = ap length (tick-accesses k step steps tt) in
     let one = one-picked test frames by are k host n answer (passing n (omega arith)) in
-    let rest = all-picked test frames by are k limit n steps (after step a) b leads.2 passing (omega (arith, count)) in
+    let rest = all-picked test frames by are k limit n steps (after_atomic step a) b leads.2 passing (omega (arith, count)) in
     let append = flat_map-append (by k) (outcome_happenings host answer) (happened_in steps) in
     cc
 all-picked test frames by are k limit n (At host (Arrives frame fate) ∷ steps) a b leads passing few =
     let step = At host (Arrives frame fate) in
     let count = ap length (tick-accesses k step steps tt) in
     let one = one-picked test frames by are k host n (Delivered frame fate) (passing n (omega arith)) in
-    let rest = all-picked test frames by are k limit n steps (after step a) b leads.2 passing (omega (arith, count)) in
+    let rest = all-picked test frames by are k limit n steps (after_atomic step a) b leads.2 passing (omega (arith, count)) in
     let append = flat_map-append (by k) (outcome_happenings host (Delivered frame fate)) (happened_in steps) in
     cc
 all-picked test frames by are k limit n (At host (Accesses access) ∷ steps) a b leads passing few =
     let count = ap length (own-accesses k host access steps leads.1) in
-    all-picked test frames by are k limit (min (n + 1) most_accesses) steps (after (At host (Accesses access)) a) b leads.2 passing
+    all-picked test frames by are k limit (min (n + 1) most_accesses) steps (after_atomic (At host (Accesses access)) a) b leads.2 passing
     (omega (arith, count))
 all-picked test frames by are k limit n (Idles tick ∷ steps) a b leads passing few =
     let none : picked test frames k (tick_told tick n Nothing) ≡ [] =

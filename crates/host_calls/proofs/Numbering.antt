@@ -4,7 +4,7 @@ use Rattle.std.proofs.lemmas.List.{append-nil, map-append}
 use Rattle.bus.specs.TickGroups.{behind_group, group_of, played_in, waiting_after, without_go}
 use Rattle.bus.specs.declared.event.Access.{Access}
 use Rattle.bus.specs.declared.event.Event.TheVariants.{Accesses, Arrives, Steps}
-use Rattle.stations.specs.AtomicSteps.{At, AtomicStep, Idles, after, tick_of}
+use Rattle.stations.specs.AtomicSteps.{At, AtomicStep, Idles, after_atomic, tick_of}
 use Rattle.stations.specs.Stations.{StationState}
 use Rattle.stations.specs.declared.outcomes.Numbered.{Numbered}
 use Rattle.stations.specs.declared.tick.Tick.{Tick}
@@ -58,13 +58,13 @@ numbered-steps :
 numbered-steps caller i n [] others a b leads low most within = refl
 numbered-steps caller i n (At host (Steps kind wire_free answer) ∷ later) others a b leads low most within =
     next i n i (map tick_of later ++ others) _ (omega (arith, within, (grows later i low).least))
-    (numbered-steps caller i n later others (after (At host (Steps kind wire_free answer)) a) b leads.2 low most within)
+    (numbered-steps caller i n later others (after_atomic (At host (Steps kind wire_free answer)) a) b leads.2 low most within)
 numbered-steps caller i n (At host (Arrives frame fate) ∷ later) others a b leads low most within =
     next i n i (map tick_of later ++ others) _ (omega (arith, within, (grows later i low).least))
-    (numbered-steps caller i n later others (after (At host (Arrives frame fate)) a) b leads.2 low most within)
+    (numbered-steps caller i n later others (after_atomic (At host (Arrives frame fate)) a) b leads.2 low most within)
 numbered-steps caller i n (At host (Accesses access) ∷ later) others a b leads low most within =
     capped (map tick_of later ++ others) (i + 1) n most
-    ∙ numbered-steps caller (min (i + 1) most_accesses) n later others (after (At host (Accesses access)) a) b leads.2 (omega arith) most
+    ∙ numbered-steps caller (min (i + 1) most_accesses) n later others (after_atomic (At host (Accesses access)) a) b leads.2 (omega arith) most
     within
 numbered-steps caller i n (Idles Go ∷ later) others a b leads low most within = let never = leads.1 in absurd (cc)
 numbered-steps caller i n (Idles (Step host kind) ∷ later) others a b leads low most within =

@@ -17,9 +17,9 @@ use Rattle.adapter.specs.Registers.{after_reset, by_row, is_reset, left_by_read,
 use Rattle.adapter.specs.State.{AdapterState}
 use Rattle.adapter.specs.Table.{register_at, row_of}
 use Rattle.adapter.specs.declared.register.Register.{Register}
-use Rattle.adapter.specs.declared.register.Register.TheVariants.{Ctrl, Icr, Mpc, Gprc, Gptc, Rnbc, Receive, Transmit}
+use Rattle.adapter.specs.declared.register.Register.TheVariants.{Ctrl, Icr, Receive, Transmit}
 use Rattle.adapter.specs.declared.register.RingRegister.{RingRegister}
-use Rattle.adapter.specs.declared.register.RingRegister.TheVariants.{BaseHigh, BaseLow, Head, Length, Tail}
+use Rattle.adapter.specs.declared.register.RingRegister.TheVariants.{Tail}
 use Rattle.adapter.specs.Steps.{Answers, after_phy_told, ticked}
 use Rattle.adapter.specs.World.{World}
 use Rattle.adapter.specs.Outcomes.{FrameOutcome}
@@ -145,19 +145,13 @@ written-empty : (register : Register) (value : ℕ) (a : AdapterState) → a.rec
 written-empty (Receive part) value a none = part-empty part none
   where
     part-empty : (part : RingRegister) → a.receiver.buffer ≡ [] → (write_of (Receive part) value a).receiver.buffer ≡ []
-    part-empty BaseLow none = none
-    part-empty BaseHigh none = none
-    part-empty Length none = none
-    part-empty Head none = none
     part-empty Tail none = none
+    part-empty _ none = none
 written-empty (Transmit part) value a none = part-empty part none
   where
     part-empty : (part : RingRegister) → a.receiver.buffer ≡ [] → (write_of (Transmit part) value a).receiver.buffer ≡ []
-    part-empty BaseLow none = none
-    part-empty BaseHigh none = none
-    part-empty Length none = none
-    part-empty Head none = none
     part-empty Tail none = none
+    part-empty _ none = none
 written-empty Ctrl value a none = reset-empty (is_reset Ctrl value) a (by_row (row_of Ctrl).kept Ctrl value a) refl none
 written-empty _ value a none = none
 
@@ -168,10 +162,6 @@ access-empty (Reads offset value) w none = read-empty (register_at offset) w.ada
     read-empty : (found : Option Register) (a : AdapterState) → a.receiver.buffer ≡ [] → (left_by_read found a).receiver.buffer ≡ []
     read-empty None a none = none
     read-empty (Some Icr) a none = none
-    read-empty (Some Mpc) a none = none
-    read-empty (Some Gprc) a none = none
-    read-empty (Some Gptc) a none = none
-    read-empty (Some Rnbc) a none = none
     read-empty (Some register) a none = none
 access-empty (Writes offset value) w none = found-empty (register_at offset) none
   where

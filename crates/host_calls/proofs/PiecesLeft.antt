@@ -34,25 +34,14 @@ pieces-append first later = sum_by-append (λ (frame : List ℕ). buffers_for (l
 pieces-cons : (frame : List ℕ) (later : List (List ℕ)) → count_pieces (frame ∷ later) ≡ buffers_for (length frame) + count_pieces later
 pieces-cons frame later = sum_by-cons (λ (frame : List ℕ). buffers_for (length frame)) frame later
 
-pub pieces-least : (frames : List (List ℕ)) → All IsLegal frames → length frames ≤ count_pieces frames
-pieces-least [] legal = omega arith
-pieces-least (frame ∷ later) legal =
-    omega (
-      arith,
-      (all-head IsLegal frame later legal).least,
-      pieces-cons frame later,
-      pieces-least later (all-tail IsLegal frame later legal),
-    )
-
-pub pieces-most : (frames : List (List ℕ)) → All IsLegal frames → count_pieces frames ≤ 6 * length frames
-pieces-most [] legal = omega arith
-pieces-most (frame ∷ later) legal =
-    omega (
-      arith,
-      (all-head IsLegal frame later legal).most,
-      pieces-cons frame later,
-      pieces-most later (all-tail IsLegal frame later legal),
-    )
+pub pieces-within : (frames : List (List ℕ)) → All IsLegal frames
+    → (length frames ≤ count_pieces frames) × (count_pieces frames ≤ 6 * length frames)
+pieces-within [] legal = (omega arith, omega arith)
+pieces-within (frame ∷ later) legal =
+    let one = all-head IsLegal frame later legal in
+    let more = pieces-cons frame later in
+    let rest = pieces-within later (all-tail IsLegal frame later legal) in
+    (omega (arith, one.least, more, rest.0), omega (arith, one.most, more, rest.1))
 
 pub queued-least : (list : List Received) → AreFrames list → length list ≤ count_queued_pieces list
 queued-least [] frames = omega arith

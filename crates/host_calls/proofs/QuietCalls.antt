@@ -19,7 +19,7 @@ use Rattle.bus.specs.declared.event.Access.TheVariants.{Loads, Reads, Stores, Wr
 use Rattle.bus.specs.declared.event.Event.{Event}
 use Rattle.bus.specs.declared.event.Event.TheVariants.{Accesses, Arrives, Steps}
 use Rattle.dma_memory.specs.Layout.{Counts}
-use Rattle.stations.specs.AtomicSteps.{At, AtomicStep, Idles, after, tick_of}
+use Rattle.stations.specs.AtomicSteps.{At, AtomicStep, Idles, after_atomic, tick_of}
 use Rattle.stations.specs.Stations.{StationState}
 use Rattle.stations.specs.declared.tick.Tick.TheVariants.{Deliver, Go, Step}
 use Rattle.stations.specs.declared.tick.Tick.{Tick}
@@ -145,7 +145,7 @@ accesses-alone caller (At host (Steps kind wire_free answer) ∷ later) a b lead
 accesses-alone caller (At host (Arrives frame fate) ∷ later) a b leads none = absurd (cc none)
 accesses-alone caller (At host (Accesses access) ∷ later) a b leads none =
     All-cons (IsAccessAt caller) (At host (Accesses access)) later leads.1
-    (accesses-alone caller later (after (At host (Accesses access)) a) b leads.2 none)
+    (accesses-alone caller later (after_atomic (At host (Accesses access)) a) b leads.2 none)
 accesses-alone caller (Idles tick ∷ later) a b leads none = absurd (idle-none tick (map tick_of later) leads.1 none)
 
 pub drain-steps : (caller : ℕ) (steps : List AtomicStep) → All (IsAccessAt caller) steps → All (IsDrainStep caller) steps

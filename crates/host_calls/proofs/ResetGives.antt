@@ -25,7 +25,7 @@ use Rattle.bus.specs.DriverState.{DriverSetup, DriverState, receive_slot}
 use Rattle.stations.proofs.HostTrails.{trail-of}
 use Rattle.stations.specs.AtomicRunLaws.{leads_join, past_join, steps_told_join}
 use Rattle.stations.specs.AtomicRuns.{LeadsTo, counted_of, events_at, past_at, steps_told}
-use Rattle.stations.specs.AtomicSteps.{AtomicStep, after}
+use Rattle.stations.specs.AtomicSteps.{AtomicStep, after_atomic}
 use Rattle.stations.specs.Stations.{StationState, world_at}
 use Rattle.host_calls.proofs.Laws.{frames-move}
 use Rattle.driver.specs.Resetting.{free_accesses, quiet_writes}
@@ -102,7 +102,7 @@ leads-first : (k : ℕ) (first later : List AtomicStep) (a b : List StationState
     → ((middle : List StationState) × LeadsTo k first a middle)
 leads-first k [] later a b leads = (a, refl)
 leads-first k (step ∷ first) later a b leads =
-    let rest = leads-first k first later (after step a) b leads.2 in (rest.0, (leads.0, leads.1, rest.1))
+    let rest = leads-first k first later (after_atomic step a) b leads.2 in (rest.0, (leads.0, leads.1, rest.1))
 
 stores-noted : (k : ℕ) (steps : List AtomicStep) (old new : ConnectedHost) (it : ResetsInSteps k steps old new)
     → flat_map (first_stored k) (steps_told 0 steps) ≡ (past_at k it.parts.early).stored
@@ -159,7 +159,7 @@ last-in_room : (k : ℕ) (steps : List AtomicStep) (old new : ConnectedHost) (it
     → length (frames_held old.host.driver.oldest_receive (world_at it.last k)) ≤ old.host.driver.layout.rx + MOST_FRAMES
 last-in_room k steps old new it adapter =
     let trail = trail-of k k (before_reset k it.parts) old.stations it.last it.stops.leads in
-    held-in_room _ (world_at it.last k) it.stops.goes.driver.flows.ready
+    held-in_room it.stops.goes.driver.flows.ready
     (adapter-behind (events_at k (before_reset k it.parts)) (world_at old.stations k) (world_at it.last k) trail adapter)
 
 -- The list in the notes contains the frames held at the write of CTRL.RST.

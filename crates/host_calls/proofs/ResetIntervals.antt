@@ -25,7 +25,7 @@ use Rattle.bus.specs.declared.event.Event.TheVariants.{Accesses}
 use Rattle.stations.proofs.HostTrails.{trail-of}
 use Rattle.stations.specs.AtomicRunLaws.{past_join}
 use Rattle.stations.specs.AtomicRuns.{IsTick, LeadsTo, events_at, past_at}
-use Rattle.stations.specs.AtomicSteps.{At, AtomicStep, after}
+use Rattle.stations.specs.AtomicSteps.{At, AtomicStep, after_atomic}
 use Rattle.stations.specs.LentBuses.{HappenedLent}
 use Rattle.stations.specs.Stations.{StationState, world_at}
 use Rattle.stations.specs.declared.lent_bus.LentBus.{LentBus}
@@ -109,7 +109,7 @@ off-read k misses steps a b leads is off =
     let access = Reads MPC misses in
     let step = At k (Accesses access) in
     let found = split-steps k steps a b access [] [] leads is in
-    let here = after step found.middle in
+    let here = after_atomic step found.middle in
     let one = off-ticks k found.before a found.middle (ticks-alone k found.before a found.middle found.leads found.before_are)
     found.leads off in
     let read : IsOff (world_at here k) = subst IsOff (sym (own-world k access found.middle here (found.rest.0, found.rest.1, refl)))

@@ -14,7 +14,7 @@ use Rattle.stations.specs.Stations.{world_at}
 use Rattle.stations.specs.ToldTicks.{ComposesTold}
 use Rattle.stations.specs.declared.lent_bus.LentBus.{LentBus}
 use Rattle.stations.specs.declared.observer.Observer.{Ghosts as OfObserver}
-use Rattle.bus.specs.Calls.{GoesTo, HasNoForgottenWork, SumsMisses, driver_did, driver_in, with_missed}
+use Rattle.bus.specs.Calls.{GoesTo, HasNoForgottenWork, SumsMisses, driver_did, driver_in, missed_added}
 use Rattle.bus.specs.DriverState.{DriverSetup, DriverState, holding, with_owners}
 use Rattle.bus.specs.Resets.{reset_driver}
 use Rattle.bring_up.specs.ConfiguredAdapters.{HasSetup}
@@ -44,9 +44,9 @@ pub record LentReset {O : Type 0} {g : OfObserver O} (a m b : LentBus O g) (h h'
 
 -- The driver's state is stated without the pieces that the queues hold (`driver_of`).
 pub begins-again : (h h' : HostState) (a b : World) (d : DriverState) (pool list : List ℕ) (misses : ℕ)
-    → d ≡ with_missed misses (driver_of h a)
+    → d ≡ missed_added misses (driver_of h a)
     → driver_of h' b ≡ with_owners (reset_driver pool d) list [] (driver_of h' b).pool (driver_of h a).handed_out
-    → h'.driver ≡ with_owners (reset_driver [] (with_missed misses h.driver)) list [] h'.driver.pool h'.driver.handed_out
+    → h'.driver ≡ with_owners (reset_driver [] (missed_added misses h.driver)) list [] h'.driver.pool h'.driver.handed_out
 begins-again h h' a b d pool list misses counted again =
     ap (holding h'.driver.handed_out) again
     ∙ ap (λ (e : DriverState). with_owners (reset_driver [] e) list [] h'.driver.pool h'.driver.handed_out) counted
@@ -91,7 +91,7 @@ reset-ran a m b h h' it =
       ticks = it.finished.plays.are;
       ends = it.finished.plays.leads k;
       goes = subst (λ (n : ℕ). GoesTo true (driver_in (driver_of h (world_here a)) (world_here a))
-          (driver_in (with_missed misses (driver_of h (world_here a))) (world_at r.stopped.bus.stations.now n)) (driver_did [] [])
+          (driver_in (missed_added misses (driver_of h (world_here a))) (world_at r.stopped.bus.stations.now n)) (driver_did [] [])
           r.stops.ran.past) k1
           (subst (λ (d : DriverState). GoesTo true (driver_in (driver_of h (world_here a)) (world_here a))
           (driver_in d (world_here r.stopped.bus)) (driver_did [] []) r.stops.ran.past) r.stops.counted r.stops.ran.goes);
@@ -127,16 +127,11 @@ pub reset-steps : {O : Type 0} {g : OfObserver O} → ComposesTold g.heard → (
     → StepsOfCall (lent_call a b) (steps_ran (reset-ran a m b h h' it)) a.stations.now b.stations.now
 reset-steps {O} {g} composes a m b h h' zero it =
     let r = it.resets.resets in
-    let p1 = r.stops.ran.past in
-    let p2 = r.resets.first.past in
-    let p3 = r.resets.later.past in
-    let p4 = r.quiet.past in
-    let p5 = r.later.past in
-    let four = lent_intervals-join composes r.middle r.enabled m p4 p5 r.quiet.reports r.later.reports in
-    let three = lent_intervals-join composes r.resets.middle r.middle m p3 (joined p4 p5) r.resets.later.reports four.0 in
-    let two = lent_intervals-join composes r.stopped.bus r.resets.middle m p2 (joined p3 (joined p4 p5)) r.resets.first.reports three.0 in
-    let one = lent_intervals-join composes a r.stopped.bus m p1 (joined p2 (joined p3 (joined p4 p5))) r.stops.ran.reports two.0 in
-    let whole = joined p1 (joined p2 (joined p3 (joined p4 p5))) in
+    let four = lent_intervals-join composes r.quiet.reports r.later.reports in
+    let three = lent_intervals-join composes r.resets.later.reports four.0 in
+    let two = lent_intervals-join composes r.resets.first.reports three.0 in
+    let one = lent_intervals-join composes r.stops.ran.reports two.0 in
+    let whole = joined r.stops.ran.past (joined r.resets.first.past (joined r.resets.later.past (joined r.quiet.past r.later.past))) in
     let first = one.0.steps in
     let last = it.finished.plays.steps in
     let s1 = r.stops.ran.reports.steps in

@@ -1,11 +1,10 @@
 -- A reset of a host of a network: what `Network::reset` derives from the reset over a lent bus and from the notes.
-use Rattle.std.proofs.Common.{◌≡◌, ◌≤◌, ◌+◌, ◌<◌, ℕ, true, List, drop, length, length-set, min, slice_index_or, slice_set}
+use Rattle.std.proofs.Common.{◌≡◌, ◌≤◌, ◌+◌, ℕ, true, List, drop, length, min}
 use Rattle.std.proofs.Common.{arith, refl, sym, ap, subst, ◌∙◌}
 use Rattle.rx_engine.specs.declared.engine.TheConstants.{MOST_FRAMES}
 use Rattle.adapter.specs.HostFrames.{frames_held, frames_to_send}
 use Rattle.adapter.specs.State.{IsAdapter}
 use Rattle.bus.specs.LivelyBuses.{most_accesses}
-use Rattle.stations.proofs.Lengths.{length-stays}
 use Rattle.stations.specs.AtomicRuns.{steps_told}
 use Rattle.stations.specs.AtomicSteps.{AtomicStep}
 use Rattle.stations.specs.LentBuses.{Finished, world_here}
@@ -14,11 +13,11 @@ use Rattle.stations.specs.ToldTicks.{ComposesTold, TickTold}
 use Rattle.stations.specs.declared.tick.Tick.{Tick}
 use Rattle.stations.specs.declared.lent_bus.LentBus.{LentBus}
 use Rattle.stations.specs.declared.observer.Observer.{Ghosts as OfObserver}
-use Rattle.packet_socket.specs.HostCalls.{HostReady, driver_of, host_at}
+use Rattle.packet_socket.specs.HostCalls.{HostReady, host_at}
 use Rattle.packet_socket.specs.HostResets.{HostResets}
 use Rattle.packet_socket.specs.HostState.{HostState}
 use Rattle.host_calls.proofs.Calling.{lent_call}
-use Rattle.host_calls.proofs.HostsOfNetworks.{host-found, network}
+use Rattle.host_calls.proofs.HostsOfNetworks.{HasHost}
 use Rattle.host_calls.proofs.PendingFrames.{sending-at_most}
 use Rattle.host_calls.proofs.ResetGives.{enabled-after, first_notes, gives-up, holding-noted, sending-noted}
 use Rattle.host_calls.proofs.ResetLifting.{LentReset, reset-ran, reset-steps}
@@ -28,15 +27,17 @@ use Rattle.host_calls.specs.ConnectedHosts.{ConnectedHost, PlayedCall, connected
 use Rattle.host_calls.specs.BeforeReset.{IsBeforeReset}
 use Rattle.host_calls.specs.LentCalls.{lent}
 use Rattle.host_calls.specs.Networks.{NetworkState, connected_at, nth_host}
+use Rattle.host_calls.specs.declared.network.Network.TheInside.{Inside}
 use Rattle.host_calls.specs.declared.resetting.GivenUp.{GivenUp}
 use Rattle.host_calls.specs.Notes.{NotesFit, Notes, NotesTicks, noted_after}
 use Rattle.host_calls.specs.ResetsInSteps.{GivesUp, MakesReset, RunsReset}
 
-pub runs-reset : {O : Type 0} {g : OfObserver O} → ComposesTold g.heard → (a m b : LentBus O g) (h h' : HostState) → a.accesses ≡ 0
+pub runs-reset : {O : Type 0} {g : OfObserver O} {m b : LentBus O g} {h h' : HostState} → ComposesTold g.heard → (a : LentBus O g)
+    → a.accesses ≡ 0
     → HostReady h (world_here a) → h' ≡ record h { driver = h'.driver } → h'.driver.setup ≡ h.driver.setup
     → h'.driver.groups ≡ h.driver.groups → HostResets lent true (host_at a h) (host_at m h') → Finished m b
     → RunsReset (lent_call a b) (connected h a.stations.now) (connected h' b.stations.now)
-runs-reset composes a m b h h' zero ready host setup groups resets finished =
+runs-reset {m = m} {b} {h} {h'} composes a zero ready host setup groups resets finished =
     let it : LentReset a m b h h' = record {
       ready = ready;
       host = host;
@@ -50,13 +51,6 @@ runs-reset composes a m b h h' zero ready host setup groups resets finished =
       of_call = reset-steps composes a m b h h' zero it;
       resets = resets-are a.host h h' a.stations.now b.stations.now (reset-ran a m b h h' it) ready;
     }
-
-pub stations-back : (call : PlayedCall) (hosts : List HostState) (a left back : List StationState) (k : ℕ) (h h' : HostState)
-    → RunsReset call (connected h a) (connected h' left) → back ≡ left → length a ≡ length hosts
-    → length back ≡ length (slice_set hosts k h')
-stations-back call hosts a left back k h h' runs returned same =
-    ap (λ (list : List StationState). length list) returned
-    ∙ length-stays call.caller runs.steps a left runs.of_call.leads ∙ same ∙ sym (length-set hosts k h')
 
 with-heard : (call : PlayedCall) (heard : List TickTold → Type 0) (steps : List AtomicStep) (a b : List StationState)
     → StepsOfCall call steps a b → heard (steps_told 0 steps)
@@ -126,18 +120,15 @@ makes-reset k most accesses on_after ticks heard old new before after sending ho
     }
 
 -- `Answered` for the host, the notes and the values in the body of `Network::reset`.
-pub answered : (hosts : List HostState) (stations : List StationState) (n : NetworkState) (k : ℕ) (h : HostState) (rx most wide : ℕ)
-    (found : GivenUp) (before after : Notes) (sending holding : List (List ℕ)) → network hosts stations ≡ n → k < length n.hosts
-    → h ≡ slice_index_or hosts k h → HostReady (nth_host n k) (world_at n.stations k) → IsAdapter (world_at n.stations k).adapter
-    → IsBeforeReset (nth_host n k) (world_at n.stations k) found → rx ≡ h.driver.layout.rx → most ≡ rx + MOST_FRAMES → wide ≡ rx
-    → before ≡ first_notes k most found.holding.items → NotesFit before
+pub answered : {inside : Inside} {n : NetworkState} {k : ℕ} {h : HostState} {rx most wide : ℕ} {before after : Notes}
+    {sending holding : List (List ℕ)} (found : GivenUp) → HasHost inside n k h → HostReady (nth_host n k) (world_at n.stations k)
+    → IsAdapter (world_at n.stations k).adapter → IsBeforeReset (nth_host n k) (world_at n.stations k) found → rx ≡ h.driver.layout.rx
+    → most ≡ rx + MOST_FRAMES → wide ≡ rx → before ≡ first_notes k most found.holding.items → NotesFit before
     → sending ≡ drop (min (length found.sending.items) after.put) found.sending.items → holding ≡ after.holding
     → Answered k most (connected_at n k) before after sending holding (302 + wide)
-answered hosts stations n k h rx most wide found before after sending holding shown below at ready adapter was rx_is most_is wide_is begins
-    within sending_is holding_is =
-    let is = ap (λ (host : HostState). host.driver.layout.rx) (host-found hosts stations n k h shown below at) in
-    let d = driver_of (nth_host n k) (world_at n.stations k) in
-    let tx = sending-at_most d (world_at n.stations k) ready.ready in
+answered {n = n} {k} {most = most} {after = after} found here ready adapter was rx_is most_is wide_is begins within sending_is holding_is =
+    let is = ap (λ (host : HostState). host.driver.layout.rx) here.is in
+    let tx = sending-at_most ready.ready in
     let addresses = ready.ready.driver_is.addresses in
     record {
       adapter = adapter;

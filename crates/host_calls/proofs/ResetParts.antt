@@ -22,11 +22,11 @@ use Rattle.bring_up.specs.RingRegisters.{receive_control}
 use Rattle.bring_up.specs.Groups.{HasTable}
 use Rattle.stations.specs.AtomicRunLaws.{leads_join, past_join}
 use Rattle.stations.specs.AtomicRuns.{IsTick, LeadsTo, past_at}
-use Rattle.stations.specs.AtomicSteps.{AtomicStep, after}
+use Rattle.stations.specs.AtomicSteps.{AtomicStep, after_atomic}
 use Rattle.stations.specs.Stations.{StationState, world_at}
 use Rattle.bus.proofs.Steps.{goes-happens}
 use Rattle.bus.proofs.Intervals.{goes_join}
-use Rattle.bus.specs.Calls.{GoesTo, HasNoForgottenWork, SumsMisses, driver_did, driver_in, with_missed}
+use Rattle.bus.specs.Calls.{GoesTo, HasNoForgottenWork, SumsMisses, driver_did, driver_in, missed_added}
 use Rattle.bus.specs.DriverState.{DriverState, holding}
 use Rattle.bus.specs.ReadyDrivers.{Stands}
 use Rattle.driver.proofs.SummedMisses.{sums-as, sums-join}
@@ -73,7 +73,7 @@ pub record ResetRan (k : ℕ) (h h' : HostState) (a0 a6 : List StationState) : T
   pub ticks : All IsTick s6
   pub ends : LeadsTo k s6 a5 a6
   pub goes : GoesTo true (driver_in (driver_of h (world_at a0 k)) (world_at a0 k))
-      (driver_in (with_missed values.misses (driver_of h (world_at a0 k))) (world_at a1 k)) (driver_did [] []) p1
+      (driver_in (missed_added values.misses (driver_of h (world_at a0 k))) (world_at a1 k)) (driver_did [] []) p1
   pub tables : AreFilterTables h.driver.groups h.driver.setup.vlans values.groups values.vlans
   pub resting : NoFrame p3
   pub quiet : NoFrame p4
@@ -205,7 +205,7 @@ stops-are k h h' a b ran cut ready =
     ap (λ (list : List AtomicStep). list ++ t2) cut.one.split
     ∙ append_assoc cut.one.before (disable_of k ∷ cut.one.behind) t2 in
     let are = ticks-alone k t2 here last cut.two.leads cut.two.before_are in
-    let stopped = driver-goes h (with_missed ran.values.misses h.driver) (world_at a k) (world_at here k) ran.p1 ready ran.goes in
+    let stopped = driver-goes h (missed_added ran.values.misses h.driver) (world_at a k) (world_at here k) ran.p1 ready ran.goes in
     let ready1 : HostReady h1 (world_at here k) = record { sizes = stopped.sizes; ready = stopped.driver.flows.ready } in
     let alone = happens-alone k k t2 here last are cut.two.leads in
     let ticked = host-happens h1 (world_at here k) (world_at last k) (past_at k t2) ready1 alone in
@@ -213,7 +213,7 @@ stops-are k h h' a b ran cut ready =
     (in_world h1 (world_at last k)) did_nothing did_nothing ran.p1 (past_at k t2) stopped ticked in
     let past_is : joined ran.p1 (past_at k t2) ≡ past_at k (before_reset k (parts-of k h h' a b ran cut)) =
     ap (λ (past : Past). joined past (past_at k t2)) (sym ran.s1.past_is) ∙ sym (past_join k ran.s1.steps t2) ∙ ap (past_at k) is in
-    let disabled = after (disable_of k) cut.one.middle in
+    let disabled = after_atomic (disable_of k) cut.one.middle in
     let off = off-written k cut.one.middle disabled (cut.one.rest.0, cut.one.rest.1, refl) in
     let read = off-read k ran.values.misses cut.one.behind disabled here cut.one.rest.2 cut.one.behind_are off in
     let then = off-ticks k t2 here last are cut.two.leads read.1 in
@@ -254,7 +254,7 @@ rests-are k h h' a b ran cut =
     record {
       leads = subst (λ (list : List AtomicStep). LeadsTo k list last ran.a4) is
           (leads_join k reset (ran.s3.steps ++ ran.s4.steps) last ran.a2 ran.a4 written quiet);
-      is_reset = own-world k (Writes CTRL (alone ctrl_rst)) last (after (reset_of k) last) (cut.two.rest.0, cut.two.rest.1, refl)
+      is_reset = own-world k (Writes CTRL (alone ctrl_rst)) last (after_atomic (reset_of k) last) (cut.two.rest.0, cut.two.rest.1, refl)
           ∙ reset-written (world_at last k);
       no_frame = subst (λ (list : List AtomicStep). NoFrame (past_at k list)) is
           (subst NoFrame (sym past_is)

@@ -25,9 +25,9 @@ use Rattle.adapter.specs.TableLaws.{register_at-mta}
 use Rattle.adapter.specs.World.{World, world_after_write}
 use Rattle.adapter.specs.declared.offsets.TheConstants.{RDT, TDT}
 use Rattle.adapter.specs.declared.register.Register.{Register}
-use Rattle.adapter.specs.declared.register.Register.TheVariants.{Icr, Ims, Mpc, Gprc, Gptc, Mta, Rnbc, Receive, Tctl, Transmit}
+use Rattle.adapter.specs.declared.register.Register.TheVariants.{Icr, Ims, Mta, Receive, Tctl, Transmit}
 use Rattle.adapter.specs.declared.register.RingRegister.{RingRegister}
-use Rattle.adapter.specs.declared.register.RingRegister.TheVariants.{BaseHigh, BaseLow, Head, Length, Tail}
+use Rattle.adapter.specs.declared.register.RingRegister.TheVariants.{Tail}
 use Rattle.adapter.specs.declared.step.StepKind.{StepKind}
 use Rattle.adapter.specs.declared.step.StepKind.TheVariants.{EepromTick, PhyTick, RxData, RxDone, TxPut, TxTake}
 use Rattle.adapter.specs.Outcomes.{FrameOutcome}
@@ -45,7 +45,7 @@ use Rattle.stations.proofs.HostTrails.{trail-of}
 use Rattle.stations.specs.AtomicRuns.{events_at}
 use Rattle.host_calls.proofs.HostLists.{marks-told, marks_in, marks_of_answer}
 use Rattle.host_calls.proofs.Joining.{fates-append}
-use Rattle.host_calls.specs.DeliveryLaws.{ChangesGroups, FatesAreRight, FilterStays, GroupsChangeAlone, KeepsReceiving, WritesChangeGroups}
+use Rattle.host_calls.specs.DeliveryLaws.{MarksGroups, FatesAreRight, FilterStays, GroupsChangeAlone, KeepsReceiving, WritesChangeGroups}
 use Rattle.host_calls.specs.Fates.{AreRightFates, Came, Emptied, IsRightFate, Joins, KeepsGroups, Mark, Quits, Reception, SwitchedOff}
 use Rattle.host_calls.specs.Fates.{SwitchedOn, Went, in_force, reception}
 use Rattle.host_calls.specs.Reception.{IsNotOfReception, LeavesReception, ReceivesRightly, SameButGroups}
@@ -87,23 +87,15 @@ receives-none groups a = record { filter = refl; unchanged = λ keeps. refl; kil
 
 keeps-first : (first later : List Mark) → KeepsGroups (first ++ later) → KeepsGroups first
 keeps-first [] later keeps = tt
-keeps-first (Came frame fate ∷ first) later keeps = keeps-first first later keeps
-keeps-first (Went ∷ first) later keeps = keeps-first first later keeps
-keeps-first (SwitchedOff ∷ first) later keeps = keeps-first first later keeps
-keeps-first (SwitchedOn ∷ first) later keeps = keeps-first first later keeps
-keeps-first (Emptied ∷ first) later keeps = keeps-first first later keeps
 keeps-first (Joins group ∷ first) later keeps = keeps
 keeps-first (Quits group ∷ first) later keeps = keeps
+keeps-first (mark ∷ first) later keeps = keeps-first first later keeps
 
 keeps-later : (first later : List Mark) → KeepsGroups (first ++ later) → KeepsGroups later
 keeps-later [] later keeps = keeps
-keeps-later (Came frame fate ∷ first) later keeps = keeps-later first later keeps
-keeps-later (Went ∷ first) later keeps = keeps-later first later keeps
-keeps-later (SwitchedOff ∷ first) later keeps = keeps-later first later keeps
-keeps-later (SwitchedOn ∷ first) later keeps = keeps-later first later keeps
-keeps-later (Emptied ∷ first) later keeps = keeps-later first later keeps
 keeps-later (Joins group ∷ first) later keeps = absurd keeps
 keeps-later (Quits group ∷ first) later keeps = absurd keeps
+keeps-later (mark ∷ first) later keeps = keeps-later first later keeps
 
 pub receives-append : (g1 g2 g3 : List (List ℕ)) (a b c : AdapterState) (first later : List Mark) → ReceivesRightly g1 a first g2 b
     → ReceivesRightly g2 b later g3 c → ReceivesRightly g1 a (first ++ later) g3 c
@@ -203,39 +195,24 @@ right-fate groups Missed frame a has enabled is = (is.0.legal, passes-in groups 
 right-fate groups Stored frame a has enabled is = (is.0.legal, passes-in groups a frame has is.0.passes, is.1)
 
 pub arrival-filter : (fate : Fate) (frame : List ℕ) (a : AdapterState) → (after_arrive fate frame a).filter ≡ a.filter
-arrival-filter Off frame a = refl
-arrival-filter Illegal frame a = refl
-arrival-filter Filtered frame a = refl
-arrival-filter Missed frame a = refl
 arrival-filter Stored frame a = refl
+arrival-filter _ frame a = refl
 
 arrival-receives : (groups : List (List ℕ)) (fate : Fate) (frame : List ℕ) (a : AdapterState) → Has groups a
     → HasBit a.filter.rctl rctl_en → IsFate a frame fate
     → ReceivesRightly groups a (Came frame fate ∷ []) groups (after_arrive fate frame a)
 arrival-receives groups Off frame a has enabled is = absurd (is enabled)
-arrival-receives groups Illegal frame a has enabled is = record {
-  filter = refl;
-  unchanged = λ keeps. refl;
-  kilobytes = refl;
-  fates = (right-fate groups Illegal frame a has enabled is, ap (reception groups) (sym (append-nil a.receiver.buffer)));
-}
-arrival-receives groups Filtered frame a has enabled is = record {
-  filter = refl;
-  unchanged = λ keeps. refl;
-  kilobytes = refl;
-  fates = (right-fate groups Filtered frame a has enabled is, ap (reception groups) (sym (append-nil a.receiver.buffer)));
-}
-arrival-receives groups Missed frame a has enabled is = record {
-  filter = refl;
-  unchanged = λ keeps. refl;
-  kilobytes = refl;
-  fates = (right-fate groups Missed frame a has enabled is, ap (reception groups) (sym (append-nil a.receiver.buffer)));
-}
 arrival-receives groups Stored frame a has enabled is = record {
   filter = refl;
   unchanged = λ keeps. refl;
   kilobytes = refl;
   fates = (right-fate groups Stored frame a has enabled is, refl);
+}
+arrival-receives groups fate frame a has enabled is = record {
+  filter = refl;
+  unchanged = λ keeps. refl;
+  kilobytes = refl;
+  fates = (right-fate groups fate frame a has enabled is, ap (reception groups) (sym (append-nil a.receiver.buffer)));
 }
 
 -- Accesses
@@ -243,11 +220,7 @@ arrival-receives groups Stored frame a has enabled is = record {
 read-receives : (groups : List (List ℕ)) (register : Register) (a : AdapterState)
     → ReceivesRightly groups a [] groups (read_of register a)
 read-receives groups Icr a = same groups a _ refl refl refl
-read-receives groups Mpc a = same groups a _ refl refl refl
-read-receives groups Gprc a = same groups a _ refl refl refl
-read-receives groups Gptc a = same groups a _ refl refl refl
-read-receives groups Rnbc a = same groups a _ refl refl refl
-read-receives groups _ a = receives-none groups a
+read-receives groups _ a = same groups a _ refl refl refl
 
 pub found-read : (groups : List (List ℕ)) (found : Option Register) (a : AdapterState)
     → ReceivesRightly groups a [] groups (left_by_read found a)
@@ -256,11 +229,8 @@ found-read groups (Some register) a = read-receives groups register a
 
 ring-receives : (groups : List (List ℕ)) (part : RingRegister) (value : ℕ) (a : AdapterState)
     → ReceivesRightly groups a [] groups (write_of (Transmit part) value a)
-ring-receives groups BaseLow value a = same groups a _ refl refl refl
-ring-receives groups BaseHigh value a = same groups a _ refl refl refl
-ring-receives groups Length value a = same groups a _ refl refl refl
-ring-receives groups Head value a = same groups a _ refl refl refl
 ring-receives groups Tail value a = same groups a _ refl refl refl
+ring-receives groups _ value a = same groups a _ refl refl refl
 
 write-receives : (groups : List (List ℕ)) (register : Register) (value : ℕ) (a : AdapterState) → IsNotOfReception register
     → ReceivesRightly groups a [] groups (write_of register value a)
@@ -358,7 +328,7 @@ fates-right caller k steps a b groups leads leave enabled has =
 
 -- Groups are joined and left
 
-changes-receives : (mark : Mark) (groups groups' : List (List ℕ)) (a b : AdapterState) → ChangesGroups mark groups groups'
+changes-receives : (mark : Mark) (groups groups' : List (List ℕ)) (a b : AdapterState) → MarksGroups mark groups groups'
     → SameButGroups a.filter b.filter → b.receive_kilobytes ≡ a.receive_kilobytes → b.receiver.buffer ≡ a.receiver.buffer
     → ReceivesRightly groups a (mark ∷ []) groups' b
 changes-receives (Joins group) groups groups' a b changes filter kilobytes buffer = record {

@@ -9,7 +9,7 @@ use Rattle.bus.specs.LivelyBuses.{most_accesses}
 use Rattle.bus.specs.Trails.{past_of}
 use Rattle.bus.specs.declared.event.Access.{Access}
 use Rattle.bus.specs.declared.event.Event.TheVariants.{Accesses, Arrives, Steps}
-use Rattle.stations.specs.AtomicSteps.{At, AtomicStep, CanHappen, Idles, IsNoAccess, after}
+use Rattle.stations.specs.AtomicSteps.{At, AtomicStep, CanHappen, Idles, IsNoAccess, after_atomic}
 use Rattle.stations.specs.Stations.{StationState}
 use Rattle.stations.specs.AtomicRuns.{IsOfCall, IsTick, LeadsTo, counted_of, events_at, past_at}
 use Rattle.host_calls.specs.CallsOfHosts.{EndsWithAccess}
@@ -35,7 +35,7 @@ own-accesses k host one later is =
     ap (λ (here : Bool). (past_of ((if here then Accesses one ∷ [] else []) ++ events_at k later)).accesses) (eq-eqb k host (sym is))
 
 tick-before : (k : ℕ) (step : AtomicStep) (steps : List AtomicStep) (a b : List StationState) (access : Access) (first later : List Access)
-    → IsTick step → CanHappen step a → IsOfCall k step → SplitSteps k access first later steps (after step a) b
+    → IsTick step → CanHappen step a → IsOfCall k step → SplitSteps k access first later steps (after_atomic step a) b
     → SplitSteps k access first later (step ∷ steps) a b
 tick-before k step steps a b access first later is happens of_call found = record {
   before = step ∷ found.before;
@@ -55,11 +55,11 @@ split-steps k [] a b access (one ∷ first) later leads is = absurd (cc)
 split-steps k (At host (Steps kind wire_free answer) ∷ steps) a b access first later leads is =
     let step = At host (Steps kind wire_free answer) in
     tick-before k step steps a b access first later tt leads.0 leads.1
-    (split-steps k steps (after step a) b access first later leads.2 (sym (tick-accesses k step steps tt) ∙ is))
+    (split-steps k steps (after_atomic step a) b access first later leads.2 (sym (tick-accesses k step steps tt) ∙ is))
 split-steps k (At host (Arrives frame fate) ∷ steps) a b access first later leads is =
     let step = At host (Arrives frame fate) in
     tick-before k step steps a b access first later tt leads.0 leads.1
-    (split-steps k steps (after step a) b access first later leads.2 (sym (tick-accesses k step steps tt) ∙ is))
+    (split-steps k steps (after_atomic step a) b access first later leads.2 (sym (tick-accesses k step steps tt) ∙ is))
 split-steps k (Idles tick ∷ steps) a b access first later leads is =
     tick-before k (Idles tick) steps a b access first later leads.1 leads.0 leads.1
     (split-steps k steps a b access first later leads.2 is)
@@ -80,7 +80,7 @@ split-steps k (At host (Accesses one) ∷ steps) a b access [] later leads is =
 split-steps k (At host (Accesses one) ∷ steps) a b access (other ∷ first) later leads is =
     let step = At host (Accesses one) in
     let begins : one ∷ (past_at k steps).accesses ≡ other ∷ (first ++ access ∷ later) = sym (own-accesses k host one steps leads.1) ∙ is in
-    let found = split-steps k steps (after step a) b access first later leads.2 (cc begins) in
+    let found = split-steps k steps (after_atomic step a) b access first later leads.2 (cc begins) in
     record {
       before = step ∷ found.before;
       behind = found.behind;
@@ -100,11 +100,11 @@ ticks-alone k [] a b leads none = all-none IsTick
 ticks-alone k (At host (Steps kind wire_free answer) ∷ steps) a b leads none =
     let step = At host (Steps kind wire_free answer) in
     All-cons IsTick step steps tt
-    (ticks-alone k steps (after step a) b leads.2 (sym (tick-accesses k step steps tt) ∙ none))
+    (ticks-alone k steps (after_atomic step a) b leads.2 (sym (tick-accesses k step steps tt) ∙ none))
 ticks-alone k (At host (Arrives frame fate) ∷ steps) a b leads none =
     let step = At host (Arrives frame fate) in
     All-cons IsTick step steps tt
-    (ticks-alone k steps (after step a) b leads.2 (sym (tick-accesses k step steps tt) ∙ none))
+    (ticks-alone k steps (after_atomic step a) b leads.2 (sym (tick-accesses k step steps tt) ∙ none))
 ticks-alone k (Idles tick ∷ steps) a b leads none =
     All-cons IsTick (Idles tick) steps leads.1 (ticks-alone k steps a b leads.2 none)
 ticks-alone k (At host (Accesses one) ∷ steps) a b leads none =
@@ -136,7 +136,7 @@ pub nothing-behind : (k : ℕ) (access : Access) (first : List Access) (steps : 
 nothing-behind k access first steps a b found ends =
     let step = At k (Accesses access) in
     no-ticks_last step found.behind
-    (ticks-alone k found.behind (after step found.middle) b found.rest.2 found.behind_are)
+    (ticks-alone k found.behind (after_atomic step found.middle) b found.rest.2 found.behind_are)
     (ends-behind found.before step found.behind (subst EndsWithAccess found.split ends))
 
 pub counted-accesses : (k n : ℕ) (steps : List AtomicStep) (a b : List StationState) → LeadsTo k steps a b
@@ -145,14 +145,14 @@ counted-accesses k n [] a b leads few = omega arith
 counted-accesses k n (At host (Steps kind wire_free answer) ∷ steps) a b leads few =
     let step = At host (Steps kind wire_free answer) in
     let count = ap length (tick-accesses k step steps tt) in
-    let rest = counted-accesses k n steps (after step a) b leads.2 (omega (arith, count)) in omega (arith, rest, count)
+    let rest = counted-accesses k n steps (after_atomic step a) b leads.2 (omega (arith, count)) in omega (arith, rest, count)
 counted-accesses k n (At host (Arrives frame fate) ∷ steps) a b leads few =
     let step = At host (Arrives frame fate) in
     let count = ap length (tick-accesses k step steps tt) in
-    let rest = counted-accesses k n steps (after step a) b leads.2 (omega (arith, count)) in omega (arith, rest, count)
+    let rest = counted-accesses k n steps (after_atomic step a) b leads.2 (omega (arith, count)) in omega (arith, rest, count)
 counted-accesses k n (At host (Accesses access) ∷ steps) a b leads few =
     let count = ap length (own-accesses k host access steps leads.1) in
-    let rest = counted-accesses k (min (n + 1) most_accesses) steps (after (At host (Accesses access)) a) b leads.2
+    let rest = counted-accesses k (min (n + 1) most_accesses) steps (after_atomic (At host (Accesses access)) a) b leads.2
     (omega (arith, count)) in
     omega (arith, rest, count)
 counted-accesses k n (Idles tick ∷ steps) a b leads few = counted-accesses k n steps a b leads.2 few

@@ -6,7 +6,7 @@ use Rattle.std.proofs.lemmas.List.Elements.{filter-append}
 use Rattle.bus.specs.TickGroups.{behind_group, group_of, played_in, waiting_after, without_go}
 use Rattle.bus.specs.declared.event.Access.{Access}
 use Rattle.bus.specs.declared.event.Event.TheVariants.{Accesses, Arrives, Steps}
-use Rattle.stations.specs.AtomicSteps.{At, AtomicStep, Idles, PlaysTick, after, step_outcome, outcome_of_event, tick_of}
+use Rattle.stations.specs.AtomicSteps.{At, AtomicStep, Idles, PlaysTick, after_atomic, step_outcome, outcome_of_event, tick_of}
 use Rattle.stations.specs.Stations.{StationState}
 use Rattle.stations.specs.declared.outcomes.Numbered.{Numbered}
 use Rattle.adapter.specs.Outcomes.{FrameOutcome}
@@ -24,14 +24,14 @@ told-steps caller n [] a b leads = refl
 told-steps caller n (At host (Steps kind wire_free answer) ∷ later) a b leads =
     let step = At host (Steps kind wire_free answer) in
     ap (λ (behind : List Happening). outcome_happenings host (step_outcome step) ++ behind)
-    (told-steps caller n later (after step a) b leads.2)
+    (told-steps caller n later (after_atomic step a) b leads.2)
 told-steps caller n (At host (Arrives frame fate) ∷ later) a b leads =
     let step = At host (Arrives frame fate) in
     ap (λ (behind : List Happening). outcome_happenings host (step_outcome step) ++ behind)
-    (told-steps caller n later (after step a) b leads.2)
+    (told-steps caller n later (after_atomic step a) b leads.2)
 told-steps caller n (At host (Accesses access) ∷ later) a b leads =
     let step = At host (Accesses access) in
-    told-steps caller (counted_by n step) later (after step a) b leads.2
+    told-steps caller (counted_by n step) later (after_atomic step a) b leads.2
 told-steps caller n (Idles Go ∷ later) a b leads = let never = leads.1 in absurd (cc)
 told-steps caller n (Idles (Step host kind) ∷ later) a b leads = told-steps caller n later a b leads.2
 told-steps caller n (Idles (Deliver host) ∷ later) a b leads = told-steps caller n later a b leads.2

@@ -21,7 +21,7 @@ use Rattle.bus.specs.TrailFaults.{EnginesRun, IsNoFault, StaysStopped}
 use Rattle.bus.specs.declared.event.Access.{Access}
 use Rattle.bus.specs.declared.event.Event.{Event}
 use Rattle.bus.specs.declared.event.Event.TheVariants.{Accesses, Arrives, Steps}
-use Rattle.stations.specs.AtomicSteps.{At, AtomicStep, CanHappen, Idles, OccursAt, after, step_outcome, tick_of}
+use Rattle.stations.specs.AtomicSteps.{At, AtomicStep, CanHappen, Idles, OccursAt, after_atomic, step_outcome, tick_of}
 use Rattle.stations.specs.Stations.{StationState, wire_at, wire_of, world_at, world_of}
 use Rattle.stations.specs.declared.tick.Tick.TheVariants.{Deliver, Go, Step}
 use Rattle.stations.proofs.HostTrails.{trail-of}
@@ -49,7 +49,7 @@ parts : (caller : ℕ) (before later : List AtomicStep) (step : AtomicStep) (a b
     → LeadsTo caller (before ++ step ∷ later) a b → Parts caller before later step a b
 parts caller [] later step a b leads = record { leads = refl; happens = leads.0; rest = leads }
 parts caller (first ∷ before) later step a b leads =
-    let behind = parts caller before later step (after first a) b leads.2 in
+    let behind = parts caller before later step (after_atomic first a) b leads.2 in
     record { leads = (leads.0, leads.1, behind.leads); happens = behind.happens; rest = behind.rest }
 
 parts-of : (caller : ℕ) (steps before later : List AtomicStep) (step : AtomicStep) (a b : List StationState)
@@ -162,9 +162,9 @@ access-first host access (one ∷ []) behind step same of_host = absurd (cc)
 access-first host access (one ∷ two ∷ before) behind step same of_host = absurd (cc)
 
 pub faultless-around-reset : FaultNeverComesAroundReset
-faultless-around-reset caller host first later access a before after b leads none run leads_later none_later run_later =
+faultless-around-reset caller host first later access a before after_atomic b leads none run leads_later none_later run_later =
     let earlier = fault-never-comes caller host first a before leads none run in
-    let rest = fault-never-comes caller host later after b leads_later none_later run_later in
+    let rest = fault-never-comes caller host later after_atomic b leads_later none_later run_later in
     record {
       run = earlier.run;
       none = each-joins host first (At host (Accesses access) ∷ later) earlier.none
@@ -269,12 +269,8 @@ no-delivery (first ∷ later) none = absurd (cc)
 
 idle-step : (start : List StationState) (before : List AtomicStep) (host : ℕ) (kind : StepKind) (found : Option StationState) → found ≡ None
     → IsStepOutcome start before host (counts_of (world_of found).adapter) kind Nothing
-idle-step start before host TxTake None none = refl
 idle-step start before host TxPut None none = refl
-idle-step start before host RxData None none = refl
-idle-step start before host RxDone None none = refl
-idle-step start before host EepromTick None none = refl
-idle-step start before host PhyTick None none = refl
+idle-step start before host _ None none = refl
 idle-step start before host kind (Some s) none = absurd (cc)
 
 tick-answer : (caller host : ℕ) (before : List AtomicStep) (step : AtomicStep) (a : List StationState)

@@ -78,23 +78,22 @@ more-counted n (step ∷ later) within =
     let rest = more-counted (counted_by n step) later one.1 in
     (omega (arith, one.0, rest.0), rest.1)
 
-pub where-all : (is_such : ℕ → Bool) (n : ℕ) (steps : List AtomicStep) → n ≤ most_accesses
-    → ((m : ℕ) → n ≤ m → m ≤ counted_of n steps → is_such m ≡ true) → happened_where is_such n steps ≡ happened_in steps
-where-all is_such n [] within all = refl
-where-all is_such n (step ∷ later) within all =
+-- Either all numbers in the interval are such numbers, or none is.
+pub where-such : (is_such : ℕ → Bool) (n : ℕ) (steps : List AtomicStep) (such : Bool) → n ≤ most_accesses
+    → ((m : ℕ) → n ≤ m → m ≤ counted_of n steps → is_such m ≡ such)
+    → happened_where is_such n steps ≡ (if such then happened_in steps else [])
+where-such is_such n [] true within all = refl
+where-such is_such n [] false within all = refl
+where-such is_such n (step ∷ later) such within all =
     let one = one-more n step within in
     let more = (more-counted n (step ∷ later) within).0 in
-    ap (λ (such : Bool). (if such then happened_by step else []) ++ happened_where is_such (counted_by n step) later)
+    ap (λ (here : Bool). (if here then happened_by step else []) ++ happened_where is_such (counted_by n step) later)
     (all n (omega arith) more)
-    ∙ ap (λ (list : List Happening). happened_by step ++ list)
-    (where-all is_such (counted_by n step) later one.1 (λ m low high. all m (omega (arith, low, one.0)) high))
-
-pub where-none : (is_such : ℕ → Bool) (n : ℕ) (steps : List AtomicStep) → n ≤ most_accesses
-    → ((m : ℕ) → n ≤ m → m ≤ counted_of n steps → is_such m ≡ false) → happened_where is_such n steps ≡ []
-where-none is_such n [] within all = refl
-where-none is_such n (step ∷ later) within all =
-    let one = one-more n step within in
-    let more = (more-counted n (step ∷ later) within).0 in
-    ap (λ (such : Bool). (if such then happened_by step else []) ++ happened_where is_such (counted_by n step) later)
-    (all n (omega arith) more)
-    ∙ where-none is_such (counted_by n step) later one.1 (λ m low high. all m (omega (arith, low, one.0)) high)
+    ∙ ap (λ (list : List Happening). (if such then happened_by step else []) ++ list)
+    (where-such is_such (counted_by n step) later such one.1 (λ m low high. all m (omega (arith, low, one.0)) high))
+    ∙ both such
+  where
+    both : (b : Bool) → (if b then happened_by step else []) ++ (if b then happened_in later else [])
+        ≡ (if b then happened_by step ++ happened_in later else [])
+    both true = refl
+    both false = refl

@@ -10,33 +10,13 @@ use Rattle.adapter.specs.World.{World}
 use Rattle.bus.specs.Trails.{Occurs, past_of_event}
 use Rattle.bus.specs.declared.event.Event.{Event}
 use Rattle.bus.specs.declared.event.Event.TheVariants.{Accesses, Arrives, Steps}
-use Rattle.stations.proofs.Places.{after-is, get-at_each}
-use Rattle.stations.specs.AtomicSteps.{At, AtomicStep, CanHappen, Idles, OccursAt, SuitsWire, after, outcome_of_event}
+use Rattle.stations.proofs.HostTrails.{at-place, part-here, stands}
+use Rattle.stations.specs.AtomicSteps.{At, AtomicStep, CanHappen, Idles, OccursAt, SuitsWire, after_atomic, outcome_of_event}
 use Rattle.stations.specs.Stations.{StationState, backlog_after, backlog_at, backlog_of, each_after, station_after}
 use Rattle.stations.specs.Stations.{stations_after, wire_at, wire_of, with_frames, world_at}
 use Rattle.stations.specs.AtomicRuns.{LeadsTo, events_at}
 use Rattle.host_calls.proofs.HostLists.{arrived_in, frames_in, none-chosen, put-chosen, put-occurs, reached-told, step-told}
 use Rattle.host_calls.specs.Happenings.{happened_in, reached, share_wire, outcome_happenings, toward, toward_by}
-
--- The host with this number exists and is on this wire.
-record Stands (ss : List StationState) (host wire : ℕ) : Type 0 where
-  station : StationState
-  is : slice_get ss host ≡ Some station
-  on_wire : station.wire ≡ wire
-
-stands-found : (ss : List StationState) (host wire : ℕ) (found : Option StationState) → slice_get ss host ≡ found → wire_of found
-    ≡ Some wire
-    → Stands ss host wire
-stands-found ss host wire None is on = absurd (cc)
-stands-found ss host wire (Some s) is on = record { station = s; is = is; on_wire = let same : s.wire ≡ wire = cc in same }
-
-stands : (ss : List StationState) (host : ℕ) (event : Event) (occurs : OccursAt host event ss) → Stands ss host occurs.wire
-stands ss host event occurs = stands-found ss host occurs.wire (slice_get ss host) refl occurs.on_wire
-
-at-place : (ss : List StationState) (host k : ℕ) (event : Event) (s : StationState) → slice_get ss host ≡ Some s
-    → slice_get (stations_after host event ss) k ≡ option_map (each_after host s.wire event k) (slice_get ss k)
-at-place ss host k event s is =
-    ap (λ (list : List StationState). slice_get list k) (after-is host event ss s is) ∙ get-at_each (each_after host s.wire event) ss k
 
 -- Wires don't change
 
@@ -53,31 +33,21 @@ wire-each : (host wire k : ℕ) (event : Event) (o : Option StationState) → wi
 wire-each host wire k event None = refl
 wire-each host wire k event (Some s) = ap Some (wire-by host wire k event s (k == host))
 
-wire-after : (step : AtomicStep) (ss : List StationState) (k : ℕ) → CanHappen step ss → wire_at (after step ss) k ≡ wire_at ss k
+wire-after : (step : AtomicStep) (ss : List StationState) (k : ℕ) → CanHappen step ss → wire_at (after_atomic step ss) k ≡ wire_at ss k
 wire-after (At host event) ss k occurs =
-    let at = stands ss host event occurs in
+    let at = stands ss host occurs.wire occurs.on_wire in
     ap wire_of (at-place ss host k event at.station at.is) ∙ wire-each host at.station.wire k event (slice_get ss k)
 wire-after (Idles tick) ss k idle = refl
 
 pub wires-stay : (caller k : ℕ) (steps : List AtomicStep) (a b : List StationState) → LeadsTo caller steps a b → wire_at b k ≡ wire_at a k
 wires-stay caller k [] a b leads = ap (λ (ss : List StationState). wire_at ss k) leads
-wires-stay caller k (step ∷ later) a b leads = wires-stay caller k later (after step a) b leads.2 ∙ wire-after step a k leads.0
+wires-stay caller k (step ∷ later) a b leads = wires-stay caller k later (after_atomic step a) b leads.2 ∙ wire-after step a k leads.0
 
 -- The host itself
 
-here : (host wire : ℕ) (event : Event) (s : StationState) → (host == host) ≡ true → each_after host wire event host s
-    ≡ station_after event s
-here host wire event s itself = rw itself refl
-
 backlog-here : (ss : List StationState) (host : ℕ) (event : Event) → (host == host) ≡ true → OccursAt host event ss
     → backlog_at (stations_after host event ss) host ≡ backlog_after event (backlog_at ss host)
-backlog-here ss host event itself occurs =
-    let at = stands ss host event occurs in
-    ap backlog_of
-    (at-place ss host host event at.station at.is
-    ∙ ap (option_map (each_after host at.station.wire event host)) at.is
-    ∙ ap Some (here host at.station.wire event at.station itself))
-    ∙ ap (λ (o : Option StationState). backlog_after event (backlog_of o)) (sym at.is)
+backlog-here ss host event itself occurs = part-here backlog_of (backlog_after event) ss host event itself occurs (λ s. refl)
 
 oldest-first : (backlog : List (List ℕ)) (frame : List ℕ) → slice_get backlog 0 ≡ Some frame → frame ∷ drop 1 backlog ≡ backlog
 oldest-first [] frame oldest = absurd (cc)
@@ -110,7 +80,7 @@ backlog-elsewhere : (ss : List StationState) (host k : ℕ) (event : Event) → 
     → backlog_at (stations_after host event ss) k
     ≡ backlog_at ss k ++ (if share_wire (wire_at ss k) (wire_at ss host) then (past_of_event event).put else [])
 backlog-elsewhere ss host k event other occurs =
-    let at = stands ss host event occurs in
+    let at = stands ss host occurs.wire occurs.on_wire in
     ap backlog_of (at-place ss host k event at.station at.is)
     ∙ elsewhere host k at.station.wire event (slice_get ss k) other
     ∙ ap (λ (o : Option StationState). backlog_at ss k

@@ -10,7 +10,7 @@ use Rattle.bus.specs.Trails.{past_of_event}
 use Rattle.bus.specs.declared.event.Event.{Event}
 use Rattle.bus.specs.declared.event.Event.TheVariants.{Accesses, Arrives, Steps}
 use Rattle.stations.proofs.Places.{after-is, get-at_each}
-use Rattle.stations.specs.AtomicSteps.{At, AtomicStep, CanHappen, Idles, after}
+use Rattle.stations.specs.AtomicSteps.{At, AtomicStep, CanHappen, Idles, after_atomic}
 use Rattle.stations.specs.Ends.{end_frames}
 use Rattle.stations.specs.Stations.{HasRoomFrom, StationState, WireHasRoom, backlog_after, backlog_at, backlog_of, each_after}
 use Rattle.stations.specs.Stations.{station_after, stations_after, wire_at, wire_of}
@@ -85,7 +85,7 @@ each-backlog host wire k event (Some s) = by_place (k == host) (s.wire == wire)
 -- Wires don't change
 
 step-wires : (step : AtomicStep) (stations : List StationState) (k : ℕ) → CanHappen step stations
-    → wire_at (after step stations) k ≡ wire_at stations k
+    → wire_at (after_atomic step stations) k ≡ wire_at stations k
 step-wires (At host event) stations k occurs =
     ap wire_of (at-place stations host occurs.wire k event occurs.on_wire)
     ∙ each-wire host occurs.wire k event (slice_get stations k)
@@ -94,13 +94,13 @@ step-wires (Idles tick) stations k finds = refl
 pub run-wires : (caller : ℕ) (steps : List AtomicStep) (a b : List StationState) (k : ℕ) → LeadsTo caller steps a b
     → wire_at b k ≡ wire_at a k
 run-wires caller [] a b k leads = ap (λ (stations : List StationState). wire_at stations k) leads
-run-wires caller (step ∷ later) a b k leads = run-wires caller later (after step a) b k leads.2 ∙ step-wires step a k leads.0
+run-wires caller (step ∷ later) a b k leads = run-wires caller later (after_atomic step a) b k leads.2 ∙ step-wires step a k leads.0
 
 -- Frames that wait
 
 step-waiting : (start stations : List StationState) (host : ℕ) (step : AtomicStep)
     → ((k : ℕ) → wire_at stations k ≡ wire_at start k) → CanHappen step stations
-    → backlog_at (after step stations) host ≡ waiting_after_step start host step (backlog_at stations host)
+    → backlog_at (after_atomic step stations) host ≡ waiting_after_step start host step (backlog_at stations host)
 step-waiting start stations host (At other event) wires occurs =
     let put = (past_of_event event).put in
     let left = λ (one two : Option ℕ). if host == other then backlog_after event (backlog_at stations host)
@@ -116,7 +116,7 @@ run-from : (caller : ℕ) (start : List StationState) (host : ℕ) (steps : List
     → backlog_at b host ≡ waiting_behind start host steps (backlog_at a host)
 run-from caller start host [] a b wires leads = ap (λ (stations : List StationState). backlog_at stations host) leads
 run-from caller start host (step ∷ later) a b wires leads =
-    run-from caller start host later (after step a) b (λ k. step-wires step a k leads.0 ∙ wires k) leads.2
+    run-from caller start host later (after_atomic step a) b (λ k. step-wires step a k leads.0 ∙ wires k) leads.2
     ∙ ap (waiting_behind start host later) (step-waiting start a host step wires leads.0)
 
 pub run-waiting : (caller host : ℕ) (steps : List AtomicStep) (a b : List StationState) → LeadsTo caller steps a b

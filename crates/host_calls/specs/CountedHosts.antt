@@ -13,6 +13,13 @@ use Rattle.adapter.specs.Table.{register_at}
 use Rattle.bus.specs.declared.event.Access.{Access}
 use Rattle.bus.specs.declared.event.Access.TheVariants.{Loads, Reads, Stores, Writes}
 
+-- If the access writes a register, the register has this property.
+abbrev pub WritesOnly : (Register → Type 0) → Access → Type 0
+WritesOnly Has (Reads offset value) = ⊤
+WritesOnly Has (Writes offset value) = IfSome (register_at offset) Has
+WritesOnly Has (Loads address size) = ⊤
+WritesOnly Has (Stores address bytes) = ⊤
+
 -- The register isn't MDIC, whose command may start a negotiation.
 abbrev pub IsNotMdic : Register → Type 0
 IsNotMdic Mdic = ⊥
@@ -20,10 +27,7 @@ IsNotMdic register = ⊤
 
 -- The access isn't a write of MDIC, so the counts before the access determine the counts after it.
 abbrev pub IsCounted : Access → Type 0
-IsCounted (Reads offset value) = ⊤
-IsCounted (Writes offset value) = IfSome (register_at offset) IsNotMdic
-IsCounted (Loads address size) = ⊤
-IsCounted (Stores address bytes) = ⊤
+IsCounted access = WritesOnly IsNotMdic access
 
 -- The register isn't CTRL, RCTL or TCTL. So a write of the register enables or disables neither the receive side nor
 -- the transmit side.
@@ -35,10 +39,7 @@ IsNotControl register = ⊤
 
 -- The access isn't a write of CTRL, RCTL or TCTL.
 abbrev pub LeavesEnabled : Access → Type 0
-LeavesEnabled (Reads offset value) = ⊤
-LeavesEnabled (Writes offset value) = IfSome (register_at offset) IsNotControl
-LeavesEnabled (Loads address size) = ⊤
-LeavesEnabled (Stores address bytes) = ⊤
+LeavesEnabled access = WritesOnly IsNotControl access
 
 -- With these values of RCTL and TCTL, and with these rings, both sides are enabled, and heads and tails are indices of
 -- slots.

@@ -216,21 +216,21 @@ FilterStays =
     → All LeavesReception (past_at k steps).accesses → (world_at b k).adapter.filter ≡ (world_at a k).adapter.filter
 
 -- The mark is a join or a leave of a group. `groups` are joined before the mark, and `groups'` after it.
-abbrev pub ChangesGroups : Mark → (groups groups' : List (List ℕ)) → Type 0
-ChangesGroups (Joins group) groups groups' = groups' ≡ groups ++ group ∷ []
-ChangesGroups (Quits group) groups groups' = Removes group groups groups'
-ChangesGroups other groups groups' = ⊥
+abbrev pub MarksGroups : Mark → (groups groups' : List (List ℕ)) → Type 0
+MarksGroups (Joins group) groups groups' = groups' ≡ groups ++ group ∷ []
+MarksGroups (Quits group) groups groups' = Removes group groups groups'
+MarksGroups other groups groups' = ⊥
 
 -- `ReceivesRightly` holds for a join or a leave with a write of a word of MTA.
 abbrev pub WritesChangeGroups : Type 0
 WritesChangeGroups =
-    (mark : Mark) (word value : ℕ) (groups groups' : List (List ℕ)) (a : World) → ChangesGroups mark groups groups' → word < TABLE_WORDS
+    (mark : Mark) (word value : ℕ) (groups groups' : List (List ℕ)) (a : World) → MarksGroups mark groups groups' → word < TABLE_WORDS
     → ReceivesRightly groups a.adapter (mark ∷ []) groups' (world_after_write (MTA + REGISTER_BYTES * word) value a).adapter
 
 -- `ReceivesRightly` holds for a join or a leave without an access.
 abbrev pub GroupsChangeAlone : Type 0
 GroupsChangeAlone =
-    (mark : Mark) (groups groups' : List (List ℕ)) (a : AdapterState) → ChangesGroups mark groups groups'
+    (mark : Mark) (groups groups' : List (List ℕ)) (a : AdapterState) → MarksGroups mark groups groups'
     → ReceivesRightly groups a (mark ∷ []) groups' a
 
 -- A write of RDT or TDT doesn't change how a host receives (`LeavesReception`).

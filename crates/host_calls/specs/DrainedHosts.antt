@@ -9,7 +9,7 @@ use Rattle.registers.specs.Counting.{greatest_count}
 use Rattle.registers.specs.Places.{rctl_en}
 use Rattle.dma_memory.specs.Layout.{receive_buffer_bytes}
 use Rattle.adapter.specs.HostFrames.{frames_held, frames_to_send}
-use Rattle.adapter.specs.Slots.{in_work}
+use Rattle.adapter.specs.Slots.{slots_in_work}
 use Rattle.adapter.specs.World.{World}
 use Rattle.adapter.specs.declared.step.StepKind.TheVariants.{RxData, RxDone}
 use Rattle.bus.specs.declared.event.Event.TheVariants.{Accesses, Arrives, Steps}
@@ -67,7 +67,7 @@ count_left world = pieces_left world.adapter.receiver.moved world.adapter.receiv
 -- the number of adapter steps in a drain of a host: two for each piece still to be moved, and one for a piece in
 -- progress
 abbrev pub count_adapter_steps : World → ℕ
-count_adapter_steps world = 2 * count_left world + length (in_work world)
+count_adapter_steps world = 2 * count_left world + length (slots_in_work world)
 
 -- The host holds no frame for its sockets.
 pub record HoldsNothing (host : HostState) (world : World) : Type 0 where

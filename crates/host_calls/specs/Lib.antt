@@ -10,8 +10,6 @@ pub mod DeliveryLaws
 pub mod DrainSteps
 pub mod DrainedHosts
 pub mod Fates
-pub mod Givings
-pub mod GivingsLaws
 pub mod Happenings
 pub mod InterruptCauses
 pub mod LentCalls
@@ -21,6 +19,8 @@ pub mod Networks
 pub mod Notes
 pub mod NotesLaws
 pub mod NotesView
+pub mod NotingLaws
+pub mod NotingObservers
 pub mod Reception
 pub mod ResetSteps
 pub mod ResetsInSteps

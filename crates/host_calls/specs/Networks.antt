@@ -1,5 +1,6 @@
 -- The state of a network: its hosts and their stations; its k-th host (our choice).
-use Rattle.std.specs.Prelude.{◌≡◌, [], ℕ, false, true, List, None, Option, Some, slice_get, slice_set}
+use Rattle.std.specs.Prelude.{◌≡◌, [], ℕ, false, List, None, Option, Some, slice_get, slice_set}
+use Rattle.bus.specs.Beginnings.{new_driver}
 use Rattle.bus.specs.DriverState.{DriverState}
 use Rattle.packet_socket.specs.HostState.{HostState, new_host}
 use Rattle.stations.specs.Stations.{StationState}
@@ -18,21 +19,8 @@ IsHost network k host = slice_get network.hosts k ≡ Some host
 
 -- The driver of a host that doesn't exist: a driver without slots, buffers and groups.
 abbrev pub no_driver : DriverState
-no_driver = record {
-  layout = record { rx = 0; tx = 0; buffers = 0 };
-  oldest_receive = 0;
-  buffers = [];
-  staged = [];
-  pool = [];
-  handed_out = [];
-  oldest_transmit = 0;
-  sending = 0;
-  missed = 0;
-  exact = true;
-  bad = 0;
-  groups = [];
-  setup = record { rxa = 0; promiscuous = false; by_vlan = false; vlans = []; address = [] };
-}
+no_driver = new_driver (record { rx = 0; tx = 0; buffers = 0 })
+    (record { rxa = 0; promiscuous = false; by_vlan = false; vlans = []; address = [] }) [] []
 
 -- This host; for `None`, a host with `no_driver` and without sockets.
 abbrev pub host_or_empty : Option HostState → HostState

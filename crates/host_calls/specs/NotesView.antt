@@ -1,7 +1,7 @@
 -- The value of a `Noted` from its private fields, and the invariant of these fields (our choice).
 use Rattle.std.specs.Prelude.{◌≤◌, vec_capacity}
 use Rattle.host_calls.specs.Notes.{NotesFit, Notes}
-use Rattle.host_calls.specs.declared.giving.Noted.TheInside.{Inside}
+use Rattle.host_calls.specs.declared.noting.Noted.TheInside.{Inside}
 
 abbrev pub notes_of : Inside → Notes
 notes_of inside = record { host = inside.host; most = inside.most; put = inside.put; holding = inside.holding.items }

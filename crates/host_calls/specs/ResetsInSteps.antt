@@ -8,9 +8,9 @@ use Rattle.bus.specs.Link.{HasLink}
 use Rattle.bring_up.specs.ConfiguredAdapters.{HasSetup}
 use Rattle.bring_up.specs.Groups.{HasTable}
 use Rattle.stations.specs.AtomicRuns.{LeadsTo, counted_of, past_at}
-use Rattle.stations.specs.AtomicSteps.{AtomicStep, after}
+use Rattle.stations.specs.AtomicSteps.{AtomicStep, after_atomic}
 use Rattle.stations.specs.Stations.{StationState, world_at}
-use Rattle.bus.specs.Calls.{HasNoForgottenWork, IsRefilled, SumsMisses, driver_in, with_missed}
+use Rattle.bus.specs.Calls.{HasNoForgottenWork, IsRefilled, SumsMisses, driver_in, missed_added}
 use Rattle.bus.specs.DriverState.{DriverSetup, with_owners}
 use Rattle.bus.specs.Resets.{reset_driver, reset_world}
 use Rattle.driver.specs.Initialisation.{AreFilterTables}
@@ -22,7 +22,7 @@ use Rattle.host_calls.specs.ResetSteps.{PartsAccess, ResetParts, ResetValues, at
 
 -- the host after `misses` was read from MPC and added to its driver's sum
 abbrev pub stopped_host : (misses : ℕ) → HostState → HostState
-stopped_host misses host = record host { driver = with_missed misses host.driver }
+stopped_host misses host = record host { driver = missed_added misses host.driver }
 
 -- The steps before CTRL.RST is written: the host takes and accepts no frame. After RCTL is 0, no frame is stored or
 -- missed.
@@ -43,7 +43,7 @@ pub record RestsInSteps (k : ℕ) (setup : DriverSetup) (parts : ResetParts) (la
   -- the steps lead from the stations right before the write of CTRL.RST to those right after the second write of RCTL
   pub leads : LeadsTo k (at_rest k setup parts) last enabled
   -- after the write of CTRL.RST the adapter is reset, and memory is the same
-  pub is_reset : world_at (after (reset_of k) last) k ≡ reset_world (world_at last k)
+  pub is_reset : world_at (after_atomic (reset_of k) last) k ≡ reset_world (world_at last k)
   -- no frame is put, stored or missed
   pub no_frame : NoFrame (past_at k (at_rest k setup parts))
 
@@ -53,7 +53,7 @@ pub record HostBeginsAgain (misses : ℕ) (numbers : List ℕ) (old new : HostSt
   -- nothing but the driver changes
   pub host : new ≡ record old { driver = new.driver }
   -- only the slots that were offered after the reset are outstanding
-  pub driver : new.driver ≡ with_owners (reset_driver [] (with_missed misses old.driver)) numbers [] new.driver.pool new.driver.handed_out
+  pub driver : new.driver ≡ with_owners (reset_driver [] (missed_added misses old.driver)) numbers [] new.driver.pool new.driver.handed_out
   -- no buffer is free, or all slots except one are outstanding
   pub refilled : IsRefilled new.driver
 

@@ -5,7 +5,7 @@ use Rattle.rx_engine.specs.declared.arrival.Fate.{Fate}
 use Rattle.adapter.specs.declared.step.StepKind.{StepKind}
 use Rattle.adapter.specs.declared.step.StepKind.TheVariants.{TxTake, TxPut, RxData, RxDone, EepromTick, PhyTick}
 use Rattle.adapter.specs.Transmitting.{IsOldest}
-use Rattle.stations.specs.AtomicSteps.{AtomicStep, after, step_outcome, tick_of}
+use Rattle.stations.specs.AtomicSteps.{AtomicStep, after_atomic, step_outcome, tick_of}
 use Rattle.stations.specs.Stations.{StationState, world_at}
 use Rattle.adapter.specs.Outcomes.{FrameOutcome}
 use Rattle.adapter.specs.declared.outcome.Outcome.TheVariants.{Delivered, Done, Moved, Nothing, Part, Put, Ticked, Took, WireFull}
@@ -51,7 +51,7 @@ moved_or_part counts = if nat_le (left_of_oldest counts.left) counts.buffer_size
 -- All stations after these atomic steps, in order.
 abbrev pub stations_behind : List AtomicStep → List StationState → List StationState
 stations_behind [] stations = stations
-stations_behind (step ∷ later) stations = stations_behind later (after step stations)
+stations_behind (step ∷ later) stations = stations_behind later (after_atomic step stations)
 
 -- The outcome of TxPut after the steps `before` if there is a frame to put: WireFull if another end of the wire is
 -- full, else Put of the oldest frame in the transmit packet buffer.

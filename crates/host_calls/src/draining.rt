@@ -99,6 +99,7 @@ impl Network {
         ensures free { (world_at self.new.stations number).adapter.receiver.work ≡ None }
         ensures hosts { self.new.hosts ≡ self.old.hosts }
     {
+        // The host can be drained, so the outcome is no fault: it is `Done`, or `Nothing` if no piece is in progress.
         matches!(self.stations.step(number, StepKind::RxDone), Outcome::Done)
     }
 

@@ -6,8 +6,8 @@ mod calls;
 mod causes_law;
 mod draining;
 mod frame_sink;
-mod giving;
 mod network;
+mod noting;
 mod resetting;
 
 pub use calls::Called;

@@ -6,7 +6,8 @@ ghost use Rattle.bus.specs.TickGroups.{without_go};
 ghost use Rattle.stations.specs.AtomicRuns.{is_go};
 ghost use Rattle.stations.specs.AtomicSteps.{PlaysNoted, watched};
 ghost use Rattle.stations.specs.PlayedTicks.{PlaysTicks};
-ghost use Rattle.host_calls.specs.Networks.{nth_host};
+ghost use Rattle.host_calls.specs.Networks.{nth_host, NetworkState};
+ghost use Rattle.host_calls.specs.NetworkView.{HasStations, network_in};
 
 use bus::Machine;
 use packet_socket::Host;
@@ -20,16 +21,14 @@ use std::marker::Model;
 /// In contracts, the value is a `NetworkState` (`specs/Networks.antt`).
 #[derive(Drop)]
 pub struct Network {
+    /// The hosts, by their numbers.
     pub(crate) hosts: Vec<Host>,
+    /// The station of each host, by the host's number.
     pub(crate) stations: Stations,
 }
 
 impl Model for Network {
-    ghost use Rattle.host_calls.specs.Networks.{NetworkState};
-
     ghost Value = { NetworkState };
-
-    ghost use Rattle.host_calls.specs.NetworkView.{HasStations, network_in};
 
     ghost view = { network_in };
 
@@ -66,6 +65,7 @@ fn append(hosts: &mut Vec<Host>, host: Host)
     requires room { length hosts.old.items < vec_capacity hosts.old }
     ensures { hosts.new.items ≡ hosts.old.items ++ host ∷ [] }
 {
+    // There is room, so `push` returns no error.
     let _ = hosts.push(host);
 }
 

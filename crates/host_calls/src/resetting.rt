@@ -5,14 +5,14 @@ ghost use Rattle.adapter.specs.State.{IsAdapter};
 ghost use Rattle.stations.specs.Stations.{world_at};
 ghost use Rattle.packet_socket.specs.HostCalls.{HostReady};
 ghost use Rattle.host_calls.specs.ConnectedHosts.{played_call};
-ghost use Rattle.host_calls.specs.Givings.{KeepsReferences, TellsAndNotes};
+ghost use Rattle.host_calls.specs.NotingObservers.{KeepsReferences, TellsAndNotes};
 ghost use Rattle.host_calls.specs.Networks.{OnlyHostChanges, connected_at, nth_host};
 ghost use Rattle.host_calls.specs.BeforeReset.{IsBeforeReset};
 ghost use Rattle.host_calls.specs.Notes.{NotesTicks};
 ghost use Rattle.host_calls.specs.ResetsInSteps.{MakesReset, RunsReset};
 
-use crate::giving::{Giving, Noted};
 use crate::network::Network;
+use crate::noting::{Noted, NotingObserver};
 use descriptors::Frame;
 use rx_engine::MOST_FRAMES;
 use stations::{LentBus, Observer, Tick};
@@ -136,24 +136,24 @@ impl Network {
             (connected_at self.old number) (connected_at self.new number) }
         ensures others { OnlyHostChanges number self.old self.new }
     {
-        let mut giving = Giving { observer, noted };
-        self.reset_over(number, ticks, &mut giving)
+        let mut noting = NotingObserver { observer, noted };
+        self.reset_over(number, ticks, &mut noting)
     }
 
-    /// Resets the adapter of host `number`, while ticks are played. Each tick is told to `giving`. Returns the number
+    /// Resets the adapter of host `number`, while ticks are played. Each tick is told to `noting`. Returns the number
     /// of accesses.
     fn reset_over<O: Observer>(
         &mut self,
         number: usize,
         ticks: &[Tick],
-        giving: &mut Giving<'_, O>,
+        noting: &mut NotingObserver<'_, O>,
     ) -> u64
         requires there { number < length self.old.hosts }
         requires ready { HostReady (nth_host self.old number) (world_at self.old.stations number) }
-        requires ticks { length ticks.now ≤ O.room_left giving.old.observer.now }
-        ensures keeps { KeepsReferences giving.old giving.new }
+        requires ticks { length ticks.now ≤ O.room_left noting.old.observer.now }
+        ensures keeps { KeepsReferences noting.old noting.new }
         ensures runs { HostReady (nth_host self.old number) (world_at self.old.stations number)
-            → RunsReset (played_call number ticks.now (TellsAndNotes O.heard giving.old giving.new) result)
+            → RunsReset (played_call number ticks.now (TellsAndNotes O.heard noting.old noting.new) result)
             (connected_at self.old number) (connected_at self.new number) }
         ensures others { OnlyHostChanges number self.old self.new }
     {
@@ -162,7 +162,7 @@ impl Network {
             ticks,
             host: number,
             accesses: 0,
-            observer: giving,
+            observer: noting,
         };
         self.hosts[number].reset(&mut bus);
         bus.finish();

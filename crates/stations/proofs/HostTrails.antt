@@ -17,10 +17,10 @@ use Rattle.stations.specs.Stations.{world_of}
 use Rattle.stations.specs.AtomicRuns.{IsTick, LeadsTo, events_at}
 
 -- The host with this number exists and is on this wire.
-record Stands (ss : List StationState) (host wire : ℕ) : Type 0 where
-  station : StationState
-  is : slice_get ss host ≡ Some station
-  on_wire : station.wire ≡ wire
+pub record Stands (ss : List StationState) (host wire : ℕ) : Type 0 where
+  pub station : StationState
+  pub is : slice_get ss host ≡ Some station
+  pub on_wire : station.wire ≡ wire
 
 stands-found : (ss : List StationState) (host wire : ℕ) (found : Option StationState) → slice_get ss host ≡ found → wire_of found
     ≡ Some wire
@@ -28,10 +28,10 @@ stands-found : (ss : List StationState) (host wire : ℕ) (found : Option Statio
 stands-found ss host wire None is on = absurd (cc)
 stands-found ss host wire (Some s) is on = record { station = s; is = is; on_wire = let same : s.wire ≡ wire = cc in same }
 
-stands : (ss : List StationState) (host wire : ℕ) → wire_at ss host ≡ Some wire → Stands ss host wire
+pub stands : (ss : List StationState) (host wire : ℕ) → wire_at ss host ≡ Some wire → Stands ss host wire
 stands ss host wire on = stands-found ss host wire (slice_get ss host) refl on
 
-at-place : (ss : List StationState) (host k : ℕ) (event : Event) (s : StationState) → slice_get ss host ≡ Some s
+pub at-place : (ss : List StationState) (host k : ℕ) (event : Event) (s : StationState) → slice_get ss host ≡ Some s
     → slice_get (stations_after host event ss) k ≡ option_map (each_after host s.wire event k) (slice_get ss k)
 at-place ss host k event s is =
     ap (λ (list : List StationState). slice_get list k) (after-is host event ss s is) ∙ get-at_each (each_after host s.wire event) ss k
@@ -42,15 +42,23 @@ here : (host wire : ℕ) (event : Event) (s : StationState) → (host == host) �
     ≡ station_after event s
 here host wire event s itself = rw itself refl
 
-pub world-here : (ss : List StationState) (host : ℕ) (event : Event) → (host == host) ≡ true → OccursAt host event ss
-    → world_at (stations_after host event ss) host ≡ world_after event (world_at ss host)
-world-here ss host event itself occurs =
+-- A part of the host's station after an event at this host.
+pub part-here : {X : Type 0} (part : Option StationState → X) (change : X → X) (ss : List StationState) (host : ℕ) (event : Event)
+    → (host == host) ≡ true → OccursAt host event ss
+    → ((s : StationState) → part (Some (station_after event s)) ≡ change (part (Some s)))
+    → part (slice_get (stations_after host event ss) host) ≡ change (part (slice_get ss host))
+part-here {X} part change ss host event itself occurs each =
     let at = stands ss host occurs.wire occurs.on_wire in
-    ap world_of
+    ap part
     (at-place ss host host event at.station at.is
     ∙ ap (option_map (each_after host at.station.wire event host)) at.is
     ∙ ap Some (here host at.station.wire event at.station itself))
-    ∙ ap (λ (o : Option StationState). world_after event (world_of o)) (sym at.is)
+    ∙ each at.station
+    ∙ ap (λ (o : Option StationState). change (part o)) (sym at.is)
+
+pub world-here : (ss : List StationState) (host : ℕ) (event : Event) → (host == host) ≡ true → OccursAt host event ss
+    → world_at (stations_after host event ss) host ≡ world_after event (world_at ss host)
+world-here ss host event itself occurs = part-here world_of (world_after event) ss host event itself occurs (λ s. refl)
 
 -- Another host
 

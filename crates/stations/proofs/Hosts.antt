@@ -1,11 +1,15 @@
 -- The stations of a list of machines and a list of ends of wires: items, changes and events.
-use Rattle.std.proofs.Common.{◌≡◌, ◌<◌, zero, suc, ℕ, List, [], ◌∷◌, ◌++◌, Option, Some, None}
-use Rattle.std.proofs.Common.{length, slice_get, slice_set, slice_index_or, refl, sym, ap, ◌∙◌, arith}
-use Rattle.std.proofs.lemmas.Option.{slice_get-get_or}
+use Rattle.std.proofs.Common.{◌≡◌, ◌<◌, ◌≤◌, zero, suc, ℕ, List, [], ◌∷◌, ◌++◌, Option, Some, None}
+use Rattle.std.proofs.Common.{length, slice_get, slice_set, slice_index_or, refl, sym, ap, subst, ◌∙◌, arith}
+use Rattle.std.proofs.lemmas.Option.{slice_get-get_or, slice_get_past}
 use Rattle.circular_buffer.proofs.Places.{slice_get-some}
+use Rattle.adapter.specs.State.{IsAdapter}
+use Rattle.adapter.specs.World.{World}
 use Rattle.bus.specs.Machines.{MachineState, after_event}
 use Rattle.bus.specs.Trails.{past_of_event}
+use Rattle.bus.specs.declared.event.Access.{Access}
 use Rattle.bus.specs.declared.event.Event.{Event}
+use Rattle.bus.specs.declared.event.Event.TheVariants.{Accesses}
 use Rattle.stations.specs.Ends.{EndState}
 use Rattle.stations.specs.StationsView.{HasEndsOfWires, station_of, stations_in, stations_of}
 use Rattle.stations.specs.declared.stations.Stations.TheInside.{Inside}
@@ -79,7 +83,7 @@ set-end_same (y ∷ es) (suc host) e is = ap (λ (rest : List EndState). y ∷ r
 -- An event at one machine that puts no frame, if the machine and its end are replaced by those after the event.
 pub host-after : (ms : List MachineState) (es : List EndState) (host : ℕ) (event : Event) (new : MachineState) (end : EndState)
     → (there : IsThere ms es host) → host < length (stations_of ms es)
-    → new ≡ after_event event there.machine → end ≡ record there.end { line = backlog_after event there.end.line }
+    → new ≡ after_event event there.machine → end ≡ record there.end { backlog = backlog_after event there.end.backlog }
     → (past_of_event event).put ≡ []
     → stations_of (slice_set ms host new) (slice_set es host end) ≡ stations_after host event (stations_of ms es)
 host-after ms es host event new end there inside is line none =
@@ -104,6 +108,11 @@ as-long {inside} shown have =
 pub below-machines : {inside : Inside} {ss : List StationState} {host : ℕ} → stations_in inside ≡ ss → HasEndsOfWires inside
     → host < length ss → host < length inside.machines.items
 below-machines shown have below = omega (arith, below, as-long shown have)
+
+-- A host without a machine has no station.
+pub no-station : {inside : Inside} {ss : List StationState} {host : ℕ} → stations_in inside ≡ ss → HasEndsOfWires inside
+    → length inside.machines.items ≤ host → slice_get ss host ≡ None
+no-station {ss = ss} {host = host} shown have past = slice_get_past ss host (omega (arith, past, as-long shown have))
 
 pub shows : {inside : Inside} {ss : List StationState} {host : ℕ} {m : MachineState} → stations_in inside ≡ ss → HasEndsOfWires inside
     → host < length ss → m ≡ slice_index_or inside.machines.items host m → Shows inside.machines.items inside.wires ss host m
@@ -133,8 +142,20 @@ machine-after {ms} {es} {ss} {host} {m} {new} event shown shows is stays none =
     ap (stations_of (slice_set ms host new)) (sym (set-end_same es host there.end there.has_end))
     ∙ host-after ms es host event new there.end there shows.inside
     (is ∙ ap (after_event event) shows.machine)
-    (ap (λ (line : List (List ℕ)). let e : EndState = record there.end { line = line } in e) (sym (stays there.end.line))) none
+    (ap (λ (line : List (List ℕ)). let e : EndState = record there.end { backlog = line } in e) (sym (stays there.end.backlog))) none
     ∙ ap (stations_after host event) shown
+
+-- An access by a host that exists.
+pub access-after : {inside : Inside} {ss : List StationState} {host : ℕ} {m new : MachineState} (access : Access) → stations_in inside ≡ ss
+    → HasEndsOfWires inside → host < length ss → m ≡ slice_index_or inside.machines.items host m → new ≡ after_event (Accesses access) m
+    → stations_of (slice_set inside.machines.items host new) inside.wires ≡ stations_after host (Accesses access) ss
+access-after access shown have below value is =
+    machine-after (Accesses access) shown (shows shown have below value) is (λ line. refl) refl
+
+pub has-adapter : {inside : Inside} {ss : List StationState} {host : ℕ} {m : MachineState} → stations_in inside ≡ ss
+    → HasEndsOfWires inside → host < length ss → m ≡ slice_index_or inside.machines.items host m → IsAdapter m.world.adapter
+    → IsAdapter (world_at ss host).adapter
+has-adapter shown have below value is = subst (λ (w : World). IsAdapter w.adapter) (shows shown have below value).world is
 
 pub append-both : (ms : List MachineState) (es : List EndState) (m : MachineState) (e : EndState) → length es ≡ length ms
     → stations_of (ms ++ m ∷ []) (es ++ e ∷ []) ≡ stations_of ms es ++ station_of m e ∷ []

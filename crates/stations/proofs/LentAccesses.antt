@@ -1,5 +1,5 @@
 -- An access over a lent bus, after the ticks that are played before it.
-use Rattle.std.proofs.Common.{◌≡◌, ◌<◌, ◌+◌, ◌++◌, ◌∷◌, [], ℕ, List, Bool, inl, inr, length, min}
+use Rattle.std.proofs.Common.{◌≡◌, ◌<◌, ◌≤◌, ◌+◌, ◌++◌, ◌∷◌, [], ℕ, List, Bool, inl, inr, length, min}
 use Rattle.std.proofs.Common.{if◌then◌else◌, refl, sym, ap, subst, ◌∙◌, arith}
 use Rattle.std.specs.Bool.{⊤}
 use Rattle.std.proofs.lemmas.Bool.{eq-eqb}
@@ -8,21 +8,23 @@ use Rattle.std.proofs.lemmas.Option.{slice_get_cases}
 use Rattle.adapter.specs.State.{IsAdapter}
 use Rattle.adapter.specs.World.{World}
 use Rattle.bus.proofs.Trails.{trail_happens}
-use Rattle.bus.specs.BusMembers.{StaysWhole}
+use Rattle.bus.specs.BusMembers.{KeepsProperties}
 use Rattle.bus.specs.Law.{Acts, view}
 use Rattle.bus.specs.Pasts.{joined}
 use Rattle.bus.specs.TrailLaws.{past_of-append}
 use Rattle.bus.specs.Trails.{IsAnswered, Trail, past_of, world_after_access}
 use Rattle.bus.specs.declared.event.Access.{Access}
 use Rattle.bus.specs.declared.event.Access.TheVariants.{Loads}
+use Rattle.bus.specs.declared.event.Event.{Event}
 use Rattle.bus.specs.declared.event.Event.TheVariants.{Accesses}
-use Rattle.bus.proofs.StepsThenAccess.{happens_accesses, past-with_access}
+use Rattle.bus.proofs.StepsThenAccess.{happens_accesses, past-with_access, no_access}
 use Rattle.stations.proofs.Places.{set-after, set-same}
 use Rattle.stations.specs.AtomicSteps.{At, OccursAt, tick_of}
 use Rattle.stations.specs.Stations.{StationState, stations_after, wire_of, world_at}
 use Rattle.stations.specs.declared.observer.Observer.{Ghosts as OfObserver}
 use Rattle.stations.specs.declared.tick.Tick.{Tick}
 use Rattle.stations.specs.declared.tick.Tick.TheVariants.{Go}
+use Rattle.stations.proofs.Lengths.{length-event}
 use Rattle.stations.proofs.HostTrails.{steps-alone, trail-of, world-here}
 use Rattle.stations.proofs.TickLoops.{counted-ticks}
 use Rattle.stations.specs.AtomicRunLaws.{counted_join, leads_join, past_join, steps_told_join}
@@ -43,27 +45,33 @@ occurs-access ss host access below answered =
       | inr none ↦ absurd (omega (arith, below, none.0))
     ]
 
-pub world-there : (ss new : List StationState) (host : ℕ) (access : Access) → host < length ss → IsAnswered access (world_at ss host)
-    → new ≡ stations_after host (Accesses access) ss → world_at new host ≡ world_after_access access (world_at ss host)
-world-there ss new host access below answered leaves =
-    ap (λ (list : List StationState). world_at list host) leaves
-    ∙ world-here ss host (Accesses access) (eq-eqb host host refl) (occurs-access ss host access below answered)
+-- A bus with other stations.
+abbrev pub with_stations : {O : Type 0} {g : OfObserver O} (bus : LentBus O g) (new : List StationState) → bus.host < length new
+    → length bus.ticks.now ≤ g.room_left bus.observer.now → LentBus O g
+with_stations bus new there room = record bus { stations = record bus.stations { now = new }; there = there; room = room }
 
-pub load-leaves : (ss new : List StationState) (host address size : ℕ) → host < length ss → new ≡ ss
-    → new ≡ stations_after host (Accesses (Loads address size)) ss
-load-leaves ss new host address size below same =
-    elim ((slice_get_cases ss host).1) [
-      | inl found ↦ same ∙ sym (set-same ss host found.0 below found.2)
-          ∙ set-after host (Accesses (Loads address size)) ss found.0 found.0 below found.2 refl refl
-      | inr none ↦ absurd (omega (arith, below, none.0))
+pub still-there : {O : Type 0} {g : OfObserver O} (p : LentBus O g) (event : Event) {new : List StationState}
+    → new ≡ stations_after p.host event p.stations.now → p.host < length new
+still-there p event leaves =
+    let stays = ap (λ (list : List StationState). length list) leaves ∙ length-event p.host event p.stations.now in
+    omega (arith, p.there, stays)
+
+world-there : {O : Type 0} {g : OfObserver O} (p : LentBus O g) (new : List StationState) (access : Access)
+    → IsAnswered access (world_here p) → new ≡ stations_after p.host (Accesses access) p.stations.now
+    → world_at new p.host ≡ world_after_access access (world_here p)
+world-there p new access answered leaves =
+    ap (λ (list : List StationState). world_at list p.host) leaves
+    ∙ world-here p.stations.now p.host (Accesses access) (eq-eqb p.host p.host refl)
+    (occurs-access p.stations.now p.host access p.there answered)
+
+pub load-leaves : {O : Type 0} {g : OfObserver O} (p : LentBus O g) (address size : ℕ)
+    → p.stations.now ≡ stations_after p.host (Accesses (Loads address size)) p.stations.now
+load-leaves p address size =
+    elim ((slice_get_cases p.stations.now p.host).1) [
+      | inl found ↦ sym (set-same p.stations.now p.host found.0 p.there found.2)
+          ∙ set-after p.host (Accesses (Loads address size)) p.stations.now found.0 found.0 p.there found.2 refl refl
+      | inr none ↦ absurd (let there = p.there in omega (arith, there, none.0))
     ]
-
--- The access changes neither the ticks, the number of accesses nor the observer of the bus.
-pub record LeavesRest {O : Type 0} {g : OfObserver O} (p b : LentBus O g) : Type 0 where
-  pub lent : SameLent p b
-  pub ticks : b.ticks.now ≡ p.ticks.now
-  pub accesses : b.accesses ≡ p.accesses
-  pub observer : b.observer.now ≡ p.observer.now
 
 abbrev pub never_lively : {O : Type 0} {g : OfObserver O} → LentBus O g → Type 0
 never_lively bus = ⊥
@@ -81,23 +89,27 @@ size-prepared a p prepared =
     (trail-here a p prepared) in
     happens.steady.size
 
-pub access-keeps : {O : Type 0} {g : OfObserver O} (a p b : LentBus O g) → PreparedLent a p → SameLent p b → bytes_here b ≡ bytes_here p
-    → StaysWhole bytes_here SameLent (λ (bus : LentBus O g). ⊤) never_lively a b
-access-keeps {O} {g} a p b prepared same size = record {
-  extent = size ∙ size-prepared a p prepared;
-  lent_stays = same_lent_on a p b prepared.lent same;
+pub access-keeps : {O : Type 0} {g : OfObserver O} {a p : LentBus O g} {new : List StationState} {there : p.host < length new}
+    {room : length p.ticks.now ≤ g.room_left p.observer.now} (access : Access) → PreparedLent a p
+    → new ≡ stations_after p.host (Accesses access) p.stations.now → IsAnswered access (world_here p)
+    → length (world_after_access access (world_here p)).memory ≡ bytes_here p
+    → KeepsProperties bytes_here SameLent (λ (bus : LentBus O g). ⊤) never_lively a (with_stations p new there room)
+access-keeps {a = a} {p = p} {new = new} {there = there} {room = room} access prepared leaves answered size = record {
+  extent = ap (λ (w : World). length w.memory) (world-there p new access answered leaves) ∙ size ∙ size-prepared a p prepared;
+  lent_stays = same_lent_on a p (with_stations p new there room) prepared.lent (record { stations = refl; observer = refl; host = refl });
   honest = λ honest. honest;
   lively = λ lively. lively;
 }
 
 -- An access is an act of the bus (`Acts`): the ticks before the access are played (`PreparedLent`), and then the access
 -- changes the stations.
-pub acted : {O : Type 0} {g : OfObserver O} (a p b : LentBus O g) (access : Access) (effect : World → World → Type 0) → PreparedLent a p
-    → LeavesRest p b
-    → p.host < length p.stations.now → b.stations.now ≡ stations_after p.host (Accesses access) p.stations.now
-    → IsAnswered access (world_here p) → IsAdapter (world_here p).adapter → effect (world_here p) (world_here b)
-    → Acts (view world_here HappenedLent never_lively) a b access effect
-acted {O} {g} a p b access effect prepared leaves below state answered adapter does =
+pub acted : {O : Type 0} {g : OfObserver O} {a p : LentBus O g} {new : List StationState} {there : p.host < length new}
+    {room : length p.ticks.now ≤ g.room_left p.observer.now} {access : Access} {effect : World → World → Type 0} → PreparedLent a p
+    → new ≡ stations_after p.host (Accesses access) p.stations.now
+    → IsAnswered access (world_here p) → IsAdapter (world_here p).adapter
+    → (world_at new p.host ≡ world_after_access access (world_here p) → effect (world_here p) (world_at new p.host))
+    → Acts (view world_here HappenedLent never_lively) a (with_stations p new there room) access effect
+acted {g = g} {a = a} {p = p} {new = new} {there = there} {room = room} {access = access} prepared state answered adapter does =
     let plays = prepared.plays in
     let steps = plays.steps in
     let events = events_at a.host steps in
@@ -106,8 +118,8 @@ acted {O} {g} a p b access effect prepared leaves below state answered adapter d
     let host = prepared.lent.host in
     let still = counted-ticks a.accesses steps plays.are in
     let occurs : OccursAt a.host (Accesses access) p.stations.now =
-    subst (λ (h : ℕ). OccursAt h (Accesses access) p.stations.now) host (occurs-access p.stations.now p.host access below answered) in
-    let behind : b.stations.now ≡ stations_after a.host (Accesses access) p.stations.now =
+    subst (λ (h : ℕ). OccursAt h (Accesses access) p.stations.now) host (occurs-access p.stations.now p.host access p.there answered) in
+    let behind : new ≡ stations_after a.host (Accesses access) p.stations.now =
     state ∙ ap (λ (h : ℕ). stations_after h (Accesses access) p.stations.now) host in
     let heard : steps_told a.accesses steps ≡ steps_told a.accesses (steps ++ last ∷ []) =
     sym (steps_told_join a.accesses steps (last ∷ []) ∙ append-nil (steps_told a.accesses steps)) in
@@ -118,9 +130,9 @@ acted {O} {g} a p b access effect prepared leaves below state answered adapter d
       past = record (past_of events) { accesses = access ∷ [] };
       only = refl;
       told = record {
-        lent = same_lent_on a p b prepared.lent leaves.lent;
+        lent = same_lent_on a p (with_stations p new there room) prepared.lent (record { stations = refl; observer = refl; host = refl });
         steps = steps ++ last ∷ [];
-        leads = leads_join a.host steps (last ∷ []) a.stations.now p.stations.now b.stations.now (plays.leads a.host)
+        leads = leads_join a.host steps (last ∷ []) a.stations.now p.stations.now new (plays.leads a.host)
             (occurs, refl, behind);
         past_is =
             past-with_access events access are
@@ -130,19 +142,14 @@ acted {O} {g} a p b access effect prepared leaves below state answered adapter d
         played =
             map-append tick_of steps (last ∷ [])
             ∙ ap (λ (list : List Tick). list ++ Go ∷ []) plays.played;
-        waiting = leaves.ticks ∙ prepared.waiting;
-        heard =
-            subst (λ (o : O). g.heard a.observer.now o (steps_told a.accesses (steps ++ last ∷ []))) (sym leaves.observer)
-            (subst (g.heard a.observer.now p.observer.now) heard plays.heard);
-        accesses = record {
-          number = leaves.accesses ∙ prepared.count ∙ sym count;
-          count = omega (arith, leaves.accesses, prepared.count);
-        };
+        waiting = prepared.waiting;
+        heard = subst (g.heard a.observer.now p.observer.now) heard plays.heard;
+        accesses = record { number = prepared.count ∙ sym count; count = omega (arith, prepared.count) };
       };
       ticks = λ never. absurd never;
       before =
-          happens_accesses (world_here a) (world_here p) (past_of events) (access ∷ [])
+          happens_accesses (world_here a) (world_here p) (past_of events) (access ∷ []) (no_access events are)
           (trail_happens events (world_here a) (world_here p) are (trail-here a p prepared));
       adapter = adapter;
-      effect_is = does;
+      effect_is = does (world-there p new access answered state);
     }

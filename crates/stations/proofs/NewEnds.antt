@@ -1,11 +1,12 @@
 -- `HaveLogs` for more logs, and for a new end of a wire.
 use Rattle.std.proofs.Common.{◌≡◌, ◌+◌, ◌⊎◌, ◌↔◌, zero, suc, ℕ, List, Option, Some, None, [], ◌∷◌, ◌++◌, length, drop}
-use Rattle.std.proofs.Common.{option_map, slice_get, inl, inr, refl, sym, ap, ◌∙◌, subst, arith, length-append}
+use Rattle.std.proofs.Common.{option_map, slice_get, slice_index_or, inl, inr, refl, sym, ap, ◌∙◌, subst, arith, length-append}
 use Rattle.std.specs.Prelude.{Err, Ok, OnErr, Result}
+use Rattle.std.proofs.lemmas.List.{get_or_default}
 use Rattle.std.proofs.lemmas.Option.{same_Some, slice_get_within}
 use Rattle.std.proofs.Math.ListN.{drop_of_length-le}
 use Rattle.stations.specs.Ends.{EndState}
-use Rattle.stations.specs.LogReaders.{IsLogFor}
+use Rattle.stations.specs.LogReaders.{IsLogFor, KeepsLogs}
 use Rattle.stations.specs.WireLogs.{LogEntry, frames_of_others}
 use Rattle.stations.specs.WiresView.{HaveLogs, ReadsLog, end_of, ends_from, log_of}
 use Rattle.stations.specs.declared.wires.End.{End}
@@ -102,9 +103,32 @@ module _ (logs : List (List LogEntry)) (es : List End) (have : HaveLogs logs es)
             λ logs'. sym (ap (λ (x : End). x.wire) at) ∙ one.1 (ap (λ (x : End). x.log) at ∙ logs' ∙ reads) ∙ sym on,
           )
 
-  pub connected-shown : ends_from logs 0 (es ++ new ∷ []) ≡ ends_from logs 0 es ++ record { wire = wire; line = [] } ∷ []
+  pub connected-shown : ends_from logs 0 (es ++ new ∷ []) ≡ ends_from logs 0 es ++ record { wire = wire; backlog = [] } ∷ []
   connected-shown =
       append-shown logs 0 es new
-      ∙ ap (λ (frames : List (List ℕ)). ends_from logs 0 es ++ record { wire = new.wire; line = frames } ∷ [])
+      ∙ ap (λ (frames : List (List ℕ)). ends_from logs 0 es ++ record { wire = new.wire; backlog = frames } ∷ [])
       (ap (λ (l : List LogEntry). frames_of_others (0 + length es) l) nothing)
-      ∙ ap (λ (w : ℕ). ends_from logs 0 es ++ record { wire = w; line = [] } ∷ []) on
+      ∙ ap (λ (w : ℕ). ends_from logs 0 es ++ record { wire = w; backlog = [] } ∷ []) on
+
+-- The logs and the ends after an end of the wire was appended, at which no frame waits.
+pub record Connected (logs : List (List LogEntry)) (ends : List End) (ss : List EndState) (wire : ℕ) : Type 0 where
+  pub have : HaveLogs logs ends
+  pub shown : ends_from logs 0 ends ≡ ss ++ record { wire = wire; backlog = [] } ∷ []
+
+pub connects : {old logs : List (List LogEntry)} {es given ends : List End} {ss : List EndState} {wire log cursor : ℕ}
+    {entries : List LogEntry} → ends_from old 0 es ≡ ss → HaveLogs old es → KeepsLogs old logs → given ≡ es
+    → IsLogFor wire given logs log → entries ≡ slice_index_or logs log entries → cursor ≡ length entries
+    → ends ≡ es ++ record { wire = wire; log = log; cursor = cursor; waiting = 0 } ∷ [] → Connected logs ends ss wire
+connects {old} {logs} {es} {given} {ends} {ss} {wire} {log} {cursor} {entries} shown have kept same reads index long pushed =
+    let new : End = record { wire = wire; log = log; cursor = cursor; waiting = 0 } in
+    let more = subst (λ (l : List (List LogEntry)). HaveLogs l es) (sym kept.is) (more-logs old kept.more es have) in
+    let is_for = subst (λ (l : List End). IsLogFor wire l logs log) same reads in
+    let at_end : cursor ≡ length (log_of logs new) =
+    long ∙ ap (λ (l : List LogEntry). length l) (index ∙ get_or_default logs log entries [] is_for.there) in
+    record {
+      have = subst (HaveLogs logs) (sym pushed) (append-logs logs es more wire log is_for new refl refl at_end refl);
+      shown = ap (ends_from logs 0) pushed
+          ∙ connected-shown logs es more wire log is_for new refl refl at_end refl
+          ∙ ap (λ (l : List EndState). l ++ record { wire = wire; backlog = [] } ∷ [])
+          (ap (λ (l : List (List LogEntry)). ends_from l 0 es) kept.is ∙ more-shown old kept.more es have ∙ shown);
+    }

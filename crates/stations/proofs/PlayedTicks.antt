@@ -1,12 +1,12 @@
 -- `PlaysTick` for a step or a delivery, by the station of its host before and after the tick.
-use Rattle.std.proofs.Common.{◌≡◌, ◌≢◌, ◌<◌, ◌↔◌, []}
+use Rattle.std.proofs.Common.{◌≡◌, ◌≢◌, ◌<◌, ◌≤◌, ◌+◌, ◌↔◌, ◌∷◌, []}
 use Rattle.std.proofs.Common.{IsNone, IsTrue, ℕ, Bool, true, false, List, Option, Some, length, slice_get}
 use Rattle.std.proofs.Common.{slice_set}
 use Rattle.std.proofs.Common.{option_map, refl, sym, ap, subst, ◌∙◌}
 use Rattle.rx_engine.specs.declared.arrival.Fate.{Fate}
 use Rattle.eeprom_phy.specs.Eerd.{is_pending}
 use Rattle.eeprom_phy.specs.Mdic.{has_work}
-use Rattle.adapter.specs.Outcomes.{FrameOutcome, framed, oldest, put_by, with_frame}
+use Rattle.adapter.specs.Outcomes.{FrameOutcome, framed, oldest_queued, put_by, with_frame}
 use Rattle.adapter.specs.State.{AdapterState, IsAdapter}
 use Rattle.adapter.specs.Steps.{Answers, ticked}
 use Rattle.adapter.specs.Transmitting.{PutAnswers}
@@ -17,7 +17,9 @@ use Rattle.adapter.specs.declared.outcome.Outcome.TheVariants as stepped
 use Rattle.bus.specs.Trails.{Occurs, past_of_event}
 use Rattle.bus.specs.declared.event.Event.{Event}
 use Rattle.bus.specs.declared.event.Event.TheVariants.{Arrives, Steps}
-use Rattle.stations.specs.AtomicSteps.{At, FindsNothing, Idles, IsDelivered, OccursAt, PlaysTick, SuitsWire}
+use Rattle.stations.specs.AtomicSteps.{At, FindsNothing, Idles, IsDelivered, OccursAt, PlaysNoted, PlaysTick, SuitsWire, Watched}
+use Rattle.stations.specs.ToldTicks.{tick_told}
+use Rattle.stations.specs.declared.observer.Observer.{Ghosts as OfObserver}
 use Rattle.stations.specs.Stations.{StationState, WireHasRoom, backlog_of, station_after, wire_of, with_frames, world_of}
 use Rattle.adapter.specs.declared.outcome.Outcome.TheVariants.{Delivered, Nothing, WireFull}
 use Rattle.stations.specs.declared.tick.Tick.{Tick}
@@ -80,7 +82,7 @@ no-frame PhyTick free memory adapter outcome frame other stays answers =
     ticked-no_frame (has_work adapter.mdic adapter.phy) outcome frame other answers
 
 pub puts-oldest : (adapter : AdapterState) (outcome : Outcome (Unit {0})) → adapter.transmitter.buffer ≢ []
-    → PutAnswers true adapter (framed outcome adapter) → framed outcome adapter ≡ stepped.Put (oldest adapter.transmitter.buffer)
+    → PutAnswers true adapter (framed outcome adapter) → framed outcome adapter ≡ stepped.Put (oldest_queued adapter.transmitter.buffer)
 puts-oldest adapter (stepped.Put u) some answers = refl
 puts-oldest adapter stepped.Nothing some answers = absurd (some answers)
 puts-oldest adapter stepped.WireFull some answers = let full = answers.1 in absurd (cc)
@@ -103,6 +105,12 @@ occurs-at ss host s event there occurs suits = record {
 pub plays-nothing : (ss : List StationState) (tick : Tick) → FindsNothing tick ss → PlaysTick ss tick Nothing ss
 plays-nothing ss tick idle = record { step = Idles tick; tick_is = refl; outcome_is = refl; no_access = tt; happens = idle; leaves = refl }
 
+-- A tick is played, and the observer is told its outcome.
+pub noted : {O : Type 0} {g : OfObserver O} {tick : Tick} {outcome : FrameOutcome} {n : ℕ} {old new : Watched O}
+    → PlaysTick old.stations tick outcome new.stations → g.heard old.observer new.observer (tick_told tick n outcome ∷ [])
+    → g.room_left old.observer ≤ g.room_left new.observer + 1 → PlaysNoted g tick n old new
+noted {outcome = outcome} plays heard room = record { outcome = outcome; plays = plays; heard = heard; room = room }
+
 pub plays-delivery : (ss : List StationState) (host : ℕ) (s new : StationState) (frame : List ℕ) (fate : Fate) → host < length ss
     → slice_get ss host ≡ Some s → IsDelivered s frame fate new → PlaysTick ss (Deliver host) (Delivered frame fate) (slice_set ss host new)
 plays-delivery ss host s new frame fate below there is = record {
@@ -117,14 +125,14 @@ plays-delivery ss host s new frame fate below there is = record {
 }
 
 -- A step of any kind. The frame that it put, if any, waits at each other end.
-pub plays-step : (ss final : List StationState) (host wire : ℕ) (s new : StationState) (kind : StepKind) (free : Bool)
-    (answer : FrameOutcome) → host < length ss → slice_get ss host ≡ Some s → wire ≡ s.wire
-    → (kind ≡ TxPut → IsTrue free ↔ WireHasRoom ss host wire)
+pub plays-step : (ss final : List StationState) (host : ℕ) (s new : StationState) (kind : StepKind) (free : Bool)
+    (answer : FrameOutcome) → host < length ss → slice_get ss host ≡ Some s
+    → (kind ≡ TxPut → IsTrue free ↔ WireHasRoom ss host s.wire)
     → IsAdapter s.world.adapter
     → Answers kind free s.world.memory s.world.adapter answer → new ≡ station_after (Steps kind free answer) s
-    → ((k : ℕ) → slice_get final k ≡ option_map (with_frames host wire (put_by answer) k) (slice_get (slice_set ss host new) k))
+    → ((k : ℕ) → slice_get final k ≡ option_map (with_frames host s.wire (put_by answer) k) (slice_get (slice_set ss host new) k))
     → PlaysTick ss (Step host kind) answer final
-plays-step ss final host wire s new kind free answer below there on finds adapter answers is each =
+plays-step ss final host s new kind free answer below there finds adapter answers is each =
     let event = Steps kind free answer in
     let put = put-is kind free s.world.memory s.world.adapter answer answers in
     record {
@@ -132,13 +140,10 @@ plays-step ss final host wire s new kind free answer below there on finds adapte
       tick_is = refl;
       outcome_is = refl;
       no_access = tt;
-      happens =
-          occurs-at ss host s event there (adapter, answers)
-          (subst (λ (w : ℕ). kind ≡ TxPut → IsTrue free ↔ WireHasRoom ss host w) on finds);
+      happens = occurs-at ss host s event there (adapter, answers) finds;
       leaves = spread-after host event ss final s new below there is (λ k.
           each k
-          ∙ (ap (λ (w : ℕ). option_map (with_frames host w (put_by answer) k) (slice_get (slice_set ss host new) k)) on
-          ∙ ap (λ (frames : List (List ℕ)). option_map (with_frames host s.wire frames k) (slice_get (slice_set ss host new) k)) put));
+          ∙ ap (λ (frames : List (List ℕ)). option_map (with_frames host s.wire frames k) (slice_get (slice_set ss host new) k)) put);
     }
 
 pub plays-stays : (ss : List StationState) (host : ℕ) (s new : StationState) (kind : StepKind) (answer : FrameOutcome) → host < length ss
@@ -146,30 +151,30 @@ pub plays-stays : (ss : List StationState) (host : ℕ) (s new : StationState) (
     → Answers kind true s.world.memory s.world.adapter answer → new ≡ station_after (Steps kind true answer) s
     → PlaysTick ss (Step host kind) answer (slice_set ss host new)
 plays-stays ss host s new kind answer below there other adapter none answers is =
-    plays-step ss (slice_set ss host new) host s.wire s new kind true answer below there refl
+    plays-step ss (slice_set ss host new) host s new kind true answer below there
     (λ same. absurd (other same)) adapter answers is
     (λ k. sym (ap (λ (put : List (List ℕ)). option_map (with_frames host s.wire put k) (slice_get (slice_set ss host new) k)) none
     ∙ none-anywhere host s.wire k (slice_get (slice_set ss host new) k)))
 
-plays-no_put : (ss : List StationState) (host wire : ℕ) (s : StationState) (free : Bool) (answer : FrameOutcome) → host < length ss
-    → slice_get ss host ≡ Some s → wire ≡ s.wire → IsTrue free ↔ WireHasRoom ss host wire → IsAdapter s.world.adapter
+plays-no_put : (ss : List StationState) (host : ℕ) (s : StationState) (free : Bool) (answer : FrameOutcome) → host < length ss
+    → slice_get ss host ≡ Some s → IsTrue free ↔ WireHasRoom ss host s.wire → IsAdapter s.world.adapter
     → Answers TxPut free s.world.memory s.world.adapter answer → station_after (Steps TxPut free answer) s ≡ s → put_by answer ≡ []
     → PlaysTick ss (Step host TxPut) answer ss
-plays-no_put ss host wire s free answer below there on finds adapter answers stays none =
-    plays-step ss ss host wire s s TxPut free answer below there on (λ kind. finds) adapter answers (sym stays)
-    (λ k. sym (ap (λ (all : List StationState). option_map (with_frames host wire (put_by answer) k) (slice_get all k))
+plays-no_put ss host s free answer below there finds adapter answers stays none =
+    plays-step ss ss host s s TxPut free answer below there (λ kind. finds) adapter answers (sym stays)
+    (λ k. sym (ap (λ (all : List StationState). option_map (with_frames host s.wire (put_by answer) k) (slice_get all k))
     (set-same ss host s below there)
-    ∙ ap (λ (put : List (List ℕ)). option_map (with_frames host wire put k) (slice_get ss k)) none
-    ∙ none-anywhere host wire k (slice_get ss k)))
+    ∙ ap (λ (put : List (List ℕ)). option_map (with_frames host s.wire put k) (slice_get ss k)) none
+    ∙ none-anywhere host s.wire k (slice_get ss k)))
 
-pub plays-no_frame : (ss : List StationState) (host wire : ℕ) (s : StationState) (free : Bool) → host < length ss
-    → slice_get ss host ≡ Some s → wire ≡ s.wire → IsTrue free ↔ WireHasRoom ss host wire → IsAdapter s.world.adapter
+pub plays-no_frame : (ss : List StationState) (host : ℕ) (s : StationState) (free : Bool) → host < length ss
+    → slice_get ss host ≡ Some s → IsTrue free ↔ WireHasRoom ss host s.wire → IsAdapter s.world.adapter
     → s.world.adapter.transmitter.buffer ≡ [] → PlaysTick ss (Step host TxPut) Nothing ss
-plays-no_frame ss host wire s free below there on finds adapter empty =
-    plays-no_put ss host wire s free stepped.Nothing below there on finds adapter empty refl refl
+plays-no_frame ss host s free below there finds adapter empty =
+    plays-no_put ss host s free stepped.Nothing below there finds adapter empty refl refl
 
-pub plays-wire_full : (ss : List StationState) (host wire : ℕ) (s : StationState) (free : Bool) → host < length ss
-    → slice_get ss host ≡ Some s → wire ≡ s.wire → IsTrue free ↔ WireHasRoom ss host wire → IsAdapter s.world.adapter
+pub plays-wire_full : (ss : List StationState) (host : ℕ) (s : StationState) (free : Bool) → host < length ss
+    → slice_get ss host ≡ Some s → IsTrue free ↔ WireHasRoom ss host s.wire → IsAdapter s.world.adapter
     → s.world.adapter.transmitter.buffer ≢ [] → free ≡ false → PlaysTick ss (Step host TxPut) WireFull ss
-plays-wire_full ss host wire s free below there on finds adapter some full =
-    plays-no_put ss host wire s free stepped.WireFull below there on finds adapter (some, full) refl refl
+plays-wire_full ss host s free below there finds adapter some full =
+    plays-no_put ss host s free stepped.WireFull below there finds adapter (some, full) refl refl

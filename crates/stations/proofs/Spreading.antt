@@ -1,14 +1,15 @@
 -- `PlaysTick` for steps and deliveries, by the list of machines and the list of ends of wires.
 use Rattle.std.proofs.Common.{◌≡◌, ◌≢◌, ◌<◌, ◌↔◌, ◌==◌, ◌&&◌, not, suc, ℕ, Bool, true, false, List, [], ◌∷◌, ◌++◌, Option, Some, None}
-use Rattle.std.proofs.Common.{length, option_map, slice_get, slice_set, if◌then◌else◌, refl, sym, ap, subst, ◌∙◌, arith}
+use Rattle.std.proofs.Common.{length, option_map, slice_get, slice_index_or, slice_set, if◌then◌else◌, refl, sym, ap, subst, ◌∙◌, arith}
 use Rattle.std.proofs.lemmas.Option.{slice_get_within}
 use Rattle.circular_buffer.proofs.Places.{slice_get-some}
 use Rattle.bus.specs.Machines.{MachineState}
-use Rattle.stations.specs.Ends.{EndState, HaveRoom, with_line}
-use Rattle.stations.specs.StationsView.{station_of, stations_of}
+use Rattle.stations.specs.Ends.{EndState, HaveRoom, end_after_put}
+use Rattle.stations.specs.StationsView.{HasEndsOfWires, station_of, stations_in, stations_of}
+use Rattle.stations.specs.declared.stations.Stations.TheInside.{Inside}
 use Rattle.stations.specs.Stations.{StationState, WireHasRoom, with_frames}
 use Rattle.rx_engine.specs.declared.arrival.Fate.{Fate}
-use Rattle.adapter.specs.Outcomes.{FrameOutcome, framed, oldest, put_by}
+use Rattle.adapter.specs.Outcomes.{FrameOutcome, framed, oldest_queued, put_by}
 use Rattle.adapter.specs.State.{IsAdapter}
 use Rattle.adapter.specs.Steps.{Answers}
 use Rattle.adapter.specs.declared.outcome.Outcome.{Outcome}
@@ -22,7 +23,7 @@ use Rattle.stations.specs.AtomicSteps.{PlaysTick}
 use Rattle.stations.specs.Stations.{backlog_at, backlog_of}
 use Rattle.stations.specs.declared.tick.Tick.TheVariants.{Deliver, Step}
 use Rattle.std.proofs.Common.{IsTrue, drop}
-use Rattle.stations.proofs.Hosts.{IsThere, Shows, both, get-both, set-both, set-end_same}
+use Rattle.stations.proofs.Hosts.{IsThere, Shows, both, get-both, is-there, set-both, set-end_same, shows}
 use Rattle.stations.proofs.PlayedTicks.{plays-delivery, plays-no_frame, plays-nothing, plays-stays, plays-step, plays-wire_full}
 use Rattle.stations.proofs.PlayedTicks.{puts-oldest}
 
@@ -60,19 +61,19 @@ room-seen ms es sender wire same = (forth, back)
         ∙ ap (both (Some machine.0)) there)) other on
 
 waits-there : (sender wire k : ℕ) (frames : List (List ℕ)) (m : Option MachineState) (e : Option EndState)
-    → both m (option_map (with_line sender wire frames k) e) ≡ option_map (with_frames sender wire frames k) (both m e)
+    → both m (option_map (end_after_put sender wire frames k) e) ≡ option_map (with_frames sender wire frames k) (both m e)
 waits-there sender wire k frames None e = refl
 waits-there sender wire k frames (Some m) None = refl
 waits-there sender wire k frames (Some m) (Some e) = ap Some (by_case (not (k == sender) && (e.wire == wire)))
   where
-    by_case : (b : Bool) → station_of m (if b then record e { line = e.line ++ frames } else e)
-        ≡ (if b then (let s : StationState = record (station_of m e) { backlog = e.line ++ frames } in s) else station_of m e)
+    by_case : (b : Bool) → station_of m (if b then record e { backlog = e.backlog ++ frames } else e)
+        ≡ (if b then (let s : StationState = record (station_of m e) { backlog = e.backlog ++ frames } in s) else station_of m e)
     by_case true = refl
     by_case false = refl
 
 pub spread-both : (ms : List MachineState) (es es' : List EndState) (host wire : ℕ) (frames : List (List ℕ)) (new : MachineState)
     → (there : IsThere ms es host)
-    → ((k : ℕ) → slice_get es' k ≡ option_map (with_line host wire frames k) (slice_get es k)) → (k : ℕ)
+    → ((k : ℕ) → slice_get es' k ≡ option_map (end_after_put host wire frames k) (slice_get es k)) → (k : ℕ)
     → slice_get (stations_of (slice_set ms host new) es') k
     ≡ option_map (with_frames host wire frames k) (slice_get (slice_set (stations_of ms es) host (station_of new there.end)) k)
 spread-both ms es es' host wire frames new there each k =
@@ -106,82 +107,85 @@ machine-steps ms es ss host m new kind answer shown seen other adapter none answ
     (subst (λ (x : MachineState). Answers kind true x.world.memory x.world.adapter answer) seen.machine answers)
     (ap (λ (x : MachineState). station_of x there.end) (is ∙ ap (after_event (Steps kind true answer)) seen.machine))))
 
--- The host `host` exists, its machine is `m`, its wire has the number `wire`, and `free` states whether the wire is
--- free.
-pub record FindsWire (ms : List MachineState) (es : List EndState) (ss : List StationState) (host wire : ℕ) (free : Bool) (m : MachineState)
+-- The host `host` exists, its machine is `m`, and `free` states whether its wire is free.
+pub record FindsWire (ms : List MachineState) (es : List EndState) (ss : List StationState) (host : ℕ) (free : Bool) (m : MachineState)
     : Type 0 where
   pub shown : stations_of ms es ≡ ss
   pub seen : Shows ms es ss host m
-  pub on : wire ≡ seen.there.end.wire
-  pub finds : IsTrue free ↔ WireHasRoom (stations_of ms es) host wire
+  pub finds : IsTrue free ↔ WireHasRoom (stations_of ms es) host seen.there.end.wire
   pub adapter : IsAdapter seen.there.machine.world.adapter
 
-pub finds-wire : (ms : List MachineState) (es : List EndState) (ss : List StationState) (host wire : ℕ) (free : Bool) (m : MachineState)
-    → stations_of ms es ≡ ss → length es ≡ length ms → Shows ms es ss host m
-    → ((end : EndState) → slice_get es host ≡ Some end → wire ≡ end.wire)
-    → IsTrue free ↔ HaveRoom es host wire → IsAdapter m.world.adapter → FindsWire ms es ss host wire free m
-finds-wire ms es ss host wire free m shown same seen on room adapter =
-    let both = room-seen ms es host wire same in
+pub finds-wire : {inside : Inside} {ss : List StationState} {host : ℕ} {free : Bool} {m : MachineState} (wire : ℕ) → stations_in inside ≡ ss
+    → HasEndsOfWires inside → host < length ss → m ≡ slice_index_or inside.machines.items host m
+    → ((end : EndState) → slice_get inside.wires host ≡ Some end → wire ≡ end.wire)
+    → IsTrue free ↔ HaveRoom inside.wires host wire → IsAdapter m.world.adapter
+    → FindsWire inside.machines.items inside.wires ss host free m
+finds-wire {inside} {ss} {host} {free} {m} wire shown have below value on room adapter =
+    let seen = shows shown have below value in
+    let both = room-seen inside.machines.items inside.wires host wire have.ends in
+    let here : IsTrue free ↔ WireHasRoom (stations_in inside) host wire = ((λ yes. both.0 (room.0 yes)), (λ has. room.1 (both.1 has))) in
     record {
       shown = shown;
       seen = seen;
-      on = on seen.there.end seen.there.has_end;
-      finds = ((λ yes. both.0 (room.0 yes)), (λ has. room.1 (both.1 has)));
+      finds = subst (λ (w : ℕ). IsTrue free ↔ WireHasRoom (stations_in inside) host w) (on seen.there.end seen.there.has_end) here;
       adapter = subst (λ (x : MachineState). IsAdapter x.world.adapter) seen.machine adapter;
     }
 
-pub finds-no_frame : (ms : List MachineState) (es : List EndState) (ss : List StationState) (host wire : ℕ) (free : Bool) (m : MachineState)
-    → FindsWire ms es ss host wire free m → m.world.adapter.transmitter.buffer ≡ [] → PlaysTick ss (Step host TxPut) Nothing ss
-finds-no_frame ms es ss host wire free m found empty =
+pub finds-no_frame : {ms : List MachineState} {es : List EndState} {ss : List StationState} {host : ℕ} {free : Bool} {m : MachineState}
+    → FindsWire ms es ss host free m → m.world.adapter.transmitter.buffer ≡ [] → PlaysTick ss (Step host TxPut) Nothing ss
+finds-no_frame {ms} {es} {ss} {host} {free} found empty =
     subst (λ (list : List StationState). PlaysTick list (Step host TxPut) Nothing list) found.shown
-    (plays-no_frame (stations_of ms es) host wire (station_of found.seen.there.machine found.seen.there.end) free
-    found.seen.inside found.seen.there.is found.on found.finds found.adapter
+    (plays-no_frame (stations_of ms es) host (station_of found.seen.there.machine found.seen.there.end) free
+    found.seen.inside found.seen.there.is found.finds found.adapter
     (ap (λ (x : MachineState). x.world.adapter.transmitter.buffer) (sym found.seen.machine) ∙ empty))
 
-pub finds-wire_full : (ms : List MachineState) (es : List EndState) (ss : List StationState) (host wire : ℕ) (free : Bool)
-    (m : MachineState)
-    → FindsWire ms es ss host wire free m → m.world.adapter.transmitter.buffer ≢ [] → free ≡ false
+pub finds-wire_full : {ms : List MachineState} {es : List EndState} {ss : List StationState} {host : ℕ} {free : Bool} {m : MachineState}
+    → FindsWire ms es ss host free m → m.world.adapter.transmitter.buffer ≢ [] → free ≡ false
     → PlaysTick ss (Step host TxPut) WireFull ss
-finds-wire_full ms es ss host wire free m found some full =
+finds-wire_full {ms} {es} {ss} {host} {free} found some full =
     subst (λ (list : List StationState). PlaysTick list (Step host TxPut) WireFull list) found.shown
-    (plays-wire_full (stations_of ms es) host wire (station_of found.seen.there.machine found.seen.there.end) free
-    found.seen.inside found.seen.there.is found.on found.finds found.adapter
+    (plays-wire_full (stations_of ms es) host (station_of found.seen.there.machine found.seen.there.end) free
+    found.seen.inside found.seen.there.is found.finds found.adapter
     (λ empty. some (ap (λ (x : MachineState). x.world.adapter.transmitter.buffer) found.seen.machine ∙ empty)) full)
 
 -- A step TxPut puts the oldest frame onto a free wire.
-pub puts-frame : (ms : List MachineState) (es es' : List EndState) (ss : List StationState) (host wire : ℕ) (m new : MachineState)
-    (frame : List ℕ) (outcome : Outcome (Unit {0})) → (found : FindsWire ms es ss host wire true m)
-    → m.world.adapter.transmitter.buffer ≢ [] → frame ≡ oldest m.world.adapter.transmitter.buffer
-    → Occurs (Steps TxPut true (framed outcome m.world.adapter)) m.world
-    → new ≡ after_event (Steps TxPut true (framed outcome m.world.adapter)) m
-    → ((k : ℕ) → slice_get es' k ≡ option_map (with_line host wire (frame ∷ []) k) (slice_get es k))
+pub puts-frame : {ms : List MachineState} {es : List EndState} {ss : List StationState} {host : ℕ} {free : Bool} {m now new : MachineState}
+    {frame : List ℕ} (es' : List EndState) (outcome : Outcome (Unit {0})) → FindsWire ms es ss host free m → free ≡ true → m ≡ now
+    → m.world.adapter.transmitter.buffer ≢ [] → frame ≡ oldest_queued m.world.adapter.transmitter.buffer
+    → Occurs (Steps TxPut true (framed outcome now.world.adapter)) now.world
+    → new ≡ after_event (Steps TxPut true (framed outcome now.world.adapter)) now
+    → ((end : EndState) → slice_get es host ≡ Some end → (k : ℕ)
+    → slice_get es' k ≡ option_map (end_after_put host end.wire (frame ∷ []) k) (slice_get es k))
     → PlaysTick ss (Step host TxPut) (Put frame) (stations_of (slice_set ms host new) es')
-puts-frame ms es es' ss host wire m new frame outcome found some first occurs is each =
+puts-frame {ms} {es} {ss} {host} {free} {m} {now} {new} {frame} es' outcome found is_free same some first occurs is each =
     let there = found.seen.there in
     let all = stations_of ms es in
-    let puts : framed outcome m.world.adapter ≡ Put frame =
-    puts-oldest m.world.adapter outcome some occurs.1 ∙ ap Put (sym first) in
+    let at : now ≡ there.machine = sym same ∙ found.seen.machine in
+    let puts : framed outcome now.world.adapter ≡ Put frame =
+    puts-oldest now.world.adapter outcome
+    (λ empty. some (ap (λ (x : MachineState). x.world.adapter.transmitter.buffer) same ∙ empty)) occurs.1
+    ∙ ap Put (sym (first ∙ ap (λ (x : MachineState). oldest_queued x.world.adapter.transmitter.buffer) same)) in
     subst (λ (list : List StationState). PlaysTick list (Step host TxPut) (Put frame) (stations_of (slice_set ms host new) es')) found.shown
-    (plays-step all (stations_of (slice_set ms host new) es') host wire (station_of there.machine there.end) (station_of new there.end)
-    TxPut true (Put frame) found.seen.inside there.is found.on (λ kind. found.finds) found.adapter
-    (subst (λ (x : MachineState). Answers TxPut true x.world.memory x.world.adapter (Put frame)) found.seen.machine
-    (subst (λ (o : FrameOutcome). Answers TxPut true m.world.memory m.world.adapter o) puts occurs.1))
+    (plays-step all (stations_of (slice_set ms host new) es') host (station_of there.machine there.end) (station_of new there.end)
+    TxPut true (Put frame) found.seen.inside there.is
+    (λ kind. subst (λ (b : Bool). IsTrue b ↔ WireHasRoom all host there.end.wire) is_free found.finds) found.adapter
+    (subst (λ (x : MachineState). Answers TxPut true x.world.memory x.world.adapter (Put frame)) at
+    (subst (λ (o : FrameOutcome). Answers TxPut true now.world.memory now.world.adapter o) puts occurs.1))
     (ap (λ (x : MachineState). station_of x there.end)
-    (is ∙ (ap (λ (o : FrameOutcome). after_event (Steps TxPut true o) m) puts
-    ∙ ap (after_event (Steps TxPut true (Put frame))) found.seen.machine)))
-    (spread-both ms es es' host wire (frame ∷ []) new there each))
+    (is ∙ (ap (λ (o : FrameOutcome). after_event (Steps TxPut true o) now) puts ∙ ap (after_event (Steps TxPut true (Put frame))) at)))
+    (spread-both ms es es' host there.end.wire (frame ∷ []) new there (each there.end there.has_end)))
 
 -- The oldest frame that waits is delivered.
-pub delivers-frame : (ms : List MachineState) (es es' : List EndState) (ss : List StationState) (host : ℕ) (m new : MachineState)
-    (frame : List ℕ) (fate : Fate) → stations_of ms es ≡ ss → Shows ms es ss host m
-    → ((end : EndState) → slice_get es host ≡ Some end → slice_get end.line 0 ≡ Some frame)
+pub delivers-frame : {ms : List MachineState} {es : List EndState} {ss : List StationState} {host : ℕ} {m new : MachineState}
+    {frame : List ℕ} {fate : Fate} (es' : List EndState) → stations_of ms es ≡ ss → Shows ms es ss host m
+    → ((end : EndState) → slice_get es host ≡ Some end → slice_get end.backlog 0 ≡ Some frame)
     → Occurs (Arrives frame fate) m.world → new ≡ after_event (Arrives frame fate) m
-    → ((end : EndState) → slice_get es host ≡ Some end → es' ≡ slice_set es host (record end { line = drop 1 end.line }))
+    → ((end : EndState) → slice_get es host ≡ Some end → es' ≡ slice_set es host (record end { backlog = drop 1 end.backlog }))
     → PlaysTick ss (Deliver host) (Delivered frame fate) (stations_of (slice_set ms host new) es')
-delivers-frame ms es es' ss host m new frame fate shown seen oldest occurs is pops =
+delivers-frame {ms} {es} {ss} {host} {m} {new} {frame} {fate} es' shown seen oldest_queued occurs is pops =
     let there = seen.there in
     let all = stations_of ms es in
-    let popped : EndState = record there.end { line = drop 1 there.end.line } in
+    let popped : EndState = record there.end { backlog = drop 1 there.end.backlog } in
     let final : stations_of (slice_set ms host new) es' ≡ slice_set all host (station_of new popped) =
     ap (stations_of (slice_set ms host new)) (pops there.end there.has_end) ∙ set-both ms es host new popped in
     let here = subst (λ (x : MachineState). Occurs (Arrives frame fate) x.world) seen.machine occurs in
@@ -190,13 +194,16 @@ delivers-frame ms es es' ss host m new frame fate shown seen oldest occurs is po
     (subst (λ (list : List StationState). PlaysTick all (Deliver host) (Delivered frame fate) list) (sym final)
     (plays-delivery all host (station_of there.machine there.end) (station_of new popped) frame fate seen.inside there.is
     (record {
-      oldest = oldest there.end there.has_end;
+      oldest = oldest_queued there.end there.has_end;
       adapter = here.0;
       fated = here.1;
       leaves = ap (λ (x : MachineState). station_of x popped) (is ∙ ap (after_event (Arrives frame fate)) seen.machine);
     })))
 
-pub delivers-none : (ms : List MachineState) (es : List EndState) (ss : List StationState) (host : ℕ) → stations_of ms es ≡ ss
-    → (there : IsThere ms es host) → there.end.line ≡ [] → PlaysTick ss (Deliver host) Nothing ss
-delivers-none ms es ss host shown there none =
-    plays-nothing ss (Deliver host) (ap (λ (list : List StationState). backlog_at list host) (sym shown) ∙ (ap backlog_of there.is ∙ none))
+pub delivers-none : {inside : Inside} {ss : List StationState} {host : ℕ} → stations_in inside ≡ ss → HasEndsOfWires inside
+    → host < length inside.machines.items → ((end : EndState) → slice_get inside.wires host ≡ Some end → end.backlog ≡ [])
+    → PlaysTick ss (Deliver host) Nothing ss
+delivers-none {ss = ss} {host = host} shown have below none =
+    let there = is-there host have below in
+    plays-nothing ss (Deliver host) (ap (λ (list : List StationState). backlog_at list host) (sym shown)
+    ∙ (ap backlog_of there.is ∙ none there.end there.has_end))

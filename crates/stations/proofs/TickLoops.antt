@@ -1,5 +1,6 @@
 -- The invariants of the loops that play ticks one after the other.
-use Rattle.std.proofs.Common.{◌≡◌, ◌≢◌, ◌≤◌, ◌++◌, ◌∷◌, [], Bool, false, true, ℕ, List, All, length, refl, sym, ap, subst, ◌∙◌}
+use Rattle.std.proofs.Common.{◌≡◌, ◌≢◌, ◌≤◌, ◌-◌, ◌++◌, ◌∷◌, [], Bool, false, true, ℕ, List, All, length, map}
+use Rattle.std.proofs.Common.{suc, refl, sym, ap, subst, ◌∙◌}
 use Rattle.std.proofs.Common.{append_assoc}
 use Rattle.std.proofs.Common.{arith, if◌then◌else◌, length-append, not}
 use Rattle.std.proofs.lemmas.List.{append-nil, map-append}
@@ -53,32 +54,41 @@ plays-none composes now n = record {
   room = omega arith;
 }
 
-pub plays-more : {O : Type 0} {g : OfObserver O} → ComposesTold g.heard
-    → (old mid new : Watched O) (ticks : List Tick) (tick : Tick) (n : ℕ)
-    → PlaysTicks g ticks n old mid → is_go tick ≡ false → PlaysNoted g tick n mid new → PlaysTicks g (ticks ++ tick ∷ []) n old new
-plays-more {O} {g} composes old mid new ticks tick n plays other one =
+pub plays-join : {O : Type 0} {g : OfObserver O} {a b c : Watched O} {first later : List Tick} {n : ℕ} → ComposesTold g.heard
+    → PlaysTicks g first n a b → PlaysTicks g later n b c → PlaysTicks g (first ++ later) n a c
+plays-join {g = g} {a = a} {b = b} {c = c} {first = first} {later = later} {n = n} composes one two = record {
+  steps = one.steps ++ two.steps;
+  are = All-append IsTick one.steps two.steps one.are two.are;
+  leads = λ caller.
+      leads_join caller one.steps two.steps a.stations b.stations c.stations (one.leads caller) (two.leads caller);
+  played =
+      map-append tick_of one.steps two.steps
+      ∙ ap (λ (list : List Tick). list ++ map tick_of two.steps) one.played
+      ∙ ap (λ (list : List Tick). first ++ list) two.played;
+  heard =
+      subst (g.heard a.observer c.observer)
+      (ap (λ (k : ℕ). steps_told n one.steps ++ steps_told k two.steps) (sym (counted-ticks n one.steps one.are))
+      ∙ sym (steps_told_join n one.steps two.steps))
+      (composes.joins a.observer b.observer c.observer _ _ one.heard two.heard);
+  room = omega (arith, one.room, two.room, length-append first later);
+}
+
+plays-one : {O : Type 0} {g : OfObserver O} {old new : Watched O} {tick : Tick} {n : ℕ} → is_go tick ≡ false
+    → PlaysNoted g tick n old new → PlaysTicks g (tick ∷ []) n old new
+plays-one {g = g} {old = old} {new = new} {tick = tick} {n = n} other one =
     let step = one.plays.step in
     let answers = answers-tick step tick one.plays.tick_is other in
-    let this : steps_told (counted_of n plays.steps) (step ∷ []) ≡ tick_told tick n one.outcome ∷ [] =
-    ap (λ (k : ℕ). steps_told k (step ∷ [])) (counted-ticks n plays.steps plays.are)
-    ∙ ap (λ (list : List TickTold). list ++ []) (answers.told_as n)
+    let told : step_told n step ≡ tick_told tick n one.outcome ∷ [] =
+    answers.told_as n
     ∙ ap (λ (t : Tick). tick_told t n (step_outcome step) ∷ []) one.plays.tick_is
     ∙ ap (λ (o : FrameOutcome). tick_told tick n o ∷ []) one.plays.outcome_is in
     record {
-      steps = plays.steps ++ step ∷ [];
-      are = All-append IsTick plays.steps (step ∷ []) plays.are (All-cons IsTick step [] answers.is (all-none IsTick));
-      leads = λ caller.
-          leads_join caller plays.steps (step ∷ []) old.stations mid.stations new.stations (plays.leads caller)
-          (one.plays.happens, answers.of_call caller, one.plays.leaves);
-      played =
-          map-append tick_of plays.steps (step ∷ [])
-          ∙ ap (λ (list : List Tick). list ++ tick_of step ∷ []) plays.played
-          ∙ ap (λ (t : Tick). ticks ++ t ∷ []) one.plays.tick_is;
-      heard =
-          subst (g.heard old.observer new.observer)
-          (ap (λ (list : List TickTold). steps_told n plays.steps ++ list) (sym this) ∙ sym (steps_told_join n plays.steps (step ∷ [])))
-          (composes.joins old.observer mid.observer new.observer _ _ plays.heard one.heard);
-      room = omega (arith, plays.room, one.room, length-append ticks (tick ∷ []));
+      steps = step ∷ [];
+      are = All-cons IsTick step [] answers.is (all-none IsTick);
+      leads = λ caller. (one.plays.happens, answers.of_call caller, one.plays.leaves);
+      played = ap (λ (t : Tick). t ∷ []) one.plays.tick_is;
+      heard = subst (g.heard old.observer new.observer) (ap (λ (list : List TickTold). list ++ []) (sym told)) one.heard;
+      room = one.room;
     }
 
 -- Loops: the ticks that were played so far, and the remaining ticks
@@ -101,10 +111,6 @@ group-goes_on ticks front rest tick so_far other = record {
   behind = so_far.behind ∙ ap (λ (go : Bool). if go then rest else behind_group is_go rest) other;
 }
 
-pub skips-go : (front rest : List Tick) (tick : Tick) → is_go tick ≡ true → front ++ without_go is_go (tick ∷ rest) ≡ front
-    ++ without_go is_go rest
-skips-go front rest tick go = ap (λ (b : Bool). front ++ (if not b then tick ∷ without_go is_go rest else without_go is_go rest)) go
-
 pub keeps-tick : (front rest : List Tick) (tick : Tick) → is_go tick ≡ false
     → front ++ without_go is_go (tick ∷ rest) ≡ (front ++ tick ∷ []) ++ without_go is_go rest
 keeps-tick front rest tick other =
@@ -118,26 +124,47 @@ pub record GroupPlayed {O : Type 0} (g : OfObserver O) (ticks : List Tick) (n : 
   pub plays : PlaysTicks g front n old mid
   pub room : length rest ≤ g.room_left mid.observer
 
--- The invariant of the loop over all ticks: the ticks before `rest`, except each Go, were played.
+-- The invariant of the loop over all groups: the ticks before `rest`, except each Go, were played.
 pub record AllPlayed {O : Type 0} (g : OfObserver O) (ticks : List Tick) (n : ℕ) (rest : List Tick) (old mid : Watched O) : Type 0 where
   pub front : List Tick
   pub split : without_go is_go ticks ≡ front ++ without_go is_go rest
   pub plays : PlaysTicks g front n old mid
   pub room : length rest ≤ g.room_left mid.observer
 
+split-group : (ticks : List Tick) → without_go is_go ticks ≡ group_of is_go ticks ++ without_go is_go (behind_group is_go ticks)
+split-group [] = refl
+split-group (tick ∷ later) = by_case (split-group later) (is_go tick)
+  where
+    by_case : without_go is_go later ≡ group_of is_go later ++ without_go is_go (behind_group is_go later) → (go : Bool)
+        → (if not go then tick ∷ without_go is_go later else without_go is_go later)
+        ≡ (if go then [] else tick ∷ group_of is_go later) ++ without_go is_go (if go then later else behind_group is_go later)
+    by_case split true = refl
+    by_case split false = ap (λ (list : List Tick). tick ∷ list) split
+
+-- The ticks after the next group are fewer, unless there is no tick.
+pub behind-shorter : (ticks : List Tick) → length (behind_group is_go ticks) ≤ length ticks - 1
+behind-shorter [] = omega arith
+behind-shorter (tick ∷ later) = by_case (behind-shorter later) (is_go tick)
+  where
+    by_case : length (behind_group is_go later) ≤ length later - 1 → (go : Bool)
+        → length (if go then later else behind_group is_go later) ≤ suc (length later) - 1
+    by_case fewer true = omega arith
+    by_case fewer false = omega (arith, fewer)
+
 not-go : (tick : Tick) → tick ≢ Go → is_go tick ≡ false
 not-go Go other = absurd (other refl)
 not-go (Step host kind) other = refl
 not-go (Deliver host) other = refl
 
-pub group-begins-played : {O : Type 0} {g : OfObserver O} → ComposesTold g.heard → (ticks : List Tick) (n : ℕ) (now : Watched O)
+pub group-begins-played : {O : Type 0} {g : OfObserver O} {ticks : List Tick} {n : ℕ} {now : Watched O} → ComposesTold g.heard
     → length ticks ≤ g.room_left now.observer → GroupPlayed g ticks n ticks now now
-group-begins-played composes ticks n now room =
+group-begins-played {ticks = ticks} {n} {now} composes room =
     record { front = []; split = group-begins ticks; plays = plays-none composes now n; room = room }
 
-pub all-begins-played : {O : Type 0} {g : OfObserver O} → ComposesTold g.heard → (ticks : List Tick) (n : ℕ) (now : Watched O)
+pub all-begins-played : {O : Type 0} {g : OfObserver O} {ticks : List Tick} {n : ℕ} {now : Watched O} → ComposesTold g.heard
     → length ticks ≤ g.room_left now.observer → AllPlayed g ticks n ticks now now
-all-begins-played composes ticks n now room = record { front = []; split = refl; plays = plays-none composes now n; room = room }
+all-begins-played {ticks = ticks} {n} {now} composes room =
+    record { front = []; split = refl; plays = plays-none composes now n; room = room }
 
 pub group-more : {O : Type 0} {g : OfObserver O} → ComposesTold g.heard
     → (old mid new : Watched O) (ticks rest : List Tick) (tick : Tick) (n : ℕ)
@@ -145,46 +172,23 @@ pub group-more : {O : Type 0} {g : OfObserver O} → ComposesTold g.heard
 group-more composes old mid new ticks rest tick n so_far other one = record {
   front = so_far.front ++ tick ∷ [];
   split = group-goes_on ticks so_far.front rest tick so_far.split (not-go tick other);
-  plays = plays-more composes old mid new so_far.front tick n so_far.plays (not-go tick other) one;
+  plays = plays-join composes so_far.plays (plays-one (not-go tick other) one);
   room = omega (arith, so_far.room, one.room);
 }
 
-pub all-more : {O : Type 0} {g : OfObserver O} → ComposesTold g.heard
-    → (old mid new : Watched O) (ticks rest : List Tick) (tick : Tick) (n : ℕ)
-    → AllPlayed g ticks n (tick ∷ rest) old mid → tick ≢ Go → PlaysNoted g tick n mid new → AllPlayed g ticks n rest old new
-all-more composes old mid new ticks rest tick n so_far other one = record {
-  front = so_far.front ++ tick ∷ [];
-  split = so_far.split ∙ keeps-tick so_far.front rest tick (not-go tick other);
-  plays = plays-more composes old mid new so_far.front tick n so_far.plays (not-go tick other) one;
-  room = omega (arith, so_far.room, one.room);
+pub all-more : {O : Type 0} {g : OfObserver O} {old mid new : Watched O} {ticks rest later : List Tick} {n : ℕ} → ComposesTold g.heard
+    → AllPlayed g ticks n rest old mid → PlaysTicks g (group_of is_go rest) n mid new → later ≡ behind_group is_go rest
+    → length later ≤ g.room_left new.observer → AllPlayed g ticks n later old new
+all-more {rest = rest} composes so_far plays behind room = record {
+  front = so_far.front ++ group_of is_go rest;
+  split = so_far.split ∙ ap (λ (list : List Tick). so_far.front ++ list) (split-group rest)
+      ∙ sym (append_assoc so_far.front (group_of is_go rest) (without_go is_go (behind_group is_go rest)))
+      ∙ ap (λ (list : List Tick). (so_far.front ++ group_of is_go rest) ++ without_go is_go list) (sym behind);
+  plays = plays-join composes so_far.plays plays;
+  room = room;
 }
 
-pub all-skip : {O : Type 0} {g : OfObserver O} (old mid : Watched O) (ticks rest : List Tick) (n : ℕ)
-    → AllPlayed g ticks n (Go ∷ rest) old mid
-    → AllPlayed g ticks n rest old mid
-all-skip old mid ticks rest n so_far = record {
-  front = so_far.front;
-  split = so_far.split;
-  plays = so_far.plays;
-  room = omega (arith, so_far.room);
-}
-
-pub group-go : {O : Type 0} {g : OfObserver O} (old mid : Watched O) (ticks rest : List Tick) (n : ℕ)
-    → GroupPlayed g ticks n (Go ∷ rest) old mid
-    → PlaysTicks g (group_of is_go ticks) n old mid × (rest ≡ behind_group is_go ticks)
-group-go {O} {g} old mid ticks rest n so_far = (
-  subst (λ (list : List Tick). PlaysTicks g list n old mid) (sym (so_far.split.group ∙ append-nil so_far.front)) so_far.plays,
-  sym so_far.split.behind,
-)
-
-pub group-end : {O : Type 0} {g : OfObserver O} (old mid : Watched O) (ticks : List Tick) (n : ℕ) → GroupPlayed g ticks n [] old mid
-    → PlaysTicks g (group_of is_go ticks) n old mid × ([] ≡ behind_group is_go ticks)
-group-end {O} {g} old mid ticks n so_far = (
-  subst (λ (list : List Tick). PlaysTicks g list n old mid) (sym (so_far.split.group ∙ append-nil so_far.front)) so_far.plays,
-  sym so_far.split.behind,
-)
-
-pub all-end : {O : Type 0} {g : OfObserver O} (old mid : Watched O) (ticks : List Tick) (n : ℕ) → AllPlayed g ticks n [] old mid
+pub all-end : {O : Type 0} {g : OfObserver O} {old mid : Watched O} {ticks : List Tick} {n : ℕ} → AllPlayed g ticks n [] old mid
     → PlaysTicks g (without_go is_go ticks) n old mid
-all-end {O} {g} old mid ticks n so_far =
+all-end {g = g} {old = old} {mid = mid} {n = n} so_far =
     subst (λ (list : List Tick). PlaysTicks g list n old mid) (sym (so_far.split ∙ append-nil so_far.front)) so_far.plays

@@ -4,11 +4,11 @@ use Rattle.std.proofs.Common.{[], ◌∷◌, ◌++◌, length, drop, map, take}
 use Rattle.std.proofs.Common.{if◌then◌else◌, option_map, slice_get, slice_set, slice_index_or, inl, inr, refl, sym, ap, ◌∙◌, subst, arith}
 use Rattle.std.proofs.Common.{append-nil, length-append}
 use Rattle.std.proofs.lemmas.Bool.Decides.{eqb_tells}
-use Rattle.std.proofs.lemmas.List.{get_or_default, length-set, take_all}
+use Rattle.std.proofs.lemmas.List.{length-set, take_all}
 use Rattle.std.proofs.Math.ListN.{drop_of_length-le}
 use Rattle.std.proofs.lemmas.Option.{same_Some, slice_get_within}
 use Rattle.circular_buffer.proofs.Places.{slice_get-set_other, slice_get-set_same}
-use Rattle.stations.specs.Ends.{EndState, HaveRoom, with_line}
+use Rattle.stations.specs.Ends.{EndState, HaveRoom, end_after_put}
 use Rattle.stations.specs.LogReaders.{IsReader, MakesRoom, PutsFrame, with_waiting}
 use Rattle.stations.specs.WireLogs.{LogEntry, entry_frame, frames_of_others}
 use Rattle.stations.specs.WiresView.{HaveLogs, ReadsLog, end_of, ends_from, log_of, unread}
@@ -16,13 +16,13 @@ use Rattle.stations.specs.declared.wires.End.{End}
 use Rattle.stations.proofs.ClosedLogs.{frames-appended}
 use Rattle.stations.proofs.Hosts.{set-end_same}
 use Rattle.stations.proofs.Places.{same-places}
-use Rattle.stations.proofs.WireEnds.{Found, found-at, found-log, get-end, log-set_other, log-set_same, room-shown, shows-end}
+use Rattle.stations.proofs.WireEnds.{Found, found-log, get-end, log-set_other, log-set_same, room-shown, shows-end}
 use Rattle.stations.proofs.WireReaders.{is-end_at}
 use Rattle.stations.proofs.Spreading.{same-length}
 
 -- An end of this wire, at which these frames wait.
 abbrev pub line_at : ℕ → List (List ℕ) → EndState
-line_at wire frames = record { wire = wire; line = frames }
+line_at wire frames = record { wire = wire; backlog = frames }
 
 equal : (a b : ℕ) → a ≡ b → (a == b) ≡ true
 equal a b is = elim (eqb_tells a b) [ inl same ↦ same.0 | inr differs ↦ absurd (differs.1 is) ]
@@ -111,20 +111,20 @@ waits-off log sender k end off = by_case (not (k == sender))
     by_case false = refl
 
 line-yes : (sender wire : ℕ) (frames : List (List ℕ)) (k : ℕ) (end : EndState) → k ≢ sender → end.wire ≡ wire
-    → with_line sender wire frames k end ≡ record end { line = end.line ++ frames }
+    → end_after_put sender wire frames k end ≡ record end { backlog = end.backlog ++ frames }
 line-yes sender wire frames k end other on =
-    ap (λ (b : Bool). if not b && (end.wire == wire) then record end { line = end.line ++ frames } else end) (differ k sender other)
-    ∙ ap (λ (b : Bool). if b then record end { line = end.line ++ frames } else end) (equal end.wire wire on)
+    ap (λ (b : Bool). if not b && (end.wire == wire) then record end { backlog = end.backlog ++ frames } else end) (differ k sender other)
+    ∙ ap (λ (b : Bool). if b then record end { backlog = end.backlog ++ frames } else end) (equal end.wire wire on)
 
-line-own : (sender wire : ℕ) (frames : List (List ℕ)) (k : ℕ) (end : EndState) → k ≡ sender → with_line sender wire frames k end ≡ end
+line-own : (sender wire : ℕ) (frames : List (List ℕ)) (k : ℕ) (end : EndState) → k ≡ sender → end_after_put sender wire frames k end ≡ end
 line-own sender wire frames k end same =
-    ap (λ (b : Bool). if not b && (end.wire == wire) then record end { line = end.line ++ frames } else end) (equal k sender same)
+    ap (λ (b : Bool). if not b && (end.wire == wire) then record end { backlog = end.backlog ++ frames } else end) (equal k sender same)
 
-line-off : (sender wire : ℕ) (frames : List (List ℕ)) (k : ℕ) (end : EndState) → end.wire ≢ wire → with_line sender wire frames k end ≡ end
+line-off : (sender wire : ℕ) (frames : List (List ℕ)) (k : ℕ) (end : EndState) → end.wire ≢ wire → end_after_put sender wire frames k end ≡ end
 line-off sender wire frames k end off = by_case (not (k == sender))
   where
-    by_case : (b : Bool) → (if b && (end.wire == wire) then record end { line = end.line ++ frames } else end) ≡ end
-    by_case true = ap (λ (c : Bool). if c then record end { line = end.line ++ frames } else end) (differ end.wire wire off)
+    by_case : (b : Bool) → (if b && (end.wire == wire) then record end { backlog = end.backlog ++ frames } else end) ≡ end
+    by_case true = ap (λ (c : Bool). if c then record end { backlog = end.backlog ++ frames } else end) (differ end.wire wire off)
     by_case false = refl
 
 module _ (logs : List (List LogEntry)) (es : List End) (have : HaveLogs logs es) (sender : ℕ) (s : End) (has : slice_get es sender ≡ Some s)
@@ -160,18 +160,18 @@ module _ (logs : List (List LogEntry)) (es : List End) (have : HaveLogs logs es)
       (puts.makes.same k end is on
       ∙ ap (λ (log : List LogEntry). frames_of_others k (drop end.cursor log)) (was ∙ ap (λ (n : ℕ). slice_index_or logs n []) (sym on)))
 
-  -- After the put, the k-th end reads its log (`ReadsLog`), and shows the state that `with_line` states.
+  -- After the put, the k-th end reads its log (`ReadsLog`), and shows the state that `end_after_put` states.
   pub record PutAt (k : ℕ) (end : End) : Type 0 where
     pub wire : (end-put k end).wire ≡ end.wire
     pub log : (end-put k end).log ≡ end.log
     pub reads : ReadsLog (log_of logs-put (end-put k end)) k (end-put k end)
-    pub shows : end_of logs-put k (end-put k end) ≡ with_line sender s.wire (frame ∷ []) k (end_of logs k end)
+    pub shows : end_of logs-put k (end-put k end) ≡ end_after_put sender s.wire (frame ∷ []) k (end_of logs k end)
 
   -- An end that reads in the log.
   put-on : (k : ℕ) (end : End) → slice_get es k ≡ Some end → end.log ≡ s.log → (n : ℕ) (added : List (List ℕ))
       → end-put k end ≡ record end { cursor = puts.makes.cursors k end; waiting = n }
       → n ≡ end.waiting + length added → n ≤ 64 → frames_of_others k ((sender, frame) ∷ []) ≡ added
-      → with_line sender s.wire (frame ∷ []) k (end_of logs k end) ≡ record { wire = end.wire; line = unread logs k end ++ added }
+      → end_after_put sender s.wire (frame ∷ []) k (end_of logs k end) ≡ record { wire = end.wire; backlog = unread logs k end ++ added }
       → PutAt k end
   put-on k end is on n added at count most what shown =
       let e' : End = record end { cursor = puts.makes.cursors k end; waiting = n } in
@@ -269,14 +269,14 @@ module _ (logs : List (List LogEntry)) (es : List End) (have : HaveLogs logs es)
           }
 
   pub put-shown : (k : ℕ) → slice_get (ends_from logs-put 0 new) k
-      ≡ option_map (with_line sender s.wire (frame ∷ []) k) (slice_get (ends_from logs 0 es) k)
+      ≡ option_map (end_after_put sender s.wire (frame ∷ []) k) (slice_get (ends_from logs 0 es) k)
   put-shown k =
       get-end logs-put new k ∙ ap (option_map (end_of logs-put k)) (of-each k)
       ∙ from (slice_get es k) refl
-      ∙ ap (option_map (with_line sender s.wire (frame ∷ []) k)) (sym (get-end logs es k))
+      ∙ ap (option_map (end_after_put sender s.wire (frame ∷ []) k)) (sym (get-end logs es k))
     where
       from : (o : Option End) → slice_get es k ≡ o → option_map (end_of logs-put k) (option_map (end-put k) o)
-          ≡ option_map (with_line sender s.wire (frame ∷ []) k) (option_map (end_of logs k) o)
+          ≡ option_map (end_after_put sender s.wire (frame ∷ []) k) (option_map (end_of logs k) o)
       from None at = refl
       from (Some end) at = ap (λ (x : EndState). Some x) (put-at k end at).shows
 
@@ -314,45 +314,44 @@ puts-reads {logs} found is k end at on =
     subst (λ (l : List LogEntry). ReadsLog l k end)
     (ap (λ (n : ℕ). slice_index_or logs n []) on ∙ sym (found-log found is)) (found.have.reads k end at)
 
--- The wire of a sender is that of its end, and the other ends of this wire have room.
-pub record MayPut (ss : List EndState) (sender wire : ℕ) : Type 0 where
-  pub on : (end : EndState) → slice_get ss sender ≡ Some end → wire ≡ end.wire
-  pub room : HaveRoom ss sender wire
+-- The other ends of the sender's wire have room.
+abbrev pub MayPut : (ss : List EndState) (sender : ℕ) → Type 0
+MayPut ss sender = (end : EndState) → slice_get ss sender ≡ Some end → HaveRoom ss sender end.wire
 
-its-wire : {logs : List (List LogEntry)} {es : List End} {ss : List EndState} {sender wire : ℕ} {e : End} → Found logs es ss sender e
-    → MayPut ss sender wire → wire ≡ e.wire
-its-wire {logs} {es} {sender = sender} {e = e} found may = may.on (end_of logs sender e)
-    (ap (λ (l : List EndState). slice_get l sender) (sym found.shown) ∙ get-end logs es sender
-    ∙ ap (option_map (end_of logs sender)) found.has)
+is-shown : {logs : List (List LogEntry)} {es : List End} {ss : List EndState} {k : ℕ} {e : End} → Found logs es ss k e
+    → slice_get ss k ≡ Some (end_of logs k e)
+is-shown {logs} {es} {k = k} found =
+    ap (λ (l : List EndState). slice_get l k) (sym found.shown) ∙ get-end logs es k ∙ ap (option_map (end_of logs k)) found.has
 
-pub puts-room : {logs : List (List LogEntry)} {es : List End} {ss : List EndState} {sender wire : ℕ} {e : End} → Found logs es ss sender e
-    → MayPut ss sender wire → (k : ℕ) (end : End) → slice_get es k ≡ Some end → k ≢ sender → end.wire ≡ e.wire → end.waiting < 64
-puts-room {logs} {es} {ss} {sender} {wire} found may k end at other same =
+pub puts-room : {logs : List (List LogEntry)} {es : List End} {ss : List EndState} {sender : ℕ} {e : End} → Found logs es ss sender e
+    → MayPut ss sender → (k : ℕ) (end : End) → slice_get es k ≡ Some end → k ≢ sender → end.wire ≡ e.wire → end.waiting < 64
+puts-room {logs} {es} {ss} {sender} {e} found may k end at other same =
     let one = is-end_at es k end at in
     subst (λ (x : End). x.waiting < 64) one
-    ((room-shown logs es ss found.shown sender wire found.have.reads).1 may.room k (slice_get_within es k end at) other
-    (ap (λ (x : End). x.wire) one ∙ same ∙ sym (its-wire found may)))
+    ((room-shown logs es ss found.shown sender e.wire found.have.reads).1 (may (end_of logs sender e) (is-shown found)) k
+    (slice_get_within es k end at) other (ap (λ (x : End). x.wire) one ∙ same))
 
 -- The ends and the logs after a put.
-pub record HavePut (logs : List (List LogEntry)) (es : List End) (ss : List EndState) (sender wire : ℕ) (frame : List ℕ) (new : List End)
+pub record HavePut (logs : List (List LogEntry)) (es : List End) (ss : List EndState) (sender : ℕ) (frame : List ℕ) (new : List End)
     : Type 0 where
   pub count : length new ≡ length es
   pub have : HaveLogs logs new
-  pub shown : (k : ℕ) → slice_get (ends_from logs 0 new) k ≡ option_map (with_line sender wire (frame ∷ []) k) (slice_get ss k)
+  pub shown : (end : EndState) → slice_get ss sender ≡ Some end → (k : ℕ)
+      → slice_get (ends_from logs 0 new) k ≡ option_map (end_after_put sender end.wire (frame ∷ []) k) (slice_get ss k)
 
-pub have-put : {logs : List (List LogEntry)} {es : List End} {ss : List EndState} {sender wire : ℕ} {e : End} {frame : List ℕ}
-    {before longer : List LogEntry} {new : List End} → Found logs es ss sender e → MayPut ss sender wire
+pub have-put : {logs : List (List LogEntry)} {es : List End} {ss : List EndState} {sender : ℕ} {e : End} {frame : List ℕ}
+    {before longer : List LogEntry} {new : List End} → Found logs es ss sender e → MayPut ss sender
     → before ≡ slice_index_or logs e.log before → PutsFrame e.log sender frame before longer es new
-    → HavePut (slice_set logs e.log longer) es ss sender wire frame new
-have-put {logs} {es} {ss} {sender} {wire} {e} {frame} {before} {longer} {new} found may is puts =
+    → HavePut (slice_set logs e.log longer) es ss sender frame new
+have-put {logs} {es} {ss} {sender} {e} {frame} {before} {longer} {new} found may is puts =
     let room = puts-room found may in
     let was = found-log found is in
     record {
       count = length-put logs es found.have sender e found.has room frame before longer new puts was;
       have = put-logs logs es found.have sender e found.has room frame before longer new puts was;
-      shown = λ k. put-shown logs es found.have sender e found.has room frame before longer new puts was k
-          ∙ ap (λ (l : List EndState). option_map (with_line sender e.wire (frame ∷ []) k) (slice_get l k)) found.shown
-          ∙ ap (λ (on : ℕ). option_map (with_line sender on (frame ∷ []) k) (slice_get ss k)) (sym (its-wire found may));
+      shown = λ end is k. put-shown logs es found.have sender e found.has room frame before longer new puts was k
+          ∙ ap (λ (l : List EndState). option_map (end_after_put sender e.wire (frame ∷ []) k) (slice_get l k)) found.shown
+          ∙ ap (λ (on : EndState). option_map (end_after_put sender on.wire (frame ∷ []) k) (slice_get ss k)) (shows-end found is);
     }
 
 pub written-back : (new es : List End) (n : ℕ) → length new ≡ length es → n ≡ length es → take n (new ++ drop (length new) es) ≡ new
@@ -387,7 +386,7 @@ pub record HasRead (logs : List (List LogEntry)) (es : List End) (ss : List EndS
   pub waits : 1 ≤ e.waiting
   pub have : HaveLogs logs (slice_set es host new)
   pub shown : (end : EndState) → slice_get ss host ≡ Some end
-      → ends_from logs 0 (slice_set es host new) ≡ slice_set ss host (record end { line = drop 1 end.line })
+      → ends_from logs 0 (slice_set es host new) ≡ slice_set ss host (record end { backlog = drop 1 end.backlog })
 
 pub has-read : {logs : List (List LogEntry)} {es : List End} {ss : List EndState} {host place : ℕ} {first e : End} {log : List LogEntry}
     → Found logs es ss host first → Found logs es ss host e → log ≡ slice_index_or logs first.log log → place < length log
@@ -406,21 +405,21 @@ has-read {logs} {es} {ss} {host} {place} {first} {e} {log} was found is below ol
           (subst (λ (l : List LogEntry). ReadsLog l host new) at (reads-on log host e place below next reads));
       shown = λ end is.
           let old = shows-end found is in
-          let line : frames_of_others host (drop (place + 1) (log_of logs new)) ≡ drop 1 end.line =
+          let line : frames_of_others host (drop (place + 1) (log_of logs new)) ≡ drop 1 end.backlog =
           ap (λ (l : List LogEntry). frames_of_others host (drop (place + 1) l)) (sym at)
           ∙ line-on log host e place below next
           ∙ ap (λ (l : List LogEntry). drop 1 (frames_of_others host (drop e.cursor l))) at
-          ∙ ap (λ (s : EndState). drop 1 s.line) old in
+          ∙ ap (λ (s : EndState). drop 1 s.backlog) old in
           set-shown logs es host e found.has new refl refl
           ∙ ap (λ (l : List EndState). slice_set l host
           (line_at e.wire (frames_of_others host (drop (place + 1) (log_of logs new))))) found.shown
           ∙ ap (λ (frames : List (List ℕ)). slice_set ss host (line_at e.wire frames)) line
-          ∙ ap (λ (wire : ℕ). slice_set ss host (line_at wire (drop 1 end.line))) (ap (λ (s : EndState). s.wire) old);
+          ∙ ap (λ (wire : ℕ). slice_set ss host (line_at wire (drop 1 end.backlog))) (ap (λ (s : EndState). s.wire) old);
     }
 
 -- If no frame waits, the end doesn't change.
-pub stays-empty : (ss : List EndState) (host : ℕ) (end : EndState) → slice_get ss host ≡ Some end → end.line ≡ []
-    → ss ≡ slice_set ss host (record end { line = drop 1 end.line })
+pub stays-empty : (ss : List EndState) (host : ℕ) (end : EndState) → slice_get ss host ≡ Some end → end.backlog ≡ []
+    → ss ≡ slice_set ss host (record end { backlog = drop 1 end.backlog })
 stays-empty ss host end is none =
     sym (set-end_same ss host end is)
-    ∙ ap (λ (l : List (List ℕ)). slice_set ss host (record end { line = l })) (none ∙ ap (drop 1) (sym none))
+    ∙ ap (λ (l : List (List ℕ)). slice_set ss host (record end { backlog = l })) (none ∙ ap (drop 1) (sym none))

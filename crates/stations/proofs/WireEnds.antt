@@ -72,10 +72,10 @@ found-log {logs} {e = e} {log = log} found is = is ∙ get_or_default logs e.log
 -- The frames that wait at the end are read from its log.
 pub line-read : {logs : List (List LogEntry)} {es : List End} {ss : List EndState} {k : ℕ} {e : End} {log : List LogEntry} {end : EndState}
     → Found logs es ss k e → log ≡ slice_index_or logs e.log log → slice_get ss k ≡ Some end
-    → frames_of_others k (drop e.cursor log) ≡ end.line
+    → frames_of_others k (drop e.cursor log) ≡ end.backlog
 line-read {k = k} {e = e} found is shown-end =
     ap (λ (l : List LogEntry). frames_of_others k (drop e.cursor l)) (found-log found is)
-    ∙ ap (λ (s : EndState). s.line) (shows-end found shown-end)
+    ∙ ap (λ (s : EndState). s.backlog) (shows-end found shown-end)
 
 module _ (logs : List (List LogEntry)) (es : List End) (ss : List EndState) (shown : ends_from logs 0 es ≡ ss) where
   -- The ends as counted by the code have room exactly if the ends in contracts have room.
@@ -90,7 +90,7 @@ module _ (logs : List (List LogEntry)) (es : List End) (ss : List EndState) (sho
           let has = has-end_at es k below in
           let same = shown-end logs es ss k e end shown has is in
           let counts = (reads k e has).counts in
-          let lines = ap (λ (s : EndState). length s.line) same in
+          let lines = ap (λ (s : EndState). length s.backlog) same in
           let free = room k below other (ap (λ (s : EndState). s.wire) same ∙ on) in
           omega (arith, free, counts, lines)
 

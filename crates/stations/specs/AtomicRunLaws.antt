@@ -5,10 +5,9 @@ use Rattle.bus.specs.Pasts.{joined}
 use Rattle.bus.specs.TrailLaws.{past_of-append}
 use Rattle.bus.specs.Trails.{past_of}
 use Rattle.bus.specs.declared.event.Event.TheVariants.{Accesses, Arrives, Steps}
-use Rattle.stations.specs.AtomicSteps.{At, AtomicStep, Idles, after}
+use Rattle.stations.specs.AtomicSteps.{At, AtomicStep, Idles, after_atomic}
 use Rattle.stations.specs.Stations.{StationState}
 use Rattle.stations.specs.Outcomes.{note_of}
-use Rattle.stations.specs.ToldTicks.{TickTold}
 use Rattle.stations.specs.declared.outcomes.Numbered.{Numbered}
 use Rattle.stations.specs.AtomicRuns.{
   LeadsTo,
@@ -28,21 +27,26 @@ pub leads_join : (caller : ℕ) (first later : List AtomicStep) (a b c : List St
     → LeadsTo caller later b c
     → LeadsTo caller (first ++ later) a c
 leads_join caller [] later a b c one two = subst (λ (ss : List StationState). LeadsTo caller later ss c) one two
-leads_join caller (step ∷ first) later a b c one two = (one.0, one.1, leads_join caller first later (after step a) b c one.2 two)
+leads_join caller (step ∷ first) later a b c one two = (one.0, one.1, leads_join caller first later (after_atomic step a) b c one.2 two)
 
-pub noted_join : (n : ℕ) (first later : List AtomicStep) → noted_of n (first ++ later) ≡ noted_of n first
-    ++ noted_of (counted_of n first) later
-noted_join n [] later = refl
-noted_join n (step ∷ first) later =
-    ap (λ (list : List Numbered). noted_by n step ++ list) (noted_join (counted_by n step) first later)
-    ∙ sym (append_assoc (noted_by n step) (noted_of (counted_by n step) first) (noted_of (counted_of (counted_by n step) first) later))
+-- The list `all` of some steps consists of the lists `of_step` of each step, in order.
+each_join : {X : Type 0} (of_step : ℕ → AtomicStep → List X) (all : ℕ → List AtomicStep → List X) → ((n : ℕ) → all n [] ≡ [])
+    → ((n : ℕ) (step : AtomicStep) (later : List AtomicStep) → all n (step ∷ later) ≡ of_step n step ++ all (counted_by n step) later)
+    → (n : ℕ) (first later : List AtomicStep) → all n (first ++ later) ≡ all n first ++ all (counted_of n first) later
+each_join {X} of_step all none more n [] later = ap (λ (list : List X). list ++ all n later) (sym (none n))
+each_join {X} of_step all none more n (step ∷ first) later =
+    more n step (first ++ later)
+    ∙ ap (λ (list : List X). of_step n step ++ list) (each_join of_step all none more (counted_by n step) first later)
+    ∙ sym (append_assoc (of_step n step) (all (counted_by n step) first) (all (counted_of (counted_by n step) first) later))
+    ∙ ap (λ (list : List X). list ++ all (counted_of (counted_by n step) first) later) (sym (more n step first))
 
-pub steps_told_join : (n : ℕ) (first later : List AtomicStep) → steps_told n (first ++ later) ≡ steps_told n first
-    ++ steps_told (counted_of n first) later
-steps_told_join n [] later = refl
-steps_told_join n (step ∷ first) later =
-    ap (λ (list : List TickTold). step_told n step ++ list) (steps_told_join (counted_by n step) first later)
-    ∙ sym (append_assoc (step_told n step) (steps_told (counted_by n step) first) (steps_told (counted_of (counted_by n step) first) later))
+pub noted_join : (n : ℕ) (first later : List AtomicStep)
+    → noted_of n (first ++ later) ≡ noted_of n first ++ noted_of (counted_of n first) later
+noted_join n first later = each_join noted_by noted_of (λ n. refl) (λ n step later. refl) n first later
+
+pub steps_told_join : (n : ℕ) (first later : List AtomicStep)
+    → steps_told n (first ++ later) ≡ steps_told n first ++ steps_told (counted_of n first) later
+steps_told_join n first later = each_join step_told steps_told (λ n. refl) (λ n step later. refl) n first later
 
 -- The outcomes noted of atomic steps (`noted_of`) are those that an observer is told, without their ticks.
 pub steps_told_noted : (n : ℕ) (steps : List AtomicStep) → map note_of (steps_told n steps) ≡ noted_of n steps

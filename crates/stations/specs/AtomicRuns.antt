@@ -6,7 +6,7 @@ use Rattle.bus.specs.Pasts.{Past}
 use Rattle.bus.specs.Trails.{past_of}
 use Rattle.bus.specs.declared.event.Event.{Event}
 use Rattle.bus.specs.declared.event.Event.TheVariants.{Accesses, Arrives, Steps}
-use Rattle.stations.specs.AtomicSteps.{At, AtomicStep, CanHappen, Idles, after, step_outcome}
+use Rattle.stations.specs.AtomicSteps.{At, AtomicStep, CanHappen, Idles, after_atomic, step_outcome}
 use Rattle.stations.specs.Stations.{StationState}
 use Rattle.stations.specs.ToldTicks.{TickTold, tick_told}
 use Rattle.adapter.specs.declared.outcome.Outcome.TheVariants.{Delivered, Nothing}
@@ -31,7 +31,7 @@ IsOfCall caller (Idles tick) = is_go tick ≡ false
 -- stations `new`.
 abbrev pub LeadsTo : (caller : ℕ) → List AtomicStep → (old new : List StationState) → Type 0
 LeadsTo caller [] old new = new ≡ old
-LeadsTo caller (step ∷ later) old new = CanHappen step old × IsOfCall caller step × LeadsTo caller later (after step old) new
+LeadsTo caller (step ∷ later) old new = CanHappen step old × IsOfCall caller step × LeadsTo caller later (after_atomic step old) new
 
 -- The atomic step is a tick other than Go, so it isn't an access.
 abbrev pub IsTick : AtomicStep → Type 0

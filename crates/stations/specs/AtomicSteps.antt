@@ -89,9 +89,9 @@ IsNoAccess (At host (Accesses access)) = ⊥
 IsNoAccess (Idles tick) = ⊤
 
 -- All stations after an atomic step.
-abbrev pub after : AtomicStep → List StationState → List StationState
-after (At host event) stations = stations_after host event stations
-after (Idles tick) stations = stations
+abbrev pub after_atomic : AtomicStep → List StationState → List StationState
+after_atomic (At host event) stations = stations_after host event stations
+after_atomic (Idles tick) stations = stations
 
 -- The tick `tick` is played with the outcome `outcome`: one atomic step, which isn't an access, leads from the stations
 -- `old` to `new`.
@@ -101,7 +101,7 @@ pub record PlaysTick (old : List StationState) (tick : Tick) (outcome : FrameOut
   pub outcome_is : step_outcome step ≡ outcome
   pub no_access : IsNoAccess step
   pub happens : CanHappen step old
-  pub leaves : new ≡ after step old
+  pub leaves : new ≡ after_atomic step old
 
 -- All stations of a network, and the observer of the ticks that are played on them.
 pub record Watched (O : Type 0) : Type 0 where

@@ -7,7 +7,7 @@ use Rattle.stations.specs.Stations.{StationState}
 use Rattle.stations.specs.declared.stations.Stations.TheInside.{Inside}
 
 abbrev pub station_of : MachineState → EndState → StationState
-station_of machine end = record { world = machine.world; wire = end.wire; backlog = end.line }
+station_of machine end = record { world = machine.world; wire = end.wire; backlog = end.backlog }
 
 abbrev pub stations_of : List MachineState → List EndState → List StationState
 stations_of [] ends = []

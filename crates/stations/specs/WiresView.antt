@@ -19,7 +19,7 @@ abbrev pub unread : List (List LogEntry) → (k : ℕ) → End → List (List �
 unread logs k end = frames_of_others k (drop end.cursor (log_of logs end))
 
 abbrev pub end_of : List (List LogEntry) → (k : ℕ) → End → EndState
-end_of logs k end = record { wire = end.wire; line = unread logs k end }
+end_of logs k end = record { wire = end.wire; backlog = unread logs k end }
 
 -- The states of these ends, if the first of them has number k.
 abbrev pub ends_from : List (List LogEntry) → (k : ℕ) → List End → List EndState

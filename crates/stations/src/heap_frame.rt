@@ -15,6 +15,7 @@ use std::marker::Model;
 /// memory. In contracts, a frame is the list of its bytes.
 #[derive(Debug, Drop)]
 pub struct HeapFrame {
+    /// The bytes of the frame; there is room for 1,518.
     bytes: Vec<u8>,
 }
 
@@ -52,6 +53,7 @@ impl HeapFrame {
         ensures { self.new ≡ bytes.now }
     {
         self.bytes.clear();
+        // There is room for 1,518 bytes, so the call returns no error.
         let _ = self.bytes.extend_from_slice(bytes);
     }
 

@@ -24,7 +24,9 @@ pub struct LentBus<'a, 't, O: Observer> {
     /// The observer. The observer is told the outcome of each tick, with the number of accesses that the call made
     /// before the tick.
     pub observer: &'a mut O,
+    // The host exists.
     ghost there: { host < length stations.now },
+    // The observer has room for the outcome of each tick.
     ghost room: { length ticks.now ≤ O.room_left observer.now },
 }
 

@@ -40,6 +40,7 @@ impl Observer for Nobody {
 
     ghost heard = { λ before after told. ⊤ };
 
+    // 2^64, which is more than the length of any list of ticks.
     ghost room_left = { λ nobody. 18446744073709551616 };
 
     ghost composes = { record {

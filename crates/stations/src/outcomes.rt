@@ -1,5 +1,7 @@
 // An observer that collects the outcomes of ticks, in order.
 
+ghost use Rattle.stations.specs.Outcomes.{OutcomeList, HasPlaces, outcomes_of};
+
 use crate::heap_frame::HeapFrame;
 use crate::observer::Observer;
 use crate::tick::Tick;
@@ -22,17 +24,14 @@ pub struct Numbered {
 /// which there is room.
 #[derive(Debug, Drop)]
 pub struct Outcomes {
+    /// The outcomes so far, in order.
     list: Vec<Numbered>,
     /// An empty frame for each further outcome.
     spare: Vec<HeapFrame>,
 }
 
 impl Model for Outcomes {
-    ghost use Rattle.stations.specs.Outcomes.{OutcomeList};
-
     ghost Value = { OutcomeList };
-
-    ghost use Rattle.stations.specs.Outcomes.{HasPlaces, outcomes_of};
 
     ghost view = { outcomes_of };
 
@@ -107,6 +106,7 @@ impl Observer for Outcomes {
         if let Some(mut kept) = self.spare.pop() {
             kept.fill(frame);
             let outcome = outcome.with_frame(kept);
+            // The list has a place for each spare frame, so `push` returns no error.
             let _ = self.list.push(Numbered { accesses, outcome });
         }
     }

@@ -51,6 +51,7 @@ impl Stations {
         match kind {
             StepKind::TxPut => self.put(host, accesses, observer),
             _ => {
+                // Whether the wire is free matters only for TxPut.
                 let outcome = self.machines[host].step(kind, true);
                 observer.note(tick, accesses, outcome, &[]);
             }
@@ -78,7 +79,8 @@ impl Stations {
             return;
         }
         observer.note(tick, accesses, Outcome::Put(()), frame);
-        self.wires.put(host, wire, frame);
+        self.wires.put(host, frame);
+        // The wire is free.
         self.machines[host].step(StepKind::TxPut, true);
     }
 
@@ -138,12 +140,8 @@ impl Stations {
             (watched self.new observer.new) }
     {
         let mut rest = ticks;
-        while let Some((one, more)) = rest.split_first() {
-            rest = more;
-            if let Tick::Go = one {
-                continue;
-            }
-            self.play(*one, accesses, observer);
+        while !rest.is_empty() {
+            rest = self.play_group(rest, accesses, observer);
         }
     }
 }

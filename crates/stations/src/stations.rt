@@ -16,7 +16,9 @@ use std::marker::Model;
 /// In contracts, the value is a list of `StationState` (`specs/Stations.antt`).
 #[derive(Drop)]
 pub struct Stations {
+    /// The adapter and the memory of each host, by the host's number.
     pub(crate) machines: Vec<Machine>,
+    /// The wires, with the end of each host.
     pub(crate) wires: Wires,
 }
 
@@ -46,7 +48,7 @@ fn make_place(
 ) -> Result<(), AllocError>
     ensures room { IfOk result (λ done. length machines.new.items < vec_capacity machines.new) }
     ensures machines { machines.new.items ≡ machines.old.items }
-    ensures connected { IfOk result (λ done. wires.new ≡ wires.old ++ record { wire = wire; line = [] } ∷ []) }
+    ensures connected { IfOk result (λ done. wires.new ≡ wires.old ++ record { wire = wire; backlog = [] } ∷ []) }
     ensures err { OnErr result (wires.new ≡ wires.old) }
 {
     machines.reserve(1)?;
@@ -58,6 +60,7 @@ fn append(machines: &mut Vec<Machine>, machine: Machine)
     requires room { length machines.old.items < vec_capacity machines.old }
     ensures { machines.new.items ≡ machines.old.items ++ machine ∷ [] }
 {
+    // There is room, so `push` returns no error.
     let _ = machines.push(machine);
 }
 
@@ -170,6 +173,7 @@ impl Stations {
         ensures state { self.new
             ≡ stations_after host (Steps kind true (framed result (world_at self.old host).adapter)) self.old }
     {
+        // Whether the wire is free matters only for TxPut.
         self.machines[host].step(kind, true)
     }
 
@@ -182,7 +186,7 @@ impl Stations {
             ≡ last_of_others host (length (backlog_at self.now host)) result.now }
         ensures most { length result.now ≤ LOG_ENTRIES }
     {
-        self.wires.log(host)
+        self.wires.entries(host)
     }
 
     /// Returns whether a host's interrupt line is asserted.

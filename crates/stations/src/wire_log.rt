@@ -17,6 +17,7 @@ pub const LOG_ENTRIES: usize = 1024;
 /// Only [`new`](WireLog::new) allocates memory, for all entries. In contracts, the value is a list of `LogEntry`.
 #[derive(Drop)]
 pub(crate) struct WireLog {
+    /// The number of each frame's sender, and the frame.
     entries: Vec<(usize, Frame)>,
 }
 
@@ -69,6 +70,7 @@ impl WireLog {
         requires fits { length frame.now ≤ longest_frame }
         ensures { self.new ≡ self.old ++ (sender, frame.now) ∷ [] }
     {
+        // A log has room for all its entries, so `push` returns no error.
         let _ = self.entries.push((sender, Frame::from_slice(frame)));
     }
 

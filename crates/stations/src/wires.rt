@@ -1,9 +1,10 @@
-// The wires of a network, and the frames that wait at their ends.
+// The wires of a network, and the frames that wait at their ends. `log` is the index of a wire's log in the list of
+// logs.
 
 ghost use Rattle.std.specs.Prelude.{◌≡◌, ◌<◌, ◌≤◌, ◌↔◌, ◌∷◌, ◌++◌, ℕ, [], IfOk, IfSome, IsNone, IsTrue, OnErr, Some};
 ghost use Rattle.std.specs.Prelude.{drop, length, option_map, slice_get, slice_set};
 ghost use Rattle.descriptors.specs.Frames.{longest_frame};
-ghost use Rattle.stations.specs.Ends.{EndState, EndHasRoomFor, HaveRoom, with_line};
+ghost use Rattle.stations.specs.Ends.{EndState, EndHasRoomFor, HaveRoom, end_after_put};
 ghost use Rattle.stations.specs.WireLogs.{last_of_others, log_entries};
 ghost use Rattle.std.specs.Prelude.{◌≢◌};
 ghost use Rattle.stations.specs.LogReaders.{IsLeastCursor, IsReader, IsReaderOn, IsSlowest};
@@ -38,7 +39,9 @@ pub(crate) struct End {
 /// In contracts, the value is a list of `EndState` (`specs/Ends.antt`).
 #[derive(Drop)]
 pub(crate) struct Wires {
+    /// A log for each wire that has an end.
     logs: Vec<WireLog>,
+    /// The ends, by the number of their host.
     ends: Vec<End>,
 }
 
@@ -206,12 +209,13 @@ impl Wires {
     ///
     /// Returns an error only if an allocation fails. Then no end has been added.
     pub(crate) fn connect(&mut self, alloc: Global, wire: usize) -> Result<(), AllocError>
-        ensures connected { IfOk result (λ done. self.new ≡ self.old ++ record { wire = wire; line = [] } ∷ []) }
+        ensures connected { IfOk result (λ done. self.new ≡ self.old ++ record { wire = wire; backlog = [] } ∷ []) }
         ensures err { OnErr result (self.new ≡ self.old) }
     {
         self.ends.reserve(1)?;
         let log = log_for(&mut self.logs, self.ends.as_slice(), alloc, wire)?;
         let cursor = self.logs[log].len();
+        // The call of `reserve` made room for the end.
         let _ = self.ends.push(End {
             wire,
             log,
@@ -238,13 +242,12 @@ impl Wires {
 
     /// Puts a frame onto its sender's wire. The frame then waits at each other end of this wire; each of these ends
     /// must have room.
-    pub(crate) fn put(&mut self, sender: usize, wire: usize, frame: &[u8])
+    pub(crate) fn put(&mut self, sender: usize, frame: &[u8])
         requires there { sender < length self.old }
-        requires on { (end : EndState) → slice_get self.old sender ≡ Some end → wire ≡ end.wire }
-        requires room { HaveRoom self.old sender wire }
+        requires room { (end : EndState) → slice_get self.old sender ≡ Some end → HaveRoom self.old sender end.wire }
         requires fits { length frame.now ≤ longest_frame }
-        ensures { (k : ℕ) → slice_get self.new k
-            ≡ option_map (with_line sender wire (frame.now ∷ []) k) (slice_get self.old k) }
+        ensures { (end : EndState) → slice_get self.old sender ≡ Some end → (k : ℕ) → slice_get self.new k
+            ≡ option_map (end_after_put sender end.wire (frame.now ∷ []) k) (slice_get self.old k) }
     {
         let log = self.ends[sender].log;
         put_frame(
@@ -259,9 +262,9 @@ impl Wires {
     /// Returns the oldest frame that waits at a host's end, or `None` if no frame waits there.
     pub(crate) fn front(&self, host: usize) -> Option<&[u8]>
         requires there { host < length self.now }
-        ensures none { (end : EndState) → slice_get self.now host ≡ Some end → IsNone result ↔ (end.line ≡ []) }
+        ensures none { (end : EndState) → slice_get self.now host ≡ Some end → IsNone result ↔ (end.backlog ≡ []) }
         ensures oldest { (end : EndState) → slice_get self.now host ≡ Some end
-            → IfSome result (λ frame. slice_get end.line 0 ≡ Some frame.now) }
+            → IfSome result (λ frame. slice_get end.backlog 0 ≡ Some frame.now) }
         ensures fits { IfSome result (λ frame. length frame.now ≤ longest_frame) }
     {
         let end = &self.ends[host];
@@ -272,7 +275,7 @@ impl Wires {
     pub(crate) fn pop(&mut self, host: usize)
         requires there { host < length self.old }
         ensures { (end : EndState) → slice_get self.old host ≡ Some end
-            → self.new ≡ slice_set self.old host (record end { line = drop 1 end.line }) }
+            → self.new ≡ slice_set self.old host (record end { backlog = drop 1 end.backlog }) }
     {
         let end = &self.ends[host];
         let Some(place) = self.logs[end.log].next(host, end.cursor) else {
@@ -283,12 +286,12 @@ impl Wires {
         end.waiting -= 1;
     }
 
-    /// Returns the log of a host's wire. The frames that wait at the host's end are the last frames of other senders in
-    /// the log.
-    pub(crate) fn log(&self, host: usize) -> &[(usize, Frame)]
+    /// Returns the entries of the log of a host's wire. The frames that wait at the host's end are the last frames of
+    /// other senders in the log.
+    pub(crate) fn entries(&self, host: usize) -> &[(usize, Frame)]
         requires there { host < length self.now }
         ensures waits { (end : EndState) → slice_get self.now host ≡ Some end
-            → end.line ≡ last_of_others host (length end.line) result.now }
+            → end.backlog ≡ last_of_others host (length end.backlog) result.now }
         ensures most { length result.now ≤ log_entries }
     {
         self.logs[self.ends[host].log].as_slice()

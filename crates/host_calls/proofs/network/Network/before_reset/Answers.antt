@@ -1,95 +1,69 @@
-use Rattle.std.proofs.Common.{◌++◌, ℕ, List, arith, ap, length, length-append, ◌∙◌}
+use Rattle.std.proofs.Common.{◌+◌, ◌++◌, ℕ, List, arith, ap, length, length-append, ◌∙◌}
 use Rattle.dma_memory.specs.Layout.{Counts}
 use Rattle.adapter.specs.HostFrames.{frames_held, frames_to_send}
-use Rattle.host_calls.proofs.HostsOfNetworks.{stations-are}
 use Rattle.stations.specs.Stations.{world_at}
-use Rattle.packet_socket.specs.HostCalls.{driver_of}
-use Rattle.host_calls.proofs.PendingFrames.{can-read_held, can-read_sending, found-before, found-host, held-in_room, sending-at_most}
+use Rattle.host_calls.proofs.HostsOfNetworks.{has-host}
+use Rattle.host_calls.proofs.PendingFrames.{can-read_held, can-read_sending, found-before, found-host, held-within, sending-at_most}
 use Rattle.host_calls.proofs.network.Network.before_reset.Goals as goal
 
 pub pending-requires-clause-sending : goal.pending-requires-clause-sending
-pending-requires-clause-sending c =
-    let w = world_at c.self.inside.stations c.args.number in
-    let h = c.index-host.result.now in
-    let found = found-host c.self.inside.hosts.items c.self.inside.stations c.args.self.now c.args.number h c.self.view_is
-    c.requires.there c.index-host.ensures c.requires.ready c.requires.adapter in
-    can-read_sending (driver_of h w) w found.ready.ready
+pending-requires-clause-sending c = can-read_sending
+    (found-host (has-host c.self.view_is c.self.invariant c.requires.there c.index-host.ensures)
+    c.requires.ready c.requires.adapter).ready.ready
 
 pub pending-requires-clause-holding : goal.pending-requires-clause-holding
-pending-requires-clause-holding c =
-    let w = world_at c.self.inside.stations c.args.number in
-    let h = c.index-host.result.now in
-    let found = found-host c.self.inside.hosts.items c.self.inside.stations c.args.self.now c.args.number h c.self.view_is
-    c.requires.there c.index-host.ensures c.requires.ready c.requires.adapter in
-    rw c.oldest.ensures (can-read_held (driver_of h w) w found.ready.ready)
+pending-requires-clause-holding c = rw c.oldest.ensures (can-read_held
+    (found-host (has-host c.self.view_is c.self.invariant c.requires.there c.index-host.ensures)
+    c.requires.ready c.requires.adapter).ready.ready)
 
 pub pending-requires-clause-sending_room : goal.pending-requires-clause-sending_room
 pending-requires-clause-sending_room c =
-    let w = world_at c.self.inside.stations c.args.number in
-    let h = c.index-host.result.now in
-    let found = found-host c.self.inside.hosts.items c.self.inside.stations c.args.self.now c.args.number h c.self.view_is
-    c.requires.there c.index-host.ensures c.requires.ready c.requires.adapter in
+    let few = sending-at_most
+    (found-host (has-host c.self.view_is c.self.invariant c.requires.there c.index-host.ensures)
+    c.requires.ready c.requires.adapter).ready.ready in
     omega (
       arith,
+      few,
       ap length c.reserve.ensures.items,
       ap length c.new-sending.ensures.items,
       c.in_ok-reserve.ensures.ok,
       c.from-3.ensures,
       c.tx.ensures.count,
       ap (λ (counts : Counts). counts.tx) c.layout-layout.ensures,
-      sending-at_most (driver_of h w) w found.ready.ready,
     )
 
 pub pending-requires-clause-holding_room : goal.pending-requires-clause-holding_room
 pending-requires-clause-holding_room c =
-    let w = world_at c.self.inside.stations c.args.number in
-    let h = c.index-host.result.now in
-    let found = found-host c.self.inside.hosts.items c.self.inside.stations c.args.self.now c.args.number h c.self.view_is
-    c.requires.there c.index-host.ensures c.requires.ready c.requires.adapter in
-    omega (
-      arith,
-      ap length c.reserve-2.ensures.items,
-      ap length c.new-holding.ensures.items,
-      c.in_ok-reserve-2.ensures.ok,
-      c.from.ensures,
-      c.from-2.ensures,
-      c.rx.ensures.count,
-      ap (λ (counts : Counts). counts.rx) c.layout-layout.ensures,
-      ap (λ (o : ℕ). length (frames_held o w)) c.oldest.ensures,
-      held-in_room (driver_of h w) w found.ready.ready found.adapter,
-    )
+    let few = held-within (c.from.result + c.from-2.result)
+    (found-host (has-host c.self.view_is c.self.invariant c.requires.there c.index-host.ensures)
+    c.requires.ready c.requires.adapter) c.layout-layout.ensures c.oldest.ensures
+    (omega (arith, c.from.ensures, c.from-2.ensures, c.rx.ensures.count)) in
+    omega (arith, few, ap length c.reserve-2.ensures.items, ap length c.new-holding.ensures.items, c.in_ok-reserve-2.ensures.ok)
 
 pub overflow_sub-most : goal.overflow_sub-most
 overflow_sub-most c =
-    let w = world_at c.self.inside.stations c.args.number in
-    let h = c.index-host.result.now in
-    let found = found-host c.self.inside.hosts.items c.self.inside.stations c.args.self.now c.args.number h c.self.view_is
-    c.requires.there c.index-host.ensures c.requires.ready c.requires.adapter in
+    let few = held-within (c.from.result + c.from-2.result)
+    (found-host (has-host c.self.view_is c.self.invariant c.requires.there c.index-host.ensures)
+    c.requires.ready c.requires.adapter) c.layout-layout.ensures c.oldest.ensures
+    (omega (arith, c.from.ensures, c.from-2.ensures, c.rx.ensures.count)) in
     omega (
       arith,
+      few,
       c.len.ensures,
       c.pending.new.holding.ok.0,
       ap length c.pending.ensures.holding,
-      length-append c.reserve-2.new.self.items (frames_held c.oldest.result w),
+      length-append c.reserve-2.new.self.items (frames_held c.oldest.result (world_at c.self.inside.stations c.args.number)),
       ap length c.reserve-2.ensures.items,
       ap length c.new-holding.ensures.items,
-      c.from.ensures,
-      c.from-2.ensures,
-      c.rx.ensures.count,
-      ap (λ (counts : Counts). counts.rx) c.layout-layout.ensures,
-      ap (λ (o : ℕ). length (frames_held o w)) c.oldest.ensures,
-      held-in_room (driver_of h w) w found.ready.ready found.adapter,
     )
 
 pub returns : goal.returns
 returns c =
     let w = world_at c.self.inside.stations c.args.number in
-    let h = c.index-host.result.now in
-    let is = found-host c.self.inside.hosts.items c.self.inside.stations c.args.self.now c.args.number h c.self.view_is
-    c.requires.there c.index-host.ensures c.requires.ready c.requires.adapter in
     record {
-      found = found-before c.args.self.now c.self.inside.stations c.args.number h _ is
-          (stations-are c.self.inside.hosts.items c.self.inside.stations c.args.self.now c.self.view_is)
+      found = found-before _
+          (found-host (has-host c.self.view_is c.self.invariant c.requires.there c.index-host.ensures)
+          c.requires.ready c.requires.adapter)
           (c.pending.ensures.sending
           ∙ ap (λ (list : List (List ℕ)). list ++ frames_to_send w) (c.reserve.ensures.items ∙ c.new-sending.ensures.items))
           (c.reserve-3.ensures.items ∙ c.pending.ensures.holding

@@ -9,7 +9,7 @@ returns-clause-runs g c =
     runs-told c.args.number c.reset_over.result c.args.ticks.now _ _ (connected_at c.args.self.now c.args.number)
     (connected_at c.reset_over.new.self c.args.number)
     (λ told heard. (
-      told-back (λ now. g.O.Observer.heard c.args.observer.now now told) c.reset_over.new.giving.observer.now _ (search rules) heard.tells,
-      told-back (λ now. NotesTicks c.args.noted.now now told) c.reset_over.new.giving.noted.now _ (search rules) heard.notes,
+      told-back (λ now. g.O.Observer.heard c.args.observer.now now told) c.reset_over.new.noting.observer.now _ (search rules) heard.tells,
+      told-back (λ now. NotesTicks c.args.noted.now now told) c.reset_over.new.noting.noted.now _ (search rules) heard.notes,
     ))
     (c.reset_over.ensures.runs c.requires.ready)

@@ -10,7 +10,7 @@ pub returns-clause-connected : goal.returns-clause-connected
 returns-clause-connected c =
     let ms = c.self.inside.machines.items in
     let es = c.self.inside.wires in
-    let end : EndState = record { wire = c.args.wire; line = [] } in
+    let end : EndState = record { wire = c.args.wire; backlog = [] } in
     let machines : c.append.new.machines.items ≡ ms ++ c.args.machine ∷ [] = (search rules) in
     let wires : c.make_place.new.wires ≡ es ++ end ∷ [] = (search rules) in
     ap (λ (list : List MachineState). stations_of list c.make_place.new.wires) machines

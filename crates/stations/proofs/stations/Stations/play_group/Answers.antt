@@ -6,9 +6,7 @@ use Rattle.stations.proofs.TickLoops.{GroupPlayed, group-begins-played, group-mo
 use Rattle.stations.proofs.stations.Stations.play_group.Goals as goal
 
 pub loop-tick-init : goal.loop-tick-init
-loop-tick-init g c =
-    group-begins-played g.met.O.Observer.composes c.args.ticks.now c.args.accesses (watched c.args.self.now c.args.observer.now)
-    c.requires.room
+loop-tick-init g c = group-begins-played g.met.O.Observer.composes c.requires.room
 
 pub loop-tick-preserved : goal.loop-tick-preserved
 loop-tick-preserved g c =

@@ -1,22 +1,24 @@
-use Rattle.std.proofs.Common.{◌≡◌, ◌∷◌, List, subst, arith}
+use Rattle.std.proofs.Common.{◌≡◌, ◌<◌, [], List, ap, arith, length, subst}
 use Rattle.std.proofs.lemmas.Grind.{common_steps}
 use Rattle.stations.specs.AtomicSteps.{watched}
 use Rattle.stations.specs.declared.tick.Tick.{Tick}
-use Rattle.stations.proofs.TickLoops.{AllPlayed, all-begins-played, all-more}
+use Rattle.stations.proofs.TickLoops.{AllPlayed, all-begins-played, all-end, all-more, behind-shorter}
 use Rattle.stations.proofs.stations.Stations.play_rest.Goals as goal
 
-pub loop-one-init : goal.loop-one-init
-loop-one-init g c =
-    all-begins-played g.met.O.Observer.composes c.args.ticks.now c.args.accesses (watched c.args.self.now c.args.observer.now)
-    c.requires.room
+pub loop-rest-init : goal.loop-rest-init
+loop-rest-init g c = all-begins-played g.met.O.Observer.composes c.requires.room
 
-pub loop-one-preserved : goal.loop-one-preserved
-loop-one-preserved g c =
-    let first = c.in-Some.one.now in
-    let later = c.in-Some.more.now in
-    let old = watched c.args.self.now c.args.observer.now in
-    let mid = watched c.loop-one.self c.loop-one.observer in
-    let is : c.loop-one.rest.now ≡ first ∷ later = grind (arith, common_steps, c.in-Some.ensures.cases) in
-    all-more g.met.O.Observer.composes old mid (watched c.play.new.self c.play.new.observer) c.args.ticks.now later first c.args.accesses
-    (subst (λ (rest : List Tick). AllPlayed g.O.Observer c.args.ticks.now c.args.accesses rest old mid) is c.loop-one.invariant)
-    c.in_default-one.not-Go c.play.ensures
+pub loop-rest-smaller : goal.loop-rest-smaller
+loop-rest-smaller g c =
+    let some : 0 < length c.loop-rest.rest.now = grind (arith, common_steps) in
+    omega (arith, some, behind-shorter c.loop-rest.rest.now, ap length c.play_group-rest.ensures.rest)
+
+pub loop-rest-preserved : goal.loop-rest-preserved
+loop-rest-preserved g c = all-more g.met.O.Observer.composes c.loop-rest.invariant c.play_group-rest.ensures.plays
+    c.play_group-rest.ensures.rest c.play_group-rest.ensures.room
+
+pub returns : goal.returns
+returns g c =
+    let none : c.loop-rest.rest.now ≡ [] = grind (arith, common_steps) in
+    all-end (subst (λ (rest : List Tick). AllPlayed g.O.Observer c.args.ticks.now c.args.accesses rest
+    (watched c.args.self.now c.args.observer.now) (watched c.loop-rest.self c.loop-rest.observer)) none c.loop-rest.invariant)

@@ -5,7 +5,8 @@ ghost use Rattle.adapter.specs.Outcomes.{with_frame};
 ghost use Rattle.descriptors.specs.Frames.{longest_frame};
 ghost use Rattle.stations.specs.ToldTicks.{tick_told};
 ghost use Rattle.host_calls.specs.Notes as notes;
-ghost use Rattle.host_calls.specs.Notes.{NotesFit, NotesTicks};
+ghost use Rattle.host_calls.specs.Notes.{NotesFit, NotesTicks, Notes};
+ghost use Rattle.host_calls.specs.NotesView.{NotesHaveRoom, notes_of};
 
 use adapter::Outcome;
 use descriptors::Frame;
@@ -22,18 +23,18 @@ const BEFORE_RESET: u64 = 2;
 /// In contracts, the value is a `Notes` (`specs/Notes.antt`).
 #[derive(Drop)]
 pub(crate) struct Noted {
+    /// The number of the host that is reset.
     host: usize,
+    /// The greatest number of frames in `holding`.
     most: usize,
+    /// The number of frames that the host put before CTRL.RST was written; it saturates at the greatest `u64`.
     put: u64,
+    /// The frames that are held.
     holding: Vec<Frame>,
 }
 
 impl Model for Noted {
-    ghost use Rattle.host_calls.specs.Notes.{Notes};
-
     ghost Value = { Notes };
-
-    ghost use Rattle.host_calls.specs.NotesView.{NotesHaveRoom, notes_of};
 
     ghost view = { notes_of };
 
@@ -68,13 +69,14 @@ impl Noted {
         requires fits { length frame.now ≤ longest_frame }
         ensures { NotesTicks self.old self.new (tick_told tick accesses (with_frame frame.now outcome) ∷ []) }
     {
-        if !is_of(self.host, tick) {
+        if !is_of_host(self.host, tick) {
             return;
         }
         match outcome {
             Outcome::Put(()) if accesses <= BEFORE_RESET => self.put = self.put.saturating_add(1),
             Outcome::Delivered((), Fate::Stored)
                 if accesses == 0 && self.holding.len() < self.most => {
+                // There is room for `most` frames, so `push` returns no error.
                 let _ = self.holding.push(Frame::from_slice(frame));
             }
             _ => {}
@@ -91,7 +93,7 @@ impl Noted {
 }
 
 /// Returns whether a tick is a step or a delivery at this host.
-fn is_of(host: usize, tick: Tick) -> bool
+fn is_of_host(host: usize, tick: Tick) -> bool
     ensures { result ≡ notes.is_of_host host tick }
 {
     match tick {
@@ -103,18 +105,20 @@ fn is_of(host: usize, tick: Tick) -> bool
 /// An observer of the ticks of a reset. This observer passes what it is told to another observer, and also takes
 /// notes.
 #[derive(Drop)]
-pub(crate) struct Giving<'a, O: Observer> {
+pub(crate) struct NotingObserver<'a, O: Observer> {
+    /// The other observer.
     pub(crate) observer: &'a mut O,
+    /// The notes.
     pub(crate) noted: &'a mut Noted,
 }
 
-impl<'a, O: Observer> Observer for Giving<'a, O> {
-    ghost use Rattle.host_calls.specs.Givings.{TellsAndNotes};
-    ghost use Rattle.host_calls.specs.GivingsLaws.{tells_compose};
+impl<'a, O: Observer> Observer for NotingObserver<'a, O> {
+    ghost use Rattle.host_calls.specs.NotingObservers.{TellsAndNotes};
+    ghost use Rattle.host_calls.specs.NotingLaws.{tells_compose};
 
     ghost heard = { TellsAndNotes O.heard };
 
-    ghost room_left = { λ giving. O.room_left giving.observer.now };
+    ghost room_left = { λ noting. O.room_left noting.observer.now };
 
     ghost composes = { tells_compose O.heard O.composes };
 

@@ -2,7 +2,7 @@
 -- together.
 use Rattle.std.proofs.Common.{List, refl, ◌∙◌}
 use Rattle.stations.specs.ToldTicks.{ComposesTold, TickTold}
-use Rattle.host_calls.specs.Givings.{TellsAndNotes}
+use Rattle.host_calls.specs.NotingObservers.{TellsAndNotes}
 use Rattle.host_calls.specs.NotesLaws.{reset_notes_join, notes_stay}
 
 pub tells_compose : {O : Type 0} (heard : O → O → List TickTold → Type 0) → ComposesTold heard → ComposesTold (TellsAndNotes heard)
