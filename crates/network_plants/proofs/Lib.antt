@@ -3,3 +3,6 @@ pub mod Drained
 pub mod Counted
 pub mod Reading
 pub mod Failing
+pub mod CountedRuns
+pub mod EtherSockets
+pub mod SoundDevices

@@ -1,17 +1,22 @@
-//! Plants of the calls of a network and of a scenario: twins, and calls that are made twice.
+//! Plants of the calls of `bring_up`, a driver, a host, a network and a scenario: twins, and calls that are made twice.
 //!
-//! A twin makes one call and returns its result. The edits in `must-fail/` make the bodies of twins wrong. A function
-//! that makes a call twice states in which parts both outcomes are equal: the call's contract determines these parts.
+//! A twin is a function with the name of a call, and with those clauses of this call that its edits violate. A twin
+//! makes the call and returns the call's result, and the prover knows only the clauses of the call. Some twins
+//! match on the answer, so that an edit can change one arm. If a call has two twins, the name of the second one, which
+//! matches on the answer, ends in `_with_answers`. The edits in `must-fail/` are wrong
+//! bodies of twins, which the prover must reject.
+//!
+//! A function that makes a call twice states in which parts both outcomes are equal: the call's contract determines
+//! these parts.
 #![tactic(auto)]
 
-mod network_calls;
-mod of_bench;
-mod of_lan;
-mod of_network;
-
-pub use network_calls::{
-    counts_twice, drain_room_twice, drain_twice, log_twice, new_twice, read_twice,
-};
-pub use of_bench::{bench, bench_err};
-pub use of_lan::{drain, play, run};
-pub use of_network::{call_in_network, reset_in_network};
+pub mod bench_calls;
+pub mod bring_up_calls;
+pub mod calls_of_host;
+pub mod calls_twice;
+pub mod consequences;
+pub mod control;
+pub mod driver_calls;
+pub mod group_calls;
+pub mod lan_calls;
+pub mod network_calls;

@@ -11,7 +11,7 @@ use Rattle.packet_socket.specs.HostCalls.{Given as GivenFrame}
 use Rattle.host_calls.specs.Happenings.{Given, Happening, Moved}
 use Rattle.wire.specs.DrainedNetworks.{said_of_drain}
 use Rattle.run_record.specs.Acts.{Act, Drained, history}
-use Rattle.run_record.specs.EventLines.{place_at}
+use Rattle.run_record.specs.EventLines.{place_in_run}
 use Rattle.run_record.specs.DrainedView.{drained_frame}
 use Rattle.run_record.specs.Kept.{FramesGrow, KeptFrame, PutsGrow, kept_frame, returned_frame_in, returned_in}
 use Rattle.run_record.specs.RunLogs.{act_logged, acts_in, logged}
@@ -64,10 +64,10 @@ no-acts : (a : Act) (list : List Act) → a ∷ list ≡ [] → ⊥
 no-acts a list is = cc
 
 lone-entry : (entries : List (ℕ × Act)) (act : Act) (number : ℕ) (log : RunLog) → acts_in entries ≡ act ∷ []
-    → (line : ℕ) × (logged number entries log ≡ act_logged (place_at number line) act log)
+    → (line : ℕ) × (logged number entries log ≡ act_logged (place_in_run number line) act log)
 lone-entry [] act number log is = absurd (no-acts act [] (sym is))
 lone-entry (entry ∷ []) act number log is =
-    (entry.0, ap (λ (one : Act). act_logged (place_at number entry.0) one log) (first-act entry.1 act [] [] is))
+    (entry.0, ap (λ (one : Act). act_logged (place_in_run number entry.0) one log) (first-act entry.1 act [] [] is))
 lone-entry (entry ∷ next ∷ later) act number log is =
     absurd (no-acts next.1 (acts_in later) (rest-acts entry.1 act (next.1 ∷ acts_in later) [] is))
 

@@ -21,7 +21,7 @@ use Rattle.packet_socket.specs.HostCalls.{Given as GivenFrame}
 use Rattle.wire.specs.DrainedNetworks.{said_of_drain}
 use Rattle.wire.specs.Runs.{ResetAnswer, accepted_by_answer, given_by_answer, joined_of, left_by_answer, reset_answer, said, said_in_reset}
 use Rattle.run_record.specs.Acts.{Act, Drained, Ran, said_in}
-use Rattle.run_record.specs.EventLines.{place_at}
+use Rattle.run_record.specs.EventLines.{place_in_run}
 use Rattle.run_record.specs.Numbers.{next_number}
 use Rattle.run_record.specs.Kept.{FramesGrow, KeptFrame, PutsGrow, put_frames_in, returned_frame_in, returned_in}
 use Rattle.run_record.specs.RecordingLaws.{puts_not}
@@ -176,7 +176,7 @@ puts_drained number host moves frames =
 pub drain_noted : (host : ℕ) (frames : List GivenFrame) (old new : Record) → new.number ≡ next_number old.number
     → TalliesGrow (said_of_drain host 0 frames) old.hosts.items new.hosts.items
     → FramesGrow (returned_in old.number (said_of_drain host 0 frames)) old.returned new.returned → new.puts ≡ old.puts
-    → new.log ≡ act_drained (place_at old.number old.line) host (length frames) old.log → AreNoted (Drained host 0 frames ∷ []) old new
+    → new.log ≡ act_drained (place_in_run old.number old.line) host (length frames) old.log → AreNoted (Drained host 0 frames ∷ []) old new
 drain_noted host frames old new next hosts returned puts log = act-noted (Drained host 0 frames) old new next hosts returned
     (subst (λ (more : List KeptFrame). PutsGrow more old.puts new.puts) (sym (puts_drained old.number host 0 frames))
     (puts ∙ puts_not old.puts)) (record { entries = (old.line, Drained host 0 frames) ∷ []; are = refl; log = log })

@@ -15,7 +15,7 @@ use Rattle.pcap_trace.proofs.Flushed.{GoesOut, goes-ends, goes-header, goes-more
 use Rattle.pcap_trace.proofs.Packets.{written-append, written-push}
 use Rattle.scenario.specs.SoFar.{hosts_of}
 use Rattle.run_record.specs.Kept.{KeptFrame, frames_where, is_of_socket, numbered_frame}
-use Rattle.run_record.specs.KeptView.{HasKeptSize, frame_with, frames_from, length_in}
+use Rattle.run_record.specs.KeptView.{HasKeptSize, frame_with, kept_frames_from, length_in}
 use Rattle.run_record.specs.Puts.{frames_on_wire, is_on_wire, names_in}
 use Rattle.run_record.specs.Traces.{is_in_trace, texts_in}
 use Rattle.run_record.specs.declared.kept.FrameInfo.{FrameInfo}
@@ -26,7 +26,7 @@ use Rattle.run_record.specs.declared.kept.Traces.TheVariants as traces
 
 frames-more : (infos : List FrameInfo) (bytes : List ℕ) (info : FrameInfo) (frame : List ℕ) → sum_by length_in infos ≡ length bytes
     → info.length ≡ length frame
-    → frames_from (infos ++ info ∷ []) (bytes ++ frame) ≡ frames_from infos bytes ++ frame_with info frame ∷ []
+    → kept_frames_from (infos ++ info ∷ []) (bytes ++ frame) ≡ kept_frames_from infos bytes ++ frame_with info frame ∷ []
 frames-more [] bytes info frame all is =
     let none : bytes ≡ [] = nil_from_length bytes (sym all) in
     let whole : take info.length frame ≡ frame = ap (λ (n : ℕ). take n frame) is ∙ ap (take (length frame)) (sym (append-nil frame))
@@ -37,19 +37,19 @@ frames-more (first ∷ infos) bytes info frame all is =
     let parts = sum_by-cons length_in first infos in
     let fits : first.length ≤ length bytes = omega (arith, parts, all) in
     let rest : sum_by length_in infos ≡ length (drop first.length bytes) = omega (arith, parts, all, length-drop first.length bytes) in
-    ap (λ (xs : List ℕ). frame_with first xs ∷ frames_from (infos ++ info ∷ []) (drop first.length (bytes ++ frame)))
+    ap (λ (xs : List ℕ). frame_with first xs ∷ kept_frames_from (infos ++ info ∷ []) (drop first.length (bytes ++ frame)))
     (take-append-le first.length bytes frame fits)
-    ∙ ap (λ (xs : List ℕ). frame_with first (take first.length bytes) ∷ frames_from (infos ++ info ∷ []) xs)
+    ∙ ap (λ (xs : List ℕ). frame_with first (take first.length bytes) ∷ kept_frames_from (infos ++ info ∷ []) xs)
     (drop-append-le first.length bytes frame fits)
     ∙ ap (λ (all : List KeptFrame). frame_with first (take first.length bytes) ∷ all)
     (frames-more infos (drop first.length bytes) info frame rest is)
 
 pub put_more : (puts : List KeptFrame) (info : FrameInfo) (frame : List ℕ) (infos more : List FrameInfo) (bytes longer : List ℕ)
-    → puts ≡ frames_from infos bytes → sum_by length_in infos ≡ length bytes → info.length ≡ length frame → more ≡ infos ++ info ∷ []
-    → longer ≡ bytes ++ frame → frames_from more longer ≡ puts ++ frame_with info frame ∷ []
+    → puts ≡ kept_frames_from infos bytes → sum_by length_in infos ≡ length bytes → info.length ≡ length frame → more ≡ infos ++ info ∷ []
+    → longer ≡ bytes ++ frame → kept_frames_from more longer ≡ puts ++ frame_with info frame ∷ []
 put_more puts info frame infos more bytes longer is all size more_is longer_is =
-    ap (λ (xs : List FrameInfo). frames_from xs longer) more_is
-    ∙ ap (frames_from (infos ++ info ∷ [])) longer_is
+    ap (λ (xs : List FrameInfo). kept_frames_from xs longer) more_is
+    ∙ ap (kept_frames_from (infos ++ info ∷ [])) longer_is
     ∙ frames-more infos bytes info frame all size
     ∙ ap (λ (all : List KeptFrame). all ++ frame_with info frame ∷ []) (sym is)
 
@@ -60,7 +60,7 @@ put_more puts info frame infos more bytes longer is all size more_is longer_is =
 pub record HasKept (unit : Unit) (test : ℕ → ℕ → Bool) (all : List KeptFrame) (infos : List FrameInfo) (bytes : List ℕ)
     (before now : Option (List ℕ)) (waiting : List ℕ) : Type 0 where
   pub front : List Timed
-  pub parts : frames_where test all ≡ front ++ frames_where test (frames_from infos bytes)
+  pub parts : frames_where test all ≡ front ++ frames_where test (kept_frames_from infos bytes)
   pub size : sum_by length_in infos ≡ length bytes
   pub short : AllByRecursion HasKeptSize infos
   pub goes : GoesOut before now waiting (written unit front)
@@ -68,12 +68,12 @@ pub record HasKept (unit : Unit) (test : ℕ → ℕ → Bool) (all : List KeptF
 module _ (test : ℕ → ℕ → Bool) where
   pub puts-first : (unit : Unit) (all : List KeptFrame) (infos list : List FrameInfo) (bytes slice : List ℕ) (before : Option (List ℕ))
       (waiting : List ℕ)
-      → all ≡ frames_from infos bytes → list ≡ infos → slice ≡ bytes → sum_by length_in infos ≡ length bytes
+      → all ≡ kept_frames_from infos bytes → list ≡ infos → slice ≡ bytes → sum_by length_in infos ≡ length bytes
       → AllByRecursion HasKeptSize infos → waiting ≡ file_header unit → HasKept unit test all list slice before before waiting
   puts-first unit all infos list bytes slice before waiting is list_is slice_is size short begun = record {
     front = [];
-    parts = ap (frames_where test) (is ∙ sym (ap (λ (xs : List FrameInfo). frames_from xs slice) list_is
-        ∙ ap (frames_from infos) slice_is));
+    parts = ap (frames_where test) (is ∙ sym (ap (λ (xs : List FrameInfo). kept_frames_from xs slice) list_is
+        ∙ ap (kept_frames_from infos) slice_is));
     size = ap (sum_by length_in) list_is ∙ size ∙ sym (ap length slice_is);
     short = subst (AllByRecursion HasKeptSize) (sym list_is) short;
     goes = goes-header unit before waiting begun;
@@ -85,14 +85,14 @@ module _ (test : ℕ → ℕ → Bool) where
   next : (all : List KeptFrame) (info : FrameInfo) (infos list : List FrameInfo) (frame bytes rest : List ℕ) (here : Bool)
       (front : List Timed)
       → list ≡ info ∷ infos → frame ≡ take info.length bytes → rest ≡ drop info.length bytes → test info.host info.socket ≡ here
-      → frames_where test all ≡ front ++ frames_where test (frames_from list bytes)
+      → frames_where test all ≡ front ++ frames_where test (kept_frames_from list bytes)
       → frames_where test all ≡ (front ++ if-here here (numbered_frame info.number frame))
-      ++ frames_where test (frames_from infos rest)
+      ++ frames_where test (kept_frames_from infos rest)
   next all info infos list frame bytes rest here front is frame_is rest_is on parts =
       let one : List ℕ → Timed = numbered_frame info.number in
-      let later : List ℕ → List Timed = λ xs. frames_where test (frames_from infos xs) in
+      let later : List ℕ → List Timed = λ xs. frames_where test (kept_frames_from infos xs) in
       parts
-      ∙ ap (λ (xs : List FrameInfo). front ++ frames_where test (frames_from xs bytes)) is
+      ∙ ap (λ (xs : List FrameInfo). front ++ frames_where test (kept_frames_from xs bytes)) is
       ∙ ap (λ (b : Bool). front ++ (if-here b (one (take info.length bytes)) ++ later (drop info.length bytes))) on
       ∙ ap (λ (xs : List ℕ). front ++ (if-here here (one xs) ++ later (drop info.length bytes))) (sym frame_is)
       ∙ ap (λ (xs : List ℕ). front ++ (if-here here (one frame) ++ later xs)) (sym rest_is)
@@ -132,7 +132,7 @@ module _ (test : ℕ → ℕ → Bool) where
   puts-passed unit all info infos list bytes rest before now waiting is rest_is on has = record {
     front = has.front;
     parts = next all info infos list (take info.length bytes) bytes rest false has.front is refl rest_is on has.parts
-        ∙ ap (λ (front : List Timed). front ++ frames_where test (frames_from infos rest)) (append-nil has.front);
+        ∙ ap (λ (front : List Timed). front ++ frames_where test (kept_frames_from infos rest)) (append-nil has.front);
     size = left info infos list bytes rest is rest_is has.size;
     short = (subst (AllByRecursion HasKeptSize) is has.short).1;
     goes = has.goes;
@@ -142,7 +142,7 @@ module _ (test : ℕ → ℕ → Bool) where
       (waiting : List ℕ) → HasKept unit test all infos bytes before now waiting → AppendsFront now later waiting
       → AppendsFront before later (written unit (frames_where test all))
   puts-stops unit all infos bytes before now later waiting has front =
-      let rest = frames_where test (frames_from infos bytes) in
+      let rest = frames_where test (kept_frames_from infos bytes) in
       subst (λ (bytes : List ℕ). AppendsFront before later bytes) (sym (ap (written unit) has.parts ∙ written-append unit has.front rest))
       (goes-stops before now later waiting (written unit has.front) (flat_map (packet_of unit) rest) has.goes front)
 
@@ -151,7 +151,7 @@ module _ (test : ℕ → ℕ → Bool) where
       → Appends before later (written unit (frames_where test all))
   puts-ends unit all infos bytes before now later waiting none has went =
       subst (Appends before later) (sym (ap (written unit) (has.parts
-      ∙ ap (λ (xs : List FrameInfo). has.front ++ frames_where test (frames_from xs bytes)) none ∙ append-nil has.front)))
+      ∙ ap (λ (xs : List FrameInfo). has.front ++ frames_where test (kept_frames_from xs bytes)) none ∙ append-nil has.front)))
       (goes-ends before now later waiting (written unit has.front) has.goes went)
 
 -- Texts.

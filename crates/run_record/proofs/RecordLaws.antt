@@ -3,7 +3,9 @@ use Rattle.std.proofs.Common.{◌≡◌, ◌==◌, ◌⊎◌, ◌++◌, ◌∷�
 use Rattle.std.proofs.Common.{Global, List, None, Ok, Option, Some, Vec, map}
 use Rattle.std.proofs.Common.{if◌then◌else◌, option_map, slice_get, refl, sym, ap, subst, ◌∙◌, append-nil}
 use Rattle.std.specs.List.{flat_map, fold}
+use Rattle.std.specs.Vec.{with_items}
 use Rattle.std.proofs.lemmas.Grind.{flat_map-append}
+use Rattle.std.proofs.lemmas.List.{with_items_is}
 use Rattle.std.proofs.lemmas.List.Sums.{fold-append}
 use Rattle.stations.specs.Outcomes.{note_of}
 use Rattle.stations.specs.ToldTicks.{TickTold}
@@ -23,7 +25,7 @@ use Rattle.wire.specs.RunObservers.{AreOfTicks, TellsReply, ending, happened_of,
 use Rattle.wire.specs.RunObserverLaws.{told_happened}
 use Rattle.wire.specs.Runs.{accepted_by_answer, given_by_answer, joined_of, left_by_answer, said}
 use Rattle.run_record.specs.Acts.{Ran}
-use Rattle.run_record.specs.EventLines.{paired, place_at}
+use Rattle.run_record.specs.EventLines.{paired, place_in_run}
 use Rattle.run_record.specs.Numbers.{next_number}
 use Rattle.run_record.specs.Kept.{FramesGrow, KeptFrame, PutsGrow, put_frame_in, put_frames_in, returned_in}
 use Rattle.run_record.specs.Recording.{IsInOrder, NotesAnswer, NotesLine, HearsTicks, RecordsReplies, TellsReset, answered}
@@ -326,7 +328,7 @@ event-puts number (event.Tick one) reply ticks of_ticks outcomes order =
 
 -- The frames that sockets return are those in answers.
 
-given-up-gives : (number host : ℕ) (one : FrameAnswer) → returned_in number (given_up_of host one) ≡ []
+pub given-up-gives : (number host : ℕ) (one : FrameAnswer) → returned_in number (given_up_of host one) ≡ []
 given-up-gives number host (answer.Reset sending holding on_after) = refl
 given-up-gives number host _ = refl
 
@@ -342,39 +344,24 @@ answered-as number one reply = sym (given-said number one reply)
 none-returned : (more old new : List KeptFrame) → more ≡ [] → new ≡ old → FramesGrow more old new
 none-returned more old new none same = same ∙ sym (append-nil old) ∙ ap (λ (list : List KeptFrame). old ++ list) (sym none)
 
-pub sent-answers : (one : Event) (host : ℕ) (frame : Vec ℕ Global) (list : Vec Tick Global) (given : FrameAnswer) (old new : Record)
-    → one ≡ event.Send host frame list → new.number ≡ old.number → new.puts ≡ old.puts → new.log ≡ old.log → new.failed ≡ old.failed
-    → new.returned ≡ old.returned
-    → TalliesGrow (accepted_by_answer host frame.items given) old.hosts.items new.hosts.items → NotesAnswer (answered one given) old new
-sent-answers one host frame list given old new is number puts log failed returned hosts =
-    subst (λ (e : Event). NotesAnswer (answered e given) old new) (sym is)
-    (record {
-      number = number;
-      puts = puts;
-      log = log;
-      before = λ sound. sym failed ∙ sound;
-      hosts = hosts;
-      returned = λ sound.
-          none-returned (returned_in old.number (accepted_by_answer host frame.items given)) old.returned new.returned
-          (given-accepted old.number host frame.items given) returned;
-    })
+-- The answer changes only the counts of hosts.
+pub hosts-answer : (happened : List Happening) (old : Record) (was new : List Tally) → old.hosts.items ≡ was → length new ≡ old.hosts.len
+    → returned_in old.number happened ≡ [] → TalliesGrow happened was new
+    → NotesAnswer happened old (record old { hosts = with_items old.hosts new })
+hosts-answer happened old was new was_is size none grows = record {
+  number = refl;
+  puts = refl;
+  log = refl;
+  before = λ sound. sound;
+  hosts =
+      subst (λ (list : List Tally). TalliesGrow happened list (with_items old.hosts new).items) (sym was_is)
+      (subst (λ (list : List Tally). TalliesGrow happened was list) (sym (with_items_is old.hosts new size)) grows);
+  returned = λ sound. none-returned (returned_in old.number happened) old.returned old.returned none refl;
+}
 
-pub reset-answers : (one : Event) (host : ℕ) (list : Vec Tick Global) (given : FrameAnswer) (old new : Record)
-    → one ≡ event.Reset host list → new.number ≡ old.number → new.puts ≡ old.puts → new.log ≡ old.log → new.failed ≡ old.failed
-    → new.returned ≡ old.returned
-    → TalliesGrow (given_up_of host given) old.hosts.items new.hosts.items → NotesAnswer (answered one given) old new
-reset-answers one host list given old new is number puts log failed returned hosts =
-    subst (λ (e : Event). NotesAnswer (answered e given) old new) (sym is)
-    (record {
-      number = number;
-      puts = puts;
-      log = log;
-      before = λ sound. sym failed ∙ sound;
-      hosts = hosts;
-      returned = λ sound.
-          none-returned (returned_in old.number (given_up_of host given)) old.returned new.returned
-          (given-up-gives old.number host given) returned;
-    })
+pub answer-of : (one : Event) {event : Event} (given : FrameAnswer) {old new : Record} → one ≡ event
+    → NotesAnswer (answered event given) old new → NotesAnswer (answered one given) old new
+answer-of one given {old} {new} is noted = subst (λ (e : Event). NotesAnswer (answered e given) old new) (sym is) noted
 
 -- The ticks of an event, paired with the outcomes in its reply, are the ticks that the observer was told.
 
@@ -419,8 +406,8 @@ records-reply one given accesses ticks begin ticked lined after number heard of_
                     entries = (ticked.line, Ran one reply) ∷ [];
                     are = refl;
                     log = answers.log ∙ line.log (answers.before sound)
-                        ∙ ap (λ (n : ℕ). log_ended (place_at n ticked.line) one accesses given ticked.log) heard.number
-                        ∙ ap (log_ended (place_at begin.number ticked.line) one accesses given)
+                        ∙ ap (λ (n : ℕ). log_ended (place_in_run n ticked.line) one accesses given ticked.log) heard.number
+                        ∙ ap (log_ended (place_in_run begin.number ticked.line) one accesses given)
                         (heard.log before ∙ ap (fold log_heard begin.log) (sym (told-ticks one ticks of_ticks)));
                   });
             };

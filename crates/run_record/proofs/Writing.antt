@@ -1,13 +1,17 @@
 -- The traces of several sinks are written one after the other: the invariant of the loop in `KeptFrames::write`.
 use Rattle.std.proofs.Common.{◌≡◌, ◌<◌, ◌+◌, ◌∷◌, [], zero, suc, ℕ, List, Option, Some, None, length, map, slice_get, slice_set}
-use Rattle.std.proofs.Common.{option_map}
+use Rattle.std.proofs.Common.{get_or, option_map}
 use Rattle.std.specs.List.{All}
 use Rattle.std.proofs.Common.{inl, inr, refl, sym, ap, subst, ◌∙◌, arith}
 use Rattle.std.proofs.lemmas.Bool.Decides.{eqb_tells}
-use Rattle.std.proofs.lemmas.Option.{get_or_from_slice_get, slice_get-map, slice_get_within}
+use Rattle.std.proofs.lemmas.Option.{get_or_from_slice_get, slice_get-get_or, slice_get-map, slice_get_within}
 use Rattle.circular_buffer.proofs.Places.{slice_get-set_other, slice_get-set_same}
 use Rattle.pcap_trace.specs.Format.{Timed}
 use Rattle.pcap_trace.specs.declared.unit.Unit.{Unit}
+use Rattle.run_record.specs.Kept.{KeptFrame, frames_where}
+use Rattle.run_record.specs.Traces.{is_in_trace, texts_in}
+use Rattle.run_record.specs.declared.kept.Traces.{Traces}
+use Rattle.run_record.proofs.Puts.{text_at}
 use Rattle.run_record.specs.WrittenTraces.{AreWritten, AreWrittenUpTo, FailsAmong, SinkState, TakesText}
 
 pub length-set : {X : Type 0} → (xs : List X) (i : ℕ) (x : X) → length (slice_set xs i x) ≡ length xs
@@ -104,31 +108,39 @@ module _ {S : Type 0} (taken : S → Option (List ℕ)) (failures : S → ℕ) w
       inside : (a b : SinkState) → Some a ≡ Some b → a ≡ b
       inside a b e = cc
 
-  pub still_countable : (unit : Unit) (most place : ℕ) (texts : List (List Timed)) (old new : List S) (now : S)
-      → All (λ (sink : S). failures sink < most) old
-      → AreWritten unit place texts (map state_of old) (map state_of new) → slice_get new place ≡ Some now → failures now < most
-  still_countable unit most place texts old new now countable has there =
+  -- The sinks before this place are written. At this place, the trace has the frames `text`, and the sink is `now`.
+  pub record AtSink (unit : Unit) (place : ℕ) (texts : List (List Timed)) (old new : List S) (text : List Timed) (now : S) : Type 0 where
+    pub written : AreWritten unit place texts (map state_of old) (map state_of new)
+    pub text_is : slice_get texts place ≡ Some text
+    pub there : slice_get new place ≡ Some now
+
+  pub still_countable : {unit : Unit} {place : ℕ} {texts : List (List Timed)} {old new : List S} {text : List Timed} {now : S} (most : ℕ)
+      → AtSink unit place texts old new text now → All (λ (sink : S). failures sink < most) old → failures now < most
+  still_countable {unit} {place} {texts} {old} {new} {text} {now} most at countable =
       found_as most (slice_get old place) now (λ sink is. subst (λ (s : S). failures s < most)
       (get_or_from_slice_get old place sink sink is) (countable place sink (slice_get_within old place sink is)))
       (sym (slice_get-map state_of old place)
-      ∙ as_before unit place texts (map state_of old) (map state_of new) (state_of now) has (at_place new place now there))
+      ∙ as_before unit place texts (map state_of old) (map state_of new) (state_of now) at.written (at_place new place now at.there))
 
-  pub sink_written : (unit : Unit) (place : ℕ) (texts : List (List Timed)) (old new : List S) (text : List Timed) (now later : S)
-      → AreWritten unit place texts (map state_of old) (map state_of new) → slice_get texts place ≡ Some text
-      → slice_get new place ≡ Some now
-      → TakesText unit text (state_of now) (state_of later)
+  pub sink_written : {unit : Unit} {place : ℕ} {texts : List (List Timed)} {old new : List S} {text : List Timed} {now : S} (later : S)
+      → AtSink unit place texts old new text now → TakesText unit text (state_of now) (state_of later)
       → AreWritten unit (place + 1) texts (map state_of old) (map state_of (slice_set new place later))
-  sink_written unit place texts old new text now later has text_is there takes =
+  sink_written {unit} {place} {texts} {old} {new} {text} {now} later at takes =
       subst (AreWritten unit (place + 1) texts (map state_of old)) (sym (map-set state_of new place later))
-      (one_written unit place texts (map state_of old) (map state_of new) text (state_of now) (state_of later) has text_is
-      (at_place new place now there) takes)
+      (one_written unit place texts (map state_of old) (map state_of new) text (state_of now) (state_of later) at.written at.text_is
+      (at_place new place now at.there) takes)
 
-  pub sink_failed : (unit : Unit) (place : ℕ) (texts : List (List Timed)) (old new : List S) (text : List Timed) (now later : S)
-      → AreWritten unit place texts (map state_of old) (map state_of new) → slice_get texts place ≡ Some text
-      → slice_get new place ≡ Some now
-      → FailsAmong unit text (state_of now) (state_of later)
+  pub sink_failed : {unit : Unit} {place : ℕ} {texts : List (List Timed)} {old new : List S} {text : List Timed} {now : S} (later : S)
+      → AtSink unit place texts old new text now → FailsAmong unit text (state_of now) (state_of later)
       → AreWrittenUpTo unit place texts (map state_of old) (map state_of (slice_set new place later))
-  sink_failed unit place texts old new text now later has text_is there fails =
+  sink_failed {unit} {place} {texts} {old} {new} {text} {now} later at fails =
       subst (AreWrittenUpTo unit place texts (map state_of old)) (sym (map-set state_of new place later))
-      (one_failed unit place texts (map state_of old) (map state_of new) text (state_of now) (state_of later) has text_is
-      (at_place new place now there) fails)
+      (one_failed unit place texts (map state_of old) (map state_of new) text (state_of now) (state_of later) at.written at.text_is
+      (at_place new place now at.there) fails)
+
+  pub at-sink : (unit : Unit) (traces : Traces) (frames : List KeptFrame) (place : ℕ) (old new : List S) (default : S)
+      → place < length new → place < length (texts_in traces frames)
+      → AreWritten unit place (texts_in traces frames) (map state_of old) (map state_of new)
+      → AtSink unit place (texts_in traces frames) old new (frames_where (is_in_trace traces place) frames) (get_or new place default)
+  at-sink unit traces frames place old new default there below written =
+      record { written = written; text_is = text_at traces frames place below; there = slice_get-get_or new place default there }

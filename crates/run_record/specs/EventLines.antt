@@ -9,19 +9,13 @@ use Rattle.stations.specs.declared.outcomes.Numbered.{Numbered}
 use Rattle.stations.specs.declared.tick.Tick.{Tick}
 use Rattle.wire.specs.RunObservers.{played_ticks}
 use Rattle.run_record.specs.Acts.{Act, Drained, Ran}
-use Rattle.run_record.specs.EventTexts.{answer_text, event_text, name_at, numbered, told_text}
+use Rattle.run_record.specs.EventTexts.{answer_text, event_text, name_at, numbered, tick_line_text}
 use Rattle.run_record.specs.Numbers.{next_number}
+use Rattle.run_record.specs.declared.event_text.Place.{Place}
 
 -- the text of a tick, with the number of its call's accesses before it, and with its outcome
-abbrev pub text_of : (names : List (List ℕ)) → TickTold → List ℕ
-text_of names told = told_text names told.tick told.accesses told.outcome
-
--- the number of an event or a drain in the run, and the number of its line in the scenario
-pub record Place : Type 0 where
-  -- the number of the event or drain
-  pub number : ℕ
-  -- the number of its line in the scenario
-  pub line : ℕ
+abbrev pub tick_told_text : (names : List (List ℕ)) → TickTold → List ℕ
+tick_told_text names told = tick_line_text names told.tick told.accesses told.outcome
 
 -- `EVENT line LINE`: the number of the event or drain, and the number of its line
 abbrev pub place_text : Place → List ℕ
@@ -50,19 +44,19 @@ told_in event reply = paired (played_ticks event) reply.outcomes.list
 -- the line of an act at this place in the run and the scenario
 abbrev pub act_line : (names : List (List ℕ)) → Place → Act → List ℕ
 act_line names place (Ran event reply) =
-    event_line names place event reply.accesses reply.answer (flat_map (text_of names) (told_in event reply))
+    event_line names place event reply.accesses reply.answer (flat_map (tick_told_text names) (told_in event reply))
 act_line names place (Drained host buffered given) = drain_line names place host (length given)
 
 -- the place of an event or a drain, from its number and the number of its line
-abbrev pub place_at : (number line : ℕ) → Place
-place_at number line = record { number = number; line = line }
+abbrev pub place_in_run : (number line : ℕ) → Place
+place_in_run number line = record { number = number; line = line }
 
 -- The lines of these acts, each given with the number of its line in the scenario. The first act has number `number`, the next act
 -- `next_number number`.
 abbrev pub lines_from : (names : List (List ℕ)) → (number : ℕ) → List (ℕ × Act) → List ℕ
 lines_from names number [] = []
 lines_from names number (entry ∷ entries) =
-    act_line names (place_at number entry.0) entry.1 ++ lines_from names (next_number number) entries
+    act_line names (place_in_run number entry.0) entry.1 ++ lines_from names (next_number number) entries
 
 -- A log.
 
@@ -81,7 +75,7 @@ no_lines names = record { names = names; outcomes = []; text = [] }
 
 -- the log after a tick: the tick's text is appended to `outcomes`
 abbrev pub tick_logged : LogState → TickTold → LogState
-tick_logged log told = record log { outcomes = log.outcomes ++ text_of log.names told }
+tick_logged log told = record log { outcomes = log.outcomes ++ tick_told_text log.names told }
 
 -- the log after the end of an event: the event's line is appended, and `outcomes` is emptied
 abbrev pub end_logged : Place → Event → (accesses : ℕ) → FrameAnswer → LogState → LogState

@@ -46,25 +46,25 @@ tick_text names (tick.Step host kind) = step_word kind ++ name_at names host
 tick_text names (tick.Deliver host) = codes " deliver:" ++ name_at names host
 
 -- a blank and the word for a fate
-abbrev pub fate_word : Fate → List ℕ
-fate_word fate.Off = codes " off"
-fate_word fate.Illegal = codes " illegal"
-fate_word fate.Filtered = codes " filtered"
-fate_word fate.Missed = codes " missed"
-fate_word fate.Stored = codes " stored"
+abbrev pub fate_field : Fate → List ℕ
+fate_field fate.Off = codes " off"
+fate_field fate.Illegal = codes " illegal"
+fate_field fate.Filtered = codes " filtered"
+fate_field fate.Missed = codes " missed"
+fate_field fate.Stored = codes " stored"
 
 -- a blank and the word for an outcome; a delivery has the word for the fate of its frame
-abbrev pub outcome_word : FrameOutcome → List ℕ
-outcome_word outcome.Took = codes " took"
-outcome_word (outcome.Put frame) = codes " put"
-outcome_word outcome.WireFull = codes " wirefull"
-outcome_word outcome.Part = codes " part"
-outcome_word outcome.Moved = codes " moved"
-outcome_word outcome.Done = codes " done"
-outcome_word (outcome.Delivered frame one) = fate_word one
-outcome_word outcome.Ticked = codes " ticked"
-outcome_word outcome.Nothing = codes " nothing"
-outcome_word outcome.Fault = codes " fault"
+abbrev pub outcome_field : FrameOutcome → List ℕ
+outcome_field outcome.Took = codes " took"
+outcome_field (outcome.Put frame) = codes " put"
+outcome_field outcome.WireFull = codes " wirefull"
+outcome_field outcome.Part = codes " part"
+outcome_field outcome.Moved = codes " moved"
+outcome_field outcome.Done = codes " done"
+outcome_field (outcome.Delivered frame one) = fate_field one
+outcome_field outcome.Ticked = codes " ticked"
+outcome_field outcome.Nothing = codes " nothing"
+outcome_field outcome.Fault = codes " fault"
 
 -- a blank and the size of an outcome's frame in bytes, if the outcome has a frame
 abbrev pub outcome_size : FrameOutcome → List ℕ
@@ -74,11 +74,11 @@ outcome_size one = []
 
 -- an outcome, with the size of its frame in bytes if it has a frame
 abbrev pub outcome_text : FrameOutcome → List ℕ
-outcome_text one = outcome_word one ++ outcome_size one
+outcome_text one = outcome_field one ++ outcome_size one
 
 -- ` @N TICK OUTCOME`: a tick that was played after N accesses of its call; N is 0 outside a call
-abbrev pub told_text : (names : List (List ℕ)) → Tick → (accesses : ℕ) → FrameOutcome → List ℕ
-told_text names tick accesses one = numbered (codes " @") accesses ++ tick_text names tick ++ outcome_text one
+abbrev pub tick_line_text : (names : List (List ℕ)) → Tick → (accesses : ℕ) → FrameOutcome → List ℕ
+tick_line_text names tick accesses one = numbered (codes " @") accesses ++ tick_text names tick ++ outcome_text one
 
 -- Events and their answers.
 

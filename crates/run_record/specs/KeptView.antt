@@ -12,13 +12,13 @@ abbrev pub frame_with : FrameInfo → List ℕ → KeptFrame
 frame_with info bytes = kept_frame info.host info.socket info.number bytes
 
 -- the frames with this information; `bytes` are their bytes, one frame after the other
-abbrev pub frames_from : List FrameInfo → (bytes : List ℕ) → List KeptFrame
-frames_from [] bytes = []
-frames_from (info ∷ infos) bytes = frame_with info (take info.length bytes) ∷ frames_from infos (drop info.length bytes)
+abbrev pub kept_frames_from : List FrameInfo → (bytes : List ℕ) → List KeptFrame
+kept_frames_from [] bytes = []
+kept_frames_from (info ∷ infos) bytes = frame_with info (take info.length bytes) ∷ kept_frames_from infos (drop info.length bytes)
 
 -- the frames that these two lists store
 abbrev pub kept_frames_of : Inside → List KeptFrame
-kept_frames_of inside = frames_from inside.infos.items inside.bytes.items
+kept_frames_of inside = kept_frames_from inside.infos.items inside.bytes.items
 
 -- the number of the frame's bytes
 abbrev pub length_in : FrameInfo → ℕ

@@ -10,7 +10,7 @@ use Rattle.stations.specs.ToldTicks.{TickTold}
 use Rattle.wire.specs.RunObservers.{happened_of}
 use Rattle.wire.specs.Runs.{accepted_by_answer, given_by_answer, said}
 use Rattle.run_record.specs.Acts.{ran}
-use Rattle.run_record.specs.EventLines.{place_at}
+use Rattle.run_record.specs.EventLines.{place_in_run}
 use Rattle.run_record.specs.Kept.{FramesGrow, KeptFrame, PutsGrow, put_frames_in, returned_in}
 use Rattle.run_record.specs.RunLogs.{log_ended, log_heard}
 use Rattle.run_record.specs.Tallies.{AreNoted, TalliesGrow, given_up_of}
@@ -49,7 +49,7 @@ pub record NotesLine (event : Event) (accesses : ℕ) (answer : FrameAnswer) (ol
   pub returned : new.returned ≡ old.returned
   pub puts : new.puts ≡ old.puts
   pub before : new.failed ≡ false → old.failed ≡ false
-  pub log : new.failed ≡ false → new.log ≡ log_ended (place_at old.number old.line) event accesses answer old.log
+  pub log : new.failed ≡ false → new.log ≡ log_ended (place_in_run old.number old.line) event accesses answer old.log
 
 -- `happened` consists of `ticked`, the happenings of a reset's ticks in order, and of the happenings of the reset itself at three places
 -- between them. These are `Disabled`, then `given_up`, then `Enabled`.

@@ -12,7 +12,7 @@ use Rattle.network_plan.specs.declared.reply.Reply.{Reply}
 use Rattle.stations.specs.ToldTicks.{ComposesTold, TickTold}
 use Rattle.wire.specs.RunObservers.{ComposesRuns, happened_of}
 use Rattle.run_record.specs.Acts.{Act, Ran, history, ran, said_in}
-use Rattle.run_record.specs.EventLines.{place_at}
+use Rattle.run_record.specs.EventLines.{place_in_run}
 use Rattle.run_record.specs.Numbers.{next_number}
 use Rattle.run_record.specs.Kept.{FramesGrow, KeptFrame, PutsGrow, chosen_from, put_frame_in, put_frames_in, put_from}
 use Rattle.run_record.specs.Kept.{returned_frame_in, returned_from}
@@ -76,7 +76,7 @@ logged-join : (number : ℕ) (entries later : List (ℕ × Act)) (log : RunLog)
     → logged number (entries ++ later) log ≡ logged (number_behind number (acts_in entries)) later (logged number entries log)
 logged-join number [] later log = refl
 logged-join number (entry ∷ entries) later log =
-    logged-join (next_number number) entries later (act_logged (place_at number entry.0) entry.1 log)
+    logged-join (next_number number) entries later (act_logged (place_in_run number entry.0) entry.1 log)
 
 logs-join : (acts later : List Act) (a b c : Record) → b.number ≡ number_behind a.number acts → AreLogged acts a b → AreLogged later b c
     → AreLogged (acts ++ later) a c

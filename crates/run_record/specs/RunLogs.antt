@@ -8,11 +8,12 @@ use Rattle.network_plan.specs.declared.reply.Answer.TheVariants as answer
 use Rattle.packet_socket.specs.declared.receive.RecvError.TheVariants as recv
 use Rattle.stations.specs.ToldTicks.{TickTold}
 use Rattle.run_record.specs.Acts.{Act, Drained, Ran}
-use Rattle.run_record.specs.EventLines.{LogState, Place, drain_logged, end_logged, no_lines, place_at, tick_logged, told_in}
+use Rattle.run_record.specs.EventLines.{LogState, drain_logged, end_logged, no_lines, place_in_run, tick_logged, told_in}
 use Rattle.run_record.specs.Numbers.{next_number}
 use Rattle.run_record.specs.declared.record.Record.{Record}
 use Rattle.run_record.specs.declared.run_log.RunLog.{RunLog}
 use Rattle.run_record.specs.declared.run_log.Refusals.{Refusals}
+use Rattle.run_record.specs.declared.event_text.Place.{Place}
 
 -- no call was refused
 abbrev pub no_refusals : Refusals
@@ -65,7 +66,7 @@ act_logged place (Drained host buffered given) log = act_drained place host (len
 abbrev pub logged : (number : ℕ) → List (ℕ × Act) → RunLog → RunLog
 logged number [] log = log
 logged number (entry ∷ entries) log =
-    logged (next_number number) entries (act_logged (place_at number entry.0) entry.1 log)
+    logged (next_number number) entries (act_logged (place_in_run number entry.0) entry.1 log)
 
 -- the acts without the numbers of their lines
 abbrev pub acts_in : List (ℕ × Act) → List Act

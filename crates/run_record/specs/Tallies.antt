@@ -10,7 +10,7 @@ use Rattle.network_plan.specs.declared.reply.Answer.TheVariants as answer
 use Rattle.adapter.specs.Outcomes.{FrameOutcome}
 use Rattle.adapter.specs.declared.outcome.Outcome.TheVariants as outcome
 use Rattle.run_record.specs.Acts.{Act, history}
-use Rattle.run_record.specs.Numbers.{greatest_number, next_number}
+use Rattle.run_record.specs.Numbers.{greatest_act_number, next_number}
 use Rattle.run_record.specs.Kept.{FramesGrow, PutsGrow, put_from, returned_from}
 use Rattle.run_record.specs.RunLogs.{AreLogged}
 use Rattle.run_record.specs.declared.record.Record.{Record}
@@ -36,9 +36,9 @@ off_by k (Reached host frame fate.Off) = of_host k host (frame ∷ [])
 off_by k one = []
 
 -- whether a happening is `GivenUp` at the k-th host
-abbrev pub resets : ℕ → Happening → Bool
-resets k (HasGivenUp host sending holding) = k == host
-resets k one = false
+abbrev pub is_given_up_at : ℕ → Happening → Bool
+is_given_up_at k (HasGivenUp host sending holding) = k == host
+is_given_up_at k one = false
 
 -- Counts of a host.
 
@@ -63,7 +63,7 @@ passage_by _ = passage.Reached
 
 -- this number plus `more`, but at most the greatest number
 abbrev pub grown_by : (more : ℕ) → ℕ → ℕ
-grown_by more number = min (number + more) greatest_number
+grown_by more number = min (number + more) greatest_act_number
 
 -- the counts of a host after its reset, which gave up these numbers of frames
 abbrev pub tally_given_up : (sending holding : ℕ) → Tally → Tally

@@ -9,7 +9,9 @@ use wire::FrameSink;
 /// A frame, with the number of the socket that returned it.
 #[derive(Drop)]
 pub struct DrainedFrame {
+    /// The number of the socket.
     pub socket: usize,
+    /// The frame that the socket returned.
     pub frame: Frame,
 }
 
@@ -17,6 +19,7 @@ pub struct DrainedFrame {
 /// only if a later drain needs more.
 #[derive(Drop)]
 pub struct DrainedFrames {
+    /// The frames, in order.
     pub list: Vec<DrainedFrame>,
 }
 
@@ -50,6 +53,7 @@ impl FrameSink for DrainedFrames {
     }
 
     fn take(&mut self, socket: usize, frame: &Frame) {
+        // The caller made room, so the push can't fail.
         let _ = self.list.push(DrainedFrame {
             socket,
             frame: Frame::from_slice(frame.as_slice()),

@@ -14,6 +14,15 @@ use packet_socket::RecvError;
 use stations::Tick;
 use std::alloc::AllocError;
 
+/// Where an event or a drain is in the run and in the scenario.
+#[derive(Clone, Copy)]
+pub(crate) struct Place {
+    /// The number of the event or drain, from 0; it saturates at the greatest `u64`.
+    pub(crate) number: u64,
+    /// The number of its line in the scenario, from 1; 0 if no line is known.
+    pub(crate) line: u64,
+}
+
 /// Appends a label and a number.
 fn push_number(text: &mut Vec<u8>, label: &[u8], number: u64) -> Result<(), AllocError>
     ensures { OnOk result (text.new.items ≡ text.old.items ++ (label.now ++ decimal number)) }
@@ -90,7 +99,7 @@ fn push_tick(text: &mut Vec<u8>, names: &[String], tick: Tick) -> Result<(), All
 
 /// Returns a blank and the word for a fate.
 fn fate_word(fate: Fate) -> &'static [u8]
-    ensures { result.now ≡ texts.fate_word fate }
+    ensures { result.now ≡ texts.fate_field fate }
 {
     match fate {
         Fate::Off => b" off",
@@ -103,7 +112,7 @@ fn fate_word(fate: Fate) -> &'static [u8]
 
 /// Returns a blank and the word for an outcome.
 fn outcome_word(outcome: &Outcome<()>) -> &'static [u8]
-    ensures { (frame : List ℕ) → result.now ≡ texts.outcome_word (with_frame frame outcome.now) }
+    ensures { (frame : List ℕ) → result.now ≡ texts.outcome_field (with_frame frame outcome.now) }
 {
     match outcome {
         Outcome::Took => b" took",
@@ -143,7 +152,7 @@ pub(crate) fn push_told(
     frame: &[u8],
 ) -> Result<(), AllocError>
     ensures { OnOk result (text.new.items ≡ text.old.items
-        ++ texts.told_text (map string_bytes names.now) tick accesses (with_frame frame.now outcome.now)) }
+        ++ texts.tick_line_text (map string_bytes names.now) tick accesses (with_frame frame.now outcome.now)) }
 {
     push_number(text, b" @", accesses)?;
     push_tick(text, names, tick)?;
@@ -265,22 +274,20 @@ fn push_answer(text: &mut Vec<u8>, answer: &Answer<()>, frame: &[u8]) -> Result<
     push_numbers(text, answer, frame)
 }
 
-/// Appends the number of an event, and the number of its line in the scenario.
-fn push_place(text: &mut Vec<u8>, number: u64, line: u64) -> Result<(), AllocError>
-    ensures { OnOk result (text.new.items ≡ text.old.items ++ lines.place_text (lines.place_at number line)) }
+/// Appends the number of an event or a drain, and the number of its line in the scenario.
+fn push_place(text: &mut Vec<u8>, place: Place) -> Result<(), AllocError>
+    ensures { OnOk result (text.new.items ≡ text.old.items ++ lines.place_text place) }
 {
-    push_number(text, b"", number)?;
-    push_number(text, b" line ", line)
+    push_number(text, b"", place.number)?;
+    push_number(text, b" line ", place.line)
 }
 
-/// Appends the line of the event with this number. `line` is the number of the event's line in the scenario, and
-/// `outcomes` is the text of the event's ticks.
+/// Appends the line of the event at this place. `outcomes` is the text of the event's ticks.
 #[inline(never)]
 pub(crate) fn push_line(
     text: &mut Vec<u8>,
     names: &[String],
-    number: u64,
-    line: u64,
+    place: Place,
     event: &Event,
     accesses: u64,
     answer: &Answer<()>,
@@ -288,10 +295,10 @@ pub(crate) fn push_line(
     outcomes: &[u8],
 ) -> Result<(), AllocError>
     ensures { OnOk result (text.new.items ≡ text.old.items
-        ++ lines.event_line (map string_bytes names.now) (lines.place_at number line) event.now accesses
-        (answer_with frame.now answer.now) outcomes.now) }
+        ++ lines.event_line (map string_bytes names.now) place event.now accesses (answer_with frame.now answer.now)
+        outcomes.now) }
 {
-    push_place(text, number, line)?;
+    push_place(text, place)?;
     push_event(text, names, event)?;
     push_answer(text, answer, frame)?;
     push_number(text, b" accesses ", accesses)?;
@@ -299,20 +306,18 @@ pub(crate) fn push_line(
     text.extend_from_slice(b"\n")
 }
 
-/// Appends the line of the drain with this number, in which a host returned `count` frames. `line` is the number of the
-/// drain's line in the scenario.
+/// Appends the line of the drain at this place, in which a host returned `count` frames.
 pub(crate) fn push_drain(
     text: &mut Vec<u8>,
     names: &[String],
-    number: u64,
-    line: u64,
+    place: Place,
     host: usize,
     count: usize,
 ) -> Result<(), AllocError>
     ensures { OnOk result (text.new.items ≡ text.old.items
-        ++ lines.drain_line (map string_bytes names.now) (lines.place_at number line) host count) }
+        ++ lines.drain_line (map string_bytes names.now) place host count) }
 {
-    push_place(text, number, line)?;
+    push_place(text, place)?;
     push_host(text, b" drain ", names, host)?;
     push_number(text, b" ok ", count as u64)?;
     text.extend_from_slice(b"\n")

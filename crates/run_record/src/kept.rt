@@ -38,6 +38,7 @@ struct FrameInfo {
 /// In contracts, the value is the list of these frames.
 #[derive(Drop)]
 pub struct KeptFrames {
+    /// The frames without their bytes.
     infos: Vec<FrameInfo>,
     /// The bytes of the frames, one frame after the other.
     bytes: Vec<u8>,

@@ -16,6 +16,7 @@ ghost use Rattle.wire.specs.DrainedNetworks.{said_of_drain};
 ghost use Rattle.wire.specs.Runs.{accepted_by_answer, given_by_answer};
 
 use crate::drained::DrainedFrame;
+use crate::event_text::Place;
 use crate::kept::KeptFrames;
 use crate::run_log::RunLog;
 use crate::tally::{Passage, Tally};
@@ -205,7 +206,10 @@ impl Record {
         ensures log { IfOk result (λ noted. noted.log ≡ new_log (map plan_name plans.now) events) }
     {
         let hosts = vec![in alloc; Tally::default(); plans.len()]?;
-        let log = RunLog::new(alloc, plans, events)?;
+        let log = match events {
+            true => RunLog::with_lines(alloc, plans)?,
+            false => RunLog::without_lines(),
+        };
         Ok(Record {
             number: 0,
             line: 0,
@@ -239,10 +243,11 @@ impl Record {
     fn note_line(&mut self, event: &Event, accesses: u64, answer: &Answer<()>, frame: &[u8])
         ensures { NotesLine event.now accesses (answer_with frame.now answer.now) self.old self.new }
     {
-        let ended = self
-            .log
-            .end(self.number, self.line, event, accesses, answer, frame);
-        if ended.is_err() {
+        let place = Place {
+            number: self.number,
+            line: self.line,
+        };
+        if self.log.end(place, event, accesses, answer, frame).is_err() {
             self.failed = true;
         }
     }
@@ -289,7 +294,11 @@ impl Record {
         ensures { OnOk result
             (AreNoted (Drained host 0 (map drained_frame given.now) ∷ []) self.old self.new) }
     {
-        self.log.drain(self.number, self.line, host, given.len())?;
+        let place = Place {
+            number: self.number,
+            line: self.line,
+        };
+        self.log.drain(place, host, given.len())?;
         let hosts = self.hosts.as_mut_slice();
         note_drained(hosts, &mut self.returned, host, self.number, given)?;
         self.number = self.number.saturating_add(1);

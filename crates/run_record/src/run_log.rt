@@ -1,15 +1,15 @@
 //! The record of the answers of a run: the numbers of refused calls, and on request a line for each event and drain.
-ghost use Rattle.std.specs.Prelude.{◌≡◌, ◌<◌, ℕ, List, IfOk, OnErr, OnOk, map, string_bytes};
+ghost use Rattle.std.specs.Prelude.{◌≡◌, ◌<◌, ℕ, false, true, List, IfOk, OnErr, OnOk, map, string_bytes};
 ghost use Rattle.std.specs.Io.KnownBytes.{Appends};
 ghost use Rattle.adapter.specs.Outcomes.{with_frame};
 ghost use Rattle.network_plan.specs.Answers.{answer_with};
 ghost use Rattle.pcap_trace.specs.Devices.{AppendsFront, CountsFailures};
 ghost use Rattle.stations.specs.ToldTicks.{tick_told};
-ghost use Rattle.run_record.specs.EventLines.{no_lines, place_at};
+ghost use Rattle.run_record.specs.EventLines.{no_lines};
 ghost use Rattle.run_record.specs.EventLogView.{plan_name};
 ghost use Rattle.run_record.specs.RunLogs.{act_drained, answered_log, log_ended, log_heard, new_log};
 
-use crate::event_text::{push_drain, push_line, push_told};
+use crate::event_text::{Place, push_drain, push_line, push_told};
 use adapter::Outcome;
 use network_plan::{Answer, Event, HostPlan};
 use packet_socket::RecvError;
@@ -30,8 +30,11 @@ const LONGEST_REST: usize = 192;
 /// In contracts, the value is a `LogState`.
 #[derive(Drop)]
 pub struct EventLog {
+    /// The names of the hosts, in order.
     names: Vec<String>,
+    /// The texts of the current event's ticks so far, with their outcomes.
     outcomes: Vec<u8>,
+    /// The lines.
     text: Vec<u8>,
 }
 
@@ -116,18 +119,24 @@ impl EventLog {
 }
 
 impl RunLog {
-    /// Returns a log without answers. If `events` is true, a line is recorded for each event and drain.
-    pub(crate) fn new(alloc: Global, plans: &[HostPlan], events: bool) -> Result<RunLog, AllocError>
-        ensures { IfOk result (λ log. log ≡ new_log (map plan_name plans.now) events) }
+    /// Returns a log without answers, which records no lines.
+    pub(crate) fn without_lines() -> RunLog
+        ensures { (names : List (List ℕ)) → result ≡ new_log names false }
     {
-        let lines = if events {
-            Some(EventLog::new(alloc, plans)?)
-        } else {
-            None
-        };
+        RunLog {
+            refusals: Refusals::default(),
+            lines: None,
+        }
+    }
+
+    /// Returns a log without answers, which records a line for each event and drain. `plans` are the plans of the hosts,
+    /// whose names the lines contain.
+    pub(crate) fn with_lines(alloc: Global, plans: &[HostPlan]) -> Result<RunLog, AllocError>
+        ensures { IfOk result (λ log. log ≡ new_log (map plan_name plans.now) true) }
+    {
         Ok(RunLog {
             refusals: Refusals::default(),
-            lines,
+            lines: Some(EventLog::new(alloc, plans)?),
         })
     }
 
@@ -179,21 +188,19 @@ impl RunLog {
         }
     }
 
-    /// Counts the answer of the event with this number if it is a refusal, and records the event's line if lines are
-    /// recorded. `line` is the number of the event's line in the scenario.
+    /// Counts the answer of the event at this place if it is a refusal, and records the event's line if lines are
+    /// recorded.
     #[inline(always)]
     pub(crate) fn end(
         &mut self,
-        number: u64,
-        line: u64,
+        place: Place,
         event: &Event,
         accesses: u64,
         answer: &Answer<()>,
         frame: &[u8],
     ) -> Result<(), AllocError>
         ensures { OnOk result
-            (self.new
-            ≡ log_ended (place_at number line) event.now accesses (answer_with frame.now answer.now) self.old) }
+            (self.new ≡ log_ended place event.now accesses (answer_with frame.now answer.now) self.old) }
     {
         self.count(answer);
         let Some(log) = &mut self.lines else {
@@ -202,8 +209,7 @@ impl RunLog {
         push_line(
             &mut log.text,
             log.names.as_slice(),
-            number,
-            line,
+            place,
             event,
             accesses,
             answer,
@@ -214,20 +220,19 @@ impl RunLog {
         Ok(())
     }
 
-    /// Records the line of the drain with this number, in which a host returned `count` frames, if lines are recorded.
+    /// Records the line of the drain at this place, in which a host returned `count` frames, if lines are recorded.
     pub(crate) fn drain(
         &mut self,
-        number: u64,
-        line: u64,
+        place: Place,
         host: usize,
         count: usize,
     ) -> Result<(), AllocError>
-        ensures { OnOk result (self.new ≡ act_drained (place_at number line) host count self.old) }
+        ensures { OnOk result (self.new ≡ act_drained place host count self.old) }
     {
         let Some(log) = &mut self.lines else {
             return Ok(());
         };
         let names = log.names.as_slice();
-        push_drain(&mut log.text, names, number, line, host, count)
+        push_drain(&mut log.text, names, place, host, count)
     }
 }

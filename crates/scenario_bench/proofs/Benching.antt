@@ -1,7 +1,7 @@
 -- The clauses of `bench`, by what was played and recorded.
 use Rattle.std.proofs.Common.{◌≡◌, ◌<◌, ◌≤◌, ◌+◌, ◌++◌, ◌∷◌, ◌⊎◌, [], zero, suc, ℕ, Bool, List, Option, Some, None, length, map, replicate}
 use Rattle.std.proofs.Common.{◌==◌, ◌&&◌, true, false, append_assoc, if◌then◌else◌, slice_get}
-use Rattle.std.proofs.Common.{option_map, inl, inr, refl, sym, ap, subst, ◌∙◌, arith, take}
+use Rattle.std.proofs.Common.{option_map, inl, inr, refl, sym, ap, subst, ◌∙◌, arith, rules, take}
 use Rattle.std.specs.Prelude.{unwrap_or}
 use Rattle.std.proofs.Math.Seq.{take-append_seam}
 use Rattle.std.proofs.lemmas.List.{length-append, length-map}
@@ -27,7 +27,7 @@ use Rattle.run_record.specs.EventLogView.{plan_name}
 use Rattle.scenario_bench.specs.Given.{given_from, sockets_from}
 use Rattle.run_record.specs.Numbers.{next_number}
 use Rattle.run_record.specs.Kept.{numbered_frame}
-use Rattle.scenario_bench.specs.PlayedEvents.{AreRecorded, Begins, HasPlayed, HasPlayedFront, HasPlayedScenario}
+use Rattle.scenario_bench.specs.PlayedEvents.{AreRecorded, HasBegunPlay, HasPlayed, HasPlayedFront, HasPlayedScenario}
 use Rattle.run_record.specs.Recording.{IsNewRecord}
 use Rattle.scenario_bench.specs.PlayedEvents.{StopsAtPlan, StopsWithin, TellTallies, TellsTally, socket_texts_in, wire_texts_in}
 use Rattle.run_record.specs.Kept.{KeptFrame, frames_where, is_of_socket, put_from, returned_from, returned_in}
@@ -95,7 +95,7 @@ at-replicate zero k x below = absurd (omega (arith, below))
 at-replicate (suc n) zero x below = refl
 at-replicate (suc n) (suc k) x below = at-replicate n k x (omega (arith, below))
 
-pub tally_at : (plans : List HostPlan) (said : List Said) (a b : Play) (begun : Begins plans a) (played : HasPlayed said a b) (k : ℕ)
+pub tally_at : (plans : List HostPlan) (said : List Said) (a b : Play) (begun : HasBegunPlay plans a) (played : HasPlayed said a b) (k : ℕ)
     → k < length plans → slice_get b.record.hosts.items k ≡ Some (tally_of k (history played.acts))
 tally_at plans said a b begun played k below =
     let happened = history played.acts in
@@ -111,7 +111,7 @@ enough xs (suc n) each =
     let within : n < length xs = slice_get_within xs n last.0 last.1 in
     omega (arith, within)
 
-pub tallies_enough : (plans : List HostPlan) (said : List Said) (a b : Play) → Begins plans a → HasPlayed said a b
+pub tallies_enough : (plans : List HostPlan) (said : List Said) (a b : Play) → HasBegunPlay plans a → HasPlayed said a b
     → length plans ≤ length b.record.hosts.items
 tallies_enough plans said a b begun played = enough b.record.hosts.items (length plans)
     (λ k below. (tally_of k (history played.acts), tally_at plans said a b begun played k below))
@@ -154,7 +154,7 @@ texts-of acts (place ∷ places) =
     ap (λ (text : List Timed). text ∷ socket_texts (returned_from 0 acts) places) (returned-from place.0 place.1 0 acts)
     ∙ ap (λ (l : List (List Timed)). given_from place.0 place.1 0 acts ∷ l) (texts-of acts places)
 
-pub texts_are : (plans : List HostPlan) (said : List Said) (a b : Play) (begun : Begins plans a) (played : HasPlayed said a b)
+pub texts_are : (plans : List HostPlan) (said : List Said) (a b : Play) (begun : HasBegunPlay plans a) (played : HasPlayed said a b)
     → socket_texts_in plans b
     ≡ map (λ (place : ℕ × ℕ). given_from place.0 place.1 0 played.acts) (sockets_from 0 (hosts_of plans))
 texts_are plans said a b begun played =
@@ -165,7 +165,7 @@ texts_are plans said a b begun played =
 
 -- The summary
 
-abbrev pub plays_of : (scenario : Scenario) (said : List Said) (a b : Play) → Begins scenario.plan.hosts.items a → HasPlayed said a b
+abbrev pub plays_of : (scenario : Scenario) (said : List Said) (a b : Play) → HasBegunPlay scenario.plan.hosts.items a → HasPlayed said a b
     → PlaysEvents scenario said
 plays_of scenario said a b begun played = record {
   made = a.lan;
@@ -186,7 +186,7 @@ plan-at plans k plan None is there = absurd (none (sym (ap (option_map host_of_p
 plan-at plans k plan (Some one) is there =
     (one, is, some-same (host_of_plan one) plan (sym (ap (option_map host_of_plan) is) ∙ sym (slice_get-map host_of_plan plans k) ∙ there))
 
-pub hosts_tell : (plans : List HostPlan) (said : List Said) (a b : Play) (told : List HostSummary) (begun : Begins plans a)
+pub hosts_tell : (plans : List HostPlan) (said : List Said) (a b : Play) (told : List HostSummary) (begun : HasBegunPlay plans a)
     (played : HasPlayed said a b) → TellTallies (length plans) plans b told
     → TellsHosts (hosts_of plans) (history played.acts) b.lan told
 hosts_tell plans said a b told begun played tells = record {
@@ -199,14 +199,7 @@ hosts_tell plans said a b told begun played tells = record {
       let this = tells.each k found.0 (tally_of k happened) host one found.1 tally host_is one_is in
       record {
         name = this.name ∙ ap (λ (h : Host). h.name) found.2;
-        frames = record {
-          accepted = this.accepted;
-          put = this.put;
-          reached = this.reached;
-          stored = this.stored;
-          given = this.given;
-          resets = this.resets;
-        };
+        frames = search rules;
         missed = this.counts.0;
         exact = this.counts.1;
         unclaimed = this.counts.2;
@@ -272,7 +265,7 @@ module _ (unit : Unit) (hosts : List Host) (wires : ℕ) (more : List KeptFrame)
 -- A scenario that was played
 
 module _ (scenario : Scenario) (traces : List (List (List ℕ))) (first play : Play) (hosts : List HostSummary)
-    (begins : Begins scenario.plan.hosts.items first) (has : HasPlayedScenario scenario traces first play hosts) where
+    (begins : HasBegunPlay scenario.plan.hosts.items first) (has : HasPlayedScenario scenario traces first play hosts) where
   abbrev plans : List HostPlan
   plans = scenario.plan.hosts.items
 
@@ -371,7 +364,7 @@ module _ (scenario : Scenario) (traces : List (List (List ℕ))) (first play : P
 
 -- Errors after which nothing was written
 
-stopped-before : (scenario : Scenario) (all : List Said) (a b : Play) (done : ℕ) → Begins scenario.plan.hosts.items a
+stopped-before : (scenario : Scenario) (all : List Said) (a b : Play) (done : ℕ) → HasBegunPlay scenario.plan.hosts.items a
     → HasPlayedFront all a b → done ≡ b.record.number → StopsBefore scenario all done
 stopped-before scenario all a b done begun front is =
     let acts = front.played.acts in
@@ -393,7 +386,7 @@ module _ (unit : Unit) (scenario : Scenario) (traces : List (List (List ℕ))) (
   unmade errors.Memory stops = untouched
   unmade (errors.Write error) stops = absurd stops
 
-  pub unplayed : (a b : Play) (error : BenchError) → Begins scenario.plan.hosts.items a
+  pub unplayed : (a b : Play) (error : BenchError) → HasBegunPlay scenario.plan.hosts.items a
       → StopsWithin (scenario_events scenario traces) a b error → Stops unit scenario traces error sinks
   unfolding Stops
   unplayed a b (errors.Plan error) begun stops = absurd stops

@@ -11,35 +11,35 @@ use Rattle.eeprom_phy.specs.Image.{address_bytes}
 use Rattle.network_plan.specs.declared.plan.HostPlan.{HostPlan}
 use Rattle.stations.specs.declared.tick.Tick.TheVariants.{Deliver, Step}
 use Rattle.scenario.specs.SoFar.{Host, Said, Interrupts, Receives, Ticks, host_of_plan, hosts_of}
-use Rattle.scenario_bench.specs.EventLists.{address_of, arrival_at, event_drawn, event_of_kind, moves_at}
+use Rattle.scenario_bench.specs.EventLists.{host_address, arrival_at, event_drawn, event_of_kind, moves_of_pieces}
 
-moves-more : (host piece : ℕ) → moves_at host (piece + 1)
-    ≡ moves_at host piece ++ Ticks (Step host RxData) ∷ Ticks (Step host RxDone) ∷ []
+moves-more : (host piece : ℕ) → moves_of_pieces host (piece + 1)
+    ≡ moves_of_pieces host piece ++ Ticks (Step host RxData) ∷ Ticks (Step host RxDone) ∷ []
 moves-more host zero = refl
 moves-more host (suc piece) =
     let next : suc piece + 1 ≡ suc (piece + 1) = omega arith in
-    ap (moves_at host) next
+    ap (moves_of_pieces host) next
     ∙ ap (λ (later : List Said). Ticks (Step host RxData) ∷ Ticks (Step host RxDone) ∷ later) (moves-more host piece)
 
 pub moved-more : (before so_far more all : List Said) (moved ended : Said) (host piece : ℕ)
-    → so_far ≡ before ++ moves_at host piece → more ≡ so_far ++ moved ∷ [] → all ≡ more ++ ended ∷ []
-    → moved ≡ Ticks (Step host RxData) → ended ≡ Ticks (Step host RxDone) → all ≡ before ++ moves_at host (piece + 1)
+    → so_far ≡ before ++ moves_of_pieces host piece → more ≡ so_far ++ moved ∷ [] → all ≡ more ++ ended ∷ []
+    → moved ≡ Ticks (Step host RxData) → ended ≡ Ticks (Step host RxDone) → all ≡ before ++ moves_of_pieces host (piece + 1)
 moved-more before so_far more all moved ended host piece is one two moved_is ended_is =
     let both : List Said = Ticks (Step host RxData) ∷ Ticks (Step host RxDone) ∷ [] in
     two ∙ ap (λ (said : List Said). said ++ ended ∷ []) (one ∙ ap (λ (said : List Said). said ++ moved ∷ []) is)
-    ∙ append_assoc (before ++ moves_at host piece) (moved ∷ []) (ended ∷ [])
-    ∙ ap (λ (said : Said). (before ++ moves_at host piece) ++ said ∷ ended ∷ []) moved_is
-    ∙ ap (λ (said : Said). (before ++ moves_at host piece) ++ Ticks (Step host RxData) ∷ said ∷ []) ended_is
-    ∙ append_assoc before (moves_at host piece) both
+    ∙ append_assoc (before ++ moves_of_pieces host piece) (moved ∷ []) (ended ∷ [])
+    ∙ ap (λ (said : Said). (before ++ moves_of_pieces host piece) ++ said ∷ ended ∷ []) moved_is
+    ∙ ap (λ (said : Said). (before ++ moves_of_pieces host piece) ++ Ticks (Step host RxData) ∷ said ∷ []) ended_is
+    ∙ append_assoc before (moves_of_pieces host piece) both
     ∙ ap (λ (more : List Said). before ++ more) (sym (moves-more host piece))
 
 arrival_at-more : (pieces host socket : ℕ)
     → arrival_at pieces host (socket + 1) ≡ arrival_at pieces host socket ++ Receives host socket [] ∷ []
 arrival_at-more pieces host socket =
     let asked : ℕ → List Said = λ sockets. Interrupts host [] ∷ map (λ n. Receives host n []) (range_with_len 0 sockets) in
-    ap (λ (later : List Said). Ticks (Deliver host) ∷ moves_at host pieces ++ Interrupts host [] ∷ later)
+    ap (λ (later : List Said). Ticks (Deliver host) ∷ moves_of_pieces host pieces ++ Interrupts host [] ∷ later)
     (map-range_with_len_more (λ (n : ℕ). Receives host n []) 0 socket socket (omega arith))
-    ∙ sym (append_assoc (Ticks (Deliver host) ∷ moves_at host pieces) (asked socket) (Receives host socket [] ∷ []))
+    ∙ sym (append_assoc (Ticks (Deliver host) ∷ moves_of_pieces host pieces) (asked socket) (Receives host socket [] ∷ []))
 
 pub arrives-more : (before so_far all : List Said) (one : Said) (pieces host socket : ℕ)
     → so_far ≡ before ++ arrival_at pieces host socket → all ≡ so_far ++ one ∷ [] → one ≡ Receives host socket []
@@ -51,7 +51,7 @@ arrives-more before so_far all one pieces host socket is more one_is =
     ∙ ap (λ (more : List Said). before ++ more) (sym (arrival_at-more pieces host socket))
 
 address_of-there : (plans : List HostPlan) (host : ℕ) (plan : HostPlan) → host < length plans
-    → address_of (hosts_of plans) host ≡ address_bytes (get_or plans host plan).image
+    → host_address (hosts_of plans) host ≡ address_bytes (get_or plans host plan).image
 address_of-there plans host plan below =
     ap (λ (found : Option Host). unwrap_or (option_map (λ (one : Host). address_bytes one.image) found) [])
     (slice_get-map host_of_plan plans host ∙ ap (option_map host_of_plan) (slice_get-get_or plans host plan below))
@@ -61,5 +61,5 @@ pub event_drawn-there : (plans : List HostPlan) (word : ℕ) (plan : HostPlan) �
     ≡ event_of_kind (word % 8) (word / 8 % length plans) (address_bytes (get_or plans (word / 8 % length plans) plan).image)
 event_drawn-there plans word plan some =
     let host = word / 8 % length plans in
-    ap (λ (n : ℕ). event_of_kind (word % 8) (word / 8 % n) (address_of (hosts_of plans) (word / 8 % n))) (length-map plans host_of_plan)
+    ap (λ (n : ℕ). event_of_kind (word % 8) (word / 8 % n) (host_address (hosts_of plans) (word / 8 % n))) (length-map plans host_of_plan)
     ∙ ap (event_of_kind (word % 8) host) (address_of-there plans host plan (omega arith))

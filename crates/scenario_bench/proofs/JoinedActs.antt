@@ -10,13 +10,12 @@ use Rattle.host_calls.proofs.Waiting.{wires-stay}
 use Rattle.host_calls.specs.Happenings.{Happening}
 use Rattle.network_plan.specs.declared.event.Event.{Event}
 use Rattle.network_plan.specs.declared.reply.Reply.{Reply}
-use Rattle.scenario.specs.SoFar.{Said, event_of}
+use Rattle.scenario.specs.SoFar.{Said, command_of_event}
 use Rattle.wire.specs.DrainedNetworks.{NetworkDrains, said_of_drain}
 use Rattle.wire.specs.Equations.{MeetsEquations}
 use Rattle.host_calls.specs.Networks.{NetworkState}
 use Rattle.wire.specs.Runs.{RunsTo, StatesRun, caller_of, happenings, said}
-use Rattle.wire.proofs.Delivering.{delivers-join}
-use Rattle.wire.proofs.Running.{runs-none}
+use Rattle.wire.proofs.Running.{Deliver, deliver-both, runs-none}
 use Rattle.run_record.specs.Acts.{Act, Drained, Ran, history, ran, said_in}
 use Rattle.scenario_bench.specs.PlayedActs.{ActsLead, ActsRun, DrainRuns, act_of}
 
@@ -35,12 +34,12 @@ history-ran (event ∷ events) [] = refl
 history-ran (event ∷ events) (reply ∷ replies) = ap (λ (rest : List Happening). said event reply ++ rest) (history-ran events replies)
 
 pub acts-ran : (a : NetworkState) (events : List Event) (replies : List Reply) (b : NetworkState) → StatesRun a events replies b
-    → map act_of (ran events replies) ≡ map event_of events
+    → map act_of (ran events replies) ≡ map command_of_event events
 acts-ran a [] [] b states = refl
 acts-ran a [] (reply ∷ replies) b states = refl
 acts-ran a (event ∷ events) [] b states = absurd states
 acts-ran a (event ∷ events) (reply ∷ replies) b states =
-    ap (λ (rest : List Said). event_of event ∷ rest) (acts-ran states.0 events replies b states.2)
+    ap (λ (rest : List Said). command_of_event event ∷ rest) (acts-ran states.0 events replies b states.2)
 
 pub leads-ran : (a : NetworkState) (events : List Event) (replies : List Reply) (b : NetworkState) (runs : RunsTo a events [] replies b)
     → ActsLead a (ran events runs.replies) b
@@ -103,12 +102,7 @@ pub leads-join : (a b c : NetworkState) (acts later : List Act) → ActsLead a a
 leads-join a b c acts later one two = record {
   states = states-join a acts b later c one.states two.states;
   hosts = two.hosts ∙ one.hosts;
-  delivers = λ k was now then here.
-      let some = slice_get-some b.hosts k
-      (let below = slice_get_within a.hosts k was then in
-      let same = one.hosts in omega (arith, below, same)) in
-      subst (λ (happened : List Happening). MeetsEquations k happened a.stations c.stations was now)
-      (sym (flat_map-append said_in acts later))
-      (delivers-join k (history acts) (history later) a.stations b.stations c.stations was some.0 now
-      (wires-of a acts b one.states) (one.delivers k was some.0 then some.1) (two.delivers k some.0 now some.1 here));
+  delivers =
+      subst (λ (happened : List Happening). Deliver happened a c) (sym (flat_map-append said_in acts later))
+      (deliver-both a b c (history acts) (history later) one.hosts (wires-of a acts b one.states) one.delivers two.delivers);
 }

@@ -20,12 +20,12 @@ use Rattle.stations.specs.Stations.{world_at}
 use Rattle.wire.specs.DrainedNetworks.{NetworkDrains}
 use Rattle.wire.specs.Runs.{RunTold}
 use Rattle.run_record.specs.Recording.{AreInOrder, RecordsReplies}
-use Rattle.scenario.specs.SoFar.{Drains, Host, Said, Sends, event_of, said_of}
+use Rattle.scenario.specs.SoFar.{Drains, Host, Said, Sends, command_of_event, said_of}
 use Rattle.run_record.specs.Acts.{Act, Drained, ran}
 use Rattle.scenario_bench.specs.PlayedActs.{act_of}
 use Rattle.run_record.specs.DrainedView.{drained_frame}
 use Rattle.run_record.specs.declared.drained.DrainedFrame.{DrainedFrame}
-use Rattle.scenario_bench.specs.PlayedEvents.{HasPlayed, HasPlayedFront, StopsWithin, frames_of}
+use Rattle.scenario_bench.specs.PlayedEvents.{HasPlayed, HasPlayedFront, StopsWithin, trace_frames}
 use Rattle.run_record.specs.Tallies.{AreNoted}
 use Rattle.scenario_bench.specs.declared.bench_error.BenchError.{BenchError}
 use Rattle.scenario_bench.specs.declared.bench_error.BenchError.TheVariants as errors
@@ -96,7 +96,7 @@ stops_lined said line a b errors.Memory stops = stops
 stops_lined said line a b (errors.Write error) stops = absurd stops
 
 pub played : (events : List Event) (a b : Play) → RunTold RecordsReplies events a.lan b.lan a.record b.record → b.record.failed ≡ false
-    → HasPlayed (map event_of events) a b
+    → HasPlayed (map command_of_event events) a b
 played events a b told sound =
     let first = told.runs in
     record {
@@ -127,12 +127,12 @@ drained host steps before frames slice a b drains none same noted =
 
 pub front_played : (events : List Event) (done : ℕ) (a b : Play) → done < length events
     → RunTold RecordsReplies (take done events) a.lan b.lan a.record b.record → b.record.failed ≡ false
-    → HasPlayedFront (map event_of events) a b
+    → HasPlayedFront (map command_of_event events) a b
 front_played events done a b left told sound = record {
-  first = map event_of (take done events);
-  left = map event_of (drop done events);
-  parts = ap (map event_of) (sym (take-append-drop done events)) ∙ map-append event_of (take done events) (drop done events);
-  some = omega (arith, left, length-map (drop done events) event_of, length-drop done events);
+  first = map command_of_event (take done events);
+  left = map command_of_event (drop done events);
+  parts = ap (map command_of_event) (sym (take-append-drop done events)) ∙ map-append command_of_event (take done events) (drop done events);
+  some = omega (arith, left, length-map (drop done events) command_of_event, length-drop done events);
   played = played (take done events) a b told sound;
 }
 
@@ -241,12 +241,12 @@ draw_stops event words left word generator later said a b c error has some is sa
 
 pub sent : (hosts : List Host) (sender : ℕ) (frame : List ℕ) (one : Said) (events : List Event) (a b c : Play)
     → one ≡ Sends sender frame [] → HasPlayed (one ∷ []) a b
-    → map event_of events ≡ behind_send hosts sender (pieces_for (length frame)) → HasPlayed (map event_of events) b c
+    → map command_of_event events ≡ behind_send hosts sender (pieces_for (length frame)) → HasPlayed (map command_of_event events) b c
     → HasPlayed (fed hosts sender frame) a c
 sent hosts sender frame one events a b c is first follows second =
     subst (λ (said : List Said). HasPlayed said a c)
-    (ap (λ (s : Said). s ∷ map event_of events) is ∙ ap (λ (s : List Said). Sends sender frame [] ∷ s) follows)
-    (played_join (one ∷ []) (map event_of events) a b c first second)
+    (ap (λ (s : Said). s ∷ map command_of_event events) is ∙ ap (λ (s : List Said). Sends sender frame [] ∷ s) follows)
+    (played_join (one ∷ []) (map command_of_event events) a b c first second)
 
 pub send_stops : (hosts : List Host) (sender : ℕ) (frame : List ℕ) (one : Said) (a b : Play) (error : BenchError)
     → one ≡ Sends sender frame [] → StopsWithin (one ∷ []) a b error → StopsWithin (fed hosts sender frame) a b error
@@ -257,19 +257,19 @@ send_stops hosts sender frame one a b error is stops =
 
 pub behind_stops : (hosts : List Host) (sender : ℕ) (frame : List ℕ) (one : Said) (events : List Event) (a b c : Play)
     (error : BenchError) → one ≡ Sends sender frame [] → HasPlayed (one ∷ []) a b
-    → map event_of events ≡ behind_send hosts sender (pieces_for (length frame)) → StopsWithin (map event_of events) b c error
+    → map command_of_event events ≡ behind_send hosts sender (pieces_for (length frame)) → StopsWithin (map command_of_event events) b c error
     → StopsWithin (fed hosts sender frame) a c error
 behind_stops hosts sender frame one events a b c error is first follows stops =
-    stops_behind (fed hosts sender frame) (one ∷ []) (map event_of events) [] a b c error
-    (ap (λ (s : List Said). Sends sender frame [] ∷ s) (sym follows ∙ sym (append-nil (map event_of events)))
-    ∙ ap (λ (s : Said). s ∷ (map event_of events ++ [])) (sym is)) first stops
+    stops_behind (fed hosts sender frame) (one ∷ []) (map command_of_event events) [] a b c error
+    (ap (λ (s : List Said). Sends sender frame [] ∷ s) (sym follows ∙ sym (append-nil (map command_of_event events)))
+    ∙ ap (λ (s : Said). s ∷ (map command_of_event events ++ [])) (sym is)) first stops
 
 -- Commands
 
 fed-frames : (hosts : List Host) (sender : ℕ) (traces : List Trace) (place : ℕ) (found : Option Trace) → slice_get traces place ≡ found
-    → unwrap_or (slice_get (map frames_of traces) place) [] ≡ unwrap_or (option_map frames_of found) []
+    → unwrap_or (slice_get (map trace_frames traces) place) [] ≡ unwrap_or (option_map trace_frames found) []
 fed-frames hosts sender traces place found is =
-    ap (λ (o : Option (List (List ℕ))). unwrap_or o []) (slice_get-map frames_of traces place ∙ ap (option_map frames_of) is)
+    ap (λ (o : Option (List (List ℕ))). unwrap_or o []) (slice_get-map trace_frames traces place ∙ ap (option_map trace_frames) is)
 
 pub of_same : (Holds : List Said → Type 0) (hosts : List Host) (traces : List (List (List ℕ))) (one other : Command) → one ≡ other
     → Holds (events_of hosts traces (said_of other)) → Holds (events_of hosts traces (said_of one))
@@ -277,7 +277,7 @@ of_same Holds hosts traces one other is holds =
     subst Holds (sym (ap (λ (c : Command). events_of hosts traces (said_of c)) is)) holds
 
 as-event : (hosts : List Host) (traces : List (List (List ℕ))) (one : Event)
-    → event_of one ∷ [] ≡ events_of hosts traces (event_of one)
+    → command_of_event one ∷ [] ≡ events_of hosts traces (command_of_event one)
 as-event hosts traces (event.Send host frame ticks) = refl
 as-event hosts traces (event.Recv host socket ticks) = refl
 as-event hosts traces (event.Interrupt host ticks) = refl
@@ -287,18 +287,18 @@ as-event hosts traces (event.Leave host group ticks) = refl
 as-event hosts traces (event.Tick tick) = refl
 
 pub of_event : (Holds : List Said → Type 0) (hosts : List Host) (traces : List (List (List ℕ))) (one : Command) (event : Event)
-    (list : List Event) → one ≡ command.Event event → list ≡ event ∷ [] → Holds (map event_of list)
+    (list : List Event) → one ≡ command.Event event → list ≡ event ∷ [] → Holds (map command_of_event list)
     → Holds (events_of hosts traces (said_of one))
 of_event Holds hosts traces one event list is same holds =
-    subst Holds (ap (map event_of) same ∙ as-event hosts traces event
+    subst Holds (ap (map command_of_event) same ∙ as-event hosts traces event
     ∙ sym (ap (λ (c : Command). events_of hosts traces (said_of c)) is)) holds
 
 pub of_no_feed : (hosts : List Host) (traces : List Trace) (one : Command) (host place : ℕ) (a : Play)
     → one ≡ command.Feed host place → length traces ≤ place
-    → HasPlayed (events_of hosts (map frames_of traces) (said_of one)) a a
+    → HasPlayed (events_of hosts (map trace_frames traces) (said_of one)) a a
 of_no_feed hosts traces one host place a is past =
     subst (λ (s : List Said). HasPlayed s a a)
-    (sym (ap (λ (c : Command). events_of hosts (map frames_of traces) (said_of c)) is
+    (sym (ap (λ (c : Command). events_of hosts (map trace_frames traces) (said_of c)) is
     ∙ ap (flat_map (fed hosts host)) (fed-frames hosts host traces place None (slice_get_past traces place past)))) (played_none a)
 
 -- Several commands

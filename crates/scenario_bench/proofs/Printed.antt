@@ -8,6 +8,13 @@ use Rattle.pcap_trace.proofs.Sent.{AppendsFront-longer, AppendsFront-then, SentU
 use Rattle.scenario_bench.specs.Printing.{host_line}
 use Rattle.scenario_bench.specs.declared.summary.HostSummary.{HostSummary}
 
+-- A text was written, and then another text, of which `Sent` states how much was written.
+pub sent-then : {Sent : Option (List ℕ) → Option (List ℕ) → List ℕ → Type 0}
+    → ((a b c : Option (List ℕ)) (x y : List ℕ) → Appends a b x → Sent b c y → Sent a c (x ++ y)) → {a b c : Option (List ℕ)}
+    {was text line rest : List ℕ} → Appends a b was → was ≡ text → line ≡ rest → Sent b c line → Sent a c (text ++ rest)
+sent-then {Sent} joins {a} {b} {c} {was} {text} {line} {rest} went was_is line_is sent =
+    joins a b c text rest (subst (Appends a b) was_is went) (subst (Sent b c) line_is sent)
+
 module _ (a b c : Option (List ℕ)) (text : List ℕ) (host : HostSummary) (left rest : List HostSummary) (next : left ≡ host ∷ rest)
     (sent : SentUpTo a b text (flat_map host_line left)) where
   -- the next host's line isn't written yet

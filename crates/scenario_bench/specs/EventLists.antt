@@ -22,15 +22,15 @@ abbrev pub pieces_for : (size : ℕ) → ℕ
 pieces_for size = if nat_le size longest_frame then div_ceil (max size shortest_frame) receive_buffer_bytes else 1
 
 -- the steps by which a host's adapter moves this number of pieces of a frame to the host's memory: RxData and RxDone for each piece
-abbrev pub moves_at : (host pieces : ℕ) → List Said
-moves_at host zero = []
-moves_at host (suc pieces) = Ticks (Step host RxData) ∷ Ticks (Step host RxDone) ∷ moves_at host pieces
+abbrev pub moves_of_pieces : (host pieces : ℕ) → List Said
+moves_of_pieces host zero = []
+moves_of_pieces host (suc pieces) = Ticks (Step host RxData) ∷ Ticks (Step host RxDone) ∷ moves_of_pieces host pieces
 
 -- A frame is delivered to a host, and moved to memory in this number of pieces. Then the host handles an interrupt, and
 -- asks each of its sockets once for a frame, in order.
 abbrev pub arrival_at : (pieces host sockets : ℕ) → List Said
 arrival_at pieces host sockets =
-    Ticks (Deliver host) ∷ moves_at host pieces
+    Ticks (Deliver host) ∷ moves_of_pieces host pieces
     ++ Interrupts host [] ∷ map (λ socket. Receives host socket []) (range_with_len 0 sockets)
 
 -- The arrivals of a frame at each host of the list that is on this wire and isn't the sender. `number` is the number of
@@ -66,8 +66,8 @@ abbrev pub broadcast_of : (address : List ℕ) → List ℕ
 broadcast_of address = 0xFF ∷ 0xFF ∷ 0xFF ∷ 0xFF ∷ 0xFF ∷ 0xFF ∷ address ++ 0x88 ∷ 0xB5 ∷ []
 
 -- the address of the host with this number; empty if there is no such host
-abbrev pub address_of : List Host → ℕ → List ℕ
-address_of hosts host = unwrap_or (option_map (λ (one : Host). address_bytes one.image) (slice_get hosts host)) []
+abbrev pub host_address : List Host → ℕ → List ℕ
+host_address hosts host = unwrap_or (option_map (λ (one : Host). address_bytes one.image) (slice_get hosts host)) []
 
 -- the ticks of an interrupt in which RxData and RxDone are played after the handler's first access and before its second
 abbrev pub late_frame : (host : ℕ) → List Tick
@@ -90,7 +90,7 @@ event_of_kind kind host address =
 abbrev pub event_drawn : List Host → (word : ℕ) → Said
 event_drawn hosts word =
     let host = word / 8 % length hosts in
-    event_of_kind (word % 8) host (address_of hosts host)
+    event_of_kind (word % 8) host (host_address hosts host)
 
 -- the events of a command, or its drain; `traces` are the traces of the scenario's `feed` lines, in order. A `feed`
 -- without its trace has no events.

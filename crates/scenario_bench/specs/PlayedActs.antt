@@ -5,14 +5,14 @@ use Rattle.packet_socket.specs.HostCalls.{Given as GivenFrame}
 use Rattle.stations.specs.Stations.{world_at}
 use Rattle.host_calls.specs.Networks.{IsHost, NetworkState}
 use Rattle.run_record.specs.Acts.{Act, Drained, Ran, history}
-use Rattle.scenario.specs.SoFar.{Drains, Said, event_of}
+use Rattle.scenario.specs.SoFar.{Drains, Said, command_of_event}
 use Rattle.wire.specs.DrainedNetworks.{NetworkDrains}
 use Rattle.wire.specs.Equations.{MeetsEquations}
 use Rattle.wire.specs.Runs.{EventRuns}
 
 -- the event or the drain of an act, as a command of a scenario
 abbrev pub act_of : Act → Said
-act_of (Ran event reply) = event_of event
+act_of (Ran event reply) = command_of_event event
 act_of (Drained host buffered given) = Drains host
 
 -- Host `host` was drained, and its sockets returned the frames `given`. Before the drain, `buffered` frames were in its

@@ -12,7 +12,7 @@ use Rattle.network_plan.specs.declared.plan.HostPlan.{HostPlan}
 use Rattle.pcap_trace.specs.Format.{Timed}
 use Rattle.pcap_trace.specs.declared.trace.Trace.{Trace}
 use Rattle.wire.specs.NewNetworks.{IsLanAnswer}
-use Rattle.scenario.specs.SoFar.{Host, Said, event_of, hosts_of}
+use Rattle.scenario.specs.SoFar.{Host, Said, command_of_event, hosts_of}
 use Rattle.scenario.specs.declared.command.Scenario.{Scenario}
 use Rattle.run_record.specs.Acts.{Act}
 use Rattle.scenario_bench.specs.PlayedActs.{ActsLead, act_of}
@@ -36,7 +36,7 @@ pub record HasPlayed (said : List Said) (old new : Play) : Type 0 where
   pub noted : AreNoted acts old.record new.record
 
 -- The network of a plan was made. No event, no count and no returned frame is recorded yet.
-pub record Begins (plans : List HostPlan) (play : Play) : Type 0 where
+pub record HasBegunPlay (plans : List HostPlan) (play : Play) : Type 0 where
   pub made : IsLanAnswer plans (Ok play.lan)
   pub number : play.record.number ≡ 0
   pub hosts : play.record.hosts.items ≡ replicate (length plans) no_tally
@@ -68,11 +68,11 @@ StopsWithin said old new (errors.Write error) = ⊥
 -- If the list of `behind` is made for a number of pieces, it contains the events after a send of this host for this
 -- number.
 abbrev pub AreOfSender : List Host → (sender : ℕ) → EventsAfterSend → Type 0
-AreOfSender hosts sender behind = IfSome behind.pieces (λ made. map event_of behind.list.items ≡ behind_send hosts sender made)
+AreOfSender hosts sender behind = IfSome behind.pieces (λ made. map command_of_event behind.list.items ≡ behind_send hosts sender made)
 
 -- the frames of a trace
-abbrev pub frames_of : Trace → List (List ℕ)
-frames_of trace = trace.frames
+abbrev pub trace_frames : Trace → List (List ℕ)
+trace_frames trace = trace.frames
 
 -- The summary of a host contains the host's name in the plan, the numbers recorded in the tally, and the host's counts.
 pub record TellsTally (plan : HostPlan) (tally : Tally) (host : HostState) (world : World) (told : HostSummary) : Type 0 where

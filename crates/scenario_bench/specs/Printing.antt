@@ -6,8 +6,8 @@ use Rattle.scenario_bench.specs.declared.summary.HostSummary.{HostSummary}
 use Rattle.scenario_bench.specs.declared.summary.Summary.{Summary}
 
 -- a label, followed by a number in decimal
-abbrev pub field : List ℕ → ℕ → List ℕ
-field label number = label ++ decimal number
+abbrev pub summary_field : List ℕ → ℕ → List ℕ
+summary_field label number = label ++ decimal number
 
 -- the word for whether the number of missed frames is exact
 abbrev pub exact_word : Bool → List ℕ
@@ -18,14 +18,14 @@ exact_word false = codes " atleast"
 -- no reset
 abbrev pub resets_text : Option GivenUp → List ℕ
 resets_text None = []
-resets_text (Some told) = field (codes " givenup ") told.sending ++ field (codes " ") told.holding ++ field (codes " off ") told.off
+resets_text (Some told) = summary_field (codes " givenup ") told.sending ++ summary_field (codes " ") told.holding ++ summary_field (codes " off ") told.off
 
 -- the part of a host's line after its name
 abbrev pub host_fields : HostSummary → List ℕ
 host_fields host =
-    field (codes " accepted ") host.accepted ++ field (codes " put ") host.put ++ field (codes " reached ") host.reached
-    ++ field (codes " stored ") host.stored ++ field (codes " missed ") host.missed ++ exact_word host.exact
-    ++ field (codes " given ") host.given ++ field (codes " unclaimed ") host.unclaimed ++ resets_text host.given_up
+    summary_field (codes " accepted ") host.accepted ++ summary_field (codes " put ") host.put ++ summary_field (codes " reached ") host.reached
+    ++ summary_field (codes " stored ") host.stored ++ summary_field (codes " missed ") host.missed ++ exact_word host.exact
+    ++ summary_field (codes " given ") host.given ++ summary_field (codes " unclaimed ") host.unclaimed ++ resets_text host.given_up
     ++ codes "\n"
 
 -- the line of a host: its name, and the other parts

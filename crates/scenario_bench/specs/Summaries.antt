@@ -15,7 +15,7 @@ use Rattle.run_record.specs.Acts.{Act}
 use Rattle.run_record.specs.EventLines.{LogState, lines_from}
 use Rattle.run_record.specs.Numbers.{as_told}
 use Rattle.run_record.specs.RunLogs.{acts_in, no_refusals, refusals_by}
-use Rattle.run_record.specs.Tallies.{all_given, grown_by, off_by, resets}
+use Rattle.run_record.specs.Tallies.{all_given, grown_by, off_by, is_given_up_at}
 use Rattle.run_record.specs.declared.run_log.Refusals.{Refusals}
 use Rattle.run_record.specs.declared.tally.GivenUp.{GivenUp as ResetsTold}
 use Rattle.scenario_bench.specs.declared.summary.HostSummary.{HostSummary}
@@ -25,7 +25,7 @@ use Rattle.scenario_bench.specs.declared.summary.Summary.{Summary}
 -- disabled. None if there was no reset. Each number saturates at the greatest u64.
 abbrev pub resets_told : (k : ℕ) → List Happening → Option ResetsTold
 resets_told k happened =
-    if list_any (resets k) happened then Some (record {
+    if list_any (is_given_up_at k) happened then Some (record {
       sending = as_told (length (flat_map (sending_in_one k) happened));
       holding = as_told (length (flat_map (holding_in_one k) happened));
       off = as_told (length (flat_map (off_by k) happened));

@@ -2,7 +2,7 @@
 ghost use Rattle.std.specs.Prelude.{◌≡◌, ◌<◌, ◌++◌, ◌∷◌, [], IfOk, None, OnOk, length, map};
 ghost use Rattle.eeprom_phy.specs.Image.{address_bytes};
 ghost use Rattle.run_record.specs.Puts.{wire_name_of};
-ghost use Rattle.scenario.specs.SoFar.{Interrupts, Receives, Sends, Ticks, event_of, hosts_of};
+ghost use Rattle.scenario.specs.SoFar.{Interrupts, Receives, Sends, Ticks, command_of_event, hosts_of};
 ghost use Rattle.scenario_bench.specs.EventLists as lists;
 ghost use Rattle.scenario_bench.specs.PlayedEvents.{AreOfSender};
 ghost use Rattle.stations.specs.declared.tick.Tick.TheVariants as ticks;
@@ -21,7 +21,7 @@ const HEADER: usize = 14;
 
 /// Returns the event in which a host asks a socket for a frame, without ticks.
 fn recv_event(alloc: Global, host: usize, socket: usize) -> Event
-    ensures { event_of result ≡ Receives host socket [] }
+    ensures { command_of_event result ≡ Receives host socket [] }
 {
     Event::Recv {
         host,
@@ -32,7 +32,7 @@ fn recv_event(alloc: Global, host: usize, socket: usize) -> Event
 
 /// Returns the event in which a host's adapter takes a step outside calls.
 fn step_event(host: usize, kind: StepKind) -> Event
-    ensures { event_of result ≡ Ticks (ticks.Step host kind) }
+    ensures { command_of_event result ≡ Ticks (ticks.Step host kind) }
 {
     Event::Tick(Tick::Step(host, kind))
 }
@@ -52,7 +52,7 @@ pub(crate) fn pieces_of(size: usize) -> usize
 /// Appends an event.
 fn push_event(events: &mut Vec<Event>, event: Event) -> Result<(), AllocError>
     ensures { OnOk result
-        (map event_of events.new.items ≡ map event_of events.old.items ++ event_of event ∷ []) }
+        (map command_of_event events.new.items ≡ map command_of_event events.old.items ++ command_of_event event ∷ []) }
 {
     events.push(event)?;
     Ok(())
@@ -61,7 +61,7 @@ fn push_event(events: &mut Vec<Event>, event: Event) -> Result<(), AllocError>
 /// Appends the steps that move this number of pieces of a frame to a host's memory: RxData and RxDone for each piece.
 fn push_moves(host: usize, pieces: usize, events: &mut Vec<Event>) -> Result<(), AllocError>
     ensures { OnOk result
-        (map event_of events.new.items ≡ map event_of events.old.items ++ lists.moves_at host pieces) }
+        (map command_of_event events.new.items ≡ map command_of_event events.old.items ++ lists.moves_of_pieces host pieces) }
 {
     for _piece in 0..pieces {
         push_event(events, step_event(host, StepKind::RxData))?;
@@ -80,7 +80,7 @@ fn push_arrival(
     events: &mut Vec<Event>,
 ) -> Result<(), AllocError>
     ensures { OnOk result
-        (map event_of events.new.items ≡ map event_of events.old.items ++ lists.arrival_at pieces host sockets) }
+        (map command_of_event events.new.items ≡ map command_of_event events.old.items ++ lists.arrival_at pieces host sockets) }
 {
     push_event(events, Event::Tick(Tick::Deliver(host)))?;
     push_moves(host, pieces, events)?;
@@ -104,7 +104,7 @@ fn push_arrivals(
     sender: usize,
     events: &mut Vec<Event>,
 ) -> Result<(), AllocError>
-    ensures { OnOk result (map event_of events.new.items ≡ map event_of events.old.items
+    ensures { OnOk result (map command_of_event events.new.items ≡ map command_of_event events.old.items
         ++ lists.arrivals_from pieces 0 sender (wire_name_of (hosts_of plans.now) sender) (hosts_of plans.now)) }
 {
     let wire = wire_of(plans, sender);
@@ -127,7 +127,7 @@ fn set_behind_send(
     events: &mut Vec<Event>,
 ) -> Result<(), AllocError>
     ensures { OnOk result
-        (map event_of events.new.items ≡ lists.behind_send (hosts_of plans.now) sender pieces) }
+        (map command_of_event events.new.items ≡ lists.behind_send (hosts_of plans.now) sender pieces) }
 {
     events.clear();
     push_event(events, step_event(sender, StepKind::TxTake))?;
@@ -166,7 +166,7 @@ impl EventsAfterSend {
     ) -> Result<(), AllocError>
         requires before { AreOfSender (hosts_of plans.now) sender self.old }
         ensures events { OnOk result
-            (map event_of self.new.list.items ≡ lists.behind_send (hosts_of plans.now) sender pieces) }
+            (map command_of_event self.new.list.items ≡ lists.behind_send (hosts_of plans.now) sender pieces) }
         ensures kept { AreOfSender (hosts_of plans.now) sender self.new }
     {
         if let Some(made) = self.pieces
@@ -222,7 +222,7 @@ impl EventMemory {
 
     /// Returns the event in which a host sends these bytes, without ticks.
     pub(crate) fn send_event(&mut self, host: usize, bytes: &[u8]) -> Result<Event, AllocError>
-        ensures { IfOk result (λ event. event_of event ≡ Sends host bytes.now []) }
+        ensures { IfOk result (λ event. command_of_event event ≡ Sends host bytes.now []) }
     {
         let mut frame = std::mem::replace(&mut self.frame, Vec::new(self.alloc));
         frame.clear();
@@ -237,7 +237,7 @@ impl EventMemory {
     /// Returns the event in which a host handles an interrupt. The steps RxData and RxDone of the host's adapter are
     /// played after the handler's first access and before its second.
     fn late_interrupt(&mut self, host: usize) -> Result<Event, AllocError>
-        ensures { IfOk result (λ event. event_of event ≡ Interrupts host (lists.late_frame host)) }
+        ensures { IfOk result (λ event. command_of_event event ≡ Interrupts host (lists.late_frame host)) }
     {
         let mut ticks = std::mem::replace(&mut self.ticks, Vec::new(self.alloc));
         ticks.clear();
@@ -250,7 +250,7 @@ impl EventMemory {
     /// Returns the event that a random word draws. The word's low three bits choose the kind, the other bits the host.
     pub(crate) fn drawn(&mut self, plans: &[HostPlan], word: u32) -> Result<Event, AllocError>
         requires { 0 < length plans.now }
-        ensures { IfOk result (λ event. event_of event ≡ lists.event_drawn (hosts_of plans.now) word) }
+        ensures { IfOk result (λ event. command_of_event event ≡ lists.event_drawn (hosts_of plans.now) word) }
     {
         let host = (word / 8) as usize % plans.len();
         self.event_of_kind(word % 8, host, &plans[host].image)
@@ -259,7 +259,7 @@ impl EventMemory {
     /// Returns the event of one of the eight kinds that `auto` draws, at a host with this EEPROM. Each number from 7 on
     /// is the last kind, a send. A send's frame and an interrupt's ticks use this memory.
     fn event_of_kind(&mut self, kind: u32, host: usize, image: &Image) -> Result<Event, AllocError>
-        ensures { IfOk result (λ event. event_of event ≡ lists.event_of_kind kind host (address_bytes image.now)) }
+        ensures { IfOk result (λ event. command_of_event event ≡ lists.event_of_kind kind host (address_bytes image.now)) }
     {
         match kind {
             0 => Ok(step_event(host, StepKind::TxTake)),

@@ -3,15 +3,15 @@ ghost use Rattle.std.specs.Prelude.{◌≡◌, ◌<◌, ◌≤◌, ◌-◌, ◌�
 ghost use Rattle.std.specs.Prelude.{IfErr, IfOk, OnErr, OnOk};
 ghost use Rattle.std.specs.List.{flat_map};
 ghost use Rattle.packet_socket.specs.HostState.{HostState};
-ghost use Rattle.scenario.specs.SoFar.{Drains, event_of, hosts_of, said_of};
+ghost use Rattle.scenario.specs.SoFar.{Drains, command_of_event, hosts_of, said_of};
 ghost use Rattle.scenario_bench.specs.Benches.{AreAllWritten, Benches, Stops, StopsWriting};
 ghost use Rattle.scenario_bench.specs.Benches.{IsFailedSink, scenario_events, sinks_of};
 ghost use Rattle.scenario_bench.specs.EventLists as lists;
 ghost use Rattle.run_record.specs.EventLogView.{plan_name};
 ghost use Rattle.scenario_bench.specs.Given.{sockets_from};
-ghost use Rattle.scenario_bench.specs.PlayedEvents.{AreOfSender, AreRecorded, Begins, HasPlayed, HasPlayedScenario};
+ghost use Rattle.scenario_bench.specs.PlayedEvents.{AreOfSender, AreRecorded, HasBegunPlay, HasPlayed, HasPlayedScenario};
 ghost use Rattle.run_record.specs.Recording.{IsNewRecord};
-ghost use Rattle.scenario_bench.specs.PlayedEvents.{StopsAtPlan, StopsWithin, TellTallies, TellsTally, frames_of};
+ghost use Rattle.scenario_bench.specs.PlayedEvents.{StopsAtPlan, StopsWithin, TellTallies, TellsTally, trace_frames};
 ghost use Rattle.scenario_bench.specs.PlayedEvents.{socket_texts_in, wire_texts_in};
 ghost use Rattle.scenario_bench.specs.WireLists.{wire_names};
 ghost use Rattle.scenario_bench.specs.Summaries.{asked_after};
@@ -41,7 +41,9 @@ use wire::Lan;
 #[derive(Drop)]
 struct Play {
     lan: Lan,
+    /// The record of the run so far.
     record: Record,
+    /// The frames of the last drain.
     drained: DrainedFrames,
     /// The numbers of calls that were refused in the commands so far, without those of `auto` commands.
     asked: Refusals,
@@ -75,7 +77,7 @@ impl Play {
     /// 0, the frames that adapters put are recorded later. If `events` is true, a line is recorded for each event and
     /// drain.
     fn new(alloc: Global, plan: &Plan, wires: usize, events: bool) -> Result<Play, BenchError>
-        ensures ok { IfOk result (Begins plan.now.hosts.items) }
+        ensures ok { IfOk result (HasBegunPlay plan.now.hosts.items) }
         ensures puts { IfOk result (λ play. IsNewRecord wires play.record.puts) }
         ensures log { IfOk result (λ play. play.record.log ≡ new_log (map plan_name plan.now.hosts.items) events) }
         ensures err { IfErr result (StopsAtPlan plan.now.hosts.items) }
@@ -96,8 +98,8 @@ impl Play {
     /// error is `Memory`.
     #[inline(always)]
     fn run(&mut self, events: &[Event]) -> Result<(), BenchError>
-        ensures ok { OnOk result (HasPlayed (map event_of events.now) self.old self.new) }
-        ensures err { IfErr result (StopsWithin (map event_of events.now) self.old self.new) }
+        ensures ok { OnOk result (HasPlayed (map command_of_event events.now) self.old self.new) }
+        ensures err { IfErr result (StopsWithin (map command_of_event events.now) self.old self.new) }
     {
         let ran = self.lan.play(events, &mut self.record);
         if self.record.failed {
@@ -105,6 +107,7 @@ impl Play {
         }
         match ran {
             Ok(()) => Ok(()),
+            // `_stopped` counts only these events; `done` also counts the events and drains before them.
             Err(_stopped) => {
                 let done = self.record.number as usize;
                 Err(BenchError::Run(Stopped { done }))
@@ -127,8 +130,8 @@ impl Play {
     /// Runs an event, and takes its memory back into `memory`.
     #[inline(always)]
     fn run_one(&mut self, memory: &mut EventMemory, event: Event) -> Result<(), BenchError>
-        ensures ok { OnOk result (HasPlayed (event_of event ∷ []) self.old self.new) }
-        ensures err { IfErr result (StopsWithin (event_of event ∷ []) self.old self.new) }
+        ensures ok { OnOk result (HasPlayed (command_of_event event ∷ []) self.old self.new) }
+        ensures err { IfErr result (StopsWithin (command_of_event event ∷ []) self.old self.new) }
     {
         let mut event = event;
         let ran = self.run(std::slice::from_ref(&event));
@@ -213,10 +216,10 @@ impl Play {
     ) -> Result<(), BenchError>
         requires { 0 < length plans.now }
         ensures ok { OnOk result (HasPlayed
-            (lists.events_of (hosts_of plans.now) (map frames_of traces.now) (said_of command.now))
+            (lists.events_of (hosts_of plans.now) (map trace_frames traces.now) (said_of command.now))
             self.old self.new) }
         ensures err { IfErr result (StopsWithin
-            (lists.events_of (hosts_of plans.now) (map frames_of traces.now) (said_of command.now))
+            (lists.events_of (hosts_of plans.now) (map trace_frames traces.now) (said_of command.now))
             self.old self.new) }
     {
         match command {
@@ -243,9 +246,9 @@ impl Play {
         lines: &[u64],
     ) -> Result<(), BenchError>
         requires { 0 < length plans.now }
-        ensures ok { OnOk result (HasPlayed (lists.all_events (hosts_of plans.now) (map frames_of traces.now)
+        ensures ok { OnOk result (HasPlayed (lists.all_events (hosts_of plans.now) (map trace_frames traces.now)
             (map said_of commands.now)) self.old self.new) }
-        ensures err { IfErr result (StopsWithin (lists.all_events (hosts_of plans.now) (map frames_of traces.now)
+        ensures err { IfErr result (StopsWithin (lists.all_events (hosts_of plans.now) (map trace_frames traces.now)
             (map said_of commands.now)) self.old self.new) }
     {
         let mut memory = EventMemory::new(alloc);
@@ -331,11 +334,11 @@ impl Play {
         scenario: &Scenario,
         traces: &[Trace],
     ) -> Result<Vec<HostSummary>, BenchError>
-        requires { Begins scenario.now.plan.hosts.items self.old }
-        ensures ok { IfOk result (λ hosts. HasPlayedScenario scenario.now (map frames_of traces.now)
+        requires { HasBegunPlay scenario.now.plan.hosts.items self.old }
+        ensures ok { IfOk result (λ hosts. HasPlayedScenario scenario.now (map trace_frames traces.now)
             self.old self.new hosts.items) }
         ensures err { IfErr result
-            (StopsWithin (scenario_events scenario.now (map frames_of traces.now)) self.old self.new) }
+            (StopsWithin (scenario_events scenario.now (map trace_frames traces.now)) self.old self.new) }
     {
         let plans = scenario.plan.hosts.as_slice();
         let commands = scenario.commands.as_slice();
@@ -393,7 +396,7 @@ impl Play {
         sinks: &mut [W],
         wire_sinks: &mut [W],
     ) -> Result<Summary, BenchError>
-        requires begins { Begins scenario.now.plan.hosts.items self.old }
+        requires begins { HasBegunPlay scenario.now.plan.hosts.items self.old }
         requires puts { IsNewRecord (length wire_sinks.old) self.old.record.puts }
         requires sinks { length sinks.old ≡ length (sockets_from 0 (hosts_of scenario.now.plan.hosts.items)) }
         requires wires { length wire_sinks.old ≤ length (wire_names (hosts_of scenario.now.plan.hosts.items)) }
@@ -401,9 +404,9 @@ impl Play {
         requires wires_countable { All (λ (sink : W). W.failures sink < u64.MAX) wire_sinks.old }
         ensures ok { IfOk result (λ summary. (events : Bool)
             → self.old.record.log ≡ new_log (map plan_name scenario.now.plan.hosts.items) events
-            → Benches unit scenario.now (map frames_of traces.now) events summary
+            → Benches unit scenario.now (map trace_frames traces.now) events summary
             (sinks_of W.taken W.failures sinks.old sinks.new wire_sinks.old wire_sinks.new)) }
-        ensures err { IfErr result (λ error. Stops unit scenario.now (map frames_of traces.now) error
+        ensures err { IfErr result (λ error. Stops unit scenario.now (map trace_frames traces.now) error
             (sinks_of W.taken W.failures sinks.old sinks.new wire_sinks.old wire_sinks.new)) }
     {
         let hosts = self.scenario(alloc, scenario, traces)?;
@@ -448,9 +451,9 @@ pub fn bench<W: Sink>(
     requires wires { length wire_sinks.old ≤ length (wire_names (hosts_of scenario.now.plan.hosts.items)) }
     requires countable { All (λ (sink : W). W.failures sink < u64.MAX) sinks.old }
     requires wires_countable { All (λ (sink : W). W.failures sink < u64.MAX) wire_sinks.old }
-    ensures ok { IfOk result (λ summary. Benches unit scenario.now (map frames_of traces.now) events summary
+    ensures ok { IfOk result (λ summary. Benches unit scenario.now (map trace_frames traces.now) events summary
         (sinks_of W.taken W.failures sinks.old sinks.new wire_sinks.old wire_sinks.new)) }
-    ensures err { IfErr result (λ error. Stops unit scenario.now (map frames_of traces.now) error
+    ensures err { IfErr result (λ error. Stops unit scenario.now (map trace_frames traces.now) error
         (sinks_of W.taken W.failures sinks.old sinks.new wire_sinks.old wire_sinks.new)) }
 {
     let mut play = Play::new(alloc, &scenario.plan, wire_sinks.len(), events)?;

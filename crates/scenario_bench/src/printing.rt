@@ -2,7 +2,7 @@
 ghost use Rattle.std.specs.Prelude.{◌≡◌, ◌<◌, ◌≤◌, ◌+◌, ◌++◌, length, OnErr, OnOk};
 ghost use Rattle.std.specs.Io.KnownBytes.{Appends};
 ghost use Rattle.pcap_trace.specs.Devices.{AppendsFront, CountsFailures};
-ghost use Rattle.scenario_bench.specs.Printing.{exact_word, field, host_fields, host_line, resets_text, summary_text};
+ghost use Rattle.scenario_bench.specs.Printing.{exact_word, summary_field, host_fields, host_line, resets_text, summary_text};
 
 use crate::summary::{HostSummary, Summary};
 use arrayvec::ArrayVec;
@@ -21,7 +21,7 @@ type Line = ArrayVec<u8, LONGEST_LINE>;
 fn push_field(line: &mut Line, label: &[u8], number: u64)
     requires label { length label.now ≤ 20 }
     requires room { length line.old.items + 60 ≤ 700 }
-    ensures text { line.new.items ≡ line.old.items ++ field label.now number }
+    ensures text { line.new.items ≡ line.old.items ++ summary_field label.now number }
     ensures short { length line.new.items ≤ length line.old.items + 60 }
 {
     let mut buffer = Buffer::new();

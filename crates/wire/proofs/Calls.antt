@@ -173,12 +173,12 @@ right-request caller Interrupting (Interrupted result) ticks steps a b h h' give
     (interrupt-stay result caller given steps (connected h a) (connected h' b) (world_at a caller) does) (ap (marks caller) said)
 right-request caller Interrupting _ ticks steps a b h h' given stands leads played said does = absurd does
 right-request caller (Joining group) (Joined (Ok u)) ticks steps a b h h' given stands leads played said does =
-    joined-right caller group ticks steps a b h h' given stands leads played does
+    joined-right {ticks = ticks} group h' given (record { stands = stands; leads = leads; played = played }) does
 right-request caller (Joining group) (Joined (Err error)) ticks steps a b h h' given stands leads played said does =
     refused-right caller ticks steps a b h h' given stands leads said (join-refused group error h h' _ (world_at a caller) does)
 right-request caller (Joining group) _ ticks steps a b h h' given stands leads played said does = absurd does
 right-request caller (Leaving group) (Left (Ok u)) ticks steps a b h h' given stands leads played said does =
-    left-right caller group ticks steps a b h h' given stands leads played does
+    left-right {ticks = ticks} group h' given (record { stands = stands; leads = leads; played = played }) does
 right-request caller (Leaving group) (Left (Err error)) ticks steps a b h h' given stands leads played said does =
     refused-right caller ticks steps a b h h' given stands leads said (leave-refused group error h h' _ (world_at a caller) does)
 right-request caller (Leaving group) _ ticks steps a b h h' given stands leads played said does = absurd does

@@ -1,6 +1,6 @@
 -- The fates of frames in a call, by the groups that its host has joined at each point.
 use Rattle.std.proofs.Common.{◌≡◌, ◌==◌, ◌<◌, ◌+◌, ◌*◌, ◌++◌, ◌∷◌, [], ℕ, Bool, true, List, map, refl, sym, ap, subst, ◌∙◌}
-use Rattle.std.proofs.Common.{append_assoc, arith, if◌then◌else◌, inl, inr, ⊎_elim}
+use Rattle.std.proofs.Common.{append_assoc, arith, if◌then◌else◌, inl, inr, rules, ⊎_elim}
 use Rattle.std.specs.List.{All}
 use Rattle.std.proofs.lemmas.Bool.{eq-eqb}
 use Rattle.std.proofs.lemmas.Grind.{flat_map-append}
@@ -26,13 +26,13 @@ use Rattle.bring_up.specs.Groups.{HasTable, SetsTable, WritesWord, word_of}
 use Rattle.stations.proofs.HostTrails.{world-here}
 use Rattle.stations.specs.AtomicRunLaws.{past_join}
 use Rattle.stations.specs.AtomicRuns.{IsTick, LeadsTo, events_at, is_go, noted_of, past_at}
-use Rattle.stations.specs.AtomicSteps.{At, AtomicStep, Idles, IsNoAccess, after, tick_of}
+use Rattle.stations.specs.AtomicSteps.{At, AtomicStep, Idles, IsNoAccess, after_atomic, tick_of}
 use Rattle.stations.specs.Stations.{StationState, world_at}
 use Rattle.stations.specs.declared.tick.Tick.{Tick}
 use Rattle.host_calls.proofs.Joining.{marks-append}
 use Rattle.host_calls.proofs.RightFates.{changes-alone, fates-right, filter-stays, receives-append, tails-leave_reception, word-changes}
 use Rattle.host_calls.proofs.ToldAround.{told-at_access, told-at_end}
-use Rattle.host_calls.specs.DeliveryLaws.{ChangesGroups}
+use Rattle.host_calls.specs.DeliveryLaws.{MarksGroups}
 use Rattle.host_calls.specs.Fates.{Joins, Mark, Quits, marks}
 use Rattle.host_calls.specs.Happenings.{Happening, Joined, Left, happened_by, happened_in, of_host, tick_happenings_around}
 use Rattle.host_calls.specs.Reception.{LeavesReception, ReceivesRightly, SameButGroups}
@@ -58,14 +58,7 @@ pub same-setup : (setup other : DriverSetup) (a b : AdapterState) → SameButGro
     → b.receive_kilobytes ≡ a.receive_kilobytes → other ≡ setup → HasSetup setup a → HasSetup other b
 same-setup setup other a b filter kilobytes same has =
     subst (λ (s : DriverSetup). HasSetup s b) (sym same) (record {
-      filter = subst (FilterHasSetup setup) (sym filter) (record {
-        receive_control_is = has.filter.receive_control_is;
-        vlans = has.filter.vlans;
-        words = has.filter.words;
-        address_low = has.filter.address_low;
-        address_high = has.filter.address_high;
-        vlan_type = has.filter.vlan_type;
-      });
+      filter = subst (FilterHasSetup setup) (sym filter) (search rules);
       allocation = kilobytes ∙ has.allocation;
     })
 
@@ -118,17 +111,17 @@ stay-right caller k steps happened a b h h' leads stands stay same =
 leads-behind : (caller : ℕ) (first later : List AtomicStep) (a m b : List StationState) → LeadsTo caller (first ++ later) a b
     → LeadsTo caller first a m → LeadsTo caller later m b
 leads-behind caller [] later a m b all one = subst (λ (s : List StationState). LeadsTo caller later s b) (sym one) all
-leads-behind caller (step ∷ first) later a m b all one = leads-behind caller first later (after step a) m b all.2 one.2
+leads-behind caller (step ∷ first) later a m b all one = leads-behind caller first later (after_atomic step a) m b all.2 one.2
 
 only-ticks : (caller : ℕ) (steps : List AtomicStep) (a b : List StationState) → LeadsTo caller steps a b
     → (past_at caller steps).accesses ≡ [] → All IsTick steps
 only-ticks caller [] a b leads none = all-none IsTick
 only-ticks caller (At host (Steps kind wire_free answer) ∷ later) a b leads none =
     let step = At host (Steps kind wire_free answer) in
-    All-cons IsTick step later tt (only-ticks caller later (after step a) b leads.2 (sym (tick-accesses caller step later tt) ∙ none))
+    All-cons IsTick step later tt (only-ticks caller later (after_atomic step a) b leads.2 (sym (tick-accesses caller step later tt) ∙ none))
 only-ticks caller (At host (Arrives frame fate) ∷ later) a b leads none =
     let step = At host (Arrives frame fate) in
-    All-cons IsTick step later tt (only-ticks caller later (after step a) b leads.2 (sym (tick-accesses caller step later tt) ∙ none))
+    All-cons IsTick step later tt (only-ticks caller later (after_atomic step a) b leads.2 (sym (tick-accesses caller step later tt) ∙ none))
 only-ticks caller (Idles tick ∷ later) a b leads none =
     All-cons IsTick (Idles tick) later leads.1 (only-ticks caller later a b leads.2 none)
 only-ticks caller (At host (Accesses access) ∷ later) a b leads none =
@@ -180,7 +173,7 @@ only-access caller steps a b access leads made ends =
     subst (λ (c : Bool). (past_of ((if c then Accesses access ∷ [] else []) ++ events_at caller one.later)).accesses ≡ access ∷ [])
     itself rest in
     let none : (past_at caller one.later).accesses ≡ [] = cc more in
-    let are = only-ticks caller one.later (after step one.middle) b behind.2 none in
+    let are = only-ticks caller one.later (after_atomic step one.middle) b behind.2 none in
     let last = none-behind one.early one.later step (subst EndsWithAccess one.split ends) are in
     record {
       early = one.early;
@@ -206,7 +199,7 @@ around-marks k mark first middle last is =
 -- The join or leave writes a word of MTA. Its mark comes after the happenings of the ticks before the write.
 written-right : (caller : ℕ) (mark : Mark) (middle : List Happening) (ticks : List Tick) (steps first rest : List AtomicStep)
     (a m b : List StationState) (h h' : HostState) (group : List ℕ) (made : List Access)
-    → HostStands h (world_at a caller) → h'.driver.setup ≡ h.driver.setup → ChangesGroups mark h.driver.groups h'.driver.groups
+    → HostStands h (world_at a caller) → h'.driver.setup ≡ h.driver.setup → MarksGroups mark h.driver.groups h'.driver.groups
     → marks caller middle ≡ mark ∷ []
     → steps ≡ first ++ rest → LeadsTo caller first a m → LeadsTo caller rest m b
     → without_go is_go (map tick_of steps) ≡ without_go is_go ticks
@@ -261,7 +254,7 @@ written-right caller mark middle ticks steps first rest a m b h h' group made st
 -- The join or leave makes no access, so its mark comes after the happenings of all ticks.
 shared-right : (caller : ℕ) (mark : Mark) (middle : List Happening) (ticks : List Tick) (steps first rest : List AtomicStep)
     (a m b : List StationState) (h h' : HostState)
-    → HostStands h (world_at a caller) → h'.driver.setup ≡ h.driver.setup → ChangesGroups mark h.driver.groups h'.driver.groups
+    → HostStands h (world_at a caller) → h'.driver.setup ≡ h.driver.setup → MarksGroups mark h.driver.groups h'.driver.groups
     → marks caller middle ≡ mark ∷ []
     → steps ≡ first ++ rest → LeadsTo caller first a m → LeadsTo caller rest m b
     → without_go is_go (map tick_of steps) ≡ without_go is_go ticks
@@ -303,18 +296,24 @@ shared-right caller mark middle ticks steps first rest a m b h h' stands setup c
       table = same-table g' caller caller rest m b later leave has;
     }
 
-changed : (caller : ℕ) (mark : Mark) (middle : List Happening) (ticks : List Tick) (steps : List AtomicStep)
-    (a b : List StationState) (h h' : HostState) (given : List Given) (kept : List (List ℕ)) (group : List ℕ) (made : List Access)
-    → HostStands h (world_at a caller) → LeadsTo caller steps a b → h'.driver.setup ≡ h.driver.setup
-    → ChangesGroups mark h.driver.groups h'.driver.groups
-    → marks caller middle ≡ mark ∷ [] → without_go is_go (map tick_of steps) ≡ without_go is_go ticks
-    → SetsTable kept group h'.driver.groups made
+-- In these steps, a host in the state `h` makes a call, while the ticks of the call are played.
+pub record InCall (caller : ℕ) (ticks : List Tick) (steps : List AtomicStep) (a b : List StationState) (h : HostState) : Type 0 where
+  pub stands : HostStands h (world_at a caller)
+  pub leads : LeadsTo caller steps a b
+  pub played : without_go is_go (map tick_of steps) ≡ without_go is_go ticks
+
+changed : {caller : ℕ} {ticks : List Tick} {steps : List AtomicStep} {a b : List StationState} {h : HostState} (mark : Mark)
+    (middle : List Happening) (h' : HostState) (given : List Given) (kept : List (List ℕ)) (group : List ℕ) (made : List Access)
+    → InCall caller ticks steps a b h → h'.driver.setup ≡ h.driver.setup → MarksGroups mark h.driver.groups h'.driver.groups
+    → marks caller middle ≡ mark ∷ [] → SetsTable kept group h'.driver.groups made
     → InSteps caller given steps (connected h a) (connected h' b) (groups_act h h' made)
     → Right caller (tick_happenings_around middle ticks (noted_of 0 steps)) a b h h'
-changed caller mark middle ticks steps a b h h' given kept group made stands leads setup changes says played sets runs =
+changed {caller} {ticks} {steps} {a} {b} {h} mark middle h' given kept group made call setup changes says sets runs =
+    let stands = call.stands in
+    let played = call.played in
     let stage = runs.stages in
     let later = leads-behind caller stage.first stage.rest a stage.middle b
-    (subst (λ (list : List AtomicStep). LeadsTo caller list a b) stage.split leads) stage.leads in
+    (subst (λ (list : List AtomicStep). LeadsTo caller list a b) stage.split call.leads) stage.leads in
     elim sets [
       | inl shared ↦
           shared-right caller mark middle ticks steps stage.first stage.rest a stage.middle b h h' stands setup changes says stage.split
@@ -327,22 +326,19 @@ changed caller mark middle ticks steps a b h h' given kept group made stands lea
 itself : {T : Type 0} (k : ℕ) (list : List T) → of_host k k list ≡ list
 itself k list = ap (λ (here : Bool). if here then list else []) (eq-eqb k k refl)
 
-pub joined-right : (caller : ℕ) (group : List ℕ) (ticks : List Tick) (steps : List AtomicStep) (a b : List StationState)
-    (h h' : HostState) (given : List Given) → HostStands h (world_at a caller) → LeadsTo caller steps a b
-    → without_go is_go (map tick_of steps) ≡ without_go is_go ticks
+pub joined-right : {caller : ℕ} {ticks : List Tick} {steps : List AtomicStep} {a b : List StationState} {h : HostState} (group : List ℕ)
+    (h' : HostState) (given : List Given) → InCall caller ticks steps a b h
     → JoinsGroup group h h' (InSteps caller given steps (connected h a) (connected h' b))
     → Right caller (tick_happenings_around (Joined caller group ∷ []) ticks (noted_of 0 steps)) a b h h'
-joined-right caller group ticks steps a b h h' given stands leads played it =
-    changed caller (Joins group) (Joined caller group ∷ []) ticks steps a b h h' given h.driver.groups group it.accesses stands leads
+joined-right {caller} {h = h} group h' given call it =
+    changed (Joins group) (Joined caller group ∷ []) h' given h.driver.groups group it.accesses call
     (ap (λ (host : HostState). host.driver.setup) it.joined) (ap (λ (host : HostState). host.driver.groups) it.joined)
-    (append-nil _ ∙ itself caller (Joins group ∷ [])) played it.sets it.runs
+    (append-nil _ ∙ itself caller (Joins group ∷ [])) it.sets it.runs
 
-pub left-right : (caller : ℕ) (group : List ℕ) (ticks : List Tick) (steps : List AtomicStep) (a b : List StationState)
-    (h h' : HostState) (given : List Given) → HostStands h (world_at a caller) → LeadsTo caller steps a b
-    → without_go is_go (map tick_of steps) ≡ without_go is_go ticks
+pub left-right : {caller : ℕ} {ticks : List Tick} {steps : List AtomicStep} {a b : List StationState} {h : HostState} (group : List ℕ)
+    (h' : HostState) (given : List Given) → InCall caller ticks steps a b h
     → LeavesGroup group h h' (InSteps caller given steps (connected h a) (connected h' b))
     → Right caller (tick_happenings_around (Left caller group ∷ []) ticks (noted_of 0 steps)) a b h h'
-left-right caller group ticks steps a b h h' given stands leads played it =
-    changed caller (Quits group) (Left caller group ∷ []) ticks steps a b h h' given h'.driver.groups group it.accesses stands leads
-    (ap (λ (host : HostState). host.driver.setup) it.others) it.left (append-nil _ ∙ itself caller (Quits group ∷ [])) played it.sets
-    it.runs
+left-right {caller} group h' given call it =
+    changed (Quits group) (Left caller group ∷ []) h' given h'.driver.groups group it.accesses call
+    (ap (λ (host : HostState). host.driver.setup) it.others) it.left (append-nil _ ∙ itself caller (Quits group ∷ [])) it.sets it.runs

@@ -9,8 +9,8 @@ use Rattle.eeprom_phy.specs.declared.phy.Link.{Link}
 use Rattle.eeprom_phy.specs.declared.phy.Link.TheVariants.{Never}
 use Rattle.eeprom_phy.specs.declared.phy.Negotiation.{Negotiation}
 use Rattle.eeprom_phy.specs.declared.phy.Negotiation.TheVariants.{NotStarted}
-use Rattle.eeprom_phy.specs.Mdic.{data_of, phy_ended, reaches_phy, regadd, told}
-use Rattle.eeprom_phy.specs.Phy.{PhyState, after_control, after_read, after_tick, after_write, counted, negotiation_of, new_phy, restarted}
+use Rattle.eeprom_phy.specs.Mdic.{data_bits, phy_ended, reaches_phy, regadd, told}
+use Rattle.eeprom_phy.specs.Phy.{PhyState, after_control, phy_after_read, after_tick, phy_after_write, counted_down, negotiation_of, new_phy, restarted}
 use Rattle.eeprom_phy.specs.Places.{control_enable, control_reset, control_restart}
 use Rattle.registers.specs.Bits.{is_set}
 use Rattle.adapter.specs.Registers.{after_reset, by_row, by_rule, is_reset, left_by_read, left_by_write, with_register}
@@ -49,7 +49,7 @@ one-of wanted true one other is is_other = is
 one-of wanted false one other is is_other = is_other
 
 ticked : (wanted : Link) (phy : PhyState) → IsPhyOf wanted phy → IsPhyOf wanted (after_tick phy)
-ticked wanted phy is = record { link_is = is.link_is; never = λ never. ap counted (is.never never) }
+ticked wanted phy is = record { link_is = is.link_is; never = λ never. ap counted_down (is.never never) }
 
 controlled : (wanted : Link) (value : ℕ) (phy : PhyState) → IsPhyOf wanted phy → IsPhyOf wanted (after_control value phy)
 controlled wanted value phy is =
@@ -64,10 +64,10 @@ commanded : (wanted : Link) (operation : Option Operation) (value : ℕ) (phy : 
     → IsPhyOf wanted (phy_ended operation value phy)
 commanded wanted None value phy is = is
 commanded wanted (Some Write) value phy is =
-    one-of wanted (reaches_phy value) (after_write (regadd value) (data_of value) phy) phy
-    (one-of wanted (regadd value == 0) (after_control (data_of value) phy) phy (controlled wanted (data_of value) phy is) is) is
+    one-of wanted (reaches_phy value) (phy_after_write (regadd value) (data_bits value) phy) phy
+    (one-of wanted (regadd value == 0) (after_control (data_bits value) phy) phy (controlled wanted (data_bits value) phy is) is) is
 commanded wanted (Some Read) value phy is =
-    one-of wanted (reaches_phy value) (after_read (regadd value) phy) phy
+    one-of wanted (reaches_phy value) (phy_after_read (regadd value) phy) phy
     (one-of wanted (regadd value == 1) (record phy { latched_low = false }) phy is is) is
 
 told-leaves : (wanted : Link) (ticked_is : Option Ticked) (adapter : AdapterState) → IsAdapterOf wanted adapter

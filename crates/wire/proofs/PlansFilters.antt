@@ -1,5 +1,5 @@
 -- The filter of the registers after initialization has the sets and modes of the plan's filter.
-use Rattle.std.proofs.Common.{◌≡◌, ◌+◌, ◌↔◌, ◌∷◌, Bool, true, false, ℕ, List, replicate, refl, sym, subst, inl, inr, arith}
+use Rattle.std.proofs.Common.{◌≡◌, ◌+◌, ◌↔◌, ◌∷◌, Bool, true, false, ℕ, List, replicate, refl, sym, subst, inl, inr, arith, rules}
 use Rattle.std.proofs.lemmas.List.{length-replicate}
 use Rattle.eeprom_phy.specs.Image.{address_bytes}
 use Rattle.registers.specs.Bits.{HasBit, field}
@@ -24,38 +24,10 @@ pub record Controls (promiscuous by_vlan : Bool) (rctl : ℕ) : Type 0 where
   pub broadcasts : HasBit rctl rctl_bam
 
 pub controls : (promiscuous by_vlan : Bool) → Controls promiscuous by_vlan (receive_control promiscuous by_vlan)
-controls true true = record {
-  receives = refl;
-  shift = refl;
-  every_vlan = ((λ is. absurd (cc)), (λ is. absurd (cc)));
-  individuals = ((λ is. refl), (λ is. refl));
-  groups = ((λ is. refl), (λ is. refl));
-  broadcasts = refl;
-}
-controls true false = record {
-  receives = refl;
-  shift = refl;
-  every_vlan = ((λ is. refl), (λ is. refl));
-  individuals = ((λ is. refl), (λ is. refl));
-  groups = ((λ is. refl), (λ is. refl));
-  broadcasts = refl;
-}
-controls false true = record {
-  receives = refl;
-  shift = refl;
-  every_vlan = ((λ is. absurd (cc)), (λ is. absurd (cc)));
-  individuals = ((λ is. absurd (cc)), (λ is. absurd (cc)));
-  groups = ((λ is. absurd (cc)), (λ is. absurd (cc)));
-  broadcasts = refl;
-}
-controls false false = record {
-  receives = refl;
-  shift = refl;
-  every_vlan = ((λ is. refl), (λ is. refl));
-  individuals = ((λ is. absurd (cc)), (λ is. absurd (cc)));
-  groups = ((λ is. absurd (cc)), (λ is. absurd (cc)));
-  broadcasts = refl;
-}
+controls true true = search rules
+controls true false = search rules
+controls false true = search rules
+controls false false = search rules
 
 -- the registers of receive addresses contain exactly this address
 abbrev IsOnlyEntry : (ral rah address : List ℕ) → Type 0

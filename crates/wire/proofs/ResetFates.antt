@@ -25,7 +25,7 @@ use Rattle.bus.specs.declared.event.Access.TheVariants.{Loads, Reads, Stores, Wr
 use Rattle.bus.specs.declared.event.Event.TheVariants.{Accesses}
 use Rattle.stations.proofs.HostTrails.{world-here}
 use Rattle.stations.specs.AtomicRuns.{LeadsTo, past_at}
-use Rattle.stations.specs.AtomicSteps.{At, AtomicStep, after}
+use Rattle.stations.specs.AtomicSteps.{At, AtomicStep, after_atomic}
 use Rattle.stations.specs.Stations.{StationState, world_at}
 use Rattle.host_calls.proofs.Joining.{fates-append}
 use Rattle.host_calls.proofs.OffFates.{fates-off}
@@ -60,7 +60,7 @@ abbrev written : (k offset value : ℕ) → AtomicStep
 written k offset value = At k (Accesses (Writes offset value))
 
 world-written : (k offset value : ℕ) (later : List AtomicStep) (a b : List StationState) → LeadsTo k (written k offset value ∷ later) a b
-    → world_at (after (written k offset value) a) k ≡ world_after_access (Writes offset value) (world_at a k)
+    → world_at (after_atomic (written k offset value) a) k ≡ world_after_access (Writes offset value) (world_at a k)
 world-written k offset value later a b leads = world-here a k (Accesses (Writes offset value)) (eq-eqb k k refl) leads.0
 
 disabled : (world : World) → IsOff (world_after_access (Writes RCTL 0) world)
@@ -84,7 +84,7 @@ leads-first : (caller : ℕ) (first later : List AtomicStep) (a b : List Station
     → LeadsTo caller first a (stations_behind first a) × LeadsTo caller later (stations_behind first a) b
 leads-first caller [] later a b leads = (refl, leads)
 leads-first caller (step ∷ first) later a b leads =
-    let rest = leads-first caller first later (after step a) b leads.2 in
+    let rest = leads-first caller first later (after_atomic step a) b leads.2 in
     ((leads.0, leads.1, rest.0), rest.1)
 
 -- The marks of a reset, by its parts.
@@ -138,12 +138,12 @@ judged k control groups early stopping resting later a last enabled b can =
     let from = (world_at a k).adapter in
     let begun = leads-first k early (written k RCTL 0 ∷ stopping) a last can.stops in
     let m1 = stations_behind early a in
-    let m2 = after (written k RCTL 0) m1 in
+    let m2 = after_atomic (written k RCTL 0) m1 in
     let first = fates-right k k early a m1 groups begun.0 can.none_early can.on can.has in
     let off2 : IsOff (world_at m2 k) =
     subst IsOff (sym (world-written k RCTL 0 stopping m1 last begun.1)) (disabled (world_at m1 k)) in
     let stops = fates-off k k stopping m2 last begun.1.2 can.stopping_off off2 in
-    let m4 = after (written k CTRL (alone ctrl_rst)) last in
+    let m4 = after_atomic (written k CTRL (alone ctrl_rst)) last in
     let at_rest = resting ++ written k RCTL control ∷ [] in
     let here = world-written k CTRL (alone ctrl_rst) at_rest last enabled can.rests in
     let off4 : IsOff (world_at m4 k) = subst IsOff (sym here) (reset-off (world_at last k)) in

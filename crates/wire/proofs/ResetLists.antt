@@ -12,7 +12,7 @@ use Rattle.bus.specs.Pasts.{Past}
 use Rattle.bus.specs.DriverState.{DriverSetup, DriverState}
 use Rattle.stations.specs.AtomicRunLaws.{past_join}
 use Rattle.stations.specs.AtomicRuns.{LeadsTo, past_at}
-use Rattle.stations.specs.AtomicSteps.{AtomicStep, after}
+use Rattle.stations.specs.AtomicSteps.{AtomicStep, after_atomic}
 use Rattle.stations.specs.Stations.{StationState, backlog_at, wire_at, world_at}
 use Rattle.packet_socket.specs.HostCalls.{held_for_socket, socket_frames, waiting_frames, without_socket}
 use Rattle.packet_socket.specs.HostState.{HostState}
@@ -22,20 +22,8 @@ use Rattle.host_calls.proofs.Laws.{frames-move}
 use Rattle.host_calls.proofs.Lists.{accepted-padded, goes-join, goes-without_drops}
 use Rattle.host_calls.specs.Fates.{marks}
 use Rattle.host_calls.specs.Happenings.{Disabled, Enabled, GivenUp, Happening, accepted_in_one, given, given_in_one, happened_by}
-use Rattle.host_calls.specs.Happenings.{
-  happened_in,
-  missed,
-  missed_of,
-  of_host,
-  put,
-  put_in_one,
-  reached,
-  reached_by,
-  stored,
-  stored_by,
-  toward,
-}
-use Rattle.host_calls.specs.Happenings.{toward_by}
+use Rattle.host_calls.specs.Happenings.{happened_in, missed, missed_of, of_host, put, put_in_one, reached, reached_by}
+use Rattle.host_calls.specs.Happenings.{stored, stored_by, toward, toward_by}
 use Rattle.host_calls.specs.Lists.{AreDue, ListGoes, HaveCome, holding_in_one, padded_in_one, sending_in_one}
 use Rattle.host_calls.specs.Reception.{ReceivesRightly}
 use Rattle.host_calls.specs.ConnectedHosts.{connected}
@@ -136,7 +124,7 @@ pub leads-split : (caller : ℕ) (first later : List AtomicStep) (a b : List Sta
     → (m : List StationState) × LeadsTo caller first a m × LeadsTo caller later m b
 leads-split caller [] later a b leads = (a, refl, leads)
 leads-split caller (step ∷ first) later a b leads =
-    let rest = leads-split caller first later (after step a) b leads.2 in
+    let rest = leads-split caller first later (after_atomic step a) b leads.2 in
     (rest.0, (leads.0, leads.1, rest.1), rest.2)
 
 due-stays : (k : ℕ) (list : List (List ℕ)) (steps : List AtomicStep) → AreDue k list (happened_in steps) list
@@ -223,7 +211,7 @@ reset-keeps k answer steps h h' a b resets gives =
     let stopping = first.2.2 in
     let early_are : stored k (happened_in parts.early) ≡ early = stored-told k k parts.early a first.0 first.1 in
     let none_stopping : stored k (happened_in parts.stopping) ≡ [] =
-    stored-told k k parts.stopping (after (disable_of k) first.0) resets.last stopping ∙ resets.stops.none_stored in
+    stored-told k k parts.stopping (after_atomic (disable_of k) first.0) resets.last stopping ∙ resets.stops.none_stored in
     let none_resting : stored k (happened_in parts.resting) ≡ [] =
     ap (stored k) (sym (rest-happened k setup parts))
     ∙ stored-told k k (at_rest k setup parts) resets.last resets.enabled resets.rests.leads ∙ resets.rests.no_frame.none_stored in

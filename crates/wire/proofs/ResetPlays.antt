@@ -8,7 +8,7 @@ use Rattle.std.proofs.lemmas.List.{append-nil}
 use Rattle.std.proofs.lemmas.Option.{slice_get_past}
 use Rattle.circular_buffer.proofs.Places.{slice_get-set_other}
 use Rattle.dma_memory.specs.Layout.{Counts, size_of}
-use Rattle.dma_memory.specs.LayoutLaws.{begins}
+use Rattle.dma_memory.specs.LayoutLaws.{layout_begins}
 use Rattle.adapter.specs.HostFrames.{frames_held}
 use Rattle.bus.specs.LivelyBuses.{most_accesses}
 use Rattle.bus.specs.TickGroups.{without_go}
@@ -16,7 +16,7 @@ use Rattle.bus.specs.declared.event.Access.{Access}
 use Rattle.bus.specs.DriverState.{DriverSetup}
 use Rattle.stations.specs.AtomicRunLaws.{counted_join}
 use Rattle.stations.specs.AtomicRuns.{LeadsTo, counted_of, is_go, noted_of, steps_told}
-use Rattle.stations.specs.AtomicSteps.{AtomicStep, after, tick_of, watched}
+use Rattle.stations.specs.AtomicSteps.{AtomicStep, after_atomic, tick_of, watched}
 use Rattle.stations.specs.Stations.{StationState, world_at}
 use Rattle.stations.specs.ToldTicks.{TickTold}
 use Rattle.stations.specs.declared.observer.Observer.{Ghosts as OfObserver}
@@ -58,11 +58,11 @@ parts-counted k steps h h' a b on_after resets is within =
     let parts = resets.parts in
     let enable = enable_of k setup in
     let first = leads-split k parts.early (disable_of k ∷ parts.stopping) a resets.last resets.stops.leads in
-    let last = leads-split k parts.resting (enable ∷ []) (after (reset_of k) resets.last) resets.enabled resets.rests.leads.2 in
+    let last = leads-split k parts.resting (enable ∷ []) (after_atomic (reset_of k) resets.last) resets.enabled resets.rests.leads.2 in
     let early_made = ap (λ (list : List Access). length list) resets.accesses.early in
     let stopping_made = ap (λ (list : List Access). length list) resets.accesses.stopping in
     let early_count = count-accesses k 0 parts.early a first.0 first.1 (omega arith) in
-    let stopping_count = count-accesses k 1 parts.stopping (after (disable_of k) first.0) resets.last first.2.2 (omega arith) in
+    let stopping_count = count-accesses k 1 parts.stopping (after_atomic (disable_of k) first.0) resets.last first.2.2 (omega arith) in
     let none : counted_of 0 parts.early ≡ 0 = omega (arith, early_count, early_made) in
     let two : counted_of 1 parts.stopping ≡ 2 = omega (arith, stopping_count, stopping_made) in
     let before : counted_of 0 (before_reset k parts) ≡ 2 =
@@ -75,7 +75,7 @@ parts-counted k steps h h' a b on_after resets is within =
 
 -- The number of accesses before a reset's later part is below the count at which accesses saturate.
 pub few-slots : (counts : Counts) → size_of counts < 2 ^ 64 → 302 + counts.rx < most_accesses
-few-slots counts size = let rings = (begins counts).behind_rings in omega (arith, size, rings)
+few-slots counts size = let rings = (layout_begins counts).behind_rings in omega (arith, size, rings)
 
 -- The answer of a reset, by the numbers of accesses before its outcomes
 

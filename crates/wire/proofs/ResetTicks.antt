@@ -31,7 +31,7 @@ use Rattle.bus.specs.declared.event.Event.TheVariants.{Accesses, Arrives, Steps}
 use Rattle.stations.proofs.HostTrails.{trail-of}
 use Rattle.stations.specs.AtomicRunLaws.{leads_join, past_join}
 use Rattle.stations.specs.AtomicRuns.{LeadsTo, events_at, past_at}
-use Rattle.stations.specs.AtomicSteps.{At, AtomicStep, after}
+use Rattle.stations.specs.AtomicSteps.{At, AtomicStep, after_atomic}
 use Rattle.stations.specs.Stations.{StationState, world_at}
 use Rattle.bring_up.specs.ClearedDescriptors.{clears, clears_from}
 use Rattle.bring_up.specs.DriverSteps.{accesses_of}
@@ -204,9 +204,9 @@ no-fault : (k : ℕ) (counts : Counts) (setup : DriverSetup) (values : ResetValu
 no-fault k counts setup values parts a last enabled b are first rest behind run_first run =
     let first_steps = before_reset k parts in
     let later_steps = after_steps k setup parts in
-    faultless-around-reset k k first_steps later_steps (Writes CTRL (alone ctrl_rst)) a last (after (reset_of k) last) b first
+    faultless-around-reset k k first_steps later_steps (Writes CTRL (alone ctrl_rst)) a last (after_atomic (reset_of k) last) b first
     (none-resets (past_at k first_steps).accesses (first-leaves k counts setup values parts are)) run_first
-    (leads_join k (parts.resting ++ enable_of k setup ∷ []) parts.later (after (reset_of k) last) enabled b rest.2 behind)
+    (leads_join k (parts.resting ++ enable_of k setup ∷ []) parts.later (after_atomic (reset_of k) last) enabled b rest.2 behind)
     (none-resets (past_at k later_steps).accesses (later-leaves k counts setup values parts are)) run
 
 pub reset-ticks : (k : ℕ) (steps : List AtomicStep) (old new : ConnectedHost) → LeadsTo k steps old.stations new.stations

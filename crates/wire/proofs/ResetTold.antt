@@ -16,7 +16,7 @@ use Rattle.stations.specs.AtomicSteps.{At, AtomicStep, Idles, tick_of}
 use Rattle.stations.specs.Stations.{StationState}
 use Rattle.stations.specs.declared.tick.Tick.{Tick}
 use Rattle.host_calls.proofs.HostLists.{none-chosen}
-use Rattle.host_calls.proofs.ToldByNumber.{more-counted, told-by_number, where-all, where-append, where-none}
+use Rattle.host_calls.proofs.ToldByNumber.{more-counted, told-by_number, where-append, where-such}
 use Rattle.host_calls.specs.DeliveryLaws.{happened_where}
 use Rattle.host_calls.specs.Happenings.{Disabled, Enabled, GivenUp, Happening, happened_in, tick_happenings_where}
 use Rattle.host_calls.proofs.FirstAccess.{tick-accesses}
@@ -129,8 +129,7 @@ chosen is steps = if is then happened_in steps else []
 
 part-told : (is_such : ℕ → Bool) (n : ℕ) (steps : List AtomicStep) (is : Bool) → n ≤ most_accesses
     → ((m : ℕ) → n ≤ m → m ≤ counted_of n steps → is_such m ≡ is) → happened_where is_such n steps ≡ chosen is steps
-part-told is_such n steps true within are = where-all is_such n steps within are
-part-told is_such n steps false within are = where-none is_such n steps within are
+part-told is_such n steps is within are = where-such is_such n steps is within are
 
 pub parts-chosen : (is_such : ℕ → Bool) (k : ℕ) (setup : DriverSetup) (parts : ResetParts) (on_after : ℕ) (first second third last : Bool)
     → PartsCounted parts on_after → Chosen is_such on_after first second third last

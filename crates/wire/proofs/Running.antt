@@ -1,10 +1,11 @@
 -- `EventRuns` for each kind of event, and runs of several events.
-use Rattle.std.proofs.Common.{◌≡◌, ◌++◌, ◌∷◌, [], ℕ, List, Some, refl, sym, ap}
+use Rattle.std.proofs.Common.{◌≡◌, ◌++◌, ◌∷◌, [], ℕ, List, Some, length, refl, sym, ap}
 use Rattle.std.proofs.Common.{subst, ◌∙◌, append_assoc, arith}
 use Rattle.std.proofs.lemmas.List.{append-nil}
 use Rattle.std.proofs.lemmas.Option.{slice_get_within}
 use Rattle.circular_buffer.proofs.Places.{slice_get-some}
 use Rattle.packet_socket.specs.HostState.{HostState}
+use Rattle.stations.specs.AtomicSteps.{AtomicStep}
 use Rattle.stations.specs.Stations.{StationState, wire_at}
 use Rattle.stations.specs.declared.tick.Tick.{Tick}
 use Rattle.host_calls.proofs.Waiting.{wires-stay}
@@ -25,44 +26,40 @@ use Rattle.wire.proofs.Playing.{ticks-go}
 
 -- Events
 
-pub call-event : (old new : NetworkState) (event : Event) (call : EventCall) (reply : Reply) → in_event event ≡ ByCall call
-    → CallPlayed call reply old new → NetworkStands old → EventRuns old event reply new
-call-event old new event call reply is played stood = record {
-  stood = stood;
-  steps = played.steps;
-  go = subst (λ (part : EventKind). HostsGo (caller_in part) (kind_happenings part reply) played.steps old new) (sym is) played.go;
-  replied = subst (λ (part : EventKind). IsReply part reply played.steps old new) (sym is) played.replied;
-  answer = subst (λ (part : EventKind). (h h' : HostState) → IsHost old (caller_in part) h → IsHost new (caller_in part) h'
-      → IsEventAnswer part reply.answer played.steps (connected h old.stations) (connected h' new.stations)) (sym is) played.answer;
-}
+-- An event of this kind, with this reply, leads from the network `old` to the network `new` (`EventRuns`).
+pub record KindRuns (kind : EventKind) (old : NetworkState) (reply : Reply) (new : NetworkState) : Type 0 where
+  pub stood : NetworkStands old
+  pub steps : List AtomicStep
+  pub go : HostsGo (caller_in kind) (kind_happenings kind reply) steps old new
+  pub replied : IsReply kind reply steps old new
+  pub answer : (h h' : HostState) → IsHost old (caller_in kind) h → IsHost new (caller_in kind) h'
+      → IsEventAnswer kind reply.answer steps (connected h old.stations) (connected h' new.stations)
 
-pub reset-event : (old new : NetworkState) (event : Event) (host : ℕ) (ticks : List Tick) (reply : Reply)
-    → in_event event ≡ ByReset host ticks → ResetPlayed host ticks reply old new → NetworkStands old → EventRuns old event reply new
-reset-event old new event host ticks reply is played stood = record {
-  stood = stood;
-  steps = played.steps;
-  go = subst (λ (part : EventKind). HostsGo (caller_in part) (kind_happenings part reply) played.steps old new) (sym is) played.go;
-  replied = subst (λ (part : EventKind). IsReply part reply played.steps old new) (sym is) played.replied;
-  answer = subst (λ (part : EventKind). (h h' : HostState) → IsHost old (caller_in part) h → IsHost new (caller_in part) h'
-      → IsEventAnswer part reply.answer played.steps (connected h old.stations) (connected h' new.stations)) (sym is) played.answer;
-}
+pub event-runs : {args old : NetworkState} {event : Event} {kind : EventKind} {reply : Reply} {new : NetworkState} → old ≡ args
+    → in_event event ≡ kind → KindRuns kind old reply new → EventRuns args event reply new
+event-runs {args} {old} {event} {kind} {reply} {new} old_is is runs =
+    let of = subst (λ (k : EventKind). KindRuns k args reply new) (sym is)
+    (subst (λ (network : NetworkState). KindRuns kind network reply new) old_is runs) in
+    record { stood = of.stood; steps = of.steps; go = of.go; replied = of.replied; answer = of.answer }
 
-pub tick-event : (old : NetworkState) (stations : List StationState) (event : Event) (tick : Tick) (reply : Reply)
-    → in_event event ≡ Alone tick → NetworkStands old → TickPlayed tick reply old.stations stations
-    → EventRuns old event reply (record { hosts = old.hosts; stations = stations })
-tick-event old stations event tick reply is stands played =
-    let new : NetworkState = record { hosts = old.hosts; stations = stations } in
-    let go = ticks-go 0 (lone_tick_happenings tick reply.outcomes.list) played.steps old stations stands played.are played.leads
-    played.said in
+pub call-runs : {call : EventCall} {reply : Reply} {old new : NetworkState} → CallPlayed call reply old new → NetworkStands old
+    → KindRuns (ByCall call) old reply new
+call-runs played stood = record { stood = stood; steps = played.steps; go = played.go; replied = played.replied; answer = played.answer }
+
+pub reset-runs : {host : ℕ} {ticks : List Tick} {reply : Reply} {old new : NetworkState} → ResetPlayed host ticks reply old new
+    → NetworkStands old → KindRuns (ByReset host ticks) old reply new
+reset-runs played stood = record { stood = stood; steps = played.steps; go = played.go; replied = played.replied; answer = played.answer }
+
+pub tick-runs : (old : NetworkState) (stations : List StationState) (tick : Tick) (reply : Reply) → NetworkStands old
+    → TickPlayed tick reply old.stations stations → KindRuns (Alone tick) old reply (record { hosts = old.hosts; stations = stations })
+tick-runs old stations tick reply stands played =
     let replied = played.replied old.hosts in
     record {
       stood = stands;
       steps = played.steps;
-      go = subst (λ (part : EventKind). HostsGo (caller_in part) (kind_happenings part reply) played.steps old new) (sym is) go;
-      replied = subst (λ (part : EventKind). IsReply part reply played.steps old new) (sym is) replied;
-      answer = subst (λ (part : EventKind). (h h' : HostState) → IsHost old (caller_in part) h → IsHost new (caller_in part) h'
-          → IsEventAnswer part reply.answer played.steps (connected h old.stations) (connected h' stations)) (sym is)
-          (λ was is then now. replied.answer);
+      go = ticks-go 0 (lone_tick_happenings tick reply.outcomes.list) played.steps old stations stands played.are played.leads played.said;
+      replied = replied;
+      answer = λ was is then now. replied.answer;
     }
 
 -- Runs
@@ -97,6 +94,20 @@ wires-of old (first ∷ events) (one ∷ replies) new states host =
     wires-of states.0 events replies new states.2 host
     ∙ wires-stay (caller_of first) host states.1.steps old.stations states.0.stations states.1.go.leads
 
+-- the equations of each host, between two networks
+abbrev pub Deliver : List Happening → (old new : NetworkState) → Type 0
+Deliver happened old new =
+    (k : ℕ) (was now : HostState) → IsHost old k was → IsHost new k now → MeetsEquations k happened old.stations new.stations was now
+
+pub deliver-both : (a b c : NetworkState) (first later : List Happening) → length b.hosts ≡ length a.hosts
+    → ((host : ℕ) → wire_at b.stations host ≡ wire_at a.stations host) → Deliver first a b → Deliver later b c
+    → Deliver (first ++ later) a c
+deliver-both a b c first later hosts wires one two k was now then here =
+    let below = slice_get_within a.hosts k was then in
+    let some = slice_get-some b.hosts k (omega (arith, below, hosts)) in
+    delivers-join k first later a.stations b.stations c.stations was some.0 now wires (one k was some.0 then some.1)
+    (two k some.0 now some.1 here)
+
 pub runs-none : (old : NetworkState) (before : List Reply) → RunsTo old [] before before old
 runs-none old before = record {
   replies = [];
@@ -119,15 +130,11 @@ runs-more old events before behind middle event reply last new runs one is = rec
       is ∙ ap (λ (list : List Reply). list ++ reply ∷ []) runs.appended ∙ append_assoc before runs.replies (reply ∷ []);
   states = states-more old events runs.replies middle event reply new runs.states one;
   hosts = one.go.hosts ∙ runs.hosts;
-  delivers = λ k was now then here.
-      let some = slice_get-some middle.hosts k
-      (let below = slice_get_within old.hosts k was then in
-      let same = runs.hosts in omega (arith, below, same)) in
-      subst (λ (happened : List Happening). MeetsEquations k happened old.stations new.stations was now)
+  delivers =
+      subst (λ (happened : List Happening). Deliver happened old new)
       (sym (happenings-more old events runs.replies middle event reply runs.states))
-      (delivers-join k (happenings events runs.replies) (said event reply) old.stations middle.stations new.stations was some.0 now
-      (wires-of old events runs.replies middle runs.states) (runs.delivers k was some.0 then some.1)
-      (one.go.delivers k some.0 now some.1 here));
+      (deliver-both old middle new (happenings events runs.replies) (said event reply) runs.hosts
+      (wires-of old events runs.replies middle runs.states) runs.delivers one.go.delivers);
 }
 
 -- What an observer is told of runs
@@ -190,12 +197,9 @@ runs-join a b c events later before between behind one two = record {
       two.appended ∙ ap (λ (list : List Reply). list ++ two.replies) one.appended ∙ append_assoc before one.replies two.replies;
   states = states-join a events one.replies b later two.replies c one.states two.states;
   hosts = two.hosts ∙ one.hosts;
-  delivers = λ k was now then here.
-      let some = slice_get-some b.hosts k
-      (let below = slice_get_within a.hosts k was then in
-      let same = one.hosts in omega (arith, below, same)) in
-      subst (λ (happened : List Happening). MeetsEquations k happened a.stations c.stations was now)
+  delivers =
+      subst (λ (happened : List Happening). Deliver happened a c)
       (sym (happenings-join a events one.replies b later two.replies one.states))
-      (delivers-join k (happenings events one.replies) (happenings later two.replies) a.stations b.stations c.stations was some.0 now
-      (wires-of a events one.replies b one.states) (one.delivers k was some.0 then some.1) (two.delivers k some.0 now some.1 here));
+      (deliver-both a b c (happenings events one.replies) (happenings later two.replies) one.hosts
+      (wires-of a events one.replies b one.states) one.delivers two.delivers);
 }

@@ -1,6 +1,6 @@
 -- `Tells` for the happenings of each kind of event.
 use Rattle.std.proofs.Common.{◌≡◌, ◌==◌, ◌&&◌, ◌++◌, ◌∷◌, [], ℕ, Bool, true, false, List, Option, if◌then◌else◌, map}
-use Rattle.std.proofs.Common.{refl, sym, ap, ◌∙◌, arith}
+use Rattle.std.proofs.Common.{refl, sym, ap, subst, ◌∙◌, arith, rules}
 use Rattle.std.specs.Prelude.{Err, Ok, Result}
 use Rattle.std.proofs.lemmas.Bool.Decides.{Decides-eqb, Decides-like, same_from_decides}
 use Rattle.std.proofs.lemmas.List.{append-nil}
@@ -15,18 +15,8 @@ use Rattle.host_calls.proofs.Laws.{lists-append}
 use Rattle.host_calls.proofs.ToldAround.{around_ticks}
 use Rattle.host_calls.specs.Fates.{Mark, marks}
 use Rattle.host_calls.specs.Happenings.{Accepted, Given as WasGiven, Happening, accepted, given, happened_in, missed, of_host, put, reached}
-use Rattle.host_calls.specs.Happenings.{
-  accepted_in_one,
-  given_in_one,
-  missed_of,
-  put_in_one,
-  reached_by,
-  stored,
-  stored_by,
-  tick_happenings,
-  tick_happenings_around,
-}
-use Rattle.host_calls.specs.Happenings.{toward, toward_by}
+use Rattle.host_calls.specs.Happenings.{accepted_in_one, given_in_one, missed_of, put_in_one, reached_by, stored, stored_by}
+use Rattle.host_calls.specs.Happenings.{tick_happenings, tick_happenings_around, toward, toward_by}
 use Rattle.stations.specs.declared.outcomes.Numbered.{Numbered}
 use Rattle.stations.specs.declared.tick.Tick.{Tick}
 use Rattle.std.specs.List.{flat_map}
@@ -59,17 +49,9 @@ none-of false = refl
 
 pub tells-call : (k host : ℕ) (steps : List AtomicStep) (wires : ℕ → Option ℕ)
     → Tells k (happened_in steps) steps wires (of_host k host []) (of_host k host [])
-tells-call k host steps wires = record {
-  put = refl;
-  reached = refl;
-  toward = refl;
-  stored = refl;
-  missed = refl;
-  sending = sending-none k steps;
-  holding = holding-none k steps;
-  accepted = ap (map padded) (accepted-none k steps) ∙ none-of (k == host);
-  given = λ s. given-none k s steps ∙ ap (given_for s) (none-of (k == host));
-}
+tells-call k host steps wires =
+    subst (λ (frames : List (List ℕ)). Tells k (happened_in steps) steps wires (of_host k host []) frames) (none-of (k == host))
+    (subst (λ (list : List Given). Tells k (happened_in steps) steps wires list []) (none-of (k == host)) (tells-steps k steps wires))
 
 -- A frame that was accepted comes before the happenings of ticks
 
@@ -280,50 +262,10 @@ tells-group k host middle ticks outcomes steps wires none said =
 
 pub joined-adds_none : (k host : ℕ) (group : List ℕ) (answer : FrameAnswer) (wires : ℕ → Option ℕ)
     → IsOfGroups k wires (joined_of host group answer)
-joined-adds_none k host group (Joined (Ok u)) wires = record {
-  put = refl;
-  reached = refl;
-  toward = refl;
-  stored = refl;
-  accepted = refl;
-  missed = omega arith;
-  sending = refl;
-  holding = refl;
-  given = λ s. refl;
-}
-joined-adds_none k host group _ wires = record {
-  put = refl;
-  reached = refl;
-  toward = refl;
-  stored = refl;
-  accepted = refl;
-  missed = refl;
-  sending = refl;
-  holding = refl;
-  given = λ s. refl;
-}
+joined-adds_none k host group (Joined (Ok u)) wires = search rules
+joined-adds_none k host group _ wires = search rules
 
 pub left-adds_none : (k host : ℕ) (group : List ℕ) (answer : FrameAnswer) (wires : ℕ → Option ℕ)
     → IsOfGroups k wires (left_by_answer host group answer)
-left-adds_none k host group (Left (Ok u)) wires = record {
-  put = refl;
-  reached = refl;
-  toward = refl;
-  stored = refl;
-  accepted = refl;
-  missed = omega arith;
-  sending = refl;
-  holding = refl;
-  given = λ s. refl;
-}
-left-adds_none k host group _ wires = record {
-  put = refl;
-  reached = refl;
-  toward = refl;
-  stored = refl;
-  accepted = refl;
-  missed = refl;
-  sending = refl;
-  holding = refl;
-  given = λ s. refl;
-}
+left-adds_none k host group (Left (Ok u)) wires = search rules
+left-adds_none k host group _ wires = search rules

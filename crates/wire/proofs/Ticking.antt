@@ -6,7 +6,7 @@ use Rattle.bus.specs.declared.event.Event.TheVariants.{Accesses, Arrives, Steps}
 use Rattle.bus.specs.TickGroups.{without_go}
 use Rattle.stations.specs.AtomicSteps.{At, AtomicStep, Idles, PlaysTick, step_outcome}
 use Rattle.stations.specs.ToldTicks.{tick_told}
-use Rattle.wire.specs.RunObservers.{StatesEnding, ending}
+use Rattle.wire.specs.RunObservers.{EventEnding, EventTold, StatesEnding, TellsReply, ending}
 use Rattle.stations.specs.Stations.{StationState}
 use Rattle.stations.specs.declared.outcomes.Numbered.{Numbered}
 use Rattle.adapter.specs.Outcomes.{FrameOutcome}
@@ -19,6 +19,7 @@ use Rattle.host_calls.specs.Happenings.{lone_tick_happenings}
 use Rattle.host_calls.specs.TickNumbers.{noted_numbers}
 use Rattle.host_calls.proofs.HostTrails.{none-alone}
 use Rattle.network_plan.specs.declared.reply.Answer.TheVariants.{NoCall}
+use Rattle.network_plan.specs.declared.event.Event.{Event}
 use Rattle.network_plan.specs.declared.reply.Reply.{Reply}
 use Rattle.wire.specs.Runs.{AreOutcomesAlone}
 use Rattle.wire.specs.PlayedCalls.{TickPlayed}
@@ -98,3 +99,9 @@ pub not-go : (tick : Tick) → tick ≢ Go → is_go tick ≡ false
 not-go Go other = absurd (other refl)
 not-go (Step host kind) other = refl
 not-go (Deliver host) other = refl
+
+-- The observer was told a reply, and `Holds` is true of each reply with this ending.
+pub event-told : {O : Type 0} {ran : O → O → List Event → List Reply → Type 0} {event : Event} {ends : EventEnding} {from to : O}
+    {Holds : Reply → Type 0} → TellsReply ran event ends from to → ((reply : Reply) → StatesEnding ends reply → Holds reply)
+    → EventTold ran event from to Holds
+event-told tells holds = record { reply = tells.reply; told = tells.told; holds = holds tells.reply tells.replies }

@@ -12,6 +12,7 @@ use std::alloc::{AllocError, Global};
 #[derive(Drop)]
 pub(crate) struct Collector {
     pub(crate) alloc: Global,
+    /// The replies to the earlier events.
     pub(crate) replies: Vec<Reply>,
     /// The outcomes of the ticks of the current event.
     pub(crate) outcomes: Outcomes,
@@ -86,6 +87,7 @@ impl RunObserver for Collector {
     }
 
     fn answer(&mut self, _event: &Event, accesses: u64, answer: Answer<()>, frame: &[u8]) {
+        // `reserve` allocated this memory before the event, so there is a frame.
         if let Some(mut given) = self.frame.take() {
             given.fill(frame);
             let outcomes = std::mem::replace(&mut self.outcomes, Outcomes::new(self.alloc));

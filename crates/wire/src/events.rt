@@ -109,7 +109,7 @@ fn ending_of(answer: HostAnswer<usize>) -> (Answer<()>, usize)
 /// accesses.
 #[inline(never)]
 fn no_host<O: RunObserver>(network: &mut Network, event: &Event, ticks: &[Tick], observer: &mut O)
-    requires answer { O.ready observer.old event.now }
+    requires ready { O.ready observer.old event.now }
     requires room { length ticks.now ≤ O.room_left observer.old }
     requires ticks { without_go is_go ticks.now ≡ played_ticks event.now }
     ensures told { AbsentTold O.Observer O.ran event.now ticks.now
@@ -132,7 +132,7 @@ pub(crate) fn make_call<O: RunObserver>(
     observer: &mut O,
 )
     requires stands { NetworkStands network.old }
-    requires answer { O.ready observer.old event.now }
+    requires ready { O.ready observer.old event.now }
     requires room { length call.now.ticks.now ≤ O.room_left observer.old }
     requires is { in_event event.now ≡ ByCall (call_in call.now) }
     ensures { EventTold O.ran event.now observer.old observer.new
@@ -163,7 +163,7 @@ pub(crate) fn make_reset<O: RunObserver>(
     observer: &mut O,
 ) -> Result<(), AllocError>
     requires stands { NetworkStands network.old }
-    requires answer { O.ready observer.old event.now }
+    requires ready { O.ready observer.old event.now }
     requires room { length reset.now.ticks.now ≤ O.room_left observer.old }
     requires is { in_event event.now ≡ ByReset reset.now.host reset.now.ticks.now }
     ensures ok { OnOk result (EventTold O.ran event.now observer.old observer.new
@@ -197,7 +197,7 @@ pub(crate) fn tick<O: RunObserver>(
     tick: Tick,
     observer: &mut O,
 )
-    requires answer { O.ready observer.old event.now }
+    requires ready { O.ready observer.old event.now }
     requires room { 1 ≤ O.room_left observer.old }
     requires is { in_event event.now ≡ Alone tick }
     ensures told { EventTold O.ran event.now observer.old observer.new

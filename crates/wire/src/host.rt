@@ -54,7 +54,7 @@ fn host_over(alloc: Global, plan: &HostPlan, machine: &mut Machine) -> Result<Ho
         → ComesUp plan.now host (record { world = machine.new.world; wire = wire; backlog = [] })) }
     ensures why { IfErr result (IsReason plan.now) }
 {
-    // By the contract of this call, the address has six bytes. The proof of the clause `comes_up` needs this.
+    // A law, for the proof of `comes_up`: the address has six bytes.
     let _address = address_of(&plan.image);
     let table = table_of(plan.sockets.as_slice());
     let mut bus = LivelyBus {
@@ -91,14 +91,14 @@ fn address_of(image: &Image) -> [u8; 6]
     image.address()
 }
 
-/// Returns the table of these sockets, in the same order.
-fn table_of(kinds: &[SocketKind]) -> ArrayVec<SocketKind, MOST_SOCKETS>
-    requires { length kinds.now ≤ MOST_SOCKETS }
-    ensures { result.items ≡ kinds.now }
+/// Returns a copy of these sockets, in the same order.
+fn table_of(sockets: &[SocketKind]) -> ArrayVec<SocketKind, MOST_SOCKETS>
+    requires { length sockets.now ≤ MOST_SOCKETS }
+    ensures { result.items ≡ sockets.now }
 {
     let mut table = ArrayVec::new();
-    for kind in kinds {
-        let _ = table.try_push(*kind);
+    for socket in sockets {
+        table.push(*socket);
     }
     table
 }

@@ -6,6 +6,7 @@ use Rattle.std.proofs.lemmas.Result.{err_from_is_err_and, on_err_weaker, on_ok_w
 use Rattle.pcap_trace.specs.Devices.{AppendsFront}
 use Rattle.pcap_trace.proofs.Sent.{AppendsFront-longer, AppendsFront-then}
 use Rattle.scenario_bench.specs.Printing.{host_fields}
+use Rattle.scenario_bench.proofs.Printed.{sent-then}
 use Rattle.scenario_bench.proofs.printing.print_host.Goals as goal
 
 pub returns-in_err-write_all-clause-err : goal.returns-in_err-write_all-clause-err
@@ -18,22 +19,12 @@ returns-in_err-write_all-clause-err g c =
 
 pub returns-clause-ok : goal.returns-clause-ok
 returns-clause-ok g c =
-    let a = g.W.Sink.taken c.args.sink.now in
-    let b = g.W.Sink.taken c.write_all.new.sink in
-    let d = g.W.Sink.taken c.write_all-2.new.sink in
     on_ok_weaker c.write_all-2.result
-    (λ (went : Appends b d c.as_slice.result.now). Appends-trans a b d (string_bytes c.args.host.now.name) (host_fields c.args.host.now)
-    (subst (Appends a b) c.as_bytes.ensures.value c.in_ok-write_all.ensures.ok)
-    (subst (Appends b d) (c.as_slice.ensures.value ∙ c.fields_of.ensures) went))
+    (sent-then Appends-trans c.in_ok-write_all.ensures.ok c.as_bytes.ensures.value (c.as_slice.ensures.value ∙ c.fields_of.ensures))
     c.write_all-2.ensures.ok
 
 pub returns-clause-err : goal.returns-clause-err
 returns-clause-err g c =
-    let a = g.W.Sink.taken c.args.sink.now in
-    let b = g.W.Sink.taken c.write_all.new.sink in
-    let d = g.W.Sink.taken c.write_all-2.new.sink in
     on_err_weaker c.write_all-2.result
-    (λ (part : AppendsFront b d c.as_slice.result.now). AppendsFront-then a b d (string_bytes c.args.host.now.name)
-    (host_fields c.args.host.now) (subst (Appends a b) c.as_bytes.ensures.value c.in_ok-write_all.ensures.ok)
-    (subst (AppendsFront b d) (c.as_slice.ensures.value ∙ c.fields_of.ensures) part))
+    (sent-then AppendsFront-then c.in_ok-write_all.ensures.ok c.as_bytes.ensures.value (c.as_slice.ensures.value ∙ c.fields_of.ensures))
     c.write_all-2.ensures.err

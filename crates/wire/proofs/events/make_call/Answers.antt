@@ -26,7 +26,7 @@ pub answer-requires-clause-room : goal.answer-requires-clause-room
 answer-requires-clause-room g c =
     let runs = c.call-called.ensures.does.runs in
     g.met.O.RunObserver.composes_runs.keeps_room c.args.observer.now c.call-called.new.observer c.args.event.now
-    (steps_told 0 runs.steps) runs.of_call.heard c.requires.answer
+    (steps_told 0 runs.steps) runs.of_call.heard c.requires.ready
 
 pub returns : goal.returns
 returns g c =

@@ -5,7 +5,7 @@ use Rattle.wire.proofs.events.no_host.Goals as goal
 pub answer-requires-clause-room : goal.answer-requires-clause-room
 answer-requires-clause-room g c =
     g.met.O.RunObserver.composes_runs.keeps_room c.args.observer.now c.play_rest.new.observer c.args.event.now
-    (steps_told 0 c.play_rest.ensures.plays.steps) c.play_rest.ensures.plays.heard c.requires.answer
+    (steps_told 0 c.play_rest.ensures.plays.steps) c.play_rest.ensures.plays.heard c.requires.ready
 
 pub returns-clause-told : goal.returns-clause-told
 returns-clause-told g c =

@@ -1,10 +1,13 @@
 use Rattle.std.proofs.Common.{◌∷◌, [], ap, subst, sym, ◌∙◌}
 use Rattle.host_calls.specs.Networks.{NetworkState}
 use Rattle.stations.specs.ToldTicks.{tick_told}
+use Rattle.adapter.specs.Outcomes.{FrameOutcome}
 use Rattle.adapter.specs.declared.outcome.Outcome.TheVariants.{Nothing}
+use Rattle.network_plan.specs.declared.reply.Answer.TheVariants.{NoCall}
+use Rattle.network_plan.specs.declared.reply.Reply.{Reply}
 use Rattle.wire.specs.PlayedCalls.{TickPlayed}
-use Rattle.wire.specs.RunObservers.{ticks_played}
-use Rattle.wire.proofs.Ticking.{go-played, not-go, tick-played}
+use Rattle.wire.specs.RunObservers.{StatesEnding, ending, ticks_played}
+use Rattle.wire.proofs.Ticking.{event-told, go-played, not-go, tick-played}
 use Rattle.wire.proofs.events.tick.Goals.{in-Go, in_default}
 use Rattle.wire.proofs.events.tick.Goals as goal
 
@@ -12,32 +15,24 @@ pub returns-clause-told : goal.returns-clause-told
 returns-clause-told g c =
     let old = c.args.network.now.stations in
     let tick = c.args.tick in
+    let begin = c.args.observer.now in
+    let new = c.match-tick in
+    let tells = λ (outcome : FrameOutcome) (heard : g.O.Observer.heard begin new.observer (tick_told tick 0 outcome ∷ []))
+    (plays : (reply : Reply) → StatesEnding (ending 0 NoCall (tick_told tick 0 outcome ∷ [])) reply
+    → TickPlayed tick reply old new.network.stations).
+    event-told (c.answer.ensures begin (tick_told tick 0 outcome ∷ []) heard (sym (ap ticks_played c.requires.is))) plays in
     elim c.match-tick.branch [
       | in-Go w ↦
-          let tells = c.answer.ensures c.args.observer.now (tick_told tick 0 Nothing ∷ [])
-          (subst (λ now. g.O.Observer.heard c.args.observer.now now (tick_told tick 0 Nothing ∷ [])) (sym w.observer-is)
-          w.note.ensures.heard)
-          (sym (ap ticks_played c.requires.is)) in
-          record {
-            reply = tells.reply;
-            told = tells.told;
-            holds =
-                subst (λ (n : NetworkState). TickPlayed tick tells.reply old n.stations) (sym w.network-is)
-                (go-played tick old tells.reply w.in-Go.is tells.replies);
-          }
+          tells Nothing
+          (subst (λ now. g.O.Observer.heard begin now (tick_told tick 0 Nothing ∷ [])) (sym w.observer-is) w.note.ensures.heard)
+          (λ reply states. subst (λ (n : NetworkState). TickPlayed tick reply old n.stations) (sym w.network-is)
+          (go-played tick old reply w.in-Go.is states))
       | in_default w ↦
           let plays = w.play.ensures.plays in
-          let tells = c.answer.ensures c.args.observer.now (tick_told tick 0 plays.outcome ∷ [])
-          (subst (λ now. g.O.Observer.heard c.args.observer.now now (tick_told tick 0 plays.outcome ∷ [])) (sym w.observer-is) plays.heard)
-          (sym (ap ticks_played c.requires.is)) in
-          record {
-            reply = tells.reply;
-            told = tells.told;
-            holds =
-                subst (λ (n : NetworkState). TickPlayed tick tells.reply old n.stations) (sym w.network-is)
-                (tick-played tick old w.play.new.self.stations plays.outcome tells.reply (not-go tick w.in_default.not-Go) plays.plays
-                tells.replies);
-          }
+          tells plays.outcome
+          (subst (λ now. g.O.Observer.heard begin now (tick_told tick 0 plays.outcome ∷ [])) (sym w.observer-is) plays.heard)
+          (λ reply states. subst (λ (n : NetworkState). TickPlayed tick reply old n.stations) (sym w.network-is)
+          (tick-played tick old w.play.new.self.stations plays.outcome reply (not-go tick w.in_default.not-Go) plays.plays states))
     ]
 
 pub returns-clause-hosts : goal.returns-clause-hosts

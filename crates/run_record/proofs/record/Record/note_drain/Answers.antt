@@ -3,7 +3,7 @@ use Rattle.std.specs.Vec.{with_items}
 use Rattle.std.proofs.lemmas.List.{length-map, with_items_is}
 use Rattle.wire.specs.DrainedNetworks.{said_of_drain}
 use Rattle.run_record.specs.DrainedView.{drained_frame}
-use Rattle.run_record.specs.EventLines.{place_at}
+use Rattle.run_record.specs.EventLines.{place_in_run}
 use Rattle.run_record.specs.RunLogs.{act_drained}
 use Rattle.run_record.specs.Tallies.{TalliesGrow}
 use Rattle.run_record.specs.declared.tally.Tally.{Tally}
@@ -24,5 +24,5 @@ returns c =
     c.in_ok-note_drained.ensures.hosts))
     c.in_ok-note_drained.ensures.returned refl
     (c.in_ok-drain.ensures
-    ∙ ap (λ (n : ℕ). act_drained (place_at old.number old.line) c.args.host n old.log)
+    ∙ ap (λ (n : ℕ). act_drained (place_in_run old.number old.line) c.args.host n old.log)
     (sym (length-map c.args.given.now drained_frame)))

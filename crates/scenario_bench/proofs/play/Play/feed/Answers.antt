@@ -1,7 +1,7 @@
 use Rattle.std.proofs.Common.{◌≡◌, ℕ, List, Option, map, refl, rules, subst, sym}
 use Rattle.std.specs.Prelude.{IfSome}
 use Rattle.std.proofs.lemmas.Result.{err_from_is_err_and}
-use Rattle.scenario.specs.SoFar.{event_of, hosts_of}
+use Rattle.scenario.specs.SoFar.{command_of_event, hosts_of}
 use Rattle.scenario_bench.specs.EventLists.{behind_send, fed}
 use Rattle.scenario_bench.proofs.PlayedEvents.{HasFed, fed_stops, none_fed, one_fed}
 use Rattle.scenario_bench.proofs.play.Play.feed.Goals as goal
@@ -13,7 +13,7 @@ loop-frame-init c =
     let same : c.into_iter-frame-iterator.result ≡ c.args.trace.now.frames = search rules in (
       subst (λ (rest : List (List ℕ)). HasFed (List ℕ) events c.args.trace.now.frames rest play play) (sym same)
           (none_fed (List ℕ) events c.args.trace.now.frames play),
-      subst (λ (pieces : Option ℕ). IfSome pieces (λ made. map event_of c.new-behind.result.list.items
+      subst (λ (pieces : Option ℕ). IfSome pieces (λ made. map command_of_event c.new-behind.result.list.items
           ≡ behind_send (hosts_of c.args.plans.now) c.args.host made)) (sym c.new-behind.ensures) tt,
     )
 

@@ -1,14 +1,14 @@
 use Rattle.std.proofs.Common.{ap, sym, ◌∙◌}
-use Rattle.wire.specs.PlayedCalls.{ResetPlayed, call_in, part_in}
+use Rattle.wire.specs.PlayedCalls.{ResetPlayed, part_in}
 use Rattle.wire.specs.RunObservers.{EventTold}
 use Rattle.wire.specs.Runs.{EventRuns}
-use Rattle.wire.proofs.Telling.{call-event-as, on-ok, reset-event-as, tick-event-as, tick-stands}
+use Rattle.wire.proofs.Running.{call-runs, event-runs, reset-runs}
+use Rattle.wire.proofs.Telling.{on-ok, tick-runs-as}
 use Rattle.wire.proofs.lan.Lan.event.Goals as goal
 
 pub invariant_of-self-in-Tick : goal.invariant_of-self-in-Tick
 invariant_of-self-in-Tick g c =
-    tick-stands c.self.inside.network c.tick.new.network _ c.tick.ensures.told.reply c.tick.ensures.hosts c.self.invariant
-    c.tick.ensures.told.holds
+    (tick-runs-as c.self.inside.network c.tick.new.network _ _ c.tick.ensures.hosts c.self.invariant c.tick.ensures.told.holds).go.stands
 
 pub returns-in-Call-clause-ok : goal.returns-in-Call-clause-ok
 returns-in-Call-clause-ok g c =
@@ -16,9 +16,7 @@ returns-in-Call-clause-ok g c =
     record {
       reply = told.reply;
       told = told.told;
-      holds =
-          call-event-as c.args.self.now c.self.inside.network c.make_call.new.network c.args.event.now (call_in c.in-Call.call) told.reply
-          c.self.view_is (sym c.of.ensures ∙ ap part_in c.in-Call.is) told.holds c.self.invariant;
+      holds = event-runs c.self.view_is (sym c.of.ensures ∙ ap part_in c.in-Call.is) (call-runs told.holds c.self.invariant);
     }
 
 pub returns-in-Reset-clause-ok : goal.returns-in-Reset-clause-ok
@@ -34,9 +32,7 @@ returns-in-Reset-clause-ok g c =
     (λ told. record {
       reply = told.reply;
       told = told.told;
-      holds =
-          reset-event-as c.args.self.now c.self.inside.network new event reset.host reset.ticks.now told.reply c.self.view_is
-          (sym c.of.ensures ∙ ap part_in c.in-Reset.is) told.holds c.self.invariant;
+      holds = event-runs c.self.view_is (sym c.of.ensures ∙ ap part_in c.in-Reset.is) (reset-runs told.holds c.self.invariant);
     }) c.make_reset.ensures.ok
 
 pub returns-in-Tick-clause-ok : goal.returns-in-Tick-clause-ok
@@ -46,6 +42,6 @@ returns-in-Tick-clause-ok g c =
       reply = told.reply;
       told = told.told;
       holds =
-          tick-event-as c.args.self.now c.self.inside.network c.tick.new.network c.args.event.now c.in-Tick.tick told.reply c.self.view_is
-          (sym c.of.ensures ∙ ap part_in c.in-Tick.is) c.tick.ensures.hosts c.self.invariant told.holds;
+          event-runs c.self.view_is (sym c.of.ensures ∙ ap part_in c.in-Tick.is)
+          (tick-runs-as c.self.inside.network c.tick.new.network c.in-Tick.tick told.reply c.tick.ensures.hosts c.self.invariant told.holds);
     }

@@ -1,3 +1,0 @@
-pub mod CountedRuns
-pub mod EtherSockets
-pub mod SoundDevices
