@@ -9,7 +9,7 @@ use Rattle.adapter.specs.World.{World}
 use Rattle.adapter.specs.declared.register.Register.{Register}
 use Rattle.adapter.specs.declared.register.Register.TheVariants as registers
 use Rattle.adapter.specs.declared.register.RingRegister.{RingRegister}
-use Rattle.access_names.specs.Rings.{register_of, registers_of}
+use Rattle.access_names.specs.Rings.{register_of, registers_of_ring}
 use Rattle.access_names.specs.declared.engine_fault.Engine.{Engine}
 use Rattle.access_names.specs.declared.engine_fault.Engine.TheVariants.{Transmit, Receive}
 
@@ -20,7 +20,7 @@ answer-there register adapter within =
 
 pub answer-ring : (offset : ℕ) (engine : Engine) (register : RingRegister) (world : World)
     → offset ≡ (row_of (register_of engine register)).offset
-    → answer_at offset world.adapter ≡ ring_answer register (registers_of engine world)
+    → answer_at offset world.adapter ≡ ring_answer register (registers_of_ring engine world)
 answer-ring offset Transmit register world is =
     ap (λ (place : ℕ). answer_at place world.adapter) is
     ∙ answer-there (registers.Transmit register) world.adapter tt

@@ -11,7 +11,7 @@ use Rattle.descriptors.specs.declared.ring.Ring.{Ring as DescriptorRing}
 use Rattle.descriptors.specs.declared.tx_desc.TxDesc.{TxDesc}
 use Rattle.registers.specs.Bits.{is_set}
 use Rattle.registers.specs.Places.{rctl_bsex}
-use Rattle.tx_engine.specs.Fetching.{descriptor_at}
+use Rattle.tx_engine.specs.Fetching.{transmit_descriptor_at}
 use Rattle.access_names.specs.Rings.{has_valid_indices, is_inside}
 use Rattle.access_names.specs.declared.engine_fault.Engine.TheVariants.{Transmit, Receive}
 use Rattle.access_names.specs.declared.engine_fault.EngineFault.{EngineFault}
@@ -32,7 +32,7 @@ abbrev pub reason_of_take : List ℕ → DescriptorRing → Reason
 reason_of_take memory ring =
     if not (has_valid_indices ring) then Ring
     else if not (is_inside memory (address_of ring ring.head) 16) then Descriptor
-    else reason_of_descriptor (descriptor_at memory (address_of ring ring.head))
+    else reason_of_descriptor (transmit_descriptor_at memory (address_of ring ring.head))
 
 -- Why no piece can be moved to the buffer of the descriptor at the head of this receive ring, with this value of RCTL. If no other reason
 -- applies, the place of the piece isn't inside memory.

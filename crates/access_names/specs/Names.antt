@@ -2,6 +2,7 @@
 use Rattle.std.specs.Prelude.{◌==◌, ◌++◌, ℕ, List, [], Option, Some, None, codes, drop, false, if◌then◌else◌}
 use Rattle.std.specs.Fmt.{decimal, digits}
 use Rattle.adapter.specs.Table.{register_at}
+use Rattle.text.specs.Words.{Text}
 use Rattle.adapter.specs.declared.register.RingRegister.{RingRegister}
 use Rattle.adapter.specs.declared.register.RingRegister.TheVariants.{BaseLow, BaseHigh, Length, Head, Tail}
 use Rattle.adapter.specs.declared.register.Register.{Register as AdapterRegister}
@@ -13,10 +14,6 @@ use Rattle.access_names.specs.declared.name.TargetName.{TargetName}
 use Rattle.access_names.specs.declared.target.Target.{Target}
 use Rattle.access_names.specs.declared.target.Target.TheVariants.{Register, Descriptor, Memory}
 
--- a text, as its bytes
-abbrev pub Text : Type 0
-Text = List ℕ
-
 -- a number in lower-case hexadecimal digits after 0x, without leading zeros
 abbrev pub hexadecimal : ℕ → Text
 hexadecimal number = codes "0x" ++ digits 16 false number
@@ -27,21 +24,13 @@ bracketed number = codes "[" ++ number ++ codes "]"
 
 -- Registers.
 
--- the name of a register of the receive ring
-abbrev pub receive_register : RingRegister → Text
-receive_register BaseLow = codes "RDBAL"
-receive_register BaseHigh = codes "RDBAH"
-receive_register Length = codes "RDLEN"
-receive_register Head = codes "RDH"
-receive_register Tail = codes "RDT"
-
--- the name of a register of the transmit ring
-abbrev pub transmit_register : RingRegister → Text
-transmit_register BaseLow = codes "TDBAL"
-transmit_register BaseHigh = codes "TDBAH"
-transmit_register Length = codes "TDLEN"
-transmit_register Head = codes "TDH"
-transmit_register Tail = codes "TDT"
+-- the name of a register of a ring without its first letter, which is R for the receive ring and T for the transmit ring
+abbrev pub ring_register : RingRegister → Text
+ring_register BaseLow = codes "DBAL"
+ring_register BaseHigh = codes "DBAH"
+ring_register Length = codes "DLEN"
+ring_register Head = codes "DH"
+ring_register Tail = codes "DT"
 
 -- the name of a register, or of the array that contains the register
 abbrev pub manual_name : AdapterRegister → Text
@@ -57,8 +46,8 @@ manual_name Imc = codes "IMC"
 manual_name Rctl = codes "RCTL"
 manual_name Tctl = codes "TCTL"
 manual_name Pba = codes "PBA"
-manual_name (Receive part) = receive_register part
-manual_name (Transmit part) = transmit_register part
+manual_name (Receive part) = codes "R" ++ ring_register part
+manual_name (Transmit part) = codes "T" ++ ring_register part
 manual_name Mpc = codes "MPC"
 manual_name Gprc = codes "GPRC"
 manual_name Gptc = codes "GPTC"

@@ -15,7 +15,7 @@ use Rattle.dma_memory.specs.HostMemory.{LiesIn}
 use Rattle.registers.specs.Bits.{HasBit}
 use Rattle.registers.specs.Places.{rctl_bsex}
 use Rattle.rx_engine.specs.Descriptors.{named_address}
-use Rattle.tx_engine.specs.Fetching.{descriptor_at}
+use Rattle.tx_engine.specs.Fetching.{transmit_descriptor_at}
 use Rattle.access_names.specs.Faults.{fault_if_any}
 use Rattle.access_names.specs.declared.engine_fault.Engine.{Engine}
 use Rattle.access_names.specs.declared.engine_fault.Engine.TheVariants.{Transmit, Receive}
@@ -50,7 +50,7 @@ head_address ring = address_of ring ring.head
 abbrev pub HoldsOf : Engine → Reason → World → Type 0
 HoldsOf Transmit reason world =
     let address = head_address (transmit_ring world) in
-    HoldsOfTransmit reason world.memory (transmit_ring world) address (descriptor_at world.memory address)
+    HoldsOfTransmit reason world.memory (transmit_ring world) address (transmit_descriptor_at world.memory address)
 HoldsOf Receive reason world =
     let ring = receive_ring world in
     HoldsOfReceive reason world.adapter.filter.rctl world.memory ring (head_address ring) (piece_size world.adapter)

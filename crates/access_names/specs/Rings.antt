@@ -17,9 +17,9 @@ ring_of_engine Transmit world = transmit_ring world
 ring_of_engine Receive world = receive_ring world
 
 -- the registers of this engine's ring
-abbrev pub registers_of : Engine → World → RingRegisters
-registers_of Transmit world = world.adapter.transmit_ring
-registers_of Receive world = world.adapter.receive_ring
+abbrev pub registers_of_ring : Engine → World → RingRegisters
+registers_of_ring Transmit world = world.adapter.transmit_ring
+registers_of_ring Receive world = world.adapter.receive_ring
 
 -- this register of this engine's ring
 abbrev pub register_of : Engine → RingRegister → Register

@@ -14,22 +14,22 @@ abbrev pub is_in_ring : Ring → ℕ → Bool
 is_in_ring ring address = nat_le ring.base address && nat_lt address (ring.base + ring.bytes)
 
 -- the byte at this distance in bytes from the base of an engine's ring; a descriptor has 16 bytes
-abbrev pub descriptor_at : Engine → ℕ → Target
-descriptor_at engine distance = Descriptor engine (distance / 16) (distance % 16)
+abbrev pub descriptor_target : Engine → ℕ → Target
+descriptor_target engine distance = Descriptor engine (distance / 16) (distance % 16)
 
 -- the byte of an engine's ring at this address, if the address is in the ring
 abbrev pub target_in_ring : Engine → Ring → ℕ → Option Target
 target_in_ring engine ring address =
-    if is_in_ring ring address then Some (descriptor_at engine (address - ring.base)) else None
+    if is_in_ring ring address then Some (descriptor_target engine (address - ring.base)) else None
 
 -- the first target if there is one, or else the second target
-abbrev pub or_else : Option Target → Target → Target
-or_else (Some target) other = target
-or_else None other = other
+abbrev pub target_or : Option Target → Target → Target
+target_or (Some target) other = target
+target_or None other = other
 
 -- the target of an access at this address in memory
 abbrev pub memory_target_in : AdapterState → ℕ → Target
 memory_target_in adapter address =
-    or_else (target_in_ring Receive (ring_of adapter.receive_ring) address)
-    (or_else (target_in_ring Transmit (ring_of adapter.transmit_ring) address)
+    target_or (target_in_ring Receive (ring_of adapter.receive_ring) address)
+    (target_or (target_in_ring Transmit (ring_of adapter.transmit_ring) address)
     (Memory address))

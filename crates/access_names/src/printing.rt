@@ -30,7 +30,8 @@ impl fmt::Display for Target {
     }
 }
 
-/// Writes the name of the register at this offset, or `register` and the offset in brackets if no register has it.
+/// Writes the name of the register at this offset, with its index in brackets if it is in an array, such as `MTA[3]`.
+/// If no register has this offset, writes `register` and the offset in brackets.
 fn write_register<W: fmt::Write>(offset: u32, f: &mut fmt::Formatter<W>) -> fmt::Result
     ensures { WritesOnOk W.write_str_gives f.old result (register_text (register_at offset) offset) f.new }
 {

@@ -1,7 +1,7 @@
 // Names of registers.
 
 ghost use Rattle.std.specs.Prelude.{◌≡◌};
-ghost use Rattle.access_names.specs.Names.{array_index, manual_name, receive_register, transmit_register};
+ghost use Rattle.access_names.specs.Names.{array_index, manual_name};
 
 use adapter::{Register, RingRegister};
 
@@ -22,8 +22,16 @@ pub(crate) fn name_of(register: Register) -> &'static str
         Register::Rctl => "RCTL",
         Register::Tctl => "TCTL",
         Register::Pba => "PBA",
-        Register::Receive(part) => receive_name(part),
-        Register::Transmit(part) => transmit_name(part),
+        Register::Receive(RingRegister::BaseLow) => "RDBAL",
+        Register::Receive(RingRegister::BaseHigh) => "RDBAH",
+        Register::Receive(RingRegister::Length) => "RDLEN",
+        Register::Receive(RingRegister::Head) => "RDH",
+        Register::Receive(RingRegister::Tail) => "RDT",
+        Register::Transmit(RingRegister::BaseLow) => "TDBAL",
+        Register::Transmit(RingRegister::BaseHigh) => "TDBAH",
+        Register::Transmit(RingRegister::Length) => "TDLEN",
+        Register::Transmit(RingRegister::Head) => "TDH",
+        Register::Transmit(RingRegister::Tail) => "TDT",
         Register::Mpc => "MPC",
         Register::Gprc => "GPRC",
         Register::Gptc => "GPTC",
@@ -32,30 +40,6 @@ pub(crate) fn name_of(register: Register) -> &'static str
         Register::Ral(_) => "RAL",
         Register::Rah(_) => "RAH",
         Register::Vfta(_) => "VFTA",
-    }
-}
-
-fn receive_name(register: RingRegister) -> &'static str
-    ensures { result.now ≡ receive_register register }
-{
-    match register {
-        RingRegister::BaseLow => "RDBAL",
-        RingRegister::BaseHigh => "RDBAH",
-        RingRegister::Length => "RDLEN",
-        RingRegister::Head => "RDH",
-        RingRegister::Tail => "RDT",
-    }
-}
-
-fn transmit_name(register: RingRegister) -> &'static str
-    ensures { result.now ≡ transmit_register register }
-{
-    match register {
-        RingRegister::BaseLow => "TDBAL",
-        RingRegister::BaseHigh => "TDBAH",
-        RingRegister::Length => "TDLEN",
-        RingRegister::Head => "TDH",
-        RingRegister::Tail => "TDT",
     }
 }
 

@@ -3,7 +3,7 @@
 ghost use Rattle.std.specs.Prelude.{◌≡◌, Some, None, if◌then◌else◌};
 ghost use Rattle.adapter.specs.Rings.{ring_answer};
 ghost use Rattle.adapter.specs.Table.{row_of};
-ghost use Rattle.access_names.specs.Rings.{has_valid_indices, register_of, registers_of, ring_from, ring_of_engine};
+ghost use Rattle.access_names.specs.Rings.{has_valid_indices, register_of, registers_of_ring, ring_from, ring_of_engine};
 
 use crate::engine_fault::Engine;
 use adapter::RingRegister;
@@ -68,7 +68,7 @@ impl RingWords {
 
 /// Returns the value of a register of an engine's ring.
 fn value_of(machine: &Machine, engine: Engine, register: RingRegister) -> u32
-    ensures { result ≡ ring_answer register (registers_of engine machine.now.world) }
+    ensures { result ≡ ring_answer register (registers_of_ring engine machine.now.world) }
 {
     machine.value(offset_of(engine, register))
 }
@@ -77,32 +77,16 @@ fn value_of(machine: &Machine, engine: Engine, register: RingRegister) -> u32
 fn offset_of(engine: Engine, register: RingRegister) -> u32
     ensures { result ≡ (row_of (register_of engine register)).offset }
 {
-    match engine {
-        Engine::Transmit => transmit_offset(register),
-        Engine::Receive => receive_offset(register),
-    }
-}
-
-fn transmit_offset(register: RingRegister) -> u32
-    ensures { result ≡ (row_of (register_of Engine.Transmit register)).offset }
-{
-    match register {
-        RingRegister::BaseLow => TDBAL,
-        RingRegister::BaseHigh => TDBAH,
-        RingRegister::Length => TDLEN,
-        RingRegister::Head => TDH,
-        RingRegister::Tail => TDT,
-    }
-}
-
-fn receive_offset(register: RingRegister) -> u32
-    ensures { result ≡ (row_of (register_of Engine.Receive register)).offset }
-{
-    match register {
-        RingRegister::BaseLow => RDBAL,
-        RingRegister::BaseHigh => RDBAH,
-        RingRegister::Length => RDLEN,
-        RingRegister::Head => RDH,
-        RingRegister::Tail => RDT,
+    match (engine, register) {
+        (Engine::Transmit, RingRegister::BaseLow) => TDBAL,
+        (Engine::Transmit, RingRegister::BaseHigh) => TDBAH,
+        (Engine::Transmit, RingRegister::Length) => TDLEN,
+        (Engine::Transmit, RingRegister::Head) => TDH,
+        (Engine::Transmit, RingRegister::Tail) => TDT,
+        (Engine::Receive, RingRegister::BaseLow) => RDBAL,
+        (Engine::Receive, RingRegister::BaseHigh) => RDBAH,
+        (Engine::Receive, RingRegister::Length) => RDLEN,
+        (Engine::Receive, RingRegister::Head) => RDH,
+        (Engine::Receive, RingRegister::Tail) => RDT,
     }
 }

@@ -6,4 +6,3 @@ pub mod Requests
 pub mod ServedLines
 pub mod ServedParts
 pub mod Tasks
-mod Enabled

@@ -4,7 +4,7 @@ use Rattle.std.proofs.lemmas.Bool.Decides.{nat_tests}
 use Rattle.registers.specs.ConfigSpace.{registers_of}
 use Rattle.played_adapter.specs.Playing.{has_bytes}
 use Rattle.server_requests.specs.declared.refusal.Refusal.TheVariants as refusals
-use Rattle.adapter_server.specs.Sessions.{Takes, is_register, meets_registers, place_in, place_with}
+use Rattle.adapter_server.specs.Sessions.{FitsPlace, is_register, meets_registers, place_in, place_with}
 use Rattle.adapter_server.specs.declared.session.Place.{Place}
 use Rattle.adapter_server.specs.declared.session.Place.TheVariants.{Memory, Register}
 use Rattle.adapter_server.specs.declared.session.Session.{Session}
@@ -49,6 +49,6 @@ register_place a address count offset place =
     four_bytes (registers_of a.function) (has_bytes a.device address count) address count offset place
 
 pub place_takes : (place : Place) (a : Session) (address : ℕ) (bytes : List ℕ) → place_in a address (length bytes) ≡ Ok place
-    → Takes place address bytes a.device
+    → FitsPlace place address bytes a.device
 place_takes (Register offset) a address bytes at = register_place a address (length bytes) offset at
 place_takes Memory a address bytes at = memory_place a address (length bytes) at

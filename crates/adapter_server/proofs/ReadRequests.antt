@@ -1,7 +1,7 @@
 -- If reading a line returned its request or its refusal, what follows from it answers the line.
 use Rattle.std.proofs.Common.{◌≡◌, Ok, Err, Result, subst, sym}
 use Rattle.adapter_server.specs.Answers.{AnswersLine, AnswersTo, Does, Refuses}
-use Rattle.server_requests.specs.Reading.{IsRead}
+use Rattle.server_requests.specs.Reading.{IsRequestRead}
 use Rattle.server_output.specs.Texts.{Text}
 use Rattle.server_requests.specs.declared.refusal.Refusal.{Refusal}
 use Rattle.server_requests.specs.declared.refusal.Refusal.TheVariants as refusals
@@ -18,14 +18,14 @@ not_both request refusal e = cc
 same_refusal : (one two : Refusal) → refused one ≡ refused two → one ≡ two
 same_refusal one two e = cc
 
-pub answers_read : (line : Text) (request : Request) (a b : Server) (text : Text) → IsRead line (Ok request) → Does request line a b text
+pub answers_read : (line : Text) (request : Request) (a b : Server) (text : Text) → IsRequestRead line (Ok request) → Does request line a b text
     → AnswersLine line a b text
 answers_read line request a b text read obeys = record {
   asked = λ is. subst (λ (asked : Result Request Refusal). AnswersTo asked line a b text) (sym (read.text is)) obeys;
   other = λ is. absurd (not_both request refusals.Text (read.other is));
 }
 
-pub answers_refused : (line : Text) (refusal : Refusal) (a b : Server) (text : Text) → IsRead line (Err (Refused refusal))
+pub answers_refused : (line : Text) (refusal : Refusal) (a b : Server) (text : Text) → IsRequestRead line (Err (Refused refusal))
     → Refuses refusal a b text → AnswersLine line a b text
 answers_refused line refusal a b text read refuses = record {
   asked = λ is. subst (λ (asked : Result Request Refusal). AnswersTo asked line a b text) (sym (read.text is)) refuses;

@@ -6,9 +6,9 @@ use Rattle.std.proofs.lemmas.List.{append-nil}
 use Rattle.std.specs.Prelude.{Err, IfErr, IfSome, MatchBool, Ok, Result}
 use Rattle.std.specs.Io.KnownBytes.{Appends, Keeps}
 use Rattle.adapter_server.specs.Answers.{AnswersLine, Refuses}
-use Rattle.server_output.specs.Order.{Tells}
+use Rattle.server_output.specs.Order.{WritesText}
 use Rattle.server_requests.specs.Lines.{behind_line, first_line, lines_of, most_line_bytes}
-use Rattle.server_requests.specs.LinesRead.{AtEnd, BothKnown, IsLong, IsNextLine, IsWhole}
+use Rattle.server_requests.specs.LinesRead.{AtEnd, BothKnown, IsLong, IsNextLine, IsWholeLine}
 use Rattle.adapter_server.specs.Serving.{AnswersNext, Serves, ServesFront, ServesTo, ServesWhole, Turns, player_of}
 use Rattle.adapter_server.specs.Causes.{ended_by}
 use Rattle.server_output.specs.Texts.{Text}
@@ -70,12 +70,12 @@ long_turn line a b text long refuses =
     refuses
 
 serves_whole : (old new later : Option (List ℕ)) (begin now next : Server) (line : Text) (before middle after : Option (List ℕ))
-    → ServesOn old new begin now before middle → BothKnown new later (IsWhole line)
-    → Tells middle after (AnswersLine line now next) → ServesOn old later begin next before after
+    → ServesOn old new begin now before middle → BothKnown new later (IsWholeLine line)
+    → WritesText middle after (AnswersLine line now next) → ServesOn old later begin next before after
 serves_whole old new later begin now next line before middle after on whole told = record {
   text = on.text ++ told.text;
   written = appends_then before middle after on.text told.text on.written told.written;
-  goes = known_then old new later (Served begin now on.text) (IsWhole line) (Served begin next (on.text ++ told.text))
+  goes = known_then old new later (Served begin now on.text) (IsWholeLine line) (Served begin next (on.text ++ told.text))
       (λ a b c goes is.
       more_served begin now next on.text told.text a b c goes is.some is.rest
       (short_turn (first_line b) now next told.text is.short
@@ -85,7 +85,7 @@ serves_whole old new later begin now next line before middle after on whole told
 
 serves_long : (old new later : Option (List ℕ)) (begin now next : Server) (before middle after : Option (List ℕ))
     → ServesOn old new begin now before middle → BothKnown new later IsLong
-    → Tells middle after (Refuses refusals.Long now next) → ServesOn old later begin next before after
+    → WritesText middle after (Refuses refusals.Long now next) → ServesOn old later begin next before after
 serves_long old new later begin now next before middle after on long told = record {
   text = on.text ++ told.text;
   written = appends_then before middle after on.text told.text on.written told.written;
@@ -98,7 +98,7 @@ serves_long old new later begin now next before middle after on long told = reco
 
 serves_end : (old new later : Option (List ℕ)) (begin now next : Server) (before middle after : Option (List ℕ))
     → ServesOn old new begin now before middle → BothKnown new later AtEnd
-    → Tells middle after (λ text. (next ≡ now) × (text ≡ [])) → ServesOn old later begin next before after
+    → WritesText middle after (λ text. (next ≡ now) × (text ≡ [])) → ServesOn old later begin next before after
 serves_end old new later begin now next before middle after on ends told =
     let same : on.text ≡ on.text ++ told.text = sym (ap (λ (t : Text). on.text ++ t) told.holds.1 ∙ append-nil on.text) in
     record {
@@ -115,7 +115,7 @@ serves_end old new later begin now next before middle after on ends told =
 
 pub serves_next : (what : NextLine) (old new later : Option (List ℕ)) (begin now next : Server) (line : Text)
     (before middle after : Option (List ℕ)) → ServesOn old new begin now before middle → IsNextLine what line new later
-    → Tells middle after (AnswersNext what line now next) → ServesOn old later begin next before after
+    → WritesText middle after (AnswersNext what line now next) → ServesOn old later begin next before after
 serves_next End old new later begin now next line before middle after on read told =
     serves_end old new later begin now next before middle after on read told
 serves_next Whole old new later begin now next line before middle after on read told =
@@ -125,7 +125,7 @@ serves_next Long old new later begin now next line before middle after on read t
 
 pub serves_lines : (old new later : Option (List ℕ)) (begin now : Server) (before after : Option (List ℕ))
     → ServesOn old new begin now before after → BothKnown new later AtEnd
-    → IfSome old (λ bytes. Tells before after (ServesWhole bytes begin now))
+    → IfSome old (λ bytes. WritesText before after (ServesWhole bytes begin now))
 serves_lines None new later begin now before after on ends = tt
 serves_lines (Some old) None later begin now before after on ends = absurd on.goes
 serves_lines (Some old) (Some new) None begin now before after on ends = absurd ends
@@ -139,31 +139,29 @@ serves_lines (Some old) (Some new) (Some later) begin now before after on ends =
     }
 
 pub serves_to : (bytes : Option (List ℕ)) (begin last : Server) (before after : Option (List ℕ))
-    → IfSome bytes (λ all. Tells before after (ServesWhole all begin last))
-    → IfSome bytes (λ all. Tells before after (ServesTo all begin (player_of last.session.agenda last.session.kept.recorder)))
+    → IfSome bytes (λ all. WritesText before after (ServesWhole all begin last))
+    → IfSome bytes (λ all. WritesText before after (ServesTo all begin (player_of last.session.agenda last.session.kept.recorder)))
 serves_to None begin last before after serves = tt
 serves_to (Some all) begin last before after serves =
     tells_so (ServesWhole all begin last) (ServesTo all begin (player_of last.session.agenda last.session.kept.recorder)) before after
     (λ text lines. record { last = last; serves = lines; player = refl }) serves
 
-pub serves_front : (old new : Option (List ℕ)) (begin now : Server) (before after : Option (List ℕ))
-    → ServesOn old new begin now before after → IfSome old (λ bytes. Tells before after (ServesFront bytes begin))
-serves_front None new begin now before after on = tt
-serves_front (Some old) None begin now before after on = absurd on.goes
-serves_front (Some old) (Some new) begin now before after on = record {
-  text = on.text;
-  holds = record {
-    answered = on.goes.front;
-    left = lines_of new;
-    lines = on.goes.lines;
-    last = now;
-    serves = on.goes.serves;
-  };
-  written = on.written;
-}
+pub serves_so : (Holds : List ℕ → Text → Type 0) (old new : Option (List ℕ)) (begin now : Server) (before after : Option (List ℕ))
+    → ((bytes left : List ℕ) (text : Text) → Served begin now text bytes left → Holds bytes text)
+    → ServesOn old new begin now before after → IfSome old (λ bytes. WritesText before after (Holds bytes))
+serves_so Holds None new begin now before after holds on = tt
+serves_so Holds (Some old) None begin now before after holds on = absurd on.goes
+serves_so Holds (Some old) (Some new) begin now before after holds on =
+    record { text = on.text; holds = holds old new on.text on.goes; written = on.written }
 
-pub tells_sent : (before after sent : Option (List ℕ)) (Holds : Text → Type 0) → Tells before after Holds → Keeps after sent
-    → Tells before sent Holds
+pub serves_front : (old new : Option (List ℕ)) (begin now : Server) (before after : Option (List ℕ))
+    → ServesOn old new begin now before after → IfSome old (λ bytes. WritesText before after (ServesFront bytes begin))
+serves_front old new begin now before after =
+    serves_so (λ bytes. ServesFront bytes begin) old new begin now before after (λ bytes left text goes.
+    record { answered = goes.front; left = lines_of left; lines = goes.lines; last = now; serves = goes.serves })
+
+pub tells_sent : (before after sent : Option (List ℕ)) (Holds : Text → Type 0) → WritesText before after Holds → Keeps after sent
+    → WritesText before sent Holds
 tells_sent before after sent Holds told kept = record {
   text = told.text;
   holds = told.holds;

@@ -4,9 +4,9 @@ use Rattle.std.proofs.lemmas.List.{append-nil}
 use Rattle.std.specs.Prelude.{Err, IfErr, IfSome, IsErrAnd, Ok, OnOk, Result}
 use Rattle.std.specs.Io.KnownBytes.{Keeps}
 use Rattle.adapter_server.specs.Answers.{AnswersLine, Reaches, Refuses, TellsAnswer}
-use Rattle.server_output.specs.Order.{Begins, Tells, TellsPart}
+use Rattle.server_output.specs.Order.{IsBeginning, WritesText, TellsPart}
 use Rattle.server_requests.specs.Lines.{behind_line, first_line, lines_of}
-use Rattle.server_requests.specs.LinesRead.{BothKnown, IsLong, IsNextLine, IsWhole}
+use Rattle.server_requests.specs.LinesRead.{BothKnown, IsLong, IsNextLine, IsWholeLine}
 use Rattle.adapter_server.specs.Serving.{AnswersNext, BeginsNext, ServesBegun, Turns}
 use Rattle.adapter_server.specs.Causes.{ended_by}
 use Rattle.server_output.specs.Texts.{Text}
@@ -19,7 +19,7 @@ use Rattle.adapter_server.specs.declared.serve_error.ServeError.TheVariants as e
 use Rattle.adapter_server.specs.declared.snapshot.Server.{Server}
 use Rattle.server_output.proofs.PartsWritten.{part_whole}
 use Rattle.server_requests.proofs.ReadingLines.{lines_some}
-use Rattle.adapter_server.proofs.ServedLines.{Served, ServesOn, long_turn, never_read, short_turn, tells_sent}
+use Rattle.adapter_server.proofs.ServedLines.{Served, ServesOn, long_turn, never_read, serves_so, short_turn, tells_sent}
 use Rattle.adapter_server.proofs.Printing.{part_reached}
 use Rattle.server_output.proofs.Writing.{appends_then, tells_so}
 
@@ -33,27 +33,22 @@ begins_nothing (line ∷ later) a = record {
 }
 
 pub serves_stopped : (old new : Option (List ℕ)) (begin now : Server) (before after : Option (List ℕ))
-    → ServesOn old new begin now before after → IfSome old (λ bytes. Tells before after (ServesBegun bytes begin))
-serves_stopped None new begin now before after on = tt
-serves_stopped (Some old) None begin now before after on = absurd on.goes
-serves_stopped (Some old) (Some new) begin now before after on = record {
-  text = on.text;
-  holds = record {
-    answered = on.goes.front;
-    left = lines_of new;
-    lines = on.goes.lines;
-    last = now;
-    front = on.text;
-    part = [];
-    serves = on.goes.serves;
-    begun = begins_nothing (lines_of new) now;
-    text_is = sym (append-nil on.text);
-  };
-  written = on.written;
-}
+    → ServesOn old new begin now before after → IfSome old (λ bytes. WritesText before after (ServesBegun bytes begin))
+serves_stopped old new begin now before after =
+    serves_so (λ bytes. ServesBegun bytes begin) old new begin now before after (λ bytes left text goes. record {
+      answered = goes.front;
+      left = lines_of left;
+      lines = goes.lines;
+      last = now;
+      front = text;
+      part = [];
+      serves = goes.serves;
+      begun = begins_nothing (lines_of left) now;
+      text_is = sym (append-nil text);
+    })
 
 in_line : (begin now : Server) (text part : Text) (old new : List ℕ) → Served begin now text old new → new ≢ []
-    → Begins (Reaches (Turns (first_line new) now)) part → ServesBegun old begin (text ++ part)
+    → IsBeginning (Reaches (Turns (first_line new) now)) part → ServesBegun old begin (text ++ part)
 in_line begin now text part old new on some begins = record {
   answered = on.front;
   left = first_line new ∷ lines_of (behind_line new);
@@ -71,7 +66,7 @@ module _ (Is : List ℕ → List ℕ → Type 0) (now : Server) (Answers : Serve
     (turn : (new later : List ℕ) → Is new later → (b : Server) (text : Text) → Answers b text → Turns (first_line new) now b text) where
   serves_in : (old new later : Option (List ℕ)) (begin : Server) (before middle after : Option (List ℕ))
       → ServesOn old new begin now before middle → BothKnown new later Is → TellsPart middle after (Reaches Answers)
-      → IfSome old (λ bytes. Tells before after (ServesBegun bytes begin))
+      → IfSome old (λ bytes. WritesText before after (ServesBegun bytes begin))
   serves_in None new later begin before middle after on is part = tt
   serves_in (Some old) None later begin before middle after on is part = absurd on.goes
   serves_in (Some old) (Some new) None begin before middle after on is part = absurd is
@@ -87,10 +82,10 @@ module _ (Is : List ℕ → List ℕ → Type 0) (now : Server) (Answers : Serve
 pub serves_part : (what : NextLine) (old new later : Option (List ℕ)) (begin now : Server) (line : Text)
     (before middle after : Option (List ℕ)) → ServesOn old new begin now before middle → IsNextLine what line new later → what ≢ End
     → TellsPart middle after (Reaches (AnswersNext what line now))
-    → IfSome old (λ bytes. Tells before after (ServesBegun bytes begin))
+    → IfSome old (λ bytes. WritesText before after (ServesBegun bytes begin))
 serves_part End old new later begin now line before middle after on read more part = absurd (more refl)
 serves_part Whole old new later begin now line before middle after on read more part =
-    serves_in (IsWhole line) now (AnswersLine line now) (λ left later is. is.some)
+    serves_in (IsWholeLine line) now (AnswersLine line now) (λ left later is. is.some)
     (λ left later is b text answers.
     short_turn (first_line left) now b text is.short
     (subst (λ (l : Text). AnswersLine l now b text) is.line_is answers)) old new later begin before middle after on read part
@@ -105,7 +100,7 @@ answering_stopped (Ok value) cause Done Front stopped = absurd stopped
 answering_stopped (Err error) cause Done Front stopped = (tt, λ read. absurd (never_read cause (sym stopped ∙ read)))
 
 pub answer_sent : {T E S : Type 0} (result : Result T E) (Answers : S → Text → Type 0) (b : S)
-    (before after sent : Option (List ℕ)) → Tells before after (Answers b) → Keeps after sent → TellsAnswer result before sent Answers b
+    (before after sent : Option (List ℕ)) → WritesText before after (Answers b) → Keeps after sent → TellsAnswer result before sent Answers b
 answer_sent (Ok value) Answers b before after sent told kept = tells_sent before after sent (Answers b) told kept
 answer_sent (Err error) Answers b before after sent told kept =
     part_whole (Reaches Answers) before sent

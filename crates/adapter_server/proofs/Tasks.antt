@@ -12,11 +12,11 @@ use Rattle.played_adapter.specs.declared.choices.Move.{Move}
 use Rattle.played_adapter.specs.declared.player.PlayedAdapter.{PlayedAdapter}
 use Rattle.server_output.specs.Answers.{answer_line}
 use Rattle.server_output.specs.Texts.{Text, decimal_line, ok_line}
-use Rattle.server_requests.specs.Widths.{size_of}
+use Rattle.server_requests.specs.Widths.{wanted_size}
 use Rattle.server_requests.specs.declared.request.Wanted.{Wanted}
-use Rattle.adapter_server.specs.Answers.{Accessed, Answered, AnswersChoice, Played, ReadsAt, SettlesUntil, TellsAnswer}
-use Rattle.adapter_server.specs.Sessions.{met_before, moves_before, wanted_number, write_to}
-use Rattle.adapter_server.specs.Tasks.{AnswersAfter, Fits, Performs, Plays, task_agenda, task_begun, task_met, task_moves}
+use Rattle.adapter_server.specs.Answers.{AccessServed, Answered, AnswersChoice, Played, ReadsAt, SettlesUntil, TellsAnswer}
+use Rattle.adapter_server.specs.Sessions.{met_before, moves_before, wanted_number, writing_access}
+use Rattle.adapter_server.specs.Tasks.{AnswersAfter, FitsTask, Performs, PlaysTask, task_agenda, task_begun, task_met, task_moves}
 use Rattle.adapter_server.specs.Tasks.{task_wanted}
 use Rattle.adapter_server.specs.declared.session.Place.{Place}
 use Rattle.adapter_server.specs.declared.session.Place.TheVariants.{Memory, Register}
@@ -70,22 +70,22 @@ reads (Register offset) address wanted said a b text does =
 reads Memory address wanted said a b text does =
     let after = does.1.happens.happens in
     let plays = after.goes_on in
-    let access = Loads address (size_of wanted) in (
+    let access = Loads address (wanted_size wanted) in (
       plays.0,
-      again _ (AfterMoves (moves_before access a) (ServesLoad address (size_of wanted) plays.0)) said (met_before access a) b does.0 _ text
-          does.1 plays.1 (after_so (ServesLoad address (size_of wanted) plays.0) _ _ _ _ after plays.2),
+      again _ (AfterMoves (moves_before access a) (ServesLoad address (wanted_size wanted) plays.0)) said (met_before access a) b does.0 _ text
+          does.1 plays.1 (after_so (ServesLoad address (wanted_size wanted) plays.0) _ _ _ _ after plays.2),
     )
 
 pub writes : (place : Place) (address : ℕ) (bytes : Bor (List ℕ)) (said : Text) (a b : Session) (text : Text)
     → Performs (tasks.Write place address bytes) said a b text
-    → Answered (Accessed (write_to place address bytes.now) said a b) ok_line text
+    → Answered (AccessServed (writing_access place address bytes.now) said a b) ok_line text
 writes (Register offset) address bytes said a b text does =
-    let access = write_to (Register offset) address bytes.now in
+    let access = writing_access (Register offset) address bytes.now in
     let after = does.1.happens.happens in
     again _ (AfterMoves (moves_before access a) (ServesAccess access)) said (met_before access a) b does.0 _ text does.1 after.goes_on.0
     (after_so (ServesAccess access) _ _ _ _ after after.goes_on.1)
 writes Memory address bytes said a b text does =
-    let access = write_to Memory address bytes.now in
+    let access = writing_access Memory address bytes.now in
     let after = does.1.happens.happens in
     again _ (AfterMoves (moves_before access a) (ServesAccess access)) said (met_before access a) b does.0 _ text does.1 after.goes_on.0
     (after_so (ServesAccess access) _ _ _ _ after after.goes_on.1)
@@ -95,7 +95,7 @@ pub chooses : (limit : ℕ) (said : Text) (a b : Session) (text : Text) → Perf
 chooses limit said a b text does =
     let task = tasks.Choose limit in
     let wanted = wanted_number a in
-    let plays = no_moves (λ c d told. Plays task does.0 wanted c d told) a.device b.device _ does.1.happens.happens in (
+    let plays = no_moves (λ c d told. PlaysTask task does.0 wanted c d told) a.device b.device _ does.1.happens.happens in (
       plays.0,
       again _ (ServesChoice limit wanted plays.0) said (task_met task a) b does.0 _ text does.1 plays.1 plays.2,
     )
@@ -105,7 +105,7 @@ pub settles : (time : ℕ) (said : Text) (a b : Session) (text : Text) → Perfo
 settles time said a b text does =
     let answered = does.1 in
     let played = answered.happens in
-    let plays = no_moves (λ c d told. Plays (tasks.SetClock time) does.0 0 c d told) a.device b.device _ played.happens in
+    let plays = no_moves (λ c d told. PlaysTask (tasks.SetClock time) does.0 0 c d told) a.device b.device _ played.happens in
     record {
       told = answered.told;
       happens = record {
@@ -117,13 +117,13 @@ settles time said a b text does =
       text_is = answered.text_is ∙ ap (λ (l : Text). answered.told ++ l) plays.1;
     }
 
-pub begun_fits : (task : Task) (into : List ℕ) (a begun : Session) → begun ≡ task_begun task a → Fits task into a.device
-    → Fits task into begun.device
+pub begun_fits : (task : Task) (into : List ℕ) (a begun : Session) → begun ≡ task_begun task a → FitsTask task into a.device
+    → FitsTask task into begun.device
 begun_fits task into a begun same fits =
-    subst (λ (device : PlayedAdapter). Fits task into device) (sym (ap (λ (s : Session). s.device) same)) fits
+    subst (λ (device : PlayedAdapter). FitsTask task into device) (sym (ap (λ (s : Session). s.device) same)) fits
 
 pub moved_fits : (task : Task) (into : List ℕ) (moves : List Move) (a b : PlayedAdapter) (told : List Told) → InOrder Makes moves a b told
-    → Fits task into a → Fits task into b
+    → FitsTask task into a → FitsTask task into b
 moved_fits (tasks.Read (Register offset) address wanted) into moves a b told made fits = fits
 moved_fits (tasks.Read Memory address wanted) into moves a b told made fits =
     (fits.0, moves_keep moves a b told address (length into) made ∙ fits.1)

@@ -16,7 +16,7 @@ use Rattle.bus.specs.declared.event.Access.TheVariants.{Loads, Reads}
 use Rattle.access_names.specs.Rings.{ring_from, ring_of_engine}
 use Rattle.access_names.specs.declared.engine_fault.Engine.TheVariants.{Receive, Transmit}
 use Rattle.access_names.specs.declared.ring_words.RingWords.{RingWords}
-use Rattle.registers.specs.Ports.{after_write, answer_at}
+use Rattle.registers.specs.Ports.{after_port_write, port_answer}
 use Rattle.registers.specs.declared.port_width.PortWidth.{PortWidth}
 use Rattle.played_adapter.specs.Moves.{AfterMoves}
 use Rattle.played_adapter.specs.Playing.{Steps}
@@ -24,7 +24,7 @@ use Rattle.played_adapter.specs.Requests.{ServesAccess, ServesArrival, ServesCho
 use Rattle.played_adapter.specs.Told.{Told}
 use Rattle.played_adapter.specs.declared.player.PlayedAdapter.{PlayedAdapter}
 use Rattle.rx_engine.specs.declared.arrival.Fate.{Fate}
-use Rattle.server_output.specs.Order.{Tells, TellsPart}
+use Rattle.server_output.specs.Order.{WritesText, TellsPart}
 use Rattle.server_output.specs.Answers.{answer_line}
 use Rattle.server_output.specs.Telling.{kept_after, text_of}
 use Rattle.server_output.specs.Texts.{
@@ -43,7 +43,7 @@ use Rattle.server_output.specs.Texts.{outcome_word, word_line}
 use Rattle.server_output.specs.declared.looking.EnabledSteps.{EnabledSteps}
 use Rattle.server_requests.specs.Reading.{request_in}
 use Rattle.server_requests.specs.Refusals.{refusal_line}
-use Rattle.server_requests.specs.Widths.{size_of}
+use Rattle.server_requests.specs.Widths.{wanted_size}
 use Rattle.server_requests.specs.Words.{words_of}
 use Rattle.server_requests.specs.declared.refusal.Refusal.{Refusal}
 use Rattle.server_requests.specs.declared.refusal.Refusal.TheVariants as refusals
@@ -60,11 +60,11 @@ use Rattle.adapter_server.specs.Sessions.{
   moves_before,
   moves_at,
   place_in,
-  target_at,
+  target_at_place,
   wanted_number,
   with_setting,
 }
-use Rattle.adapter_server.specs.Sessions.{write_to}
+use Rattle.adapter_server.specs.Sessions.{writing_access}
 use Rattle.adapter_server.specs.declared.session.Place.{Place}
 use Rattle.adapter_server.specs.declared.session.Place.TheVariants.{Register, Memory}
 use Rattle.adapter_server.specs.declared.session.Session.{Session}
@@ -98,7 +98,7 @@ Reaches {S} Answers text = (text ≡ []) ⊎ ((b : S) × Answers b text)
 
 -- If the result is Ok, a complete answer was written. If the result is an error, a beginning of a complete answer was written, or nothing.
 abbrev pub TellsAnswer : {T E S : Type 0} → Result T E → (before after : Option (List ℕ)) → (Answers : S → Text → Type 0) → S → Type 0
-TellsAnswer (Ok value) before after Answers b = Tells before after (Answers b)
+TellsAnswer (Ok value) before after Answers b = WritesText before after (Answers b)
 TellsAnswer (Err error) before after Answers b = TellsPart before after (Reaches Answers)
 
 -- Answers about the adapter and its memory.
@@ -116,10 +116,10 @@ pub record Played (Happens : PlayedAdapter → PlayedAdapter → List Told → T
 
 -- The player, if there is one, meets an access, and its moves are played. Then random steps are played, the access happens, and cycles
 -- follow.
-abbrev pub Accessed : Access → (said : Text) → Session → Session → Text → Type 0
-Accessed access said a b text = Played (AfterMoves (moves_before access a) (ServesAccess access)) said (met_before access a) b text
+abbrev pub AccessServed : Access → (said : Text) → Session → Session → Text → Type 0
+AccessServed access said a b text = Played (AfterMoves (moves_before access a) (ServesAccess access)) said (met_before access a) b text
 
--- As `Accessed`, for an access that loads these bytes from memory.
+-- As `AccessServed`, for an access that loads these bytes from memory.
 abbrev pub Loaded : (address size : ℕ) → (bytes : List ℕ) → (said : Text) → Session → Session → Text → Type 0
 Loaded address size bytes said a b text =
     let access = Loads address size in
@@ -128,12 +128,12 @@ Loaded address size bytes said a b text =
 -- A register is read, and the bytes of its value are the answer, the lowest byte first.
 abbrev pub ReadsRegister : (offset : ℕ) → Wanted → (said : Text) → Session → Session → Text → Type 0
 ReadsRegister offset wanted said a b text =
-    (value : ℕ) × Answered (Accessed (Reads offset value) said a b) (answer_line wanted (to_le_bytes w32 value)) text
+    (value : ℕ) × Answered (AccessServed (Reads offset value) said a b) (answer_line wanted (to_le_bytes w32 value)) text
 
 -- Bytes in memory are read, and these bytes are the answer.
 abbrev pub ReadsMemory : (address : ℕ) → Wanted → (said : Text) → Session → Session → Text → Type 0
 ReadsMemory address wanted said a b text =
-    (bytes : List ℕ) × Answered (Loaded address (size_of wanted) bytes said a b) (answer_line wanted bytes) text
+    (bytes : List ℕ) × Answered (Loaded address (wanted_size wanted) bytes said a b) (answer_line wanted bytes) text
 
 -- A register or bytes in memory are read, by the place of the access. Without a place, the request is refused.
 abbrev pub ReadsAt : Result Place Refusal → Wanted → (address : ℕ) → (said : Text) → Session → Session → Text → Type 0
@@ -143,7 +143,7 @@ ReadsAt (Err refusal) wanted address said a b text = Refuses refusal a b text
 
 -- Bytes are written at this place, and the answer is `OK`. Without a place, the request is refused.
 abbrev pub WritesAt : Result Place Refusal → (address : ℕ) → List ℕ → (said : Text) → Session → Session → Text → Type 0
-WritesAt (Ok place) address bytes said a b text = Answered (Accessed (write_to place address bytes) said a b) ok_line text
+WritesAt (Ok place) address bytes said a b text = Answered (AccessServed (writing_access place address bytes) said a b) ok_line text
 WritesAt (Err refusal) address bytes said a b text = Refuses refusal a b text
 
 -- The player, if there is one, meets a request with this first word, which begins a round. Its moves are played, and then something
@@ -190,7 +190,7 @@ Changes change a b text = Replies ok_line (change a) b text
 
 -- the session after a write of a port of the PCI function
 abbrev pub with_port_written : PortWidth → (port value : ℕ) → Session → Session
-with_port_written width port value session = record session { function = after_write port width value session.function }
+with_port_written width port value session = record session { function = after_port_write port width value session.function }
 
 -- The level of the interrupt line is the answer.
 abbrev pub AnswersLevel : Session → Session → Text → Type 0
@@ -199,7 +199,7 @@ AnswersLevel a b text = Replies (number_line (line_number a.device)) a b text
 -- The value at an I/O port is the answer.
 abbrev pub AnswersPort : PortWidth → (port : ℕ) → Session → Session → Text → Type 0
 AnswersPort width port a b text =
-    Replies (number_line (answer_at port width (is_asserted a.device.machine.world.adapter) a.function)) a b text
+    Replies (number_line (port_answer port width (is_asserted a.device.machine.world.adapter) a.function)) a b text
 
 -- the kinds of steps that `enabled` reports: those for which `works` is true, but `txput` only if the wire is free
 abbrev pub enabled_with : (works : StepKind → Bool) → (wire_free : Bool) → EnabledSteps
@@ -223,7 +223,7 @@ pub record AnswersEnabled (a b : Session) (text : Text) : Type 0 where
 
 -- The name of the target at this place is the answer. Without a place, the request is refused.
 abbrev pub AnswersTarget : Result Place Refusal → (address : ℕ) → Session → Session → Text → Type 0
-AnswersTarget (Ok place) address a b text = Replies (word_line (target_text (target_at place address a))) a b text
+AnswersTarget (Ok place) address a b text = Replies (word_line (target_text (target_at_place place address a))) a b text
 AnswersTarget (Err refusal) address a b text = Refuses refusal a b text
 
 -- The registers of both rings are the answer.
@@ -308,7 +308,7 @@ Looks looks.Rings a b text = AnswersRings a b text
 
 -- A session answers a request. At `save` and `restore`, which the server answers, nothing happens.
 abbrev pub SessionDoes : Request → (said : Text) → Session → Session → Text → Type 0
-SessionDoes (requests.Read wanted address) said a b text = ReadsAt (place_in a address (size_of wanted)) wanted address said a b text
+SessionDoes (requests.Read wanted address) said a b text = ReadsAt (place_in a address (wanted_size wanted)) wanted address said a b text
 SessionDoes (requests.Write address bytes) said a b text = WritesAt (place_in a address (length bytes)) address bytes said a b text
 SessionDoes (requests.Look look) said a b text = Looks look a b text
 SessionDoes (requests.WritePort width port value) said a b text = Changes (with_port_written width port value) a b text
@@ -325,7 +325,7 @@ SessionDoes requests.Restore said a b text = (b ≡ a) × (text ≡ [])
 
 -- a line, and after it the name of the target at this place; without a place, only the line
 abbrev pub said_at : Result Place Refusal → (address : ℕ) → (said : Text) → Session → Text
-said_at (Ok place) address said session = concat (said ∷ codes " -> " ∷ target_text (target_at place address session) ∷ [])
+said_at (Ok place) address said session = concat (said ∷ codes " -> " ∷ target_text (target_at_place place address session) ∷ [])
 said_at (Err refusal) address said session = said
 
 -- what the log prints for an access: its line, and after `log targets`, if the access has a place, also the name of the access's target
@@ -334,7 +334,7 @@ access_said place address said session = if session.targets then said_at place a
 
 -- what the log prints for a request: its line, and for an access with a place, after `log targets`, also the name of the access's target
 abbrev pub request_said : Request → (said : Text) → Session → Text
-request_said (requests.Read wanted address) said session = access_said (place_in session address (size_of wanted)) address said session
+request_said (requests.Read wanted address) said session = access_said (place_in session address (wanted_size wanted)) address said session
 request_said (requests.Write address bytes) said session = access_said (place_in session address (length bytes)) address said session
 request_said request said session = said
 

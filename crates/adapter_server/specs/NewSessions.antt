@@ -8,32 +8,24 @@ use Rattle.std.specs.Option.{option_map}
 use Rattle.step_schedules.specs.Agendas.{AgendaState}
 use Rattle.step_schedules.specs.Players.{RecorderState}
 use Rattle.step_schedules.specs.declared.player.Player.{Player}
-use Rattle.adapter.specs.Registers.{after_write, new_adapter}
 use Rattle.adapter.specs.State.{AdapterState}
+use Rattle.played_adapter.specs.FirstAdapters.{first_adapter}
 use Rattle.played_adapter.specs.Playing.{new_watched}
 use Rattle.played_adapter.specs.declared.player.PlayedAdapter.{PlayedAdapter}
 use Rattle.adapter_server.specs.declared.options.ServeOptions.{ServeOptions}
 use Rattle.adapter_server.specs.declared.session.Session.{Session}
 
--- PBA's offset (13.4.16 "Packet Buffer Allocation")
-abbrev pub pba : ℕ
-pba = 0x1000
-
--- the adapter with this value in MPC
-abbrev pub with_missed : ℕ → AdapterState → AdapterState
-with_missed count adapter = record adapter { missed_packets = count }
-
--- a new adapter, whose PBA was written once, and whose MPC has the count of the options
-abbrev pub first_adapter : ServeOptions → AdapterState
-first_adapter options = with_missed options.missed (after_write pba options.receive_kilobytes (new_adapter options.image options.link))
+-- the new adapter of the options
+abbrev pub adapter_of : ServeOptions → AdapterState
+adapter_of options = first_adapter options.image options.link options.receive_kilobytes options.missed
 
 -- the new adapter with memory of zeros at this address; no frame is offered, and no step is played before or after an access
 abbrev pub new_device : ServeOptions → (address : Option Ptr) → PlayedAdapter
-new_device options address = new_watched (replicate options.memory 0) (first_adapter options) options.seed address
+new_device options address = new_watched (replicate options.memory 0) (adapter_of options) options.seed address
 
 -- the agenda of a player, if there is a player
-abbrev pub agenda_of : Option Player → Option AgendaState
-agenda_of player = option_map (λ (player : Player). player.agenda) player
+abbrev pub agenda_of_player : Option Player → Option AgendaState
+agenda_of_player player = option_map (λ (player : Player). player.agenda) player
 
 -- the recorder of a player, if there is a player
 abbrev pub recorder_of : Option Player → Option RecorderState
@@ -46,6 +38,6 @@ new_session options player address = record {
   function = new_function options.registers;
   clock = 0;
   kept = record { log = false; events = false; put = []; faults = []; recorder = recorder_of player };
-  agenda = agenda_of player;
+  agenda = agenda_of_player player;
   targets = false;
 }

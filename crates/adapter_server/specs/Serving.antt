@@ -3,7 +3,7 @@ use denote.RawPtr.{Ptr}
 use Rattle.std.specs.Prelude.{◌≡◌, ◌++◌, ℕ, List, [], ◌∷◌, MatchBool, None, Option, Some, length, nat_lt}
 use Rattle.adapter_server.specs.Answers.{AnswersLine, Reaches, Refuses}
 use Rattle.server_requests.specs.Lines.{lines_of, most_line_bytes}
-use Rattle.server_output.specs.Order.{Begins, Tells}
+use Rattle.server_output.specs.Order.{IsBeginning, WritesText}
 use Rattle.played_adapter.specs.Order.{InOrder}
 use Rattle.adapter_server.specs.NewSessions.{new_session}
 use Rattle.server_output.specs.Texts.{Text}
@@ -58,7 +58,7 @@ pub record ServesFront (bytes : List ℕ) (begin : Server) (text : Text) : Type 
 -- a beginning of the answer to the first of these lines, or no text
 abbrev pub BeginsNext : List Text → Server → Text → Type 0
 BeginsNext [] a text = text ≡ []
-BeginsNext (line ∷ later) a text = Begins (Reaches (Turns line a)) text
+BeginsNext (line ∷ later) a text = IsBeginning (Reaches (Turns line a)) text
 
 -- The first n lines of these bytes are answered, each in full, in order, for some n. Then a beginning of the next answer is written, or
 -- nothing.
@@ -100,12 +100,12 @@ pub record ServesTo (bytes : List ℕ) (begin : Server) (left : Option Player) (
 unfoldable pub ServesAll : ServeOptions → Option Player → (bytes : List ℕ) → (left : Option Player)
     → (before after : Option (List ℕ)) → Type 0
 ServesAll options player bytes left before after =
-    FromNew options player (λ begin. Tells before after (ServesTo bytes begin left))
+    FromNew options player (λ begin. WritesText before after (ServesTo bytes begin left))
 
 -- A new server with this player answers the first n lines, for some n.
 unfoldable pub ServesSome : ServeOptions → Option Player → (bytes : List ℕ) → (before after : Option (List ℕ)) → Type 0
-ServesSome options player bytes before after = FromNew options player (λ begin. Tells before after (ServesFront bytes begin))
+ServesSome options player bytes before after = FromNew options player (λ begin. WritesText before after (ServesFront bytes begin))
 
 -- A new server with this player answers the first n lines, for some n. Then a beginning of the next answer is written, or nothing.
 unfoldable pub ServesPart : ServeOptions → Option Player → (bytes : List ℕ) → (before after : Option (List ℕ)) → Type 0
-ServesPart options player bytes before after = FromNew options player (λ begin. Tells before after (ServesBegun bytes begin))
+ServesPart options player bytes before after = FromNew options player (λ begin. WritesText before after (ServesBegun bytes begin))

@@ -10,8 +10,9 @@ use Rattle.access_names.specs.declared.target.Target.{Target}
 use Rattle.access_names.specs.declared.target.Target.TheVariants as targets
 use Rattle.adapter.specs.State.{AdapterState}
 use Rattle.bus.specs.declared.event.Access.{Access}
-use Rattle.bus.specs.declared.event.Access.TheVariants.{Loads, Reads, Stores, Writes}
+use Rattle.bus.specs.declared.event.Access.TheVariants.{Stores, Writes}
 use Rattle.registers.specs.ConfigSpace.{registers_of}
+use Rattle.played_adapter.specs.AccessTargets.{before_of, target_of}
 use Rattle.played_adapter.specs.Moves.{access_moves, due_in_agenda, met, request_moves}
 use Rattle.played_adapter.specs.Playing.{has_bytes, reported}
 use Rattle.played_adapter.specs.declared.choices.Move.{Move}
@@ -84,14 +85,14 @@ abbrev pub place_in : Session → (address count : ℕ) → Result Place Refusal
 place_in session address count = place_with (registers_of session.function) (has_bytes session.device address count) address count
 
 -- the access that writes bytes at this place
-abbrev pub write_to : Place → (address : ℕ) → List ℕ → Access
-write_to (Register offset) address bytes = Writes offset (from_le_bytes w32 bytes)
-write_to Memory address bytes = Stores address bytes
+abbrev pub writing_access : Place → (address : ℕ) → List ℕ → Access
+writing_access (Register offset) address bytes = Writes offset (from_le_bytes w32 bytes)
+writing_access Memory address bytes = Stores address bytes
 
 -- The bytes fit the place: there are four bytes for a register, or memory contains all of the bytes.
-abbrev pub Takes : Place → (address : ℕ) → List ℕ → PlayedAdapter → Type 0
-Takes (Register offset) address bytes device = length bytes ≡ 4
-Takes Memory address bytes device = has_bytes device address (length bytes) ≡ true
+abbrev pub FitsPlace : Place → (address : ℕ) → List ℕ → PlayedAdapter → Type 0
+FitsPlace (Register offset) address bytes device = length bytes ≡ 4
+FitsPlace Memory address bytes device = has_bytes device address (length bytes) ≡ true
 
 -- The moves of a player.
 
@@ -133,19 +134,9 @@ wanted_with before name agenda =
 abbrev pub wanted_number : Session → ℕ
 wanted_number session = wanted_with Choice (codes "choose") session.agenda
 
--- before a read or before a write, by the kind of the access
-abbrev pub before_of : Access → Before
-before_of (Reads offset value) = Read
-before_of (Writes offset value) = Write
-before_of (Loads address size) = Read
-before_of (Stores address bytes) = Write
-
--- the target of an access
-abbrev pub target_of : Access → Session → Target
-target_of (Reads offset value) session = targets.Register offset
-target_of (Writes offset value) session = targets.Register offset
-target_of (Loads address size) session = memory_target_in session.device.machine.world.adapter address
-target_of (Stores address bytes) session = memory_target_in session.device.machine.world.adapter address
+-- the name of the target of an access of the session's adapter and memory
+abbrev pub target_name : Access → Session → Text
+target_name access session = target_text (target_of access session.device.machine.world.adapter)
 
 -- the target of an access at this place; the address matters only for a place in memory
 abbrev pub target_in : Place → (address : ℕ) → AdapterState → Target
@@ -153,13 +144,13 @@ target_in (Register offset) address adapter = targets.Register offset
 target_in Memory address adapter = memory_target_in adapter address
 
 -- the target of an access at this place of the session's adapter and memory
-abbrev pub target_at : Place → (address : ℕ) → Session → Target
-target_at place address session = target_in place address session.device.machine.world.adapter
+abbrev pub target_at_place : Place → (address : ℕ) → Session → Target
+target_at_place place address session = target_in place address session.device.machine.world.adapter
 
 -- the moves of the player, if there is one, before this access
 abbrev pub moves_before : Access → Session → List Move
-moves_before access session = moves_at (before_of access) (target_text (target_of access session)) session
+moves_before access session = moves_at (before_of access) (target_name access session) session
 
 -- the session after its player, if there is one, has met this access
 abbrev pub met_before : Access → Session → Session
-met_before access session = meeting (before_of access) (target_text (target_of access session)) session
+met_before access session = meeting (before_of access) (target_name access session) session

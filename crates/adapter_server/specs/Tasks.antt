@@ -14,13 +14,13 @@ use Rattle.played_adapter.specs.declared.player.PlayedAdapter.{PlayedAdapter}
 use Rattle.server_output.specs.Answers.{answer_line, line_of}
 use Rattle.server_output.specs.Texts.{Text, decimal_line, number_line, ok_line}
 use Rattle.server_output.specs.declared.answers.Answer.{Answer}
-use Rattle.server_requests.specs.Widths.{size_of}
+use Rattle.server_requests.specs.Widths.{wanted_size}
 use Rattle.server_requests.specs.declared.request.Wanted.{Wanted}
 use Rattle.step_schedules.specs.Agendas.{AgendaState}
 use Rattle.step_schedules.specs.declared.deviation.Before.{Before}
 use Rattle.step_schedules.specs.declared.deviation.Before.TheVariants.{Choice, Read, Request, Write}
 use Rattle.adapter_server.specs.Answers.{Answered, Played, PlaysArrival, PlaysOffer, PlaysSettle, PlaysStep}
-use Rattle.adapter_server.specs.Sessions.{Takes, begun_recorder, met_agenda, moves_with, target_in, wanted_with, write_to}
+use Rattle.adapter_server.specs.Sessions.{FitsPlace, begun_recorder, met_agenda, moves_with, target_in, wanted_with, writing_access}
 use Rattle.adapter_server.specs.declared.session.Place.{Place}
 use Rattle.adapter_server.specs.declared.session.Place.TheVariants.{Memory, Register}
 use Rattle.adapter_server.specs.declared.session.Session.{Session}
@@ -95,10 +95,10 @@ task_said task said session = if session.targets then named_line said task sessi
 -- What is played.
 
 -- The bytes of an access fit the place of the access, and `into` has the number of bytes that a read asks for.
-abbrev pub Fits : Task → (into : List ℕ) → PlayedAdapter → Type 0
-Fits (tasks.Read place address wanted) into device = (length into ≡ size_of wanted) × Takes place address into device
-Fits (tasks.Write place address bytes) into device = Takes place address bytes.now device
-Fits task into device = ⊤
+abbrev pub FitsTask : Task → (into : List ℕ) → PlayedAdapter → Type 0
+FitsTask (tasks.Read place address wanted) into device = (length into ≡ wanted_size wanted) × FitsPlace place address into device
+FitsTask (tasks.Write place address bytes) into device = FitsPlace place address bytes.now device
+FitsTask task into device = ⊤
 
 -- These bytes are read at a place. The lowest byte of a register is the first.
 abbrev pub ReadsFrom : Place → (address size : ℕ) → (bytes : List ℕ) → PlayedAdapter → PlayedAdapter → List Told → Type 0
@@ -109,30 +109,30 @@ ReadsFrom Memory address size bytes a b told = ServesLoad address size bytes a b
 -- Bytes are read at a place, and these bytes are the answer.
 abbrev pub PlaysRead : Place → (address : ℕ) → Wanted → (line : Text) → PlayedAdapter → PlayedAdapter → List Told → Type 0
 PlaysRead place address wanted line a b told =
-    (bytes : List ℕ) × (line ≡ answer_line wanted bytes) × ReadsFrom place address (size_of wanted) bytes a b told
+    (bytes : List ℕ) × (line ≡ answer_line wanted bytes) × ReadsFrom place address (wanted_size wanted) bytes a b told
 
 -- A task is played, and this line is its answer. `wanted` is the number in a schedule that is due at `choose`, or 0.
-abbrev pub Plays : Task → (line : Text) → (wanted : ℕ) → PlayedAdapter → PlayedAdapter → List Told → Type 0
-Plays (tasks.Read place address form) line wanted a b told = PlaysRead place address form line a b told
-Plays (tasks.Write place address bytes) line wanted a b told =
-    (line ≡ ok_line) × ServesAccess (write_to place address bytes.now) a b told
-Plays (tasks.Step kind) line wanted a b told = PlaysStep kind line a b told
-Plays (tasks.Arrive frame) line wanted a b told = PlaysArrival frame.now line a b told
-Plays tasks.Settle line wanted a b told = PlaysSettle line a b told
-Plays (tasks.Offer frame) line wanted a b told = PlaysOffer frame.now line a b told
-Plays (tasks.Choose limit) line wanted a b told =
+abbrev pub PlaysTask : Task → (line : Text) → (wanted : ℕ) → PlayedAdapter → PlayedAdapter → List Told → Type 0
+PlaysTask (tasks.Read place address form) line wanted a b told = PlaysRead place address form line a b told
+PlaysTask (tasks.Write place address bytes) line wanted a b told =
+    (line ≡ ok_line) × ServesAccess (writing_access place address bytes.now) a b told
+PlaysTask (tasks.Step kind) line wanted a b told = PlaysStep kind line a b told
+PlaysTask (tasks.Arrive frame) line wanted a b told = PlaysArrival frame.now line a b told
+PlaysTask tasks.Settle line wanted a b told = PlaysSettle line a b told
+PlaysTask (tasks.Offer frame) line wanted a b told = PlaysOffer frame.now line a b told
+PlaysTask (tasks.Choose limit) line wanted a b told =
     (number : ℕ) × (line ≡ number_line number) × ServesChoice limit wanted number a b told
-Plays (tasks.SetClock time) line wanted a b told = (moved : ℕ) × (line ≡ decimal_line time) × ServesSettle moved a b told
+PlaysTask (tasks.SetClock time) line wanted a b told = (moved : ℕ) × (line ≡ decimal_line time) × ServesSettle moved a b told
 
 -- A task is played, and this is its answer. At an error, the observer is told what it is told if the task is played with some answer.
 abbrev pub PlaysTo : {E : Type 0} → Task → Result Answer E → (wanted : ℕ) → PlayedAdapter → PlayedAdapter → List Told → Type 0
-PlaysTo task (Ok answer) wanted a b told = Plays task (line_of answer) wanted a b told
-PlaysTo task (Err error) wanted a b told = (line : Text) × (c : PlayedAdapter) × Plays task line wanted a c told
+PlaysTo task (Ok answer) wanted a b told = PlaysTask task (line_of answer) wanted a b told
+PlaysTo task (Err error) wanted a b told = (line : Text) × (c : PlayedAdapter) × PlaysTask task line wanted a c told
 
 -- A task is played after these moves and answered. `wanted` is the number in a schedule that is due at `choose`, or 0.
 abbrev pub AnswersAfter : List Move → (wanted : ℕ) → Task → (said : Text) → Session → Session → Text → Type 0
 AnswersAfter moves wanted task said a b text = (line : Text)
-    × Answered (Played (AfterMoves moves (λ c d told. Plays task line wanted c d told)) said a b) line text
+    × Answered (Played (AfterMoves moves (λ c d told. PlaysTask task line wanted c d told)) said a b) line text
 
 -- The player, if there is one, meets a task, unless the task sets the clock. Then the task is played and answered.
 abbrev pub Performs : Task → (said : Text) → Session → Session → Text → Type 0

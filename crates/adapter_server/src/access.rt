@@ -3,8 +3,8 @@
 ghost use Rattle.std.specs.Prelude.{length};
 ghost use Rattle.adapter_server.specs.Answers.{ReadsAt, TellsAnswer, WritesAt, access_said};
 ghost use Rattle.adapter_server.specs.Sessions.{place_in};
-ghost use Rattle.adapter_server.specs.Tasks.{Fits, Performs, task_said};
-ghost use Rattle.server_requests.specs.Widths.{size_of};
+ghost use Rattle.adapter_server.specs.Tasks.{FitsTask, Performs, task_said};
+ghost use Rattle.server_requests.specs.Widths.{wanted_size};
 
 use crate::answering::perform;
 use crate::session::{Place, Session};
@@ -15,7 +15,7 @@ use std::alloc::Global;
 use std::io::Write;
 
 /// Plays an access after the moves of the player, and answers the access. After the request `log targets`, the log's
-/// line of the access ends with the name of the access's target.
+/// line of the access ends with the name of the access's target. `said` is the line of the request.
 fn access<W: Write>(
     session: &mut Session,
     alloc: Global,
@@ -24,7 +24,7 @@ fn access<W: Write>(
     task: Task<'_>,
     into: &mut [u8],
 ) -> Result<(), AnswerError>
-    requires { Fits task into.old session.old.device }
+    requires { FitsTask task into.old session.old.device }
     ensures { TellsAnswer result (W.contents out.old) (W.contents out.new)
         (Performs task.entry (task_said task.entry said.now session.old) session.old) session.new }
 {
@@ -46,8 +46,8 @@ pub(crate) fn read<W: Write>(
     address: u64,
 ) -> Result<(), AnswerError>
     ensures { TellsAnswer result (W.contents out.old) (W.contents out.new)
-        (ReadsAt (place_in session.old address (size_of wanted)) wanted address
-        (access_said (place_in session.old address (size_of wanted)) address said.now session.old) session.old)
+        (ReadsAt (place_in session.old address (wanted_size wanted)) wanted address
+        (access_said (place_in session.old address (wanted_size wanted)) address said.now session.old) session.old)
         session.new }
 {
     match session.place_of(address, wanted.size()) {

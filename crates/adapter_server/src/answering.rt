@@ -1,7 +1,7 @@
 // Answers to requests.
 
 ghost use Rattle.adapter_server.specs.Answers.{MovesClock, SessionDoes, TellsAnswer, request_said};
-ghost use Rattle.adapter_server.specs.Tasks.{Fits, Performs};
+ghost use Rattle.adapter_server.specs.Tasks.{FitsTask, Performs};
 
 use crate::access::{read, write};
 use crate::looking::look;
@@ -16,7 +16,7 @@ use std::io::Write;
 /// Plays a task after the moves of the player, and answers the task.
 ///
 /// The player, if there is one, first meets the task, unless the task sets the clock. The bytes of a read are stored
-/// in `into`.
+/// in `into`. `said` is the text that the log prints for the request.
 pub(crate) fn perform<W: Write>(
     session: &mut Session,
     alloc: Global,
@@ -25,7 +25,7 @@ pub(crate) fn perform<W: Write>(
     task: Task<'_>,
     into: &mut [u8],
 ) -> Result<(), AnswerError>
-    requires { Fits task into.old session.old.device }
+    requires { FitsTask task into.old session.old.device }
     ensures { TellsAnswer result (W.contents out.old) (W.contents out.new)
         (Performs task.entry said.now session.old) session.new }
 {
@@ -46,7 +46,7 @@ pub(crate) fn perform<W: Write>(
 }
 
 /// Answers `clock_step` or `clock_set`: settles, sets the clock to this time, and answers with this time. Refuses the
-/// request if `time` is `None`.
+/// request if `time` is `None`. `said` is the line of the request.
 fn move_clock<W: Write>(
     session: &mut Session,
     alloc: Global,
@@ -67,7 +67,8 @@ fn move_clock<W: Write>(
 
 /// Answers a request that a session answers. Writes nothing at `save` and `restore`, which the server answers.
 ///
-/// After the request `log targets`, the log's line of an access ends with the name of the access's target.
+/// After the request `log targets`, the log's line of an access ends with the name of the access's target. `said` is
+/// the line of the request.
 fn answer_session<W: Write>(
     session: &mut Session,
     alloc: Global,

@@ -1,7 +1,7 @@
 // The state before the first request.
 
 ghost use Rattle.std.specs.Prelude.{◌≡◌, IfOk};
-ghost use Rattle.adapter_server.specs.NewSessions.{first_adapter, new_device};
+ghost use Rattle.adapter_server.specs.NewSessions.{adapter_of, new_device};
 ghost use Rattle.adapter_server.specs.Serving.{new_server};
 
 use crate::options::ServeOptions;
@@ -18,7 +18,7 @@ use step_schedules::Player;
 
 /// Returns a new adapter, whose PBA was written once, and whose MPC has the count of the options.
 fn adapter_of(alloc: Global, options: &ServeOptions) -> Result<Adapter, AllocError>
-    ensures { IfOk result (λ adapter. adapter ≡ first_adapter options.now) }
+    ensures { IfOk result (λ adapter. adapter ≡ adapter_of options.now) }
 {
     let mut adapter = Adapter::new(alloc, &options.image, options.link)?;
     adapter.write(PBA, u32::from(options.receive_kilobytes));

@@ -63,7 +63,7 @@ impl Session {
 }
 
 impl<'a> Task<'a> {
-    ghost use Rattle.adapter_server.specs.Tasks.{Fits, PlaysTo, task_agenda, task_moves, task_wanted};
+    ghost use Rattle.adapter_server.specs.Tasks.{FitsTask, PlaysTo, task_agenda, task_moves, task_wanted};
     ghost use Rattle.server_output.specs.Answers.{IsSized};
 
     /// The agenda, if there is one, meets the task, unless the task sets the clock. Plays the moves before the task.
@@ -104,7 +104,7 @@ impl<'a> Task<'a> {
         into: &'b mut [u8],
         observer: &mut O,
     ) -> Result<Answer<'b>, AllocError>
-        requires { Fits self into.old device.old }
+        requires { FitsTask self into.old device.old }
         ensures plays { Tells O.heard observer.old observer.new
             (AfterMoves (task_moves self.entry device.old agenda.old)
             (PlaysTo self.entry result (task_wanted self.entry device.old.machine.world.adapter agenda.old))

@@ -2,7 +2,7 @@
 
 ghost use Rattle.std.specs.Prelude.{◌≡◌, IfErr, IfOk, IfSome, OnErr, OnOk};
 ghost use Rattle.adapter_server.specs.Answers.{TellsAnswer};
-ghost use Rattle.server_output.specs.Order.{Tells};
+ghost use Rattle.server_output.specs.Order.{WritesText};
 ghost use Rattle.adapter_server.specs.Serving.{AnswersNext, ServesAll, ServesBegun, ServesFront, ServesPart};
 ghost use Rattle.adapter_server.specs.Serving.{ServesSome, ServesWhole};
 ghost use Rattle.adapter_server.specs.declared.serve_error.ServeError.TheVariants as errors;
@@ -41,11 +41,11 @@ fn serve_lines<R: BufRead, W: Write>(
     output: &mut W,
 ) -> Result<(), ServeError>
     ensures ok { OnOk result (IfSome (R.remaining input.old) (λ bytes.
-        Tells (W.contents output.old) (W.contents output.new) (ServesWhole bytes server.old server.new))) }
+        WritesText (W.contents output.old) (W.contents output.new) (ServesWhole bytes server.old server.new))) }
     ensures read { IfErr result (λ error. error ≡ errors.Read → IfSome (R.remaining input.old) (λ bytes.
-        Tells (W.contents output.old) (W.contents output.new) (ServesFront bytes server.old))) }
+        WritesText (W.contents output.old) (W.contents output.new) (ServesFront bytes server.old))) }
     ensures begun { OnErr result (IfSome (R.remaining input.old) (λ bytes.
-        Tells (W.contents output.old) (W.contents output.new) (ServesBegun bytes server.old))) }
+        WritesText (W.contents output.old) (W.contents output.new) (ServesBegun bytes server.old))) }
 {
     let mut line = Vec::with_capacity(alloc, MOST_LINE_BYTES)?;
     for _count in 0..u64::MAX {

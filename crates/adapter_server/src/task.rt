@@ -2,7 +2,7 @@
 
 ghost use Rattle.std.specs.Prelude.{◌≡◌, IfOk, length, string_bytes};
 ghost use Rattle.std.specs.Int.{from_le_bytes, w32};
-ghost use Rattle.adapter_server.specs.Sessions.{Takes, target_in, write_to};
+ghost use Rattle.adapter_server.specs.Sessions.{FitsPlace, target_in, writing_access};
 ghost use Rattle.adapter_server.specs.Tasks.{ReadsFrom};
 ghost use Rattle.played_adapter.specs.Order.{Tells};
 ghost use Rattle.played_adapter.specs.Requests.{ServesAccess};
@@ -69,7 +69,7 @@ fn read_from<O: Observer>(
     into: &mut [u8],
     observer: &mut O,
 )
-    requires { Takes place address into.old device.old }
+    requires { FitsPlace place address into.old device.old }
     ensures { Tells O.heard observer.old observer.new
         (ReadsFrom place address (length into.old) into.new device.old device.new) }
 {
@@ -90,9 +90,9 @@ fn write_to<O: Observer>(
     bytes: &[u8],
     observer: &mut O,
 )
-    requires { Takes place address bytes.now device.old }
+    requires { FitsPlace place address bytes.now device.old }
     ensures { Tells O.heard observer.old observer.new
-        (ServesAccess (write_to place address bytes.now) device.old device.new) }
+        (ServesAccess (writing_access place address bytes.now) device.old device.new) }
 {
     match place {
         Place::Register(offset) => {
@@ -103,7 +103,7 @@ fn write_to<O: Observer>(
 }
 
 impl<'a> Task<'a> {
-    ghost use Rattle.adapter_server.specs.Tasks.{Fits, PlaysTo, task_before, task_name, task_word};
+    ghost use Rattle.adapter_server.specs.Tasks.{FitsTask, PlaysTo, task_before, task_name, task_word};
     ghost use Rattle.server_output.specs.Answers.{IsSized};
 
     /// Returns what a player meets at the task, or `None` if the task sets the clock.
@@ -156,7 +156,7 @@ impl<'a> Task<'a> {
         into: &'b mut [u8],
         observer: &mut O,
     ) -> Result<Answer<'b>, AllocError>
-        requires { Fits self into.old device.old }
+        requires { FitsTask self into.old device.old }
         ensures plays { Tells O.heard observer.old observer.new
             (PlaysTo self.entry result wanted device.old device.new) }
         ensures sized { IfOk result (λ answer. IsSized answer) }
@@ -188,6 +188,7 @@ impl<'a> Task<'a> {
                 Ok(Answer::Number(u64::from(number)))
             }
             Task::SetClock(time) => {
+                // The answer is the time, and not the number of steps.
                 let _moved = device.serve_settle(observer);
                 Ok(Answer::Decimal(time))
             }

@@ -2,7 +2,7 @@
 use Rattle.std.proofs.Common.{◌≡◌, ◌++◌, ◌∷◌, [], ◌∙◌, ◌&&◌, ℕ, Bool, List, Option, None, Some, ap, false, if◌then◌else◌, length}
 use Rattle.std.proofs.Common.{nat_lt, refl, subst, sym, true}
 use Rattle.std.proofs.lemmas.List.{append-nil}
-use Rattle.played_adapter.specs.Order.{Composes, Tells}
+use Rattle.played_adapter.specs.Order.{ComposesHeard, Tells}
 use Rattle.played_adapter.specs.Playing.{Paced}
 use Rattle.played_adapter.specs.Told.{Told}
 use Rattle.played_adapter.specs.declared.player.PlayedAdapter.{PlayedAdapter}
@@ -11,7 +11,7 @@ use Rattle.step_schedules.specs.Agendas.{AgendaState}
 use Rattle.step_schedules.specs.declared.deviation.Before.{Before}
 use Rattle.access_names.specs.declared.target.Target.{Target}
 use Rattle.access_names.specs.Names.{target_text}
-use Rattle.nic82540em.specs.Calls.{Follows, Heard, IsPlain, PacedIf, PacedOr}
+use Rattle.nic82540em.specs.Calls.{Follows, HeardByEvents, IsPlain, PacedIf, PacedOr}
 use Rattle.nic82540em.specs.Events.{HearsBetween, event_of, hears, keeps}
 use Rattle.nic82540em.specs.EventsLaws.{heard_joins}
 use Rattle.nic82540em.specs.Schedules.{AfterMeeting, MeetsIf, MeetsName}
@@ -19,7 +19,7 @@ use Rattle.nic82540em.specs.declared.events.Events.{Events}
 use Rattle.nic82540em.specs.declared.events.KeptEvent.{KeptEvent}
 use Rattle.nic82540em.specs.declared.watched.WatchedAdapter.{WatchedAdapter}
 
-laws : Composes HearsBetween
+laws : ComposesHeard HearsBetween
 laws = record { stays = λ a. refl; joins = heard_joins }
 
 followed_player : (paced : Bool) (Happens : PlayedAdapter → PlayedAdapter → List Told → Type 0) (a middle b : PlayedAdapter)
@@ -36,11 +36,22 @@ followed_player false Happens a middle b before now after one two = record {
 
 pub followed : (paced : Bool) (Happens : PlayedAdapter → PlayedAdapter → List Told → Type 0) (a middle b : WatchedAdapter)
     → Tells HearsBetween a.events middle.events (Happens a.player middle.player) → middle.agenda ≡ a.agenda
-    → Heard (Follows paced) middle b → Heard (PacedOr paced Happens) a b
+    → HeardByEvents (Follows paced) middle b → HeardByEvents (PacedOr paced Happens) a b
 followed paced Happens a middle b one same two = (
   followed_player paced Happens a.player middle.player b.player a.events middle.events b.events one two.0,
   two.1 ∙ same,
 )
+
+-- An access in its parts: the schedule meets the access, the access happens, and cycles follow.
+pub met_and_followed : (made comes : Bool) (before : Before) (target : Target)
+    (Happens : PlayedAdapter → PlayedAdapter → List Told → Type 0) (a met middle b : WatchedAdapter) → MeetsIf comes before target a met
+    → Tells HearsBetween met.events middle.events (Happens met.player middle.player) → middle.agenda ≡ met.agenda
+    → HeardByEvents (Follows (made && nat_lt 0 met.player.pace)) middle b → AfterMeeting comes before target (HeardByEvents (PacedIf made Happens)) a b
+met_and_followed made comes before target Happens a met middle b meets one same two = record {
+  met = met;
+  meets = meets;
+  happens = followed (made && nat_lt 0 met.player.pace) Happens met middle b one same two;
+}
 
 kept : (events : Events) (event : Option KeptEvent) → events.on ≡ false → keeps events event ≡ events
 kept events None off = refl
@@ -67,7 +78,7 @@ unpaced false Happens a b told none happens = happens
 pub plain : {O : Type 0} (heard : O → O → List Told → Type 0) (now later : O) (comes made : Bool) (before : Before) (target : Target)
     (Happens : PlayedAdapter → PlayedAdapter → List Told → Type 0) (a b : WatchedAdapter) → IsPlain a
     → Tells heard now later (Happens a.player b.player) → b.events ≡ a.events → b.agenda ≡ a.agenda
-    → AfterMeeting comes before target (Heard (PacedIf made Happens)) a b
+    → AfterMeeting comes before target (HeardByEvents (PacedIf made Happens)) a b
 plain heard now later comes made before target Happens a b is_plain tells same kept_agenda = record {
   met = a;
   meets = unmet comes before target a is_plain.0;

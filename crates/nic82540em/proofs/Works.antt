@@ -7,8 +7,9 @@ use Rattle.adapter.specs.declared.outcome.Outcome.{Outcome}
 use Rattle.adapter.specs.declared.outcome.Outcome.TheVariants.{Took, Put, WireFull, Part, Moved, Done, Delivered, Ticked, Nothing, Fault}
 use Rattle.adapter.specs.declared.step.StepKind.{StepKind}
 use Rattle.adapter.specs.declared.step.StepKind.TheVariants.{EepromTick, PhyTick, RxData, RxDone, TxPut, TxTake}
-use Rattle.nic82540em.specs.Calls.{HasWork, TellsPossible, TellsWork, bit_if}
+use Rattle.nic82540em.specs.Calls.{HasWork, TellsPossible, AnswersWork, bit_if}
 use Rattle.nic82540em.specs.Numbers.{outcome_number}
+use Rattle.played_adapter.proofs.EachKind.{for_each, for_kind}
 use Rattle.played_adapter.specs.Playing.{has_room}
 use Rattle.nic82540em.specs.declared.watched.WatchedAdapter.{WatchedAdapter}
 
@@ -33,32 +34,13 @@ has_work kind works watched tells answer b answered =
     by_number works answered.outcome answer adapter answered.number_is
     (tells (has_room watched.player) watched.player.machine.world.memory (framed answered.outcome adapter) answered.plays.0.holds.occurs.1)
 
--- The function from a kind to whether it has something to do, from its six values.
-abbrev for_kind : (take put moves done eeprom phy : Bool) → StepKind → Bool
-for_kind take put moves done eeprom phy TxTake = take
-for_kind take put moves done eeprom phy TxPut = put
-for_kind take put moves done eeprom phy RxData = moves
-for_kind take put moves done eeprom phy RxDone = done
-for_kind take put moves done eeprom phy EepromTick = eeprom
-for_kind take put moves done eeprom phy PhyTick = phy
-
-for_each : (watched : WatchedAdapter) (take put moves done eeprom phy : Bool) → HasWork TxTake take watched → HasWork TxPut put watched
-    → HasWork RxData moves watched → HasWork RxDone done watched → HasWork EepromTick eeprom watched → HasWork PhyTick phy watched
-    → (kind : StepKind) → HasWork kind (for_kind take put moves done eeprom phy kind) watched
-for_each watched take put moves done eeprom phy has0 has1 has2 has3 has4 has5 TxTake = has0
-for_each watched take put moves done eeprom phy has0 has1 has2 has3 has4 has5 TxPut = has1
-for_each watched take put moves done eeprom phy has0 has1 has2 has3 has4 has5 RxData = has2
-for_each watched take put moves done eeprom phy has0 has1 has2 has3 has4 has5 RxDone = has3
-for_each watched take put moves done eeprom phy has0 has1 has2 has3 has4 has5 EepromTick = has4
-for_each watched take put moves done eeprom phy has0 has1 has2 has3 has4 has5 PhyTick = has5
-
-pub possible : (watched : WatchedAdapter) (n0 n1 n2 n3 n4 n5 : ℕ) → TellsWork TxTake 1 n0 watched → TellsWork TxPut 2 n1 watched
-    → TellsWork RxData 4 n2 watched → TellsWork RxDone 8 n3 watched → TellsWork EepromTick 16 n4 watched → TellsWork PhyTick 32 n5 watched
+pub possible : (watched : WatchedAdapter) (n0 n1 n2 n3 n4 n5 : ℕ) → AnswersWork TxTake 1 n0 watched → AnswersWork TxPut 2 n1 watched
+    → AnswersWork RxData 4 n2 watched → AnswersWork RxDone 8 n3 watched → AnswersWork EepromTick 16 n4 watched → AnswersWork PhyTick 32 n5 watched
     → TellsPossible (n0 + n1 + n2 + n3 + n4 + n5) watched
 possible watched n0 n1 n2 n3 n4 n5 take put moves done eeprom phy = record {
   works = for_kind take.works put.works moves.works done.works eeprom.works phy.works;
-  each = for_each watched take.works put.works moves.works done.works eeprom.works phy.works take.has_work put.has_work moves.has_work
-      done.has_work eeprom.has_work phy.has_work;
+  each = for_each (λ kind works. HasWork kind works watched) take.works put.works moves.works done.works eeprom.works phy.works
+      take.has_work put.has_work moves.has_work done.has_work eeprom.has_work phy.has_work;
   mask_is = ap (λ (n : ℕ). n + n1 + n2 + n3 + n4 + n5) take.answer_is
       ∙ ap (λ (n : ℕ). bit_if take.works 1 + n + n2 + n3 + n4 + n5) put.answer_is
       ∙ ap (λ (n : ℕ). bit_if take.works 1 + bit_if put.works 2 + n + n3 + n4 + n5) moves.answer_is

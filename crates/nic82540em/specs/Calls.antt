@@ -3,37 +3,35 @@ use Rattle.std.specs.Prelude.{◌≡◌, ◌≢◌, ◌↔◌, ◌+◌, ◌++◌
 use Rattle.std.specs.Prelude.{◌&&◌, if◌then◌else◌, is_some, length, nat_le, nat_lt, not, replicate, slice_get}
 use Rattle.rand_core.specs.Pcg32Seed.{pcg32_seed}
 use Rattle.rand_pcg.specs.Pcg.{pcg32_of_seed}
-use Rattle.adapter.specs.Registers.{after_write, new_adapter}
 use Rattle.adapter.specs.State.{AdapterState}
 use Rattle.adapter.specs.declared.outcome.Outcome.{Outcome}
 use Rattle.adapter.specs.declared.step.StepKind.{StepKind}
 use Rattle.adapter.specs.declared.step.StepKind.TheVariants.{EepromTick, PhyTick, RxData, RxDone, TxPut, TxTake}
 use Rattle.access_names.specs.Targets.{memory_target_in}
 use Rattle.access_names.specs.declared.target.Target.{Target}
-use Rattle.access_names.specs.declared.target.Target.TheVariants.{Register}
 use Rattle.bus.specs.declared.event.Access.{Access}
-use Rattle.bus.specs.declared.event.Access.TheVariants.{Loads, Reads, Stores, Writes}
 use Rattle.eeprom_phy.specs.Image.{image_with}
 use Rattle.eeprom_phy.specs.declared.phy.Link.{Link}
 use Rattle.rx_engine.specs.declared.arrival.Fate.{Fate}
 use Rattle.nic82540em.specs.Numbers.{fate_number, is_receive_share, kind_with, link_with, outcome_number, refused}
 use Rattle.nic82540em.specs.Events.{HearsBetween, no_events, without_first}
-use Rattle.nic82540em.specs.Schedules.{AfterMeeting, after_choice, wanted_number}
+use Rattle.nic82540em.specs.Schedules.{AfterMeeting, after_choice, number_chosen}
 use Rattle.nic82540em.specs.declared.events.KeptEvent.{KeptEvent}
 use Rattle.nic82540em.specs.declared.numbers.AdapterOptions.{AdapterOptions}
 use Rattle.nic82540em.specs.declared.watched.WatchedAdapter.{WatchedAdapter}
+use Rattle.played_adapter.specs.AccessTargets.{before_of, target_of}
+use Rattle.played_adapter.specs.FirstAdapters.{first_adapter}
 use Rattle.played_adapter.specs.Order.{Tells}
 use Rattle.played_adapter.specs.Playing as player
 use Rattle.played_adapter.specs.Playing.{Arrives, Steps, new_player}
 use Rattle.played_adapter.specs.Requests.{PacedAfter, ServesChoice, ServesSettle}
 use Rattle.played_adapter.specs.Told.{Told}
 use Rattle.played_adapter.specs.declared.player.PlayedAdapter.{PlayedAdapter}
-use Rattle.step_schedules.specs.declared.deviation.Before.{Before}
 use Rattle.step_schedules.specs.declared.deviation.Before.TheVariants.{Read, Write}
 
 -- Something happens to the adapter, and its events hear what is told about it. The schedule doesn't change.
-abbrev pub Heard : (PlayedAdapter → PlayedAdapter → List Told → Type 0) → WatchedAdapter → WatchedAdapter → Type 0
-Heard Happens a b = Tells HearsBetween a.events b.events (Happens a.player b.player) × (b.agenda ≡ a.agenda)
+abbrev pub HeardByEvents : (PlayedAdapter → PlayedAdapter → List Told → Type 0) → WatchedAdapter → WatchedAdapter → Type 0
+HeardByEvents Happens a b = Tells HearsBetween a.events b.events (Happens a.player b.player) × (b.agenda ≡ a.agenda)
 
 -- `Changes` relates the adapter before and after. The events and the schedule don't change.
 abbrev pub Silently : (PlayedAdapter → PlayedAdapter → Type 0) → WatchedAdapter → WatchedAdapter → Type 0
@@ -57,46 +55,33 @@ PacedIf made Happens a b told = PacedOr (made && nat_lt 0 a.pace) Happens a b to
 
 -- The steps before an access are played, the access happens, and cycles follow, as `PacedIf` defines.
 abbrev pub AccessedMet : Access → WatchedAdapter → WatchedAdapter → Type 0
-AccessedMet access a b = Heard (PacedIf true (player.Accessed access)) a b
+AccessedMet access a b = HeardByEvents (PacedIf true (player.Accessed access)) a b
 
 -- If memory contains the bytes, the steps before an access are played, the bytes are loaded, and cycles follow, as `PacedIf` defines.
 abbrev pub LoadsMet : (address : ℕ) → (old new : List ℕ) → (answer : Bool) → WatchedAdapter → WatchedAdapter → Type 0
-LoadsMet address old new answer a b = Heard (PacedIf answer (player.AnswersLoad address old new answer)) a b
+LoadsMet address old new answer a b = HeardByEvents (PacedIf answer (player.AnswersLoad address old new answer)) a b
 
 -- If memory contains the places, the steps before an access are played, the bytes are stored, and cycles follow, as `PacedIf` defines.
 abbrev pub StoresMet : (address : ℕ) → (bytes : List ℕ) → (answer : Bool) → WatchedAdapter → WatchedAdapter → Type 0
-StoresMet address bytes answer a b = Heard (PacedIf answer (player.AnswersStore address bytes answer)) a b
-
--- before a read or before a write, by the kind of the access
-abbrev pub before_of : Access → Before
-before_of (Reads offset value) = Read
-before_of (Writes offset value) = Write
-before_of (Loads address size) = Read
-before_of (Stores address bytes) = Write
+StoresMet address bytes answer a b = HeardByEvents (PacedIf answer (player.AnswersStore address bytes answer)) a b
 
 -- the target of an access of memory at this address
 abbrev pub target_at : (address : ℕ) → WatchedAdapter → Target
 target_at address a = memory_target_in a.player.machine.world.adapter address
 
--- the target of an access
-abbrev pub target_of : Access → WatchedAdapter → Target
-target_of (Reads offset value) a = Register offset
-target_of (Writes offset value) a = Register offset
-target_of (Loads address size) a = target_at address a
-target_of (Stores address bytes) a = target_at address a
-
 -- The schedule, if there is one, meets an access. Then the access is made, as `AccessedMet` defines.
-abbrev pub Accessed : Access → WatchedAdapter → WatchedAdapter → Type 0
-Accessed access a b = AfterMeeting true (before_of access) (target_of access a) (AccessedMet access) a b
+abbrev pub AccessAnswered : Access → WatchedAdapter → WatchedAdapter → Type 0
+AccessAnswered access a b =
+    AfterMeeting true (before_of access) (target_of access a.player.machine.world.adapter) (AccessedMet access) a b
 
 -- If memory contains the bytes, the schedule, if there is one, meets their load. Then the load is made or refused, as `LoadsMet` defines.
-abbrev pub AnswersLoad : (address : ℕ) → (old new : List ℕ) → (answer : Bool) → WatchedAdapter → WatchedAdapter → Type 0
-AnswersLoad address old new answer a b =
+abbrev pub LoadAnswered : (address : ℕ) → (old new : List ℕ) → (answer : Bool) → WatchedAdapter → WatchedAdapter → Type 0
+LoadAnswered address old new answer a b =
     AfterMeeting (player.has_bytes a.player address (length old)) Read (target_at address a) (LoadsMet address old new answer) a b
 
 -- If memory contains the places, the schedule, if there is one, meets the store. Then the store is made or refused, as `StoresMet` defines.
-abbrev pub AnswersStore : (address : ℕ) → (bytes : List ℕ) → (answer : Bool) → WatchedAdapter → WatchedAdapter → Type 0
-AnswersStore address bytes answer a b =
+abbrev pub StoreAnswered : (address : ℕ) → (bytes : List ℕ) → (answer : Bool) → WatchedAdapter → WatchedAdapter → Type 0
+StoreAnswered address bytes answer a b =
     AfterMeeting (player.has_bytes a.player address (length bytes)) Write (target_at address a) (StoresMet address bytes answer) a b
 
 -- No schedule is played, no cycle follows an access, and events are off.
@@ -105,32 +90,24 @@ IsPlain a = (a.agenda ≡ None) × (a.player.pace ≡ 0) × (a.events.on ≡ fal
 
 -- All offered frames arrive, and then cycles are played until one does nothing, up to their maximum number. `moved` of their steps do
 -- something.
-abbrev pub Settles : (moved : ℕ) → WatchedAdapter → WatchedAdapter → Type 0
-Settles moved a b = Heard (ServesSettle moved) a b
+abbrev pub SettlesOffered : (moved : ℕ) → WatchedAdapter → WatchedAdapter → Type 0
+SettlesOffered moved a b = HeardByEvents (ServesSettle moved) a b
 
 -- The oldest frame is taken off the wire, if there is a frame and it fits. The answer is the frame's length, or 0 if there is no frame.
-abbrev pub AnswersTaking : (old new : List ℕ) → (answer : ℕ) → WatchedAdapter → WatchedAdapter → Type 0
-AnswersTaking old new answer a b = Silently (player.AnswersTaking old new answer) a b
-
--- PBA's offset (13.4.16 "Packet Buffer Allocation")
-abbrev pub pba : ℕ
-pba = 0x1000
+abbrev pub TakingAnswered : (old new : List ℕ) → (answer : ℕ) → WatchedAdapter → WatchedAdapter → Type 0
+TakingAnswered old new answer a b = Silently (player.AnswersTaking old new answer) a b
 
 -- the words of the EEPROM: the image of the options if they have one, or else an image with their address
 abbrev pub image_of : AdapterOptions → List ℕ
 image_of options = if options.has_image then options.image else image_with options.address
 
--- the adapter with this value of MPC
-abbrev pub with_missed : (count : ℕ) → AdapterState → AdapterState
-with_missed count adapter = record adapter { missed_packets = count }
-
 -- a new adapter with the EEPROM of the options and this link; PBA was written with the options' kilobytes, and MPC has the options' count
-abbrev pub adapter_of : AdapterOptions → Link → AdapterState
-adapter_of options link = with_missed options.missed (after_write pba options.receive_kilobytes (new_adapter (image_of options) link))
+abbrev pub adapter_with_options : AdapterOptions → Link → AdapterState
+adapter_with_options options link = first_adapter (image_of options) link options.receive_kilobytes options.missed
 
 -- a new adapter with this link, with memory of zeros at some address
 abbrev pub IsMadeOf : AdapterOptions → Link → PlayedAdapter → Type 0
-IsMadeOf options link a = a ≡ new_player (replicate options.memory 0) (adapter_of options link) a.address
+IsMadeOf options link a = a ≡ new_player (replicate options.memory 0) (adapter_with_options options link) a.address
 
 -- a new adapter with this link, whose events are off, and which plays no schedule
 abbrev pub IsMade : AdapterOptions → Link → WatchedAdapter → Type 0
@@ -154,7 +131,7 @@ pub record StepAnswered (kind : StepKind) (number : ℕ) (a b : WatchedAdapter) 
   -- the number of this outcome
   pub number_is : number ≡ outcome_number outcome
   -- the step is played
-  pub plays : Heard (Steps kind outcome) a b
+  pub plays : HeardByEvents (Steps kind outcome) a b
 
 -- A step of this kind is played, and the number of its outcome is the answer. If there is no kind, nothing happens, and the answer is
 -- `refused`.
@@ -173,7 +150,7 @@ pub record AnswersArrival (frame : List ℕ) (answer : ℕ) (a b : WatchedAdapte
   -- the number of this fate
   pub number_is : answer ≡ fate_number fate
   -- the frame arrives, and cycles follow, as `PacedIf` defines
-  pub arrives : Heard (PacedIf true (Arrives frame fate)) a b
+  pub arrives : HeardByEvents (PacedIf true (Arrives frame fate)) a b
 
 -- A step of this kind is added to the list of scheduled steps, if there is a kind and the list has room. The answer is whether it was
 -- added.
@@ -182,8 +159,8 @@ SchedulesKind access (Some kind) answer a b = player.AnswersSchedule access kind
 SchedulesKind access None answer a b = (answer ≡ false) × (b ≡ a)
 
 -- As `SchedulesKind`, for the kind with this number. No event is kept.
-abbrev pub AnswersSchedule : (access number : ℕ) → (answer : Bool) → WatchedAdapter → WatchedAdapter → Type 0
-AnswersSchedule access number answer a b = Silently (SchedulesKind access (kind_with number) answer) a b
+abbrev pub ScheduleAnswered : (access number : ℕ) → (answer : Bool) → WatchedAdapter → WatchedAdapter → Type 0
+ScheduleAnswered access number answer a b = Silently (SchedulesKind access (kind_with number) answer) a b
 
 -- the greatest number that the maximum of steps drawn before an access, or of cycles after it, can be set to
 abbrev pub most_drawn : ℕ
@@ -191,7 +168,7 @@ most_drawn = 65535
 
 -- If `count` is allowed, up to `count` steps are drawn before each later access, by a generator with this seed. While a schedule is played,
 -- no steps are drawn.
-pub record Interleaves (plays : Bool) (count seed : ℕ) (answer : Bool) (a b : PlayedAdapter) : Type 0 where
+pub record SetsInterleaving (plays : Bool) (count seed : ℕ) (answer : Bool) (a b : PlayedAdapter) : Type 0 where
   -- the answer is whether the maximum is allowed
   pub range : answer ≡ nat_le count most_drawn
   -- if the maximum is allowed, the generator has this seed, and the maximum is set, to 0 while a schedule is played
@@ -199,9 +176,9 @@ pub record Interleaves (plays : Bool) (count seed : ℕ) (answer : Bool) (a b : 
   -- if the maximum isn't allowed, nothing changes
   pub refused : answer ≡ false → b ≡ a
 
--- As `Interleaves`. No event is kept.
+-- As `SetsInterleaving`. No event is kept.
 abbrev pub AnswersInterleave : (count seed : ℕ) → (answer : Bool) → WatchedAdapter → WatchedAdapter → Type 0
-AnswersInterleave count seed answer a b = Silently (Interleaves (is_some a.agenda) count seed answer) a b
+AnswersInterleave count seed answer a b = Silently (SetsInterleaving (is_some a.agenda) count seed answer) a b
 
 -- If `count` is allowed, up to `count` cycles are played after each later access and each later call of `arrive`.
 pub record SetsPace (count : ℕ) (answer : Bool) (a b : PlayedAdapter) : Type 0 where
@@ -217,10 +194,10 @@ abbrev pub AnswersPace : (count : ℕ) → (answer : Bool) → WatchedAdapter �
 AnswersPace count answer a b = Silently (SetsPace count answer) a b
 
 -- A number below a limit is chosen. If steps are drawn before accesses, the generator draws the number. Otherwise the number is
--- `wanted_number` if `wanted_number` is below the limit, or else 0. If the limit is 0, the number is 0.
+-- `number_chosen` if `number_chosen` is below the limit, or else 0. If the limit is 0, the number is 0.
 pub record Chooses (limit answer : ℕ) (a b : WatchedAdapter) : Type 0 where
   -- the number is chosen, and the events hear what is told about the choice
-  pub chooses : Tells HearsBetween a.events b.events (ServesChoice limit (wanted_number a.agenda) answer a.player b.player)
+  pub chooses : Tells HearsBetween a.events b.events (ServesChoice limit (number_chosen a.agenda) answer a.player b.player)
   -- the schedule has met the request
   pub met : b.agenda ≡ after_choice a.agenda
 
@@ -236,8 +213,8 @@ abbrev pub with_wire : (full : Bool) → WatchedAdapter → WatchedAdapter
 with_wire full a = record a { player = record a.player { wire_free = not full } }
 
 -- An adapter with its events and its schedule is a copy of another one.
-abbrev pub IsCopy : WatchedAdapter → WatchedAdapter → Type 0
-IsCopy a copy = player.IsCopy a.player copy.player × (copy.events ≡ a.events) × (copy.agenda ≡ a.agenda)
+abbrev pub IsWatchedCopy : WatchedAdapter → WatchedAdapter → Type 0
+IsWatchedCopy a copy = player.IsCopy a.player copy.player × (copy.events ≡ a.events) × (copy.agenda ≡ a.agenda)
 
 -- The oldest event, if one waits, is taken and stored at a place. `old` and `new` are the values at this place before and after. The answer
 -- is whether an event waited.
@@ -270,7 +247,7 @@ abbrev pub bit_if : Bool → (value : ℕ) → ℕ
 bit_if is_set value = if is_set then value else 0
 
 -- The answer is the value of a bit if a step of this kind has something to do, else 0.
-pub record TellsWork (kind : StepKind) (value : ℕ) (answer : ℕ) (a : WatchedAdapter) : Type 0 where
+pub record AnswersWork (kind : StepKind) (value : ℕ) (answer : ℕ) (a : WatchedAdapter) : Type 0 where
   -- whether a step of this kind has something to do
   pub works : Bool
   -- `HasWork` holds of `works` for this kind

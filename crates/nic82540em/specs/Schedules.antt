@@ -13,7 +13,7 @@ use Rattle.played_adapter.specs.Playing.{Makes}
 use Rattle.played_adapter.specs.declared.choices.Move.{Move}
 use Rattle.step_schedules.specs.Agendas.{AgendaState, agenda_of}
 use Rattle.step_schedules.specs.Players.{chosen}
-use Rattle.step_schedules.specs.Schedules.{IsRead, ScheduleRead, schedule_in}
+use Rattle.step_schedules.specs.Schedules.{IsRead, ScheduleValue, schedule_in}
 use Rattle.step_schedules.specs.Words.{Text}
 use Rattle.step_schedules.specs.declared.deviation.Before.{Before}
 use Rattle.step_schedules.specs.declared.deviation.Before.TheVariants.{Choice, Request}
@@ -21,7 +21,7 @@ use Rattle.step_schedules.specs.declared.schedule_error.ScheduleError.{ScheduleE
 use Rattle.step_schedules.specs.declared.schedule_error.ScheduleError.TheVariants.{Line, Memory, Text as NoText}
 
 -- These moves are played, and `agenda` is the agenda of the adapter afterwards.
-pub record Plays (next : List Move) (agenda : AgendaState) (a b : WatchedAdapter) : Type 0 where
+pub record PlaysMoves (next : List Move) (agenda : AgendaState) (a b : WatchedAdapter) : Type 0 where
   -- the moves are played, and the events hear what is told about the moves
   pub plays : Tells HearsBetween a.events b.events (InOrder Makes next a.player b.player)
   -- `agenda` is the agenda after the moves
@@ -30,7 +30,7 @@ pub record Plays (next : List Move) (agenda : AgendaState) (a b : WatchedAdapter
 -- The schedule, if there is one, meets an access of a target with this name. The default steps before the access are played, and then the
 -- actions that are due. Without a schedule, nothing happens.
 abbrev pub MeetsName : Before → (name : Text) → Option AgendaState → WatchedAdapter → WatchedAdapter → Type 0
-MeetsName before name (Some agenda) a b = Plays (moves.access_moves before name agenda a.player) (moves.met before name agenda) a b
+MeetsName before name (Some agenda) a b = PlaysMoves (moves.access_moves before name agenda a.player) (moves.met before name agenda) a b
 MeetsName before name None a b = b ≡ a
 
 -- The schedule, if there is one, meets an access of this target.
@@ -55,7 +55,7 @@ pub record AfterMeeting (comes : Bool) (before : Before) (target : Target) (Happ
 -- The schedule, if there is one, meets a request with this first word, which begins a round. The actions that are due are played. Without a
 -- schedule, nothing happens.
 abbrev pub Begins : (word : Text) → Option AgendaState → WatchedAdapter → WatchedAdapter → Type 0
-Begins word (Some agenda) a b = Plays (moves.request_moves Request word agenda) (moves.met Request word agenda) a b
+Begins word (Some agenda) a b = PlaysMoves (moves.request_moves Request word agenda) (moves.met Request word agenda) a b
 Begins word None a b = b ≡ a
 
 -- the first word of the request with this number; `None` if no request has the number
@@ -72,42 +72,42 @@ AnswersWord (Some word) answer a b = (answer ≡ true) × Begins word a.agenda a
 AnswersWord None answer a b = (answer ≡ false) × (b ≡ a)
 
 -- As `AnswersWord`, for the request with this number.
-abbrev pub AnswersRound : (number : ℕ) → (answer : Bool) → WatchedAdapter → WatchedAdapter → Type 0
-AnswersRound number answer a b = AnswersWord (request_word number) answer a b
+abbrev pub RoundAnswered : (number : ℕ) → (answer : Bool) → WatchedAdapter → WatchedAdapter → Type 0
+RoundAnswered number answer a b = AnswersWord (request_word number) answer a b
 
 -- the number that the first action due at a request `choose` now chooses, or 0 without such an action or without a schedule
-abbrev pub wanted_number : Option AgendaState → ℕ
-wanted_number (Some agenda) = chosen (moves.due_in_agenda Choice (codes "choose") agenda)
-wanted_number None = 0
+abbrev pub number_chosen : Option AgendaState → ℕ
+number_chosen (Some agenda) = chosen (moves.due_in_agenda Choice (codes "choose") agenda)
+number_chosen None = 0
 
 -- the schedule, if there is one, after it met a request `choose`
 abbrev pub after_choice : Option AgendaState → Option AgendaState
 after_choice agenda = option_map (moves.met Choice (codes "choose")) agenda
 
 -- the number of a faulty line if it is from 1 to 0xFFFFFFFE, else `refused`
-abbrev pub line_number : ℕ → ℕ
-line_number line = if nat_lt 0 line && nat_lt line refused then line else refused
+abbrev pub faulty_line_number : ℕ → ℕ
+faulty_line_number line = if nat_lt 0 line && nat_lt line refused then line else refused
 
--- the number of an error: `line_number` of the faulty line, if there is a faulty line, else `refused`
+-- the number of an error: `faulty_line_number` of the faulty line, if there is a faulty line, else `refused`
 abbrev pub error_number : ScheduleError → ℕ
-error_number (Line line fault) = line_number line
+error_number (Line line fault) = faulty_line_number line
 error_number NoText = refused
 error_number Memory = refused
 
 -- The text is UTF-8, and the result is the agenda of the schedule in the text. Or the result is an error that `IsRead` allows for the text.
 abbrev pub IsAgenda : (text : List ℕ) → Result AgendaState ScheduleError → Type 0
 IsAgenda text (Ok agenda) =
-    IsUtf8 text × ((schedule : ScheduleRead) × (schedule_in text ≡ Ok schedule) × (agenda ≡ agenda_of schedule))
+    IsUtf8 text × ((schedule : ScheduleValue) × (schedule_in text ≡ Ok schedule) × (agenda ≡ agenda_of schedule))
 IsAgenda text (Err error) = IsRead text (Err error)
 
 -- the adapter that plays this schedule from now on, and draws no steps before accesses
-abbrev pub playing : ScheduleRead → WatchedAdapter → WatchedAdapter
+abbrev pub playing : ScheduleValue → WatchedAdapter → WatchedAdapter
 playing schedule a = record a { player = record a.player { most_steps = 0 }; agenda = Some (agenda_of schedule) }
 
 -- The schedule in a text is played from now on.
 pub record PlaysText (text : List ℕ) (a b : WatchedAdapter) : Type 0 where
   -- the schedule
-  pub schedule : ScheduleRead
+  pub schedule : ScheduleValue
   -- the text is UTF-8
   pub is_text : IsUtf8 text
   -- the text has this schedule

@@ -1,9 +1,10 @@
 // Calls of C for a driver's accesses, for the number of accesses, and for the address of the host's memory. An access
 // comes after the steps that are due or drawn, and before the cycles of `nic82540em_pace`.
 
-ghost use Rattle.std.specs.Prelude.{◌≡◌, IfSome, false, length, true};
+ghost use Rattle.std.specs.Prelude.{⊤, ◌≡◌, IfSome, false, length};
 ghost use Rattle.bus.specs.declared.event.Access.TheVariants.{Reads, Writes};
-ghost use Rattle.nic82540em.specs.Calls.{Accessed, AnswersLoad, AnswersStore, with_accesses};
+ghost use Rattle.nic82540em.specs.Calls.{AccessAnswered, LoadAnswered, StoreAnswered, with_accesses};
+ghost use Rattle.nic82540em.specs.Handles.{IsSound, OnlyLooks, OnAdapter};
 
 use crate::calls;
 use crate::handle::{Nic, on_adapter};
@@ -12,30 +13,19 @@ use std::alloc::Global;
 /// Reads the register at an offset in bytes. Returns 0 if no register is at this offset.
 #[unsafe(no_mangle)]
 pub extern "C" fn nic82540em_read(alloc: Global, nic: &mut Nic, offset: u32) -> u32
-    requires sound { nic.old.owner.full ≡ nic.old.held }
-    ensures sound { nic.new.owner.full ≡ nic.new.held }
-    ensures held { nic.new.held ≡ nic.old.held }
-    ensures done { nic.old.held ≡ true → Accessed (Reads offset result) nic.old.owner.value nic.new.owner.value }
-    ensures none { nic.old.held ≡ false → (result ≡ 0) × (nic.new ≡ nic.old) }
+    requires sound { IsSound nic.old }
+    ensures done { OnAdapter (AccessAnswered (Reads offset result)) (result ≡ 0) nic.old nic.new }
 {
-    on_adapter!(alloc, nic, 0, |adapter| calls::read(&mut adapter, offset))
+    on_adapter!(alloc, nic, 0, calls::read, offset)
 }
 
 /// Writes the register at an offset in bytes. The write does nothing if no register is at this offset.
 #[unsafe(no_mangle)]
 pub extern "C" fn nic82540em_write(alloc: Global, nic: &mut Nic, offset: u32, value: u32)
-    requires sound { nic.old.owner.full ≡ nic.old.held }
-    ensures sound { nic.new.owner.full ≡ nic.new.held }
-    ensures held { nic.new.held ≡ nic.old.held }
-    ensures done { nic.old.held ≡ true → Accessed (Writes offset value) nic.old.owner.value nic.new.owner.value }
-    ensures none { nic.old.held ≡ false → nic.new ≡ nic.old }
+    requires sound { IsSound nic.old }
+    ensures done { OnAdapter (AccessAnswered (Writes offset value)) ⊤ nic.old nic.new }
 {
-    on_adapter!(
-        alloc,
-        nic,
-        (),
-        |adapter| calls::write(&mut adapter, offset, value)
-    )
+    on_adapter!(alloc, nic, (), calls::write, offset, value)
 }
 
 /// Loads the bytes from an address on into the whole of `into`. Returns `false`, and changes nothing, if some of the
@@ -47,48 +37,28 @@ pub extern "C" fn nic82540em_load(
     address: u64,
     into: &mut [u8],
 ) -> bool
-    requires sound { nic.old.owner.full ≡ nic.old.held }
-    ensures sound { nic.new.owner.full ≡ nic.new.held }
-    ensures held { nic.new.held ≡ nic.old.held }
-    ensures done { nic.old.held ≡ true →
-        AnswersLoad address into.old into.new result nic.old.owner.value nic.new.owner.value }
-    ensures none { nic.old.held ≡ false → (result ≡ false) × (into.new ≡ into.old) × (nic.new ≡ nic.old) }
+    requires sound { IsSound nic.old }
+    ensures done { OnAdapter (LoadAnswered address into.old into.new result)
+        ((result ≡ false) × (into.new ≡ into.old)) nic.old nic.new }
 {
-    on_adapter!(
-        alloc,
-        nic,
-        false,
-        |adapter| calls::load(&mut adapter, address, into)
-    )
+    on_adapter!(alloc, nic, false, calls::load, address, into)
 }
 
 /// Stores bytes in memory from an address on. Returns `false`, and changes nothing, if some bytes would be outside
 /// memory.
 #[unsafe(no_mangle)]
 pub extern "C" fn nic82540em_store(alloc: Global, nic: &mut Nic, address: u64, bytes: &[u8]) -> bool
-    requires sound { nic.old.owner.full ≡ nic.old.held }
-    ensures sound { nic.new.owner.full ≡ nic.new.held }
-    ensures held { nic.new.held ≡ nic.old.held }
-    ensures done { nic.old.held ≡ true → AnswersStore address bytes.now result nic.old.owner.value nic.new.owner.value }
-    ensures none { nic.old.held ≡ false → (result ≡ false) × (nic.new ≡ nic.old) }
+    requires sound { IsSound nic.old }
+    ensures done { OnAdapter (StoreAnswered address bytes.now result) (result ≡ false) nic.old nic.new }
 {
-    on_adapter!(
-        alloc,
-        nic,
-        false,
-        |adapter| calls::store(&mut adapter, address, bytes)
-    )
+    on_adapter!(alloc, nic, false, calls::store, address, bytes)
 }
 
 /// Returns the number of accesses so far, up to the greatest `u64`. [`nic82540em_recount`] sets this number.
 #[unsafe(no_mangle)]
 pub extern "C" fn nic82540em_accesses(alloc: Global, nic: &mut Nic) -> u64
-    requires sound { nic.old.owner.full ≡ nic.old.held }
-    ensures sound { nic.new.owner.full ≡ nic.new.held }
-    ensures held { nic.new.held ≡ nic.old.held }
-    ensures count { nic.old.held ≡ true → result ≡ nic.old.owner.value.player.accesses }
-    ensures same { nic.old.held ≡ true → nic.new.owner.value ≡ nic.old.owner.value }
-    ensures none { nic.old.held ≡ false → (result ≡ 0) × (nic.new ≡ nic.old) }
+    requires sound { IsSound nic.old }
+    ensures count { OnAdapter (OnlyLooks (λ a. result ≡ a.player.accesses)) (result ≡ 0) nic.old nic.new }
 {
     on_adapter!(alloc, nic, 0, |adapter| adapter.player.accesses)
 }
@@ -96,11 +66,8 @@ pub extern "C" fn nic82540em_accesses(alloc: Global, nic: &mut Nic) -> u64
 /// Sets the number of accesses so far.
 #[unsafe(no_mangle)]
 pub extern "C" fn nic82540em_recount(alloc: Global, nic: &mut Nic, accesses: u64)
-    requires sound { nic.old.owner.full ≡ nic.old.held }
-    ensures sound { nic.new.owner.full ≡ nic.new.held }
-    ensures held { nic.new.held ≡ nic.old.held }
-    ensures done { nic.old.held ≡ true → nic.new.owner.value ≡ with_accesses accesses nic.old.owner.value }
-    ensures none { nic.old.held ≡ false → nic.new ≡ nic.old }
+    requires sound { IsSound nic.old }
+    ensures done { OnAdapter (λ a b. b ≡ with_accesses accesses a) ⊤ nic.old nic.new }
 {
     on_adapter!(alloc, nic, (), |adapter| adapter.player.accesses = accesses)
 }
@@ -109,13 +76,10 @@ pub extern "C" fn nic82540em_recount(alloc: Global, nic: &mut Nic, accesses: u64
 /// bytes.
 #[unsafe(no_mangle)]
 pub extern "C" fn nic82540em_memory(alloc: Global, nic: &mut Nic, into: &mut *const u8) -> u64
-    requires sound { nic.old.owner.full ≡ nic.old.held }
-    ensures sound { nic.new.owner.full ≡ nic.new.held }
-    ensures held { nic.new.held ≡ nic.old.held }
-    ensures size { nic.old.held ≡ true → result ≡ length nic.old.owner.value.player.machine.world.memory }
-    ensures address { nic.old.held ≡ true → IfSome nic.old.owner.value.player.address (λ address. into.new ≡ address) }
-    ensures same { nic.old.held ≡ true → nic.new.owner.value ≡ nic.old.owner.value }
-    ensures none { nic.old.held ≡ false → (result ≡ 0) × (into.new ≡ into.old) × (nic.new ≡ nic.old) }
+    requires sound { IsSound nic.old }
+    ensures size { OnAdapter (OnlyLooks (λ a. (result ≡ length a.player.machine.world.memory)
+        × IfSome a.player.address (λ address. into.new ≡ address)))
+        ((result ≡ 0) × (into.new ≡ into.old)) nic.old nic.new }
 {
     on_adapter!(alloc, nic, 0, |adapter| {
         if let Some(address) = adapter.player.address {

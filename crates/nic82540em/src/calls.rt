@@ -3,9 +3,9 @@
 
 ghost use Rattle.std.specs.Prelude.{◌≡◌, ◌<◌, ◌&&◌, IfOk, IfSome, nat_lt, true};
 ghost use Rattle.bus.specs.declared.event.Access.TheVariants.{Reads, Writes};
-ghost use Rattle.nic82540em.specs.Calls.{Accessed, AnswersArrival, AnswersEvent, AnswersInterleave, AnswersLoad};
-ghost use Rattle.nic82540em.specs.Calls.{AnswersOffer, AnswersPace, AnswersSchedule, AnswersStep, AnswersStore, IsCopy};
-ghost use Rattle.nic82540em.specs.Calls.{Chooses, Follows, Heard, IsMade, IsMadeOf, IsNew, Settles, adapter_of};
+ghost use Rattle.nic82540em.specs.Calls.{AccessAnswered, AnswersArrival, AnswersEvent, AnswersInterleave, LoadAnswered};
+ghost use Rattle.nic82540em.specs.Calls.{AnswersOffer, AnswersPace, ScheduleAnswered, AnswersStep, StoreAnswered, IsWatchedCopy};
+ghost use Rattle.nic82540em.specs.Calls.{Chooses, Follows, HeardByEvents, IsMade, IsMadeOf, IsNew, SettlesOffered, adapter_with_options};
 ghost use Rattle.nic82540em.specs.Calls.{IsPlain, image_of};
 ghost use Rattle.nic82540em.specs.Digests.{state_digest_of};
 
@@ -44,7 +44,7 @@ fn image_of(options: &AdapterOptions) -> Image
 /// Returns a new adapter with the EEPROM of the options and this link. PBA was written with the kilobytes of the
 /// options, and MPC has the count of missed packets of the options.
 fn adapter_of(alloc: Global, options: &AdapterOptions, link: Link) -> Result<Adapter, AllocError>
-    ensures { IfOk result (λ adapter. adapter ≡ adapter_of options.now link) }
+    ensures { IfOk result (λ adapter. adapter ≡ adapter_with_options options.now link) }
 {
     let mut adapter = Adapter::new(alloc, &image_of(options), link)?;
     adapter.write(PBA, options.receive_kilobytes);
@@ -101,7 +101,7 @@ pub(crate) fn new(alloc: Global, options: &AdapterOptions) -> Option<Box<Watched
 /// Plays cycles after an access or an arrival until one does nothing, up to the maximum of `pace`. `most` is this
 /// maximum before the access or the arrival. If this maximum is 0, or `is_made` is false, nothing happens.
 fn follow(watched: &mut WatchedAdapter, is_made: bool, most: u16)
-    ensures { Heard (Follows (is_made && nat_lt 0 most)) watched.old watched.new }
+    ensures { HeardByEvents (Follows (is_made && nat_lt 0 most)) watched.old watched.new }
 {
     if is_made && most > 0 {
         let most = u32::from(watched.player.pace);
@@ -126,7 +126,7 @@ fn is_plain(watched: &WatchedAdapter) -> bool
 /// Reads the register at an offset in bytes.
 #[inline(always)]
 pub(crate) fn read(watched: &mut WatchedAdapter, offset: u32) -> u32
-    ensures { Accessed (Reads offset result) watched.old watched.new }
+    ensures { AccessAnswered (Reads offset result) watched.old watched.new }
 {
     if is_plain(watched) {
         return watched.player.read(offset, &mut Nobody);
@@ -137,7 +137,7 @@ pub(crate) fn read(watched: &mut WatchedAdapter, offset: u32) -> u32
 /// Writes the register at an offset in bytes.
 #[inline(always)]
 pub(crate) fn write(watched: &mut WatchedAdapter, offset: u32, value: u32)
-    ensures { Accessed (Writes offset value) watched.old watched.new }
+    ensures { AccessAnswered (Writes offset value) watched.old watched.new }
 {
     if is_plain(watched) {
         watched.player.write(offset, value, &mut Nobody);
@@ -150,7 +150,7 @@ pub(crate) fn write(watched: &mut WatchedAdapter, offset: u32, value: u32)
 /// nothing.
 #[inline(always)]
 pub(crate) fn load(watched: &mut WatchedAdapter, address: u64, into: &mut [u8]) -> bool
-    ensures { AnswersLoad address into.old into.new result watched.old watched.new }
+    ensures { LoadAnswered address into.old into.new result watched.old watched.new }
 {
     if is_plain(watched) {
         return watched.player.load(address, into, &mut Nobody);
@@ -161,7 +161,7 @@ pub(crate) fn load(watched: &mut WatchedAdapter, address: u64, into: &mut [u8]) 
 /// Stores bytes from an address on. If some would be outside memory, returns `false` and changes nothing.
 #[inline(always)]
 pub(crate) fn store(watched: &mut WatchedAdapter, address: u64, bytes: &[u8]) -> bool
-    ensures { AnswersStore address bytes.now result watched.old watched.new }
+    ensures { StoreAnswered address bytes.now result watched.old watched.new }
 {
     if is_plain(watched) {
         return watched.player.store(address, bytes, &mut Nobody);
@@ -172,7 +172,7 @@ pub(crate) fn store(watched: &mut WatchedAdapter, address: u64, bytes: &[u8]) ->
 /// As [`read`], without the test whether the access is plain.
 #[inline(never)]
 fn meet_and_read(watched: &mut WatchedAdapter, offset: u32) -> u32
-    ensures { Accessed (Reads offset result) watched.old watched.new }
+    ensures { AccessAnswered (Reads offset result) watched.old watched.new }
 {
     meet(watched, Before::Read, Target::Register(offset));
     let most = watched.player.pace;
@@ -184,7 +184,7 @@ fn meet_and_read(watched: &mut WatchedAdapter, offset: u32) -> u32
 /// As [`write`], without the test whether the access is plain.
 #[inline(never)]
 fn meet_and_write(watched: &mut WatchedAdapter, offset: u32, value: u32)
-    ensures { Accessed (Writes offset value) watched.old watched.new }
+    ensures { AccessAnswered (Writes offset value) watched.old watched.new }
 {
     meet(watched, Before::Write, Target::Register(offset));
     let most = watched.player.pace;
@@ -195,7 +195,7 @@ fn meet_and_write(watched: &mut WatchedAdapter, offset: u32, value: u32)
 /// As [`load`], without the test whether the access is plain.
 #[inline(never)]
 fn meet_and_load(watched: &mut WatchedAdapter, address: u64, into: &mut [u8]) -> bool
-    ensures { AnswersLoad address into.old into.new result watched.old watched.new }
+    ensures { LoadAnswered address into.old into.new result watched.old watched.new }
 {
     meet_memory(watched, Before::Read, address, into.len() as u64);
     let most = watched.player.pace;
@@ -207,7 +207,7 @@ fn meet_and_load(watched: &mut WatchedAdapter, address: u64, into: &mut [u8]) ->
 /// As [`store`], without the test whether the access is plain.
 #[inline(never)]
 fn meet_and_store(watched: &mut WatchedAdapter, address: u64, bytes: &[u8]) -> bool
-    ensures { AnswersStore address bytes.now result watched.old watched.new }
+    ensures { StoreAnswered address bytes.now result watched.old watched.new }
 {
     meet_memory(watched, Before::Write, address, bytes.len() as u64);
     let most = watched.player.pace;
@@ -219,7 +219,7 @@ fn meet_and_store(watched: &mut WatchedAdapter, address: u64, bytes: &[u8]) -> b
 /// Delivers all offered frames, and then plays cycles until one does nothing, up to `MOST_CYCLES` of `played_adapter`.
 /// Returns the number of steps of the cycles that did something.
 pub(crate) fn settle(watched: &mut WatchedAdapter) -> u64
-    ensures { Settles result watched.old watched.new }
+    ensures { SettlesOffered result watched.old watched.new }
 {
     watched.player.serve_settle(&mut watched.events)
 }
@@ -260,7 +260,7 @@ pub(crate) fn offer(alloc: Global, watched: &mut WatchedAdapter, frame: &[u8]) -
 ///
 /// If no kind has this number, or 4,096 steps wait, returns `false` and changes nothing.
 pub(crate) fn schedule(watched: &mut WatchedAdapter, access: u64, number: u32) -> bool
-    ensures { AnswersSchedule access number result watched.old watched.new }
+    ensures { ScheduleAnswered access number result watched.old watched.new }
 {
     match kind_with(number) {
         Some(kind) => watched.player.schedule(access, kind),
@@ -341,7 +341,7 @@ pub(crate) fn take_event(watched: &mut WatchedAdapter, into: &mut KeptEvent) -> 
 
 /// Returns a copy of the adapter, its events and its schedule, in a box.
 fn copied(alloc: Global, watched: &WatchedAdapter) -> Result<Box<WatchedAdapter>, AllocError>
-    ensures { IfOk result (λ copy. IsCopy watched.now copy.value) }
+    ensures { IfOk result (λ copy. IsWatchedCopy watched.now copy.value) }
 {
     let events = watched.events.copy()?;
     let agenda = watched.agenda.clone()?;
@@ -356,7 +356,7 @@ fn copied(alloc: Global, watched: &WatchedAdapter) -> Result<Box<WatchedAdapter>
 
 /// Returns a copy of the adapter, its events and its schedule, in a box, or `None` if memory is refused.
 pub(crate) fn copy(alloc: Global, watched: &WatchedAdapter) -> Option<Box<WatchedAdapter>>
-    ensures { IfSome result (λ made. IsCopy watched.now made.value) }
+    ensures { IfSome result (λ made. IsWatchedCopy watched.now made.value) }
 {
     copied(alloc, watched).ok()
 }

@@ -62,6 +62,7 @@ impl Events {
         ensures { self.new ≡ keeps self.old (Some event) }
     {
         if self.on {
+            // If 4,096 events wait, this event is dropped.
             let _kept = self.waiting.try_push_back(event);
         }
     }

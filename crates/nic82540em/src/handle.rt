@@ -11,8 +11,12 @@ pub struct Nic {
     pub owner: Owner,
 }
 
-/// The result of a call on the adapter of a handle, or `$none` if the handle holds no adapter.
+/// The result of a call on the adapter of a handle, or `$none` if the handle holds no adapter. The call is
+/// `$call(&mut adapter, $argument ..)`, or an expression after the adapter's name.
 macro_rules! on_adapter {
+    ($alloc:ident, $nic:ident, $none:expr, $call:path $(, $argument:expr)*) => {
+        on_adapter!($alloc, $nic, $none, |adapter| $call(&mut adapter $(, $argument)*))
+    };
     ($alloc:ident, $nic:ident, $none:expr, |$adapter:ident| $call:expr) => {
         if $nic.held {
             let mut $adapter = $nic.owner.take($alloc);

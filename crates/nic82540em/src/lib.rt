@@ -17,12 +17,11 @@ mod owner;
 mod parts;
 mod playing;
 mod possible;
-mod rounds;
 mod schedules;
 mod watched;
 
 ghost use Rattle.std.specs.Prelude.{◌≡◌, false, true};
-ghost use Rattle.nic82540em.specs.Calls.{IsCopy, IsNew};
+ghost use Rattle.nic82540em.specs.Calls.{IsWatchedCopy, IsNew};
 
 pub use accesses::{
     nic82540em_accesses, nic82540em_load, nic82540em_memory, nic82540em_read, nic82540em_recount,
@@ -36,12 +35,11 @@ pub use looking::{
 };
 pub use numbers::{AdapterOptions, REFUSED};
 pub use playing::{
-    nic82540em_arrive, nic82540em_choose, nic82540em_events, nic82540em_fill_wire,
-    nic82540em_interleave, nic82540em_offer, nic82540em_pace, nic82540em_schedule,
-    nic82540em_settle, nic82540em_step, nic82540em_take_event, nic82540em_take_put,
-    nic82540em_ticks,
+    nic82540em_arrive, nic82540em_begin_round, nic82540em_choose, nic82540em_events,
+    nic82540em_fill_wire, nic82540em_interleave, nic82540em_offer, nic82540em_pace,
+    nic82540em_play, nic82540em_schedule, nic82540em_settle, nic82540em_step,
+    nic82540em_take_event, nic82540em_take_put, nic82540em_ticks,
 };
-pub use rounds::{nic82540em_begin_round, nic82540em_play};
 use std::alloc::Global;
 pub use watched::WatchedAdapter;
 
@@ -78,6 +76,7 @@ pub extern "C" fn nic82540em_free(alloc: Global, nic: &mut Nic)
     ensures none { nic.old.held ≡ false → nic.new ≡ nic.old }
 {
     if nic.held {
+        // The adapter is freed at the end of this block.
         let _adapter = nic.owner.take(alloc);
         nic.held = false;
     }
@@ -94,7 +93,7 @@ pub extern "C" fn nic82540em_copy(alloc: Global, nic: &mut Nic, into: &mut Nic) 
     ensures into_sound { into.new.owner.full ≡ into.new.held }
     ensures held { nic.new.held ≡ nic.old.held }
     ensures same { nic.old.held ≡ true → nic.new.owner.value ≡ nic.old.owner.value }
-    ensures copy { result ≡ true → IsCopy nic.old.owner.value into.new.owner.value }
+    ensures copy { result ≡ true → IsWatchedCopy nic.old.owner.value into.new.owner.value }
     ensures made { result ≡ true → (nic.old.held ≡ true) × (into.old.held ≡ false) × (into.new.held ≡ true) }
     ensures refused { result ≡ false → into.new ≡ into.old }
 {

@@ -6,6 +6,7 @@ ghost use Rattle.bus.specs.Digests.{digest_of};
 ghost use Rattle.bus.specs.Machines.{is_asserted};
 ghost use Rattle.nic82540em.specs.Calls.{TellsPossible};
 ghost use Rattle.nic82540em.specs.Digests.{state_digest_of};
+ghost use Rattle.nic82540em.specs.Handles.{IsSound, OnlyLooks, OnAdapter};
 
 use crate::handle::{Nic, on_adapter};
 use crate::{calls, possible};
@@ -14,12 +15,9 @@ use std::alloc::Global;
 /// Returns whether the interrupt line is asserted.
 #[unsafe(no_mangle)]
 pub extern "C" fn nic82540em_line(alloc: Global, nic: &mut Nic) -> bool
-    requires sound { nic.old.owner.full ≡ nic.old.held }
-    ensures sound { nic.new.owner.full ≡ nic.new.held }
-    ensures held { nic.new.held ≡ nic.old.held }
-    ensures line { nic.old.held ≡ true → result ≡ is_asserted nic.old.owner.value.player.machine.world.adapter }
-    ensures same { nic.old.held ≡ true → nic.new.owner.value ≡ nic.old.owner.value }
-    ensures none { nic.old.held ≡ false → (result ≡ false) × (nic.new ≡ nic.old) }
+    requires sound { IsSound nic.old }
+    ensures line { OnAdapter (OnlyLooks (λ a. result ≡ is_asserted a.player.machine.world.adapter))
+        (result ≡ false) nic.old nic.new }
 {
     on_adapter!(alloc, nic, false, |adapter| adapter.player.machine.line())
 }
@@ -28,13 +26,10 @@ pub extern "C" fn nic82540em_line(alloc: Global, nic: &mut Nic) -> bool
 /// access, and changes nothing in the adapter.
 #[unsafe(no_mangle)]
 pub extern "C" fn nic82540em_peek(alloc: Global, nic: &mut Nic, offset: u32, into: &mut u32) -> bool
-    requires sound { nic.old.owner.full ≡ nic.old.held }
-    ensures sound { nic.new.owner.full ≡ nic.new.held }
-    ensures held { nic.new.held ≡ nic.old.held }
-    ensures value { nic.old.held ≡ true →
-        (result ≡ true) × (into.new ≡ answer_at offset nic.old.owner.value.player.machine.world.adapter) }
-    ensures same { nic.old.held ≡ true → nic.new.owner.value ≡ nic.old.owner.value }
-    ensures none { nic.old.held ≡ false → (result ≡ false) × (into.new ≡ into.old) × (nic.new ≡ nic.old) }
+    requires sound { IsSound nic.old }
+    ensures value { OnAdapter
+        (OnlyLooks (λ a. (result ≡ true) × (into.new ≡ answer_at offset a.player.machine.world.adapter)))
+        ((result ≡ false) × (into.new ≡ into.old)) nic.old nic.new }
 {
     on_adapter!(alloc, nic, false, |adapter| {
         *into = adapter.player.machine.value(offset);
@@ -46,12 +41,8 @@ pub extern "C" fn nic82540em_peek(alloc: Global, nic: &mut Nic, offset: u32, int
 /// `n` would have another outcome than `Nothing`.
 #[unsafe(no_mangle)]
 pub extern "C" fn nic82540em_possible(alloc: Global, nic: &mut Nic) -> u32
-    requires sound { nic.old.owner.full ≡ nic.old.held }
-    ensures sound { nic.new.owner.full ≡ nic.new.held }
-    ensures held { nic.new.held ≡ nic.old.held }
-    ensures mask { nic.old.held ≡ true → TellsPossible result nic.old.owner.value }
-    ensures same { nic.old.held ≡ true → nic.new.owner.value ≡ nic.old.owner.value }
-    ensures none { nic.old.held ≡ false → (result ≡ 0) × (nic.new ≡ nic.old) }
+    requires sound { IsSound nic.old }
+    ensures mask { OnAdapter (OnlyLooks (λ a. TellsPossible result a)) (result ≡ 0) nic.old nic.new }
 {
     on_adapter!(alloc, nic, 0, |adapter| possible::possible(&adapter))
 }
@@ -59,13 +50,9 @@ pub extern "C" fn nic82540em_possible(alloc: Global, nic: &mut Nic) -> u32
 /// Returns the number of frames in the receive packet buffer.
 #[unsafe(no_mangle)]
 pub extern "C" fn nic82540em_waiting_received(alloc: Global, nic: &mut Nic) -> u32
-    requires sound { nic.old.owner.full ≡ nic.old.held }
-    ensures sound { nic.new.owner.full ≡ nic.new.held }
-    ensures held { nic.new.held ≡ nic.old.held }
-    ensures count { nic.old.held ≡ true →
-        result ≡ length nic.old.owner.value.player.machine.world.adapter.receiver.buffer }
-    ensures same { nic.old.held ≡ true → nic.new.owner.value ≡ nic.old.owner.value }
-    ensures none { nic.old.held ≡ false → (result ≡ 0) × (nic.new ≡ nic.old) }
+    requires sound { IsSound nic.old }
+    ensures count { OnAdapter (OnlyLooks (λ a. result ≡ length a.player.machine.world.adapter.receiver.buffer))
+        (result ≡ 0) nic.old nic.new }
 {
     on_adapter!(
         alloc,
@@ -78,13 +65,9 @@ pub extern "C" fn nic82540em_waiting_received(alloc: Global, nic: &mut Nic) -> u
 /// Returns the number of frames in the transmit packet buffer: frames that were fetched and aren't on the wire yet.
 #[unsafe(no_mangle)]
 pub extern "C" fn nic82540em_waiting_transmit(alloc: Global, nic: &mut Nic) -> u32
-    requires sound { nic.old.owner.full ≡ nic.old.held }
-    ensures sound { nic.new.owner.full ≡ nic.new.held }
-    ensures held { nic.new.held ≡ nic.old.held }
-    ensures count { nic.old.held ≡ true →
-        result ≡ length nic.old.owner.value.player.machine.world.adapter.transmitter.buffer }
-    ensures same { nic.old.held ≡ true → nic.new.owner.value ≡ nic.old.owner.value }
-    ensures none { nic.old.held ≡ false → (result ≡ 0) × (nic.new ≡ nic.old) }
+    requires sound { IsSound nic.old }
+    ensures count { OnAdapter (OnlyLooks (λ a. result ≡ length a.player.machine.world.adapter.transmitter.buffer))
+        (result ≡ 0) nic.old nic.new }
 {
     on_adapter!(
         alloc,
@@ -98,12 +81,8 @@ pub extern "C" fn nic82540em_waiting_transmit(alloc: Global, nic: &mut Nic) -> u
 /// frames, events, the schedule, the steps before accesses, or the number of accesses.
 #[unsafe(no_mangle)]
 pub extern "C" fn nic82540em_digest(alloc: Global, nic: &mut Nic) -> u64
-    requires sound { nic.old.owner.full ≡ nic.old.held }
-    ensures sound { nic.new.owner.full ≡ nic.new.held }
-    ensures held { nic.new.held ≡ nic.old.held }
-    ensures value { nic.old.held ≡ true → result ≡ digest_of nic.old.owner.value.player.machine.world }
-    ensures same { nic.old.held ≡ true → nic.new.owner.value ≡ nic.old.owner.value }
-    ensures none { nic.old.held ≡ false → (result ≡ 0) × (nic.new ≡ nic.old) }
+    requires sound { IsSound nic.old }
+    ensures value { OnAdapter (OnlyLooks (λ a. result ≡ digest_of a.player.machine.world)) (result ≡ 0) nic.old nic.new }
 {
     on_adapter!(alloc, nic, 0, |adapter| adapter.player.machine.digest())
 }
@@ -113,13 +92,9 @@ pub extern "C" fn nic82540em_digest(alloc: Global, nic: &mut Nic) -> u64
 /// [`nic82540em_digest`] omits.
 #[unsafe(no_mangle)]
 pub extern "C" fn nic82540em_state_digest(alloc: Global, nic: &mut Nic, seed: u64) -> u64
-    requires sound { nic.old.owner.full ≡ nic.old.held }
-    ensures sound { nic.new.owner.full ≡ nic.new.held }
-    ensures held { nic.new.held ≡ nic.old.held }
-    ensures value { nic.old.held ≡ true →
-        result ≡ state_digest_of seed nic.old.owner.value.player.machine.world.adapter }
-    ensures same { nic.old.held ≡ true → nic.new.owner.value ≡ nic.old.owner.value }
-    ensures none { nic.old.held ≡ false → (result ≡ 0) × (nic.new ≡ nic.old) }
+    requires sound { IsSound nic.old }
+    ensures value { OnAdapter (OnlyLooks (λ a. result ≡ state_digest_of seed a.player.machine.world.adapter))
+        (result ≡ 0) nic.old nic.new }
 {
     on_adapter!(alloc, nic, 0, |adapter| calls::state_digest(&adapter, seed))
 }

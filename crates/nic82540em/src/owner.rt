@@ -17,9 +17,13 @@ use std::mem::replace;
 /// `into_alloc` an empty one.
 #[repr(C)]
 pub struct Owner {
+    /// The address of the adapter, or null in an empty owner.
     at: *mut u8,
+    /// The allocator of the box. An empty owner also has an allocator, because the field can't be left out.
     alloc: Global,
+    /// Whether the owner owns a box. The proofs of `empty` and `of_parts` set it.
     pub ghost full: { Bool },
+    /// The adapter in the box, or any value in an empty owner. The same proofs set it.
     pub ghost value: { WatchedAdapter } by { value_coded },
 }
 
@@ -44,6 +48,7 @@ impl Owner {
         ensures value { self.new.value ≡ adapter.value }
     {
         let owner = Owner::of_parts(Parts::of(adapter));
+        // The replaced owner is empty, so only its allocator is left.
         let _alloc = replace(self, owner).into_alloc();
     }
 

@@ -1,76 +1,56 @@
-// Calls of C for what the adapter and the wire do, for steps before accesses, cycles after them, chosen numbers, and
-// events.
+// Calls of C for what the adapter and the wire do, for steps before accesses, cycles after them, chosen numbers,
+// events, and schedules.
 
-ghost use Rattle.std.specs.Prelude.{◌≡◌, ◌<◌, false, length, true};
+ghost use Rattle.std.specs.Prelude.{⊤, ◌≡◌, ◌<◌, false};
 ghost use Rattle.nic82540em.specs.Calls.{AnswersArrival, AnswersEvent, AnswersInterleave, AnswersOffer, AnswersPace};
-ghost use Rattle.nic82540em.specs.Calls.{AnswersSchedule, AnswersStep, AnswersTaking, Chooses, Settles};
+ghost use Rattle.nic82540em.specs.Calls.{ScheduleAnswered, AnswersStep, TakingAnswered, Chooses, SettlesOffered};
 ghost use Rattle.nic82540em.specs.Calls.{with_events, with_ticks, with_wire};
+ghost use Rattle.nic82540em.specs.Handles.{IsSound, OnAdapter};
+ghost use Rattle.nic82540em.specs.Schedules.{AnswersPlay, RoundAnswered};
 
-use crate::calls;
 use crate::events::KeptEvent;
 use crate::handle::{Nic, on_adapter};
 use crate::numbers::REFUSED;
+use crate::{calls, schedules};
 use std::alloc::Global;
 
 /// Makes the adapter take a step of the kind with this number. Returns the number of the outcome, or `0xFFFFFFFF` if no
 /// kind has this number.
 #[unsafe(no_mangle)]
 pub extern "C" fn nic82540em_step(alloc: Global, nic: &mut Nic, number: u32) -> u32
-    requires sound { nic.old.owner.full ≡ nic.old.held }
-    ensures sound { nic.new.owner.full ≡ nic.new.held }
-    ensures held { nic.new.held ≡ nic.old.held }
-    ensures done { nic.old.held ≡ true → AnswersStep number result nic.old.owner.value nic.new.owner.value }
-    ensures none { nic.old.held ≡ false → (result ≡ REFUSED) × (nic.new ≡ nic.old) }
+    requires sound { IsSound nic.old }
+    ensures done { OnAdapter (AnswersStep number result) (result ≡ REFUSED) nic.old nic.new }
 {
-    on_adapter!(
-        alloc,
-        nic,
-        REFUSED,
-        |adapter| calls::step(&mut adapter, number)
-    )
+    on_adapter!(alloc, nic, REFUSED, calls::step, number)
 }
 
 /// Delivers all offered frames, and then plays cycles until one does nothing, up to `MOST_CYCLES` of `played_adapter`.
 /// Returns the number of steps of the cycles that did something.
 #[unsafe(no_mangle)]
 pub extern "C" fn nic82540em_settle(alloc: Global, nic: &mut Nic) -> u64
-    requires sound { nic.old.owner.full ≡ nic.old.held }
-    ensures sound { nic.new.owner.full ≡ nic.new.held }
-    ensures held { nic.new.held ≡ nic.old.held }
-    ensures done { nic.old.held ≡ true → Settles result nic.old.owner.value nic.new.owner.value }
-    ensures none { nic.old.held ≡ false → (result ≡ 0) × (nic.new ≡ nic.old) }
+    requires sound { IsSound nic.old }
+    ensures done { OnAdapter (SettlesOffered result) (result ≡ 0) nic.old nic.new }
 {
-    on_adapter!(alloc, nic, 0, |adapter| calls::settle(&mut adapter))
+    on_adapter!(alloc, nic, 0, calls::settle)
 }
 
 /// Delivers a frame to the adapter, and then plays cycles until one does nothing, up to the maximum of
 /// [`nic82540em_pace`]. Returns the number of the frame's fate.
 #[unsafe(no_mangle)]
 pub extern "C" fn nic82540em_arrive(alloc: Global, nic: &mut Nic, frame: &[u8]) -> u32
-    requires sound { nic.old.owner.full ≡ nic.old.held }
-    ensures sound { nic.new.owner.full ≡ nic.new.held }
-    ensures held { nic.new.held ≡ nic.old.held }
-    ensures done { nic.old.held ≡ true → AnswersArrival frame.now result nic.old.owner.value nic.new.owner.value }
-    ensures none { nic.old.held ≡ false → (result ≡ REFUSED) × (nic.new ≡ nic.old) }
+    requires sound { IsSound nic.old }
+    ensures done { OnAdapter (AnswersArrival frame.now result) (result ≡ REFUSED) nic.old nic.new }
 {
-    on_adapter!(
-        alloc,
-        nic,
-        REFUSED,
-        |adapter| calls::arrive(&mut adapter, frame)
-    )
+    on_adapter!(alloc, nic, REFUSED, calls::arrive, frame)
 }
 
 /// Moves the oldest frame from the wire to the beginning of `into`, if the frame fits. Returns the frame's length in
 /// bytes, also if the frame doesn't fit, or 0 if no frame waits.
 #[unsafe(no_mangle)]
 pub extern "C" fn nic82540em_take_put(alloc: Global, nic: &mut Nic, into: &mut [u8]) -> usize
-    requires sound { nic.old.owner.full ≡ nic.old.held }
-    ensures sound { nic.new.owner.full ≡ nic.new.held }
-    ensures held { nic.new.held ≡ nic.old.held }
-    ensures done { nic.old.held ≡ true →
-        AnswersTaking into.old into.new result nic.old.owner.value nic.new.owner.value }
-    ensures none { nic.old.held ≡ false → (result ≡ 0) × (into.new ≡ into.old) × (nic.new ≡ nic.old) }
+    requires sound { IsSound nic.old }
+    ensures done { OnAdapter (TakingAnswered into.old into.new result)
+        ((result ≡ 0) × (into.new ≡ into.old)) nic.old nic.new }
 {
     on_adapter!(alloc, nic, 0, |adapter| adapter.player.take_put(into))
 }
@@ -80,37 +60,20 @@ pub extern "C" fn nic82540em_take_put(alloc: Global, nic: &mut Nic, into: &mut [
 /// Returns `false`, and changes nothing, if `count` is above 65,535.
 #[unsafe(no_mangle)]
 pub extern "C" fn nic82540em_interleave(alloc: Global, nic: &mut Nic, count: u32, seed: u64) -> bool
-    requires sound { nic.old.owner.full ≡ nic.old.held }
-    ensures sound { nic.new.owner.full ≡ nic.new.held }
-    ensures held { nic.new.held ≡ nic.old.held }
-    ensures done { nic.old.held ≡ true →
-        AnswersInterleave count seed result nic.old.owner.value nic.new.owner.value }
-    ensures none { nic.old.held ≡ false → (result ≡ false) × (nic.new ≡ nic.old) }
+    requires sound { IsSound nic.old }
+    ensures done { OnAdapter (AnswersInterleave count seed result) (result ≡ false) nic.old nic.new }
 {
-    on_adapter!(
-        alloc,
-        nic,
-        false,
-        |adapter| calls::interleave(&mut adapter, count, seed)
-    )
+    on_adapter!(alloc, nic, false, calls::interleave, count, seed)
 }
 
 /// From now on, cycles are played after each access and each call of [`nic82540em_arrive`] until one does nothing, up
 /// to `count`. Returns `false`, and changes nothing, if `count` is above 65,535.
 #[unsafe(no_mangle)]
 pub extern "C" fn nic82540em_pace(alloc: Global, nic: &mut Nic, count: u32) -> bool
-    requires sound { nic.old.owner.full ≡ nic.old.held }
-    ensures sound { nic.new.owner.full ≡ nic.new.held }
-    ensures held { nic.new.held ≡ nic.old.held }
-    ensures done { nic.old.held ≡ true → AnswersPace count result nic.old.owner.value nic.new.owner.value }
-    ensures none { nic.old.held ≡ false → (result ≡ false) × (nic.new ≡ nic.old) }
+    requires sound { IsSound nic.old }
+    ensures done { OnAdapter (AnswersPace count result) (result ≡ false) nic.old nic.new }
 {
-    on_adapter!(
-        alloc,
-        nic,
-        false,
-        |adapter| calls::pace(&mut adapter, count)
-    )
+    on_adapter!(alloc, nic, false, calls::pace, count)
 }
 
 /// Returns a number below `limit`, or 0 if `limit` is 0.
@@ -120,14 +83,11 @@ pub extern "C" fn nic82540em_pace(alloc: Global, nic: &mut Nic, count: u32) -> b
 /// or no action is due, the number is 0.
 #[unsafe(no_mangle)]
 pub extern "C" fn nic82540em_choose(alloc: Global, nic: &mut Nic, limit: u32) -> u32
-    requires sound { nic.old.owner.full ≡ nic.old.held }
-    ensures sound { nic.new.owner.full ≡ nic.new.held }
-    ensures held { nic.new.held ≡ nic.old.held }
-    ensures done { nic.old.held ≡ true → Chooses limit result nic.old.owner.value nic.new.owner.value }
+    requires sound { IsSound nic.old }
+    ensures done { OnAdapter (Chooses limit result) (result ≡ 0) nic.old nic.new }
     ensures below { 0 < limit → result < limit }
-    ensures none { nic.old.held ≡ false → (result ≡ 0) × (nic.new ≡ nic.old) }
 {
-    on_adapter!(alloc, nic, 0, |adapter| calls::choose(&mut adapter, limit))
+    on_adapter!(alloc, nic, 0, calls::choose, limit)
 }
 
 /// Adds a step of the kind with this number to the end of the list of scheduled steps.
@@ -141,28 +101,17 @@ pub extern "C" fn nic82540em_schedule(
     access: u64,
     number: u32,
 ) -> bool
-    requires sound { nic.old.owner.full ≡ nic.old.held }
-    ensures sound { nic.new.owner.full ≡ nic.new.held }
-    ensures held { nic.new.held ≡ nic.old.held }
-    ensures done { nic.old.held ≡ true → AnswersSchedule access number result nic.old.owner.value nic.new.owner.value }
-    ensures none { nic.old.held ≡ false → (result ≡ false) × (nic.new ≡ nic.old) }
+    requires sound { IsSound nic.old }
+    ensures done { OnAdapter (ScheduleAnswered access number result) (result ≡ false) nic.old nic.new }
 {
-    on_adapter!(
-        alloc,
-        nic,
-        false,
-        |adapter| calls::schedule(&mut adapter, access, number)
-    )
+    on_adapter!(alloc, nic, false, calls::schedule, access, number)
 }
 
 /// Sets whether a step of the EEPROM and one of the PHY are played before each later access.
 #[unsafe(no_mangle)]
 pub extern "C" fn nic82540em_ticks(alloc: Global, nic: &mut Nic, on: bool)
-    requires sound { nic.old.owner.full ≡ nic.old.held }
-    ensures sound { nic.new.owner.full ≡ nic.new.held }
-    ensures held { nic.new.held ≡ nic.old.held }
-    ensures done { nic.old.held ≡ true → nic.new.owner.value ≡ with_ticks on nic.old.owner.value }
-    ensures none { nic.old.held ≡ false → nic.new ≡ nic.old }
+    requires sound { IsSound nic.old }
+    ensures done { OnAdapter (λ a b. b ≡ with_ticks on a) ⊤ nic.old nic.new }
 {
     on_adapter!(alloc, nic, (), |adapter| adapter.player.ticks = on)
 }
@@ -170,11 +119,8 @@ pub extern "C" fn nic82540em_ticks(alloc: Global, nic: &mut Nic, on: bool)
 /// Sets whether later events are kept. The events that wait aren't removed.
 #[unsafe(no_mangle)]
 pub extern "C" fn nic82540em_events(alloc: Global, nic: &mut Nic, on: bool)
-    requires sound { nic.old.owner.full ≡ nic.old.held }
-    ensures sound { nic.new.owner.full ≡ nic.new.held }
-    ensures held { nic.new.held ≡ nic.old.held }
-    ensures done { nic.old.held ≡ true → nic.new.owner.value ≡ with_events on nic.old.owner.value }
-    ensures none { nic.old.held ≡ false → nic.new ≡ nic.old }
+    requires sound { IsSound nic.old }
+    ensures done { OnAdapter (λ a b. b ≡ with_events on a) ⊤ nic.old nic.new }
 {
     on_adapter!(alloc, nic, (), |adapter| adapter.events.on = on)
 }
@@ -182,19 +128,11 @@ pub extern "C" fn nic82540em_events(alloc: Global, nic: &mut Nic, on: bool)
 /// Removes the oldest event, and stores it in `into`. Returns `false`, and changes nothing, if no event waits.
 #[unsafe(no_mangle)]
 pub extern "C" fn nic82540em_take_event(alloc: Global, nic: &mut Nic, into: &mut KeptEvent) -> bool
-    requires sound { nic.old.owner.full ≡ nic.old.held }
-    ensures sound { nic.new.owner.full ≡ nic.new.held }
-    ensures held { nic.new.held ≡ nic.old.held }
-    ensures done { nic.old.held ≡ true →
-        AnswersEvent into.old into.new result nic.old.owner.value nic.new.owner.value }
-    ensures none { nic.old.held ≡ false → (result ≡ false) × (into.new ≡ into.old) × (nic.new ≡ nic.old) }
+    requires sound { IsSound nic.old }
+    ensures done { OnAdapter (AnswersEvent into.old into.new result)
+        ((result ≡ false) × (into.new ≡ into.old)) nic.old nic.new }
 {
-    on_adapter!(
-        alloc,
-        nic,
-        false,
-        |adapter| calls::take_event(&mut adapter, into)
-    )
+    on_adapter!(alloc, nic, false, calls::take_event, into)
 }
 
 /// Adds a copy of a frame to the offered frames.
@@ -204,11 +142,8 @@ pub extern "C" fn nic82540em_take_event(alloc: Global, nic: &mut Nic, into: &mut
 /// memory is refused.
 #[unsafe(no_mangle)]
 pub extern "C" fn nic82540em_offer(alloc: Global, nic: &mut Nic, frame: &[u8]) -> bool
-    requires sound { nic.old.owner.full ≡ nic.old.held }
-    ensures sound { nic.new.owner.full ≡ nic.new.held }
-    ensures held { nic.new.held ≡ nic.old.held }
-    ensures done { nic.old.held ≡ true → AnswersOffer frame.now result nic.old.owner.value nic.new.owner.value }
-    ensures none { nic.old.held ≡ false → (result ≡ false) × (nic.new ≡ nic.old) }
+    requires sound { IsSound nic.old }
+    ensures done { OnAdapter (AnswersOffer frame.now result) (result ≡ false) nic.old nic.new }
 {
     on_adapter!(
         alloc,
@@ -221,11 +156,39 @@ pub extern "C" fn nic82540em_offer(alloc: Global, nic: &mut Nic, frame: &[u8]) -
 /// Sets whether the wire is full. While the wire is full, no frame is put on it, even if fewer than 64 frames wait.
 #[unsafe(no_mangle)]
 pub extern "C" fn nic82540em_fill_wire(alloc: Global, nic: &mut Nic, full: bool)
-    requires sound { nic.old.owner.full ≡ nic.old.held }
-    ensures sound { nic.new.owner.full ≡ nic.new.held }
-    ensures held { nic.new.held ≡ nic.old.held }
-    ensures done { nic.old.held ≡ true → nic.new.owner.value ≡ with_wire full nic.old.owner.value }
-    ensures none { nic.old.held ≡ false → nic.new ≡ nic.old }
+    requires sound { IsSound nic.old }
+    ensures done { OnAdapter (λ a b. b ≡ with_wire full a) ⊤ nic.old nic.new }
 {
     on_adapter!(alloc, nic, (), |adapter| adapter.player.wire_free = !full)
+}
+
+/// From now on, plays the schedule in a text instead of an earlier schedule, and draws no steps before accesses.
+///
+/// Returns 0 if this schedule is played. If a line is faulty, returns the number of the first faulty line and changes
+/// nothing. Returns `0xFFFFFFFF` and changes nothing if the text isn't UTF-8, memory is refused, or the line's number
+/// is above `0xFFFFFFFE`.
+#[unsafe(no_mangle)]
+pub extern "C" fn nic82540em_play(alloc: Global, nic: &mut Nic, text: &[u8]) -> u32
+    requires sound { IsSound nic.old }
+    ensures done { OnAdapter (AnswersPlay text.now result) (result ≡ REFUSED) nic.old nic.new }
+{
+    on_adapter!(
+        alloc,
+        nic,
+        REFUSED,
+        |adapter| schedules::play(alloc, &mut adapter, text)
+    )
+}
+
+/// Begins the schedule's next round with the request that has this number: 0 `arrive`, 1 `offer`, 2 `step`,
+/// 3 `settle`.
+///
+/// Plays the actions of the schedule, if there is one, that are due before the request, and returns `true`. If no
+/// request has this number, returns `false` and changes nothing.
+#[unsafe(no_mangle)]
+pub extern "C" fn nic82540em_begin_round(alloc: Global, nic: &mut Nic, number: u32) -> bool
+    requires sound { IsSound nic.old }
+    ensures done { OnAdapter (RoundAnswered number result) (result ≡ false) nic.old nic.new }
+{
+    on_adapter!(alloc, nic, false, schedules::begin_round, number)
 }

@@ -1,7 +1,7 @@
 // The steps that have something to do.
 
 ghost use Rattle.std.specs.Prelude.{◌≡◌, ◌≤◌};
-ghost use Rattle.nic82540em.specs.Calls.{TellsPossible, TellsWork, bit_if};
+ghost use Rattle.nic82540em.specs.Calls.{TellsPossible, AnswersWork, bit_if};
 
 use crate::watched::WatchedAdapter;
 use adapter::StepKind;
@@ -16,7 +16,7 @@ fn bit_if(is_set: bool, value: u32) -> u32
 
 /// Returns `value` if a step of this kind has something to do, else 0.
 fn bit_of(watched: &WatchedAdapter, kind: StepKind, value: u32) -> u32
-    ensures bit { TellsWork kind value result watched.now }
+    ensures bit { AnswersWork kind value result watched.now }
     ensures fits { result ≤ value }
 {
     bit_if(watched.player.machine.has_work(kind), value)

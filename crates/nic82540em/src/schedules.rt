@@ -2,8 +2,8 @@
 
 ghost use Rattle.std.specs.Prelude.{◌≡◌, IfSome, None, Some};
 ghost use Rattle.access_names.specs.Targets.{memory_target_in};
-ghost use Rattle.nic82540em.specs.Schedules.{AnswersPlay, AnswersRound, IsAgenda, Meets, MeetsIf, after_choice};
-ghost use Rattle.nic82540em.specs.Schedules.{error_number, request_word, wanted_number};
+ghost use Rattle.nic82540em.specs.Schedules.{AnswersPlay, RoundAnswered, IsAgenda, Meets, MeetsIf, after_choice};
+ghost use Rattle.nic82540em.specs.Schedules.{error_number, request_word, number_chosen};
 ghost use Rattle.played_adapter.specs.Playing.{has_bytes};
 
 use crate::numbers::REFUSED;
@@ -41,7 +41,7 @@ pub(crate) fn meet_memory(watched: &mut WatchedAdapter, before: Before, address:
 
 /// The schedule, if there is one, meets a request `choose`. Returns the number in the schedule that is due, or 0.
 pub(crate) fn meet_choice(agenda: &mut Option<Agenda>) -> u32
-    ensures number { result ≡ wanted_number agenda.old }
+    ensures number { result ≡ number_chosen agenda.old }
     ensures met { agenda.new ≡ after_choice agenda.old }
 {
     let Some(agenda) = agenda else {
@@ -72,7 +72,7 @@ fn request_word(number: u32) -> Option<&'static str>
 ///
 /// If no request has this number, returns `false` and changes nothing. Otherwise returns `true`.
 pub(crate) fn begin_round(watched: &mut WatchedAdapter, number: u32) -> bool
-    ensures { AnswersRound number result watched.old watched.new }
+    ensures { RoundAnswered number result watched.old watched.new }
 {
     let Some(word) = request_word(number) else {
         return false;

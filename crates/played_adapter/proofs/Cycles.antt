@@ -9,7 +9,7 @@ use Rattle.std.proofs.lemmas.List.Sums.{sum_by-append}
 use Rattle.adapter.specs.declared.outcome.Outcome.{Outcome}
 use Rattle.adapter.specs.declared.outcome.Outcome.TheVariants.{Took, Put, WireFull, Part, Moved, Done, Delivered, Ticked, Nothing, Fault}
 use Rattle.played_adapter.specs.Playing.{Cycle, Settles, with_last}
-use Rattle.played_adapter.specs.Order.{Composes, InOrder, Tells}
+use Rattle.played_adapter.specs.Order.{ComposesHeard, InOrder, Tells}
 use Rattle.played_adapter.specs.Outcomes.{moved_by}
 use Rattle.played_adapter.specs.Told.{Told}
 use Rattle.played_adapter.specs.declared.player.PlayedAdapter.{PlayedAdapter}
@@ -33,7 +33,7 @@ is_below n most below = grind (arith, nat_tests)
 not_below : (n most : ℕ) → n ≡ most → nat_lt n most ≡ false
 not_below n most same = grind (arith, nat_tests)
 
-module _ {O : Type 0} (heard : O → O → List Told → Type 0) (laws : Composes heard) where
+module _ {O : Type 0} (heard : O → O → List Told → Type 0) (laws : ComposesHeard heard) where
   -- `count` cycles that each did something were played, and `moved` of their steps did something.
   pub record BusyCycles (count moved : ℕ) (a b : PlayedAdapter) (before now : O) : Type 0 where
     pub busy : List ℕ
@@ -62,6 +62,18 @@ module _ {O : Type 0} (heard : O → O → List Told → Type 0) (laws : Compose
     plays = tells_more Cycle heard laws so_far.busy here a b c before now after so_far.plays plays;
   }
 
+  settled_as : (most count moved : ℕ) (a b c : PlayedAdapter) (before now after : O) (so_far : BusyCycles count moved a b before now)
+      (cycles : List ℕ) → cycles ≡ with_last most so_far.busy → count ≤ most → Tells heard before after (InOrder Cycle cycles a c)
+      → Tells heard before after (Settles most moved a c)
+  settled_as most count moved a b c before now after so_far cycles last fits plays =
+      tells_so heard (InOrder Cycle cycles a c) (Settles most moved a c) before after (λ told all. record {
+        busy = so_far.busy;
+        each = so_far.each;
+        few = omega (arith, so_far.count_is, fits);
+        plays = subst (λ (cycles : List ℕ). InOrder Cycle cycles a c told) last all;
+        moved_is = so_far.moved_is;
+      }) plays
+
   pub settled : (most count moved : ℕ) (a b c : PlayedAdapter) (before now after : O) → count < most
       → BusyCycles count moved a b before now → Tells heard now after (Cycle 0 b c) → Tells heard before after (Settles most moved a c)
   settled most count moved a b c before now after below so_far idle =
@@ -69,23 +81,11 @@ module _ {O : Type 0} (heard : O → O → List Told → Type 0) (laws : Compose
       sym (ap (λ (is : Bool). cond is (so_far.busy ++ 0 ∷ []) so_far.busy)
       (is_below (length so_far.busy) most (omega (arith, so_far.count_is)))) in
       let plays = tells_more Cycle heard laws so_far.busy 0 a b c before now after so_far.plays idle in
-      tells_so heard _ (Settles most moved a c) before after (λ told all. record {
-        busy = so_far.busy;
-        each = so_far.each;
-        few = omega (arith, so_far.count_is);
-        plays = subst (λ (cycles : List ℕ). InOrder Cycle cycles a c told) last all;
-        moved_is = so_far.moved_is;
-      }) plays
+      settled_as most count moved a b c before now after so_far _ last (omega (arith, below)) plays
 
   pub settled_late : (most moved : ℕ) (a b : PlayedAdapter) (before now : O) → BusyCycles most moved a b before now
       → Tells heard before now (Settles most moved a b)
   settled_late most moved a b before now so_far =
       let last : so_far.busy ≡ with_last most so_far.busy =
       sym (ap (λ (is : Bool). cond is (so_far.busy ++ 0 ∷ []) so_far.busy) (not_below (length so_far.busy) most so_far.count_is)) in
-      tells_so heard _ (Settles most moved a b) before now (λ told all. record {
-        busy = so_far.busy;
-        each = so_far.each;
-        few = omega (arith, so_far.count_is);
-        plays = subst (λ (cycles : List ℕ). InOrder Cycle cycles a b told) last all;
-        moved_is = so_far.moved_is;
-      }) so_far.plays
+      settled_as most most moved a b b before now now so_far so_far.busy last (omega arith) so_far.plays

@@ -5,32 +5,32 @@ use Rattle.bus.specs.Trails.{Occurs}
 use Rattle.bus.specs.declared.event.Access.{Access}
 use Rattle.bus.specs.declared.event.Event.{Event}
 use Rattle.bus.specs.declared.event.Event.TheVariants.{Accesses}
-use Rattle.played_adapter.specs.Order.{Composes, Tells}
-use Rattle.played_adapter.specs.Playing.{Accessed, AnswersLoad, Happens, HappensAlone, Prepares, Reports, after, has_bytes, line_of}
+use Rattle.played_adapter.specs.Order.{ComposesHeard, Tells}
+use Rattle.played_adapter.specs.Playing.{Accessed, AnswersLoad, HappensTold, HappensAlone, Prepares, ReportsLine, after, has_bytes, line_change}
 use Rattle.played_adapter.specs.Playing.{reported}
 use Rattle.played_adapter.specs.Told.{Told}
 use Rattle.played_adapter.specs.Told as told
 use Rattle.played_adapter.specs.declared.player.PlayedAdapter.{PlayedAdapter}
 use Rattle.played_adapter.proofs.Telling.{tells_both}
 
-module _ {O : Type 0} (heard : O → O → List Told → Type 0) (laws : Composes heard) where
+module _ {O : Type 0} (heard : O → O → List Told → Type 0) (laws : ComposesHeard heard) where
   pub happened : (one : Event) (of_it of_that : List Told) (a next m b : PlayedAdapter) (before now end : O)
-      → Occurs one a.machine.world → m ≡ next → heard before now of_it → of_it ≡ of_that → Tells heard now end (Reports m b)
-      → Tells heard before end (Happens one of_that next a b)
+      → Occurs one a.machine.world → m ≡ next → heard before now of_it → of_it ≡ of_that → Tells heard now end (ReportsLine m b)
+      → Tells heard before end (HappensTold one of_that next a b)
   happened one of_it of_that a next m b before now end occurs state tells same reports = record {
     told = of_it ++ reports.told;
     holds = record {
       occurs = occurs;
       after = reports.holds.0 ∙ ap reported state;
       told_is = ap (λ (list : List Told). list ++ reports.told) same
-          ∙ ap (λ (list : List Told). of_that ++ list) (reports.holds.1 ∙ ap line_of state);
+          ∙ ap (λ (list : List Told). of_that ++ list) (reports.holds.1 ∙ ap line_change state);
     };
     hears = laws.joins before now end of_it reports.told tells reports.hears;
   }
 
   pub alone : (access : Access) (a b : PlayedAdapter) (machine : MachineState) (before now end : O)
       → Occurs (Accesses access) a.machine.world → machine ≡ after_event (Accesses access) a.machine
-      → heard before now (told.Accessed access ∷ []) → Tells heard now end (Reports (record a { machine = machine }) b)
+      → heard before now (told.Accessed access ∷ []) → Tells heard now end (ReportsLine (record a { machine = machine }) b)
       → Tells heard before end (HappensAlone access a b)
   alone access a b machine before now end occurs state tells reports =
       happened (Accesses access) _ (told.Accessed access ∷ []) a (after (Accesses access) a) _ b before now end occurs

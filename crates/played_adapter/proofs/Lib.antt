@@ -6,4 +6,5 @@ mod Quiet
 pub mod Cycles
 pub mod Schedules
 pub mod Dues
+pub mod EachKind
 pub mod Telling

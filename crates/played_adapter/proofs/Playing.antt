@@ -9,8 +9,8 @@ use Rattle.bus.specs.declared.event.Event.TheVariants.{Arrives}
 use Rattle.played_adapter.specs.Draws.{drawn_count}
 use Rattle.played_adapter.specs.Order.{InOrder, Times}
 use Rattle.played_adapter.specs.Choices.{drawn}
-use Rattle.played_adapter.specs.Playing.{Chosen, DrawsChoice, HappensAlone, Interleaves, Makes, OldestArrives, Plays}
-use Rattle.played_adapter.specs.Playing.{PlaysScheduled, Prepares, QuietAccessesAreExact, Steps, both_ticks, counted, drawn_from}
+use Rattle.played_adapter.specs.Playing.{Chosen, DrawsChoice, HappensAlone, Interleaves, Makes, OldestArrives, PlaysStepOfKind}
+use Rattle.played_adapter.specs.Playing.{PlaysScheduled, Prepares, QuietAccessesAreExact, Steps, kinds_of_ticks, access_counted, drawn_from}
 use Rattle.played_adapter.specs.Playing.{due_in, has_bytes, step_of, without_next}
 use Rattle.played_adapter.specs.Told.{Told}
 use Rattle.played_adapter.specs.declared.choices.Choice.{Choice}
@@ -59,7 +59,7 @@ moves_keep moves a b told address count made =
 scheduled_keeps : (step : ScheduledStep) (a b : PlayedAdapter) (told : List Told) → PlaysScheduled step a b told → size_of b ≡ size_of a
 scheduled_keeps step a b told played = step_keeps step.kind played.0 (without_next a) b told played.1
 
-played_keeps : (kind : StepKind) (a b : PlayedAdapter × ℕ) (told : List Told) → Plays kind a b told → size_of b.0 ≡ size_of a.0
+played_keeps : (kind : StepKind) (a b : PlayedAdapter × ℕ) (told : List Told) → PlaysStepOfKind kind a b told → size_of b.0 ≡ size_of a.0
 played_keeps kind a b told played = step_keeps kind played.outcome a.0 b.0 told played.steps
 
 pub still_fits : (a b : PlayedAdapter) (told : List Told) (address count : ℕ) → has_bytes a address count ≡ true → Prepares a b told
@@ -68,7 +68,7 @@ still_fits a b told address count fits steps =
     let ticked = steps.middle in
     let waited = steps.goes_on.middle in
     let draws = steps.goes_on.goes_on in
-    let ticks : size_of ticked ≡ size_of a = in_order_keeps Plays (λ (s : PlayedAdapter × ℕ). size_of s.0) played_keeps _ (a, 0)
+    let ticks : size_of ticked ≡ size_of a = in_order_keeps PlaysStepOfKind (λ (s : PlayedAdapter × ℕ). size_of s.0) played_keeps _ (a, 0)
     (ticked, steps.happens.0) _ steps.happens.1 in
     let first : size_of waited ≡ size_of ticked = in_order_keeps PlaysScheduled size_of scheduled_keeps _ ticked waited _
     steps.goes_on.happens in
@@ -95,7 +95,7 @@ quiet_accesses access a b told no_ticks none_is_drawn none_is_due accessed =
     let ticked = steps.middle in
     let waited = steps.goes_on.middle in
     let draws = steps.goes_on.goes_on in
-    let ticks = subst (λ (on : Bool). InOrder Plays (cond on both_ticks []) (a, 0) (ticked, steps.happens.0) steps.first) no_ticks
+    let ticks = subst (λ (on : Bool). InOrder PlaysStepOfKind (cond on kinds_of_ticks []) (a, 0) (ticked, steps.happens.0) steps.first) no_ticks
     steps.happens.1 in
     let ticked_is : ticked ≡ a = ap (λ (s : PlayedAdapter × ℕ). s.0) ticks.0 in
     let none_due : due_in ticked ≡ [] = ap due_in ticked_is ∙ none_is_due in
@@ -103,9 +103,9 @@ quiet_accesses access a b told no_ticks none_is_drawn none_is_due accessed =
     steps.goes_on.happens in
     let waited_is : waited ≡ a = due.0 ∙ ticked_is in
     let drawn = none_drawn waited draws.0 _ (ap (λ (s : PlayedAdapter). s.most_steps) waited_is ∙ none_is_drawn) draws.1 in
-    let same : accessed.middle ≡ counted a = draws.2 ∙ ap counted (drawn.0 ∙ waited_is) in
+    let same : accessed.middle ≡ access_counted a = draws.2 ∙ ap access_counted (drawn.0 ∙ waited_is) in
     let nothing : accessed.first ≡ [] = steps.told_is ∙ ap (λ (t : List Told). t ++ steps.rest) ticks.1
     ∙ steps.goes_on.told_is ∙ ap (λ (t : List Told). t ++ steps.goes_on.rest) due.1 ∙ drawn.1 in
-    subst (λ (t : List Told). HappensAlone access (counted a) b t)
+    subst (λ (t : List Told). HappensAlone access (access_counted a) b t)
     (ap (λ (t : List Told). t ++ accessed.rest) (sym nothing) ∙ sym accessed.told_is)
     (subst (λ (s : PlayedAdapter). HappensAlone access s b accessed.rest) same accessed.goes_on)

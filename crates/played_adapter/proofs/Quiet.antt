@@ -2,8 +2,8 @@
 use Rattle.std.proofs.Common.{◌≡◌, [], ℕ, Bool, List, ap, cond, false, refl, subst, sym}
 use Rattle.played_adapter.specs.Draws.{drawn_count}
 use Rattle.played_adapter.specs.Order.{InOrder, Tells, Times}
-use Rattle.played_adapter.specs.Playing.{Accessed, DrawsChoice, HappensAlone, Interleaves, Plays, PlaysScheduled, Prepares, both_ticks}
-use Rattle.played_adapter.specs.Playing.{counted, due}
+use Rattle.played_adapter.specs.Playing.{Accessed, DrawsChoice, HappensAlone, Interleaves, PlaysStepOfKind, PlaysScheduled, Prepares, kinds_of_ticks}
+use Rattle.played_adapter.specs.Playing.{access_counted, due}
 use Rattle.played_adapter.specs.Told.{Told}
 use Rattle.bus.specs.declared.event.Access.{Access}
 use Rattle.played_adapter.specs.declared.player.PlayedAdapter.{PlayedAdapter}
@@ -14,13 +14,13 @@ none_drawn a most =
     subst (λ (n : ℕ). Times DrawsChoice (drawn_count n a.generator).0 (record a { generator = (drawn_count n a.generator).1 }) a [])
     (sym most) (refl, refl)
 
-pub quiet_prepares : (a b : PlayedAdapter) → a.ticks ≡ false → a.most_steps ≡ 0 → a.scheduled.items ≡ [] → b ≡ counted a
+pub quiet_prepares : (a b : PlayedAdapter) → a.ticks ≡ false → a.most_steps ≡ 0 → a.scheduled.items ≡ [] → b ≡ access_counted a
     → Prepares a b []
 quiet_prepares a b ticks most items is = record {
   middle = a;
   first = [];
   rest = [];
-  happens = (0, subst (λ (on : Bool). InOrder Plays (cond on both_ticks []) (a, 0) (a, 0) []) (sym ticks) (refl, refl));
+  happens = (0, subst (λ (on : Bool). InOrder PlaysStepOfKind (cond on kinds_of_ticks []) (a, 0) (a, 0) []) (sym ticks) (refl, refl));
   goes_on = record {
     middle = a;
     first = [];
@@ -33,7 +33,7 @@ quiet_prepares a b ticks most items is = record {
 }
 
 pub quiet_access : {O : Type 0} (heard : O → O → List Told → Type 0) (access : Access) (a b c : PlayedAdapter) (before after : O)
-    → a.ticks ≡ false → a.most_steps ≡ 0 → a.scheduled.items ≡ [] → b ≡ counted a
+    → a.ticks ≡ false → a.most_steps ≡ 0 → a.scheduled.items ≡ [] → b ≡ access_counted a
     → Tells heard before after (HappensAlone access b c) → Tells heard before after (Accessed access a c)
 quiet_access heard access a b c before after ticks most items is tells = record {
   told = tells.told;

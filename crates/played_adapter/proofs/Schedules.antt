@@ -5,7 +5,7 @@ use Rattle.std.proofs.Common.{refl, slice_get, subst, sym}
 use Rattle.std.proofs.lemmas.Bool.Decides.{nat_tests}
 use Rattle.std.proofs.lemmas.List.{append-nil}
 use Rattle.adapter.specs.declared.outcome.Outcome.{Outcome}
-use Rattle.played_adapter.specs.Order.{Composes, InOrder, Tells}
+use Rattle.played_adapter.specs.Order.{ComposesHeard, InOrder, Tells}
 use Rattle.played_adapter.specs.Playing.{PlaysScheduled, Steps, due, due_in, without_next}
 use Rattle.played_adapter.specs.Told.{Told}
 use Rattle.played_adapter.specs.declared.player.PlayedAdapter.{PlayedAdapter}
@@ -42,7 +42,7 @@ nothing_left : (steps : List ScheduledStep) → None ≡ slice_get steps 0 → s
 nothing_left [] is = refl
 nothing_left (x ∷ later) is = absurd (cc)
 
-module _ {O : Type 0} (heard : O → O → List Told → Type 0) (laws : Composes heard) where
+module _ {O : Type 0} (heard : O → O → List Told → Type 0) (laws : ComposesHeard heard) where
   -- The steps `done`, the first of those that are due at `a`, were played; those that are left are due at `now`.
   pub record Scheduled (a now : PlayedAdapter) (before after : O) : Type 0 where
     pub done : List ScheduledStep

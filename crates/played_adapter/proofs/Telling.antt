@@ -1,13 +1,13 @@
 -- What is told in order.
 use Rattle.std.proofs.Common.{◌≡◌, ◌+◌, ◌++◌, ◌∙◌, ℕ, List, [], ◌∷◌, append_assoc, replicate, refl, subst, sym, ap}
 use Rattle.std.proofs.lemmas.List.{append-nil, replicate_more}
-use Rattle.played_adapter.specs.Order.{Composes, InOrder, Joins, Tells, Times}
+use Rattle.played_adapter.specs.Order.{ComposesHeard, InOrder, Joins, Tells, Times}
 
 pub tells_so : {O T : Type 0} (heard : O → O → List T → Type 0) (P Q : List T → Type 0) (before after : O)
     → ((told : List T) → P told → Q told) → Tells heard before after P → Tells heard before after Q
 tells_so heard P Q before after so tells = record { told = tells.told; holds = so tells.told tells.holds; hears = tells.hears }
 
-pub tells_both : {O S T : Type 0} (heard : O → O → List T → Type 0) → Composes heard → (First Later : S → List T → Type 0) (middle : S)
+pub tells_both : {O S T : Type 0} (heard : O → O → List T → Type 0) → ComposesHeard heard → (First Later : S → List T → Type 0) (middle : S)
     (before now after : O) → Tells heard before now (First middle) → Tells heard now after (Later middle)
     → Tells heard before after (Joins First Later)
 tells_both heard laws First Later middle before now after one two = record {
@@ -51,7 +51,7 @@ module _ {X S T : Type 0} (Happens : X → S → S → List T → Type 0) where
   in_order_keeps size keeps (x ∷ later) a b told all =
       in_order_keeps size keeps later all.middle b all.rest all.goes_on ∙ keeps x a all.middle all.first all.happens
 
-  module _ {O : Type 0} (heard : O → O → List T → Type 0) (laws : Composes heard) where
+  module _ {O : Type 0} (heard : O → O → List T → Type 0) (laws : ComposesHeard heard) where
     pub tells_none : (a : S) (before : O) → Tells heard before before (InOrder Happens [] a a)
     tells_none a before = record { told = []; holds = (refl, refl); hears = laws.stays before }
 
@@ -73,7 +73,7 @@ module _ {X S T : Type 0} (Happens : X → S → S → List T → Type 0) where
     tells_more xs x a b c before now after so_far next =
         tells_joined xs (x ∷ []) a b c before now after so_far (tells_one x b c now after next)
 
-pub times_more : {S T O : Type 0} (Happens : S → S → List T → Type 0) (heard : O → O → List T → Type 0) → Composes heard → (count : ℕ)
+pub times_more : {S T O : Type 0} (Happens : S → S → List T → Type 0) (heard : O → O → List T → Type 0) → ComposesHeard heard → (count : ℕ)
     (a b c : S) (before now after : O) → Tells heard before now (Times Happens count a b) → Tells heard now after (Happens b c)
     → Tells heard before after (Times Happens (count + 1) a c)
 times_more Happens heard laws count a b c before now after so_far next =

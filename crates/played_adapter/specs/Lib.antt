@@ -1,6 +1,8 @@
+pub mod AccessTargets
 pub mod Outcomes
 pub mod Kinds
 pub mod Draws
+pub mod FirstAdapters
 pub mod Choices
 pub mod Order
 pub mod Told

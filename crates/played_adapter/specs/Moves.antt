@@ -4,7 +4,7 @@ use Rattle.adapter.specs.declared.step.StepKind.{StepKind}
 use Rattle.adapter.specs.declared.step.StepKind.TheVariants as kinds
 use Rattle.eeprom_phy.specs.Eerd.{is_pending}
 use Rattle.eeprom_phy.specs.Mdic.{has_work}
-use Rattle.step_schedules.specs.Agendas.{AgendaState, after_event, coming, held_at}
+use Rattle.step_schedules.specs.Agendas.{AgendaState, agenda_after, coming, default_steps_held}
 use Rattle.step_schedules.specs.Waiting.{due_before}
 use Rattle.step_schedules.specs.Words.{Text}
 use Rattle.step_schedules.specs.declared.agenda.Held.{Held}
@@ -67,7 +67,7 @@ due_in_agenda before name agenda = due_before (coming before name agenda) agenda
 -- the moves of an agenda before an access: of the default steps, and then of the actions that are due
 abbrev pub access_moves : Before → (name : Text) → AgendaState → PlayedAdapter → List Move
 access_moves before name agenda a =
-    let due = due_in_agenda before name agenda in tick_moves (held_at due agenda) a ++ flat_map moves_of due
+    let due = due_in_agenda before name agenda in tick_moves (default_steps_held due agenda) a ++ flat_map moves_of due
 
 -- the moves of an agenda before a request: of the actions that are due
 abbrev pub request_moves : Before → (name : Text) → AgendaState → List Move
@@ -75,7 +75,7 @@ request_moves before name agenda = flat_map moves_of (due_in_agenda before name 
 
 -- the agenda after it met an access of a target with this name, or a request with this first word
 abbrev pub met : Before → (name : Text) → AgendaState → AgendaState
-met before name agenda = after_event (coming before name agenda) agenda
+met before name agenda = agenda_after (coming before name agenda) agenda
 
 -- Moves are played, and then something happens.
 abbrev pub AfterMoves : List Move → (Happens : PlayedAdapter → PlayedAdapter → List Told → Type 0)

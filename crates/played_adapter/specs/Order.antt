@@ -3,7 +3,7 @@ use Rattle.std.specs.Prelude.{◌≡◌, ◌++◌, ℕ, List, [], ◌∷◌, rep
 
 -- From a state to itself, an observer is told nothing. What it is told in consecutive intervals is, joined, what it is told in the whole
 -- interval.
-pub record Composes {O T : Type 0} (heard : O → O → List T → Type 0) : Type 0 where
+pub record ComposesHeard {O T : Type 0} (heard : O → O → List T → Type 0) : Type 0 where
   -- From a state to itself, nothing was told.
   pub stays : (a : O) → heard a a []
   -- What was told in two consecutive intervals was told in the joined interval.

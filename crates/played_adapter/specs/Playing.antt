@@ -90,28 +90,28 @@ pub record IsCopy (a copy : PlayedAdapter) : Type 0 where
 -- What happens.
 
 -- the change of the interrupt line between two levels, if they differ
-abbrev pub line_told : (was is : Bool) → List Told
-line_told false true = Line true ∷ []
-line_told true false = Line false ∷ []
-line_told true true = []
-line_told false false = []
+abbrev pub change_told : (was is : Bool) → List Told
+change_told false true = Line true ∷ []
+change_told true false = Line false ∷ []
+change_told true true = []
+change_told false false = []
 
 -- the change of the interrupt line since the level that counts as told, if the level now differs
-abbrev pub line_of : PlayedAdapter → List Told
-line_of a = line_told a.machine.reported (is_asserted a.machine.world.adapter)
+abbrev pub line_change : PlayedAdapter → List Told
+line_change a = change_told a.machine.reported (is_asserted a.machine.world.adapter)
 
 -- A change of the interrupt line, if there is one, is told. Then the level of the line counts as told.
-abbrev pub Reports : PlayedAdapter → PlayedAdapter → List Told → Type 0
-Reports a b told = (b ≡ reported a) × (told ≡ line_of a)
+abbrev pub ReportsLine : PlayedAdapter → PlayedAdapter → List Told → Type 0
+ReportsLine a b told = (b ≡ reported a) × (told ≡ line_change a)
 
 -- An event happens, and leads to the state `next`. The observer is told `of_it`, and then a change of the interrupt line, if there is one.
-pub record Happens (one : Event) (of_it : List Told) (next : PlayedAdapter) (a b : PlayedAdapter) (told : List Told) : Type 0 where
+pub record HappensTold (one : Event) (of_it : List Told) (next : PlayedAdapter) (a b : PlayedAdapter) (told : List Told) : Type 0 where
   -- the event can happen in this state
   pub occurs : Occurs one a.machine.world
   -- after the event, the level of the line counts as told
   pub after : b ≡ reported next
   -- the event is told, and then the change of the line, if there is one
-  pub told_is : told ≡ of_it ++ line_of next
+  pub told_is : told ≡ of_it ++ line_change next
 
 -- the adapter after an event that changes only the machine
 abbrev pub after : Event → PlayedAdapter → PlayedAdapter
@@ -119,11 +119,11 @@ after one a = record a { machine = after_event one a.machine }
 
 -- A frame arrives, and has this fate.
 abbrev pub Arrives : (frame : List ℕ) → Fate → PlayedAdapter → PlayedAdapter → List Told → Type 0
-Arrives frame fate a b told = Happens (event.Arrives frame fate) (Arrived frame fate ∷ []) (after (event.Arrives frame fate) a) a b told
+Arrives frame fate a b told = HappensTold (event.Arrives frame fate) (Arrived frame fate ∷ []) (after (event.Arrives frame fate) a) a b told
 
 -- An offered frame arrives with this fate, and the later frames still wait.
 abbrev pub FrameArrives : (frame : List ℕ) → (later : List (List ℕ)) → Fate → PlayedAdapter → PlayedAdapter → List Told → Type 0
-FrameArrives frame later fate a b told = Happens (event.Arrives frame fate) (Offered frame fate ∷ [])
+FrameArrives frame later fate a b told = HappensTold (event.Arrives frame fate) (Offered frame fate ∷ [])
     (after (event.Arrives frame fate) (record a { offered = later })) a b told
 
 -- The oldest of these frames arrives, if there is one.
@@ -155,8 +155,8 @@ next_frames [] = []
 next_frames (queued ∷ later) = queued.frame ∷ []
 
 -- the adapter after a step; a frame that the step put waits on the wire after the others, if frames that are put wait
-abbrev pub after_step : StepKind → Outcome (Unit {0}) → PlayedAdapter → PlayedAdapter
-after_step kind outcome a = record a {
+abbrev pub after_played_step : StepKind → Outcome (Unit {0}) → PlayedAdapter → PlayedAdapter
+after_played_step kind outcome a = record a {
   machine = after_event (step_of kind outcome a) a.machine;
   wire = record a.wire {
     frames = if a.keeps_put then a.wire.frames ++ put_by (framed outcome a.machine.world.adapter) else a.wire.frames;
@@ -171,9 +171,9 @@ fault_told kind outcome world = None
 -- A step of this kind is played, with this outcome.
 abbrev pub Steps : StepKind → Outcome (Unit {0}) → PlayedAdapter → PlayedAdapter → List Told → Type 0
 Steps kind outcome a b told =
-    Happens (step_of kind outcome a)
-    (Stepped kind (framed outcome a.machine.world.adapter) (fault_told kind outcome (after_step kind outcome a).machine.world) ∷ [])
-    (after_step kind outcome a) a b told
+    HappensTold (step_of kind outcome a)
+    (Stepped kind (framed outcome a.machine.world.adapter) (fault_told kind outcome (after_played_step kind outcome a).machine.world) ∷ [])
+    (after_played_step kind outcome a) a b told
 
 -- the outcome of a step `TxPut`, by whether the wire has room, and by the frames that the adapter can put
 abbrev pub expected : (wire_free : Bool) → List Queued → FrameOutcome
@@ -182,7 +182,7 @@ expected true (queued ∷ later) = Put queued.frame
 expected false (queued ∷ later) = WireFull
 
 -- A step of this kind is played, and counted if the step does something.
-pub record Plays (kind : StepKind) (a b : PlayedAdapter × ℕ) (told : List Told) : Type 0 where
+pub record PlaysStepOfKind (kind : StepKind) (a b : PlayedAdapter × ℕ) (told : List Told) : Type 0 where
   -- the outcome of the step
   pub outcome : Outcome (Unit {0})
   -- the step is played
@@ -223,7 +223,7 @@ cycle = TxTake ∷ TxPut ∷ RxData ∷ RxDone ∷ EepromTick ∷ PhyTick ∷ []
 
 -- Steps of these kinds are played, in order, and `moved` of them do something.
 abbrev pub PlaysAll : List StepKind → (moved : ℕ) → PlayedAdapter → PlayedAdapter → List Told → Type 0
-PlaysAll kinds moved a b told = InOrder Plays kinds (a, 0) (b, moved) told
+PlaysAll kinds moved a b told = InOrder PlaysStepOfKind kinds (a, 0) (b, moved) told
 
 -- A cycle is played, and `moved` of its steps do something.
 abbrev pub Cycle : (moved : ℕ) → PlayedAdapter → PlayedAdapter → List Told → Type 0
@@ -254,12 +254,12 @@ pub record Settles (most moved : ℕ) (a b : PlayedAdapter) (told : List Told) :
 -- Steps before an access.
 
 -- the ticks before an access: a step of the EEPROM, and one of the PHY
-abbrev pub both_ticks : List StepKind
-both_ticks = EepromTick ∷ PhyTick ∷ []
+abbrev pub kinds_of_ticks : List StepKind
+kinds_of_ticks = EepromTick ∷ PhyTick ∷ []
 
 -- The ticks are played, if they are on.
 abbrev pub Ticks : PlayedAdapter → PlayedAdapter → List Told → Type 0
-Ticks a b told = (moved : ℕ) × PlaysAll (if a.ticks then both_ticks else []) moved a b told
+Ticks a b told = (moved : ℕ) × PlaysAll (if a.ticks then kinds_of_ticks else []) moved a b told
 
 -- the steps that are due before an access: from the front of the scheduled steps, those before the first step for a later access
 abbrev pub due : (access : ℕ) → List ScheduledStep → List ScheduledStep
@@ -333,12 +333,12 @@ Interleaves a b told =
     Times DrawsChoice (drawn_count a.most_steps a.generator).0 (record a { generator = (drawn_count a.most_steps a.generator).1 }) b told
 
 -- the adapter after an access was counted; the count ends at `most_accesses`
-abbrev pub counted : PlayedAdapter → PlayedAdapter
-counted a = record a { accesses = min (a.accesses + 1) most_accesses }
+abbrev pub access_counted : PlayedAdapter → PlayedAdapter
+access_counted a = record a { accesses = min (a.accesses + 1) most_accesses }
 
 -- What the generator draws is played, and the access is counted.
 abbrev pub Draws : PlayedAdapter → PlayedAdapter → List Told → Type 0
-Draws a b told = (drawn : PlayedAdapter) × Interleaves a drawn told × (b ≡ counted drawn)
+Draws a b told = (drawn : PlayedAdapter) × Interleaves a drawn told × (b ≡ access_counted drawn)
 
 -- The ticks are played if they are on, then the scheduled steps that are due, and then what the generator draws. The access is
 -- counted.
@@ -361,7 +361,7 @@ Paced a b told = (moved : ℕ) × Settles a.pace moved a b told
 -- Only the access happens. The access is told, and then a change of the interrupt line, if there is one.
 abbrev pub HappensAlone : Access → PlayedAdapter → PlayedAdapter → List Told → Type 0
 HappensAlone access a b told =
-    Happens (event.Accesses access) (tell.Accessed access ∷ []) (after (event.Accesses access) a) a b told
+    HappensTold (event.Accesses access) (tell.Accessed access ∷ []) (after (event.Accesses access) a) a b told
 
 -- The steps before an access are played, and then the access happens.
 abbrev pub Accessed : Access → PlayedAdapter → PlayedAdapter → List Told → Type 0
@@ -395,4 +395,4 @@ pub record AnswersStore (address : ℕ) (bytes : List ℕ) (answer : Bool) (a b 
 abbrev pub QuietAccessesAreExact : Type 0
 QuietAccessesAreExact =
     (access : Access) (a b : PlayedAdapter) (told : List Told) → a.ticks ≡ false → a.most_steps ≡ 0 → due_in a ≡ []
-    → Accessed access a b told → HappensAlone access (counted a) b told
+    → Accessed access a b told → HappensAlone access (access_counted a) b told

@@ -5,7 +5,7 @@ ghost use Rattle.bus.specs.declared.event.Access.TheVariants.{Loads, Reads, Stor
 ghost use Rattle.dma_memory.specs.HostMemory.{bytes_at};
 ghost use Rattle.played_adapter.specs.Order.{Tells};
 ghost use Rattle.played_adapter.specs.Playing.{Accessed, AnswersLoad, AnswersStore, HappensAlone, Prepares, Ticks};
-ghost use Rattle.played_adapter.specs.Playing.{counted, has_bytes};
+ghost use Rattle.played_adapter.specs.Playing.{access_counted, has_bytes};
 
 use crate::observer::Observer;
 use crate::player::PlayedAdapter;
@@ -27,7 +27,7 @@ impl PlayedAdapter {
     /// Counts an access, up to the greatest `u64`.
     #[inline(always)]
     fn count(&mut self)
-        ensures { self.new ≡ counted self.old }
+        ensures { self.new ≡ access_counted self.old }
     {
         self.accesses = self.accesses.saturating_add(1);
     }

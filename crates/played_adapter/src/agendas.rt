@@ -4,8 +4,8 @@ ghost use Rattle.std.specs.Prelude.{◌≡◌, ◌++◌, flat_map, map};
 ghost use Rattle.played_adapter.specs.Moves as spec;
 ghost use Rattle.played_adapter.specs.Order.{InOrder, Tells};
 ghost use Rattle.played_adapter.specs.Playing.{Makes};
-ghost use Rattle.step_schedules.specs.Events.{event_read};
-ghost use Rattle.step_schedules.specs.Waiting.{due_before, waiting_read};
+ghost use Rattle.step_schedules.specs.Events.{event_value};
+ghost use Rattle.step_schedules.specs.Waiting.{due_before, waiting_value};
 
 use crate::choices::{Choice, Move};
 use crate::observer::Observer;
@@ -109,7 +109,7 @@ impl PlayedAdapter {
     /// Plays the actions that are due before an access or a request that comes now, in the order of the schedule.
     fn make_due<O: Observer>(&mut self, waiting: &[Waiting], event: &Event<'_>, observer: &mut O)
         ensures { Tells O.heard observer.old observer.new (InOrder Makes
-            (flat_map spec.moves_of (due_before (event_read event.now) (map waiting_read waiting.now)))
+            (flat_map spec.moves_of (due_before (event_value event.now) (map waiting_value waiting.now)))
             self.old self.new) }
     {
         for one in waiting {

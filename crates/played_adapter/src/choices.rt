@@ -142,6 +142,7 @@ impl PlayedAdapter {
     {
         match next {
             Move::Tick(kind) => {
+                // The observer is told the outcome.
                 let _outcome = self.step(kind, observer);
             }
             Move::Hold(action) => observer.noted(action),

@@ -4,7 +4,7 @@ ghost use Rattle.std.specs.Prelude.{◌≤◌, ◌∷◌, [], List, length};
 ghost use Rattle.adapter.specs.Outcomes.{with_frame};
 ghost use Rattle.bus.specs.declared.event.Access.TheVariants.{Loads, Reads, Stores, Writes};
 ghost use Rattle.descriptors.specs.Frames.{longest_frame};
-ghost use Rattle.played_adapter.specs.Order.{Composes};
+ghost use Rattle.played_adapter.specs.Order.{ComposesHeard};
 ghost use Rattle.played_adapter.specs.Told as told;
 ghost use Rattle.played_adapter.specs.Told.{Told};
 
@@ -64,5 +64,5 @@ pub trait Observer {
 
     /// From a state to itself, the observer was told nothing. What it was told in two consecutive intervals is, joined,
     /// what it was told in the whole interval.
-    ghost composes: { Composes heard };
+    ghost composes: { ComposesHeard heard };
 }

@@ -18,6 +18,7 @@ impl PlayedAdapter {
     fn pace_cycles<O: Observer>(&mut self, observer: &mut O)
         ensures { Tells O.heard observer.old observer.new (Paced self.old self.new) }
     {
+        // Unlike `settle`, cycles of `pace` have no answer, so the number of their steps isn't reported.
         let _moved = self.settle(u32::from(self.pace), observer);
     }
 

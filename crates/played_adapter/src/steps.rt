@@ -5,7 +5,7 @@ ghost use Rattle.adapter.specs.declared.step.StepKind.TheVariants.{TxPut};
 ghost use Rattle.bus.specs.Trails.{Occurs};
 ghost use Rattle.played_adapter.specs.Order.{Tells};
 ghost use Rattle.played_adapter.specs.Outcomes as outcomes;
-ghost use Rattle.played_adapter.specs.Playing.{Arrives, PlaysAll, Reports, Cycle, Settles, Steps, after_step};
+ghost use Rattle.played_adapter.specs.Playing.{Arrives, PlaysAll, ReportsLine, Cycle, Settles, Steps, after_played_step};
 ghost use Rattle.played_adapter.specs.Playing.{expected, fault_told, has_room, step_of};
 ghost use Rattle.played_adapter.specs.Told as told;
 
@@ -49,7 +49,7 @@ impl PlayedAdapter {
     /// Reports a change of the interrupt line since the last report, if there is one.
     #[inline(always)]
     pub(crate) fn report<O: Observer>(&mut self, observer: &mut O)
-        ensures { Tells O.heard observer.old observer.new (Reports self.old self.new) }
+        ensures { Tells O.heard observer.old observer.new (ReportsLine self.old self.new) }
     {
         if let Some(level) = self.machine.report_line() {
             observer.line(level);
@@ -70,7 +70,7 @@ impl PlayedAdapter {
     #[inline(always)]
     fn take_step(&mut self, kind: StepKind) -> Outcome<()>
         ensures occurs { Occurs (step_of kind result self.old) self.old.machine.world }
-        ensures state { self.new ≡ after_step kind result self.old }
+        ensures state { self.new ≡ after_played_step kind result self.old }
     {
         let wire_free = self.has_room();
         if self.keeps_put && wire_free && kind == StepKind::TxPut {

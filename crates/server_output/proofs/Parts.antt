@@ -2,20 +2,20 @@
 use Rattle.std.proofs.Common.{◌≡◌, ◌∙◌, ◌+◌, ◌<◌, ◌≤◌, ◌++◌, ◌∷◌, ℕ, List, Bor, length, get_or, drop, drop-cons, add-one, flat_map}
 use Rattle.std.proofs.Common.{append_assoc, ap, sym}
 use Rattle.std.proofs.lemmas.List.{append-nil, drop_all}
-use Rattle.server_output.specs.Texts.{Text, joined}
+use Rattle.server_output.specs.Texts.{Text, joined_parts}
 
 pub one_part : (parts : List (Bor Text)) (i : ℕ) (d : Bor Text) (text after all : Text) → i < length parts
-    → after ≡ text ++ (get_or parts i d).now → text ++ joined (drop i parts) ≡ all → after ++ joined (drop (i + 1) parts) ≡ all
+    → after ≡ text ++ (get_or parts i d).now → text ++ joined_parts (drop i parts) ≡ all → after ++ joined_parts (drop (i + 1) parts) ≡ all
 one_part parts i d text after all below same left =
     let next : drop i parts ≡ get_or parts i d ∷ drop (i + 1) parts = rw add-one (drop-cons parts i d below) in
-    ap (λ (t : Text). t ++ joined (drop (i + 1) parts)) same
-    ∙ append_assoc text (get_or parts i d).now (joined (drop (i + 1) parts))
-    ∙ sym (ap (λ (ps : List (Bor Text)). text ++ joined ps) next) ∙ left
+    ap (λ (t : Text). t ++ joined_parts (drop (i + 1) parts)) same
+    ∙ append_assoc text (get_or parts i d).now (joined_parts (drop (i + 1) parts))
+    ∙ sym (ap (λ (ps : List (Bor Text)). text ++ joined_parts ps) next) ∙ left
 
-pub all_parts : (parts : List (Bor Text)) (i : ℕ) (text all : Text) → length parts ≤ i → text ++ joined (drop i parts) ≡ all
+pub all_parts : (parts : List (Bor Text)) (i : ℕ) (text all : Text) → length parts ≤ i → text ++ joined_parts (drop i parts) ≡ all
     → text ≡ all
 all_parts parts i text all end left =
-    sym (append-nil text) ∙ sym (ap (λ (ps : List (Bor Text)). text ++ joined ps) (drop_all i parts end)) ∙ left
+    sym (append-nil text) ∙ sym (ap (λ (ps : List (Bor Text)). text ++ joined_parts ps) (drop_all i parts end)) ∙ left
 
 pub one_mapped : {X : Type 0} (f : X → Text) (xs : List X) (i : ℕ) (d : X) (text after all : Text) → i < length xs
     → after ≡ text ++ f (get_or xs i d) → text ++ flat_map f (drop i xs) ≡ all → after ++ flat_map f (drop (i + 1) xs) ≡ all

@@ -5,14 +5,14 @@ use Rattle.std.proofs.lemmas.List.{append-nil, drop-drop, take-append-drop}
 use lib.ListN.{drop_of_length-le}
 use Rattle.std.specs.Prelude.{Err, IsErr, Ok, OnErr, Result}
 use Rattle.std.specs.Io.KnownBytes.{Appends, Keeps}
-use Rattle.server_output.specs.Order.{Begins, Says, Tells, TellsPart, WritesPart}
+use Rattle.server_output.specs.Order.{IsBeginning, Says, WritesText, TellsPart, WritesPart}
 use Rattle.server_output.specs.Texts.{Text}
 pub use Rattle.server_output.specs.WritingLaws.{keeps_same, part_then}
 use Rattle.server_output.proofs.Writing.{appends_kept, appends_none, appends_then, tells_so}
 
-pub part_whole : (Holds : Text → Type 0) (before after : Option (List ℕ)) → Tells before after Holds → TellsPart before after Holds
+pub part_whole : (Holds : Text → Type 0) (before after : Option (List ℕ)) → WritesText before after Holds → TellsPart before after Holds
 part_whole Holds before after tells =
-    tells_so Holds (Begins Holds) before after
+    tells_so Holds (IsBeginning Holds) before after
     (λ text holds. record { text = text; rest = []; holds = holds; text_is = sym (append-nil text) }) tells
 
 pub part_of : (Holds : Text → Type 0) (text : Text) (before after : Option (List ℕ)) → Holds text → Keeps before after
@@ -29,7 +29,7 @@ part_none Holds text before holds = part_of Holds text before before holds (keep
 pub part_so : (P Q : Text → Type 0) (before after : Option (List ℕ)) → ((text : Text) → P text → Q text) → TellsPart before after P
     → TellsPart before after Q
 part_so P Q before after so tells =
-    tells_so (Begins P) (Begins Q) before after
+    tells_so (IsBeginning P) (IsBeginning Q) before after
     (λ part begins. record {
       text = begins.text;
       rest = begins.rest;
@@ -39,12 +39,12 @@ part_so P Q before after so tells =
 
 -- A text is written piece by piece: the pieces so far, and the rest of the text.
 
-pub said_none : (text : Text) (before : Option (List ℕ)) → Tells before before (λ part. text ≡ part ++ text)
+pub said_none : (text : Text) (before : Option (List ℕ)) → WritesText before before (λ part. text ≡ part ++ text)
 said_none text before = record { text = []; holds = refl; written = appends_none before }
 
 pub said_more : (text piece : Text) (written count : ℕ) (before now after : Option (List ℕ))
-    → Tells before now (λ part. text ≡ part ++ drop written text) → piece ≡ drop written text → Appends now after (take count piece)
-    → Tells before after (λ part. text ≡ part ++ drop (written + count) text)
+    → WritesText before now (λ part. text ≡ part ++ drop written text) → piece ≡ drop written text → Appends now after (take count piece)
+    → WritesText before after (λ part. text ≡ part ++ drop (written + count) text)
 said_more text piece written count before now after said same more =
     let rest = drop written text in
     record {
@@ -57,12 +57,12 @@ said_more text piece written count before now after said same more =
     }
 
 pub all_said : (text : Text) (written : ℕ) (before now : Option (List ℕ)) → length text ≤ written
-    → Tells before now (λ part. text ≡ part ++ drop written text) → Appends before now text
+    → WritesText before now (λ part. text ≡ part ++ drop written text) → Appends before now text
 all_said text written before now all said =
     subst (λ (t : Text). Appends before now t)
     (sym (said.holds ∙ ap (λ (t : Text). said.text ++ t) (drop_of_length-le text all) ∙ append-nil said.text)) said.written
 
-pub said_part : (text rest : Text) (before now after : Option (List ℕ)) → Tells before now (λ part. text ≡ part ++ rest)
+pub said_part : (text rest : Text) (before now after : Option (List ℕ)) → WritesText before now (λ part. text ≡ part ++ rest)
     → Keeps now after → TellsPart before after (λ whole. whole ≡ text)
 said_part text rest before now after said kept = record {
   text = said.text;

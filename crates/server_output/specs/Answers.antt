@@ -4,17 +4,17 @@ use Rattle.std.specs.Int.{from_le_bytes, w64}
 use Rattle.server_output.specs.Texts.{Text, base64_line, bytes_line, decimal_line, number_line, ok_line, word_line}
 use Rattle.server_output.specs.declared.answers.Answer.{Answer}
 use Rattle.server_output.specs.declared.answers.Answer.TheVariants as answers
-use Rattle.server_requests.specs.Widths.{size_of}
+use Rattle.server_requests.specs.Widths.{wanted_size}
 use Rattle.server_requests.specs.declared.request.Wanted.{Wanted}
 use Rattle.server_requests.specs.declared.request.Wanted.TheVariants.{Base64, Bytes, Number}
 
 -- the number with these bytes, at most 8, the lowest first; missing bytes, the highest, are 0
-unfoldable pub number_spelled : List ℕ → ℕ
-number_spelled bytes = from_le_bytes w64 (bytes ++ replicate (8 - length bytes) 0)
+unfoldable pub number_of_bytes : List ℕ → ℕ
+number_of_bytes bytes = from_le_bytes w64 (bytes ++ replicate (8 - length bytes) 0)
 
 -- the line that answers a read with these bytes, in the form that the request asks for
 abbrev pub answer_line : Wanted → List ℕ → Text
-answer_line (Number width) bytes = number_line (number_spelled bytes)
+answer_line (Number width) bytes = number_line (number_of_bytes bytes)
 answer_line (Bytes size) bytes = bytes_line bytes
 answer_line (Base64 size) bytes = base64_line bytes
 
@@ -28,5 +28,5 @@ line_of (answers.Bytes wanted bytes) = answer_line wanted bytes.now
 
 -- An answer with bytes that were read contains the number of bytes that the request asks for.
 abbrev pub IsSized : Answer → Type 0
-IsSized (answers.Bytes wanted bytes) = length bytes.now ≡ size_of wanted
+IsSized (answers.Bytes wanted bytes) = length bytes.now ≡ wanted_size wanted
 IsSized answer = ⊤

@@ -4,7 +4,7 @@ use Rattle.std.specs.Io.KnownBytes.{Appends}
 use Rattle.server_output.specs.Texts.{Text}
 
 -- A text with the property `Holds` was written.
-pub record Tells (before after : Option (List ℕ)) (Holds : Text → Type 0) : Type 0 where
+pub record WritesText (before after : Option (List ℕ)) (Holds : Text → Type 0) : Type 0 where
   -- the text that was written
   pub text : Text
   -- the text has the property
@@ -13,7 +13,7 @@ pub record Tells (before after : Option (List ℕ)) (Holds : Text → Type 0) : 
   pub written : Appends before after text
 
 -- `part` is a beginning of a text with the property `Holds`.
-pub record Begins (Holds : Text → Type 0) (part : Text) : Type 0 where
+pub record IsBeginning (Holds : Text → Type 0) (part : Text) : Type 0 where
   -- the whole text
   pub text : Text
   -- the part that wasn't written
@@ -25,7 +25,7 @@ pub record Begins (Holds : Text → Type 0) (part : Text) : Type 0 where
 
 -- A beginning of a text with the property `Holds` was written.
 abbrev pub TellsPart : (before after : Option (List ℕ)) → (Text → Type 0) → Type 0
-TellsPart before after Holds = Tells before after (Begins Holds)
+TellsPart before after Holds = WritesText before after (IsBeginning Holds)
 
 -- A beginning of this text was written.
 abbrev pub WritesPart : (before after : Option (List ℕ)) → Text → Type 0

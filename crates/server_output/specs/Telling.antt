@@ -13,9 +13,9 @@ use Rattle.server_output.specs.declared.kept.Kept.{Kept}
 use Rattle.step_schedules.specs.Players.{after_playing}
 
 -- the list of one value, or an empty list if there is no value
-abbrev pub listed : {T : Type 0} → Option T → List T
-listed (Some one) = one ∷ []
-listed None = []
+abbrev pub as_list : {T : Type 0} → Option T → List T
+as_list (Some one) = one ∷ []
+as_list None = []
 
 -- The values that are kept.
 
@@ -24,7 +24,7 @@ listed None = []
 abbrev pub kept_with : FrameOutcome → Option EngineFault → Kept → Kept
 kept_with outcome fault kept = record kept {
   put = if kept.events then kept.put else kept.put ++ put_by outcome;
-  faults = if kept.events then kept.faults else kept.faults ++ listed fault;
+  faults = if kept.events then kept.faults else kept.faults ++ as_list fault;
 }
 
 -- what is kept after one thing was told; the recorder, if there is one, notes an action
@@ -46,7 +46,7 @@ kept_after (one ∷ later) kept = kept_after later (kept_one one kept)
 -- the line of the frame, if the step put a frame, and then the line of the fault, if there is a fault; no text if events aren't written
 abbrev pub step_shown : (events : Bool) → FrameOutcome → Option EngineFault → Text
 step_shown events outcome fault =
-    (if events then flat_map frame_line (put_by outcome) else []) ++ (if events then flat_map fault_line (listed fault) else [])
+    (if events then flat_map frame_line (put_by outcome) else []) ++ (if events then flat_map fault_line (as_list fault) else [])
 
 -- the text about one thing that is told; for an access or an arrival that was requested, the log prints the line of the request
 abbrev pub told_text : (log events : Bool) → (said : Text) → Told → Text

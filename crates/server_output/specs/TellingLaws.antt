@@ -95,10 +95,10 @@ pub heard_stays : (said : Text) (kept : Kept) (stop : Option AnswerError) (now :
     → Heard said said kept kept stop stop now now []
 heard_stays said kept stop now = record { said_is = refl; wrote = text_stays stop now; kept_is = λ none. refl }
 
-pub heard_joins : (said said' said'' : Text) (k k' k'' : Kept) (s s' s'' : Option AnswerError) (a b c : Option (List ℕ))
+pub written_joins : (said said' said'' : Text) (k k' k'' : Kept) (s s' s'' : Option AnswerError) (a b c : Option (List ℕ))
     (first later : List Told) → Heard said said' k k' s s' a b first → Heard said' said'' k' k'' s' s'' b c later
     → Heard said said'' k k'' s s'' a c (first ++ later)
-heard_joins said said' said'' k k' k'' s s' s'' a b c first later one two = record {
+written_joins said said' said'' k k' k'' s s' s'' a b c first later one two = record {
   said_is = two.said_is ∙ one.said_is;
   wrote = wrote_joins said said' k k' s s' s'' a b c first later one.said_is one.wrote one.kept_is two.wrote;
   kept_is = λ none. two.kept_is none ∙ ap (kept_after later) (one.kept_is (went_on s' s'' b c _ two.wrote none)) ∙ kept_then first later k;

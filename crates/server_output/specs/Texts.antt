@@ -22,8 +22,8 @@ use Rattle.server_output.specs.declared.looking.EnabledSteps.{EnabledSteps}
 pub use Rattle.server_requests.specs.Texts.{Text}
 
 -- the parts of a text, joined
-abbrev pub joined : List (Bor Text) → Text
-joined parts = concat (map (λ (part : Bor Text). part.now) parts)
+abbrev pub joined_parts : List (Bor Text) → Text
+joined_parts parts = concat (map (λ (part : Bor Text). part.now) parts)
 
 -- the word for a kind of step
 abbrev pub kind_word : StepKind → Text

@@ -2,7 +2,7 @@
 use Rattle.std.proofs.Common.{◌++◌, ◌∙◌, ℕ, List, [], Option, None, Some, append_assoc, ap, refl, sym}
 use Rattle.std.proofs.lemmas.List.{append-nil}
 use Rattle.std.specs.Io.KnownBytes.{Appends, Keeps}
-use Rattle.server_output.specs.Order.{Begins, Tells, TellsPart}
+use Rattle.server_output.specs.Order.{IsBeginning, WritesText, TellsPart}
 use Rattle.server_output.specs.Texts.{Text}
 
 pub appends_then : (a b c : Option (List ℕ)) (first rest : List ℕ) → Appends a b first → Appends b c rest → Appends a c (first ++ rest)
@@ -28,7 +28,7 @@ keeps_same (Some bytes) = refl
 
 -- A text, and then a beginning of another text, are together a beginning of both texts joined.
 pub part_then : (P Q R : Text → Type 0) (before now after : Option (List ℕ))
-    → ((first later : Text) → P first → Q later → R (first ++ later)) → Tells before now P → TellsPart now after Q
+    → ((first later : Text) → P first → Q later → R (first ++ later)) → WritesText before now P → TellsPart now after Q
     → TellsPart before after R
 part_then P Q R before now after joins first later = record {
   text = first.text ++ later.text;

@@ -1,7 +1,7 @@
 // The answers to requests that aren't refused, and their lines.
 
 ghost use Rattle.std.specs.Prelude.{◌≡◌, ◌≤◌, length};
-ghost use Rattle.server_output.specs.Answers.{IsSized, line_of, number_spelled};
+ghost use Rattle.server_output.specs.Answers.{IsSized, line_of, number_of_bytes};
 ghost use Rattle.server_output.specs.Order.{Says};
 
 use crate::answer_error::AnswerError;
@@ -29,10 +29,10 @@ pub enum Answer<'a> {
 }
 
 /// Returns the number with these bytes, the lowest first. Missing bytes are 0.
-#[tactic(auto, unfolding(crate::specs::Answers::number_spelled))]
+#[tactic(auto, unfolding(crate::specs::Answers::number_of_bytes))]
 fn number_of(bytes: &[u8]) -> u64
     requires { length bytes.now ≤ 8 }
-    ensures { result ≡ number_spelled bytes.now }
+    ensures { result ≡ number_of_bytes bytes.now }
 {
     let mut all = [0; MOST_NUMBER_BYTES];
     all[..bytes.len()].copy_from_slice(bytes);

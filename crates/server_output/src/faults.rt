@@ -1,6 +1,6 @@
 // Lists of faults.
 
-ghost use Rattle.std.specs.Prelude.{◌≡◌, ◌++◌, ◌∷◌, [], IfOk, OnOk, flat_map};
+ghost use Rattle.std.specs.Prelude.{◌≡◌, ◌++◌, ◌∷◌, [], IfOk, OnErr, OnOk, flat_map};
 ghost use Rattle.server_output.specs.Texts.{fault_words};
 
 use crate::lines::push_fault;
@@ -44,9 +44,10 @@ impl Faults {
         }
     }
 
-    /// Adds a fault after all others. Fails only if memory was refused.
+    /// Adds a fault after all others. If memory is refused, nothing changes.
     pub fn push(&mut self, fault: EngineFault) -> Result<(), AllocError>
-        ensures { OnOk result (self.new ≡ self.old ++ fault ∷ []) }
+        ensures ok { OnOk result (self.new ≡ self.old ++ fault ∷ []) }
+        ensures err { OnErr result (self.new ≡ self.old) }
     {
         self.faults.push(fault)?;
         Ok(())

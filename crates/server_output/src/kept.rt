@@ -3,7 +3,7 @@
 ghost use Rattle.std.specs.Prelude.{◌≡◌, ◌++◌, OnOk, if◌then◌else◌};
 ghost use Rattle.std.specs.Option.{option_map};
 ghost use Rattle.adapter.specs.Outcomes.{put_by, with_frame};
-ghost use Rattle.server_output.specs.Telling.{listed};
+ghost use Rattle.server_output.specs.Telling.{as_list};
 ghost use Rattle.step_schedules.specs.Players.{after_playing};
 
 use crate::faults::Faults;
@@ -67,7 +67,7 @@ impl Kept {
     /// Keeps the fault of a step, if there is a fault and events aren't written.
     pub(crate) fn keep_fault(&mut self, fault: Option<EngineFault>) -> Result<(), AllocError>
         ensures { OnOk result (self.new ≡ record self.old {
-          faults = if self.old.events then self.old.faults else self.old.faults ++ listed fault;
+          faults = if self.old.events then self.old.faults else self.old.faults ++ as_list fault;
         }) }
     {
         if self.events {

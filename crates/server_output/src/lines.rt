@@ -58,7 +58,7 @@ pub fn fate_word(fate: Fate) -> &'static [u8]
 
 /// Appends parts of a text, in order.
 fn push_parts(text: &mut Vec<u8>, parts: &[&[u8]]) -> Result<(), AllocError>
-    ensures { OnOk result (text.new.items ≡ text.old.items ++ texts.joined parts.now) }
+    ensures { OnOk result (text.new.items ≡ text.old.items ++ texts.joined_parts parts.now) }
 {
     for part in parts {
         text.extend_from_slice(part)?;
@@ -68,7 +68,7 @@ fn push_parts(text: &mut Vec<u8>, parts: &[&[u8]]) -> Result<(), AllocError>
 
 /// Returns the parts of a text, joined.
 pub fn joined(alloc: Global, parts: &[&[u8]]) -> Result<Vec<u8>, AllocError>
-    ensures { IfOk result (λ text. text.items ≡ texts.joined parts.now) }
+    ensures { IfOk result (λ text. text.items ≡ texts.joined_parts parts.now) }
 {
     let mut length: usize = 0;
     for part in parts {
@@ -81,7 +81,7 @@ pub fn joined(alloc: Global, parts: &[&[u8]]) -> Result<Vec<u8>, AllocError>
 
 /// Appends the line of the log that consists of these parts, if the log is on.
 fn push_said(text: &mut Vec<u8>, log: bool, said: &[&[u8]]) -> Result<(), AllocError>
-    ensures { OnOk result (text.new.items ≡ text.old.items ++ texts.said_log log (texts.joined said.now)) }
+    ensures { OnOk result (text.new.items ≡ text.old.items ++ texts.said_log log (texts.joined_parts said.now)) }
 {
     if !log {
         return Ok(());
@@ -98,7 +98,7 @@ pub(crate) fn event_text(
     said: &[&[u8]],
     shown: &[u8],
 ) -> Result<Vec<u8>, AllocError>
-    ensures { IfOk result (λ text. text.items ≡ texts.said_log log (texts.joined said.now) ++ shown.now) }
+    ensures { IfOk result (λ text. text.items ≡ texts.said_log log (texts.joined_parts said.now) ++ shown.now) }
 {
     let mut text = Vec::new(alloc);
     push_said(&mut text, log, said)?;

@@ -4,7 +4,7 @@ ghost use Rattle.std.specs.Prelude.{◌≡◌, ◌++◌, [], IfOk, None, OnOk, S
 ghost use Rattle.adapter.specs.Outcomes.{put_by, with_frame};
 ghost use Rattle.played_adapter.specs.Told as told;
 ghost use Rattle.server_output.specs.Answers.{IsSized, line_of};
-ghost use Rattle.server_output.specs.Telling.{Ends, Writes, kept_with, listed, told_text};
+ghost use Rattle.server_output.specs.Telling.{Ends, Writes, kept_with, as_list, told_text};
 ghost use Rattle.server_output.specs.Texts.{fault_line, frame_line, line_told, said_log};
 
 use crate::answer_error::AnswerError;
@@ -69,7 +69,7 @@ impl<'a, W: Write> Lines<'a, W> {
     /// Appends the line of a fault, if there is a fault and events are written.
     fn push_fault(&self, text: &mut Vec<u8>, fault: Option<EngineFault>) -> Result<(), AllocError>
         ensures { OnOk result (text.new.items ≡ text.old.items
-            ++ (if self.now.kept.now.events then flat_map fault_line (listed fault) else [])) }
+            ++ (if self.now.kept.now.events then flat_map fault_line (as_list fault) else [])) }
     {
         if !self.kept.events {
             return Ok(());
@@ -175,7 +175,7 @@ impl<'a, W: Write> Lines<'a, W> {
 
 impl<'a, W: Write> Observer for Lines<'a, W> {
     ghost use Rattle.server_output.specs.Telling.{Heard};
-    ghost use Rattle.server_output.specs.TellingLaws.{heard_joins, heard_stays, lent_joins, lent_stays};
+    ghost use Rattle.server_output.specs.TellingLaws.{written_joins, heard_stays, lent_joins, lent_stays};
 
     ghost heard = { λ a b told. (b.out.ghost_name ≡ a.out.ghost_name) × (b.kept.ghost_name ≡ a.kept.ghost_name)
         × Heard a.said.now b.said.now a.kept.now b.kept.now a.stopped b.stopped (W.contents a.out.now)
@@ -190,7 +190,7 @@ impl<'a, W: Write> Observer for Lines<'a, W> {
       joins = λ a b c first later one two. (
         lent_joins a.out.ghost_name b.out.ghost_name c.out.ghost_name one.0 two.0,
         lent_joins a.kept.ghost_name b.kept.ghost_name c.kept.ghost_name one.1 two.1,
-        heard_joins a.said.now b.said.now c.said.now a.kept.now b.kept.now c.kept.now a.stopped b.stopped c.stopped
+        written_joins a.said.now b.said.now c.said.now a.kept.now b.kept.now c.kept.now a.stopped b.stopped c.stopped
             (W.contents a.out.now) (W.contents b.out.now) (W.contents c.out.now) first later one.2 two.2,
       );
     } };

@@ -9,8 +9,7 @@ use Rattle.server_requests.specs.Texts.{Text}
 use Rattle.server_requests.specs.Verbs.{takes_words, verb_named}
 use Rattle.server_requests.specs.declared.refusal.Refusal.TheVariants as refusals
 use Rattle.server_requests.specs.declared.verb.Verb.{Verb}
-use Rattle.server_requests.specs.declared.verb.Verb.TheVariants.{ReadNumber, WriteNumber, Read, Write, ReadBase64, WriteBase64}
-use Rattle.server_requests.specs.declared.verb.Verb.TheVariants.{Memset, ReadPort, WritePort}
+use Rattle.server_requests.specs.declared.verb.Verb.TheVariants.{ReadNumber, WriteNumber, Read, Write, Memset, ReadPort, WritePort}
 use Rattle.server_requests.specs.declared.verb.Verb.TheVariants.{Endianness, Intercept, ClockStep, ClockSet, Step, Arrive, Settle}
 use Rattle.server_requests.specs.declared.verb.Verb.TheVariants.{Line, Interleave, Log, Wire, Offer, Events, Frames, Faults, Pace}
 use Rattle.server_requests.specs.declared.verb.Verb.TheVariants.{Choose, Digest, Enabled, Rings, Target, Save, Restore}
@@ -18,10 +17,8 @@ use Rattle.server_requests.specs.declared.verb.Verb.TheVariants.{Choose, Digest,
 too_many : (verb : Verb) (count : ℕ) → 4 < count → takes_words verb count ≡ false
 too_many (ReadNumber width) count more = grind (arith, nat_tests)
 too_many (WriteNumber width) count more = grind (arith, nat_tests)
-too_many Read count more = grind (arith, nat_tests)
-too_many Write count more = grind (arith, nat_tests)
-too_many ReadBase64 count more = grind (arith, nat_tests)
-too_many WriteBase64 count more = grind (arith, nat_tests)
+too_many (Read encoding) count more = grind (arith, nat_tests)
+too_many (Write encoding) count more = grind (arith, nat_tests)
 too_many Memset count more = grind (arith, nat_tests)
 too_many (ReadPort width) count more = grind (arith, nat_tests)
 too_many (WritePort width) count more = grind (arith, nat_tests)

@@ -9,7 +9,7 @@ use Rattle.std.proofs.lemmas.List.Elements.{All-head, All-tail}
 use Rattle.std.specs.Prelude.{slice_index}
 use Rattle.std.specs.Io.KnownBytes.{Consumes, Keeps}
 use Rattle.server_requests.specs.Lines.{behind_line, first_line, is_feed, lines_of, most_line_bytes, with_front}
-use Rattle.server_requests.specs.LinesRead.{Adds, AtEnd, BothKnown, Ends, GoesOn, IsLong, IsNextLine, IsWhole, TakesPart, kept_as}
+use Rattle.server_requests.specs.LinesRead.{Adds, AtEnd, BothKnown, IsRestOfLine, GoesOn, IsLong, IsNextLine, IsWholeLine, TakesPart, kept_as}
 use Rattle.server_requests.specs.Texts.{Text}
 use Rattle.server_requests.specs.declared.line_reader.NextLine.TheVariants.{End}
 use Rattle.server_requests.specs.declared.line_reader.Part.TheVariants as parts
@@ -74,14 +74,14 @@ goes_then got bytes a b c one two = record {
   behind = one.behind ∙ two.behind;
 }
 
-pub goes_end : (got bytes a b c : List ℕ) → GoesOn got a b → Ends bytes b c → Ends (got ++ bytes) a c
+pub goes_end : (got bytes a b c : List ℕ) → GoesOn got a b → IsRestOfLine bytes b c → IsRestOfLine (got ++ bytes) a c
 goes_end got bytes a b c one two = record {
   some = λ none. two.some (none_behind got b (sym one.all ∙ none));
   first = one.first ∙ ap (λ (bs : List ℕ). got ++ bs) two.first;
   rest = two.rest ∙ sym one.behind;
 }
 
-pub ends_at : (bytes later : List ℕ) → All (λ byte. byte ≢ 10) bytes → Ends bytes (bytes ++ 10 ∷ later) later
+pub ends_at : (bytes later : List ℕ) → All (λ byte. byte ≢ 10) bytes → IsRestOfLine bytes (bytes ++ 10 ∷ later) later
 ends_at bytes later all =
     let goes = goes_without bytes (10 ∷ later) all in
     record {
@@ -158,7 +158,7 @@ part_last (Some a) (Some b) line line' is_long shown count below feed all consum
     let bytes = take count shown in
     let is : a ≡ bytes ++ 10 ∷ b = consumes ∙ ap (λ (bs : List ℕ). bs ++ b) (with_feed shown count below feed)
     ∙ append_assoc bytes (10 ∷ []) b in
-    (bytes, subst (λ (old : List ℕ). Ends bytes old b) (sym is) (ends_at bytes b all), adds)
+    (bytes, subst (λ (old : List ℕ). IsRestOfLine bytes old b) (sym is) (ends_at bytes b all), adds)
 
 -- A line that was read to its end.
 
@@ -173,7 +173,7 @@ record Done (line : Text) (is_long : Bool) (old new : List ℕ) : Type 0 where
   got : List ℕ
   kept : line ≡ take most_line_bytes got
   long : is_long ≡ nat_lt most_line_bytes (length got)
-  ends : Ends got old new
+  ends : IsRestOfLine got old new
 
 known_as : (before after : Option (List ℕ)) (P Q : List ℕ → List ℕ → Type 0) → ((a b : List ℕ) → P a b → Q a b)
     → BothKnown before after P → BothKnown before after Q
@@ -191,7 +191,7 @@ is_line line true before after done =
       rest = one.ends.rest;
     }) done
 is_line line false before after done =
-    known_as before after (Done line false) (IsWhole line)
+    known_as before after (Done line false) (IsWholeLine line)
     (λ a c one.
     let few : length one.got ≤ most_line_bytes = at_most most_line_bytes (length one.got) one.long in
     record {

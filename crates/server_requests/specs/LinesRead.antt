@@ -32,7 +32,7 @@ pub record GoesOn (bytes old new : List ℕ) : Type 0 where
   pub behind : behind_line old ≡ behind_line new
 
 -- These bytes were read, and they are the rest of a line. The line's LF was also read, if the line has an LF.
-pub record Ends (bytes old new : List ℕ) : Type 0 where
+pub record IsRestOfLine (bytes old new : List ℕ) : Type 0 where
   -- At least one byte was left.
   pub some : old ≢ []
   -- The rest of the line consists of `bytes`.
@@ -51,10 +51,10 @@ pub record Adds (is_long : Bool) (bytes : List ℕ) (line line' : Text) : Type 0
 abbrev pub TakesPart : Part → Text → Text → List ℕ → List ℕ → Type 0
 TakesPart parts.None line line' old new = AtEnd old new × (line' ≡ line)
 TakesPart (parts.More is_long) line line' old new = (bytes : List ℕ) × GoesOn bytes old new × Adds is_long bytes line line'
-TakesPart (parts.Last is_long) line line' old new = (bytes : List ℕ) × Ends bytes old new × Adds is_long bytes line line'
+TakesPart (parts.Last is_long) line line' old new = (bytes : List ℕ) × IsRestOfLine bytes old new × Adds is_long bytes line line'
 
 -- The first line of the bytes that were left was read, and isn't too long. The bytes after this line are left.
-pub record IsWhole (line : Text) (old new : List ℕ) : Type 0 where
+pub record IsWholeLine (line : Text) (old new : List ℕ) : Type 0 where
   pub some : old ≢ []
   pub short : length (first_line old) ≤ most_line_bytes
   pub line_is : line ≡ first_line old
@@ -70,5 +70,5 @@ pub record IsLong (old new : List ℕ) : Type 0 where
 -- (`Long`).
 abbrev pub IsNextLine : NextLine → Text → Option (List ℕ) → Option (List ℕ) → Type 0
 IsNextLine End line before after = BothKnown before after AtEnd
-IsNextLine Whole line before after = BothKnown before after (IsWhole line)
+IsNextLine Whole line before after = BothKnown before after (IsWholeLine line)
 IsNextLine Long line before after = BothKnown before after IsLong

@@ -3,10 +3,11 @@ use Rattle.std.specs.Prelude.{◌==◌, ℕ, List, [], ◌∷◌, Bool, true, fa
 use Rattle.std.specs.Prelude.{replicate, IsUtf8}
 use Rattle.std.specs.Str.{bytes_eq}
 use Rattle.adapter.specs.declared.step.StepKind.{StepKind}
-use Rattle.server_requests.specs.Spellings.{Gives, base64_in, bytes_in, greatest_number, number_below, payload_in, size_in, ◌>>=◌}
+use Rattle.server_requests.specs.Spellings.{Gives, bytes_spelled, greatest_number, number_below, payload_in, size_in, ◌>>=◌}
 use Rattle.server_requests.specs.Texts.{Text}
-use Rattle.server_requests.specs.Verbs.{kind_named, takes_words, verb_named}
-use Rattle.server_requests.specs.Widths.{bytes_spelling, greatest, greatest_at_port}
+use Rattle.server_requests.specs.Verbs.{step_kind_named, takes_words, verb_named}
+use Rattle.server_requests.specs.Widths.{bytes_spelling, greatest}
+use Rattle.registers.specs.Bytes.{ones_of}
 use Rattle.server_requests.specs.Words.{word, words_of}
 use Rattle.registers.specs.declared.port_width.PortWidth.{PortWidth}
 use Rattle.server_requests.specs.declared.refusal.Refusal.{Refusal}
@@ -16,11 +17,14 @@ use Rattle.server_requests.specs.declared.request.Look.TheVariants as looks
 use Rattle.server_requests.specs.declared.request.Request.{Request}
 use Rattle.server_requests.specs.declared.request.Request.TheVariants as requests
 use Rattle.server_requests.specs.declared.request.Setting.TheVariants as settings
+use Rattle.server_requests.specs.declared.reading.Area.{Area}
+use Rattle.server_requests.specs.declared.request.Wanted.{Wanted}
 use Rattle.server_requests.specs.declared.request.Wanted.TheVariants as wanted
 use Rattle.server_requests.specs.declared.request.Width.{Width}
+use Rattle.server_requests.specs.declared.verb.Encoding.{Encoding}
+use Rattle.server_requests.specs.declared.verb.Encoding.TheVariants as encodings
 use Rattle.server_requests.specs.declared.verb.Verb.{Verb}
-use Rattle.server_requests.specs.declared.verb.Verb.TheVariants.{ReadNumber, WriteNumber, Read, Write, ReadBase64, WriteBase64}
-use Rattle.server_requests.specs.declared.verb.Verb.TheVariants.{Memset, ReadPort, WritePort}
+use Rattle.server_requests.specs.declared.verb.Verb.TheVariants.{ReadNumber, WriteNumber, Read, Write, Memset, ReadPort, WritePort}
 use Rattle.server_requests.specs.declared.verb.Verb.TheVariants.{Endianness, Intercept, ClockStep, ClockSet, Step, Arrive, Settle}
 use Rattle.server_requests.specs.declared.verb.Verb.TheVariants.{Line, Interleave, Log, Wire, Offer, Events, Frames, Faults, Pace}
 use Rattle.server_requests.specs.declared.verb.Verb.TheVariants.{Choose, Digest, Enabled, Rings, Target, Save, Restore}
@@ -29,33 +33,30 @@ use Rattle.server_requests.specs.declared.verb.Verb.TheVariants.{Choose, Digest,
 abbrev pub most_count : ℕ
 most_count = 65535
 
--- the request to write bytes, or the refusal `value` if their number isn't the size
-abbrev pub sized : ℕ → ℕ → List ℕ → Result Request Refusal
-sized address size bytes = if length bytes == size then Ok (requests.Write address bytes) else Err refusals.Value
-
--- the request of `write ADDR SIZE 0xHEX`
-abbrev pub write_in : List Text → Result Request Refusal
-write_in words = do
+-- the ADDR and the SIZE of a line, its words 1 and 2
+abbrev pub area_in : List Text → Result Area Refusal
+area_in words = do
   address ← number_below greatest_number (word 1 words)
   size ← size_in (word 2 words)
-  bytes ← payload_in (word 3 words)
-  sized address size bytes
+  Ok (record { address = address; size = size })
 
--- the request of `b64write ADDR SIZE BASE64`
-abbrev pub write_base64_in : List Text → Result Request Refusal
-write_base64_in words = do
-  address ← number_below greatest_number (word 1 words)
-  size ← size_in (word 2 words)
-  bytes ← base64_in (word 3 words)
-  sized address size bytes
+-- the request to write bytes to an area, or the refusal `value` if their number isn't the size of the area
+abbrev pub write_to : Area → List ℕ → Result Request Refusal
+write_to area bytes = if length bytes == area.size then Ok (requests.Write area.address bytes) else Err refusals.Value
+
+-- the request of `write ADDR SIZE 0xHEX` or `b64write ADDR SIZE BASE64`
+abbrev pub write_in : Encoding → List Text → Result Request Refusal
+write_in encoding words = do
+  area ← area_in words
+  bytes ← payload_in encoding (word 3 words)
+  write_to area bytes
 
 -- the request of `memset ADDR SIZE VALUE`
 abbrev pub memset_in : List Text → Result Request Refusal
 memset_in words = do
-  address ← number_below greatest_number (word 1 words)
-  size ← size_in (word 2 words)
+  area ← area_in words
   value ← number_below 0xFF (word 3 words)
-  Ok (requests.Write address (replicate size value))
+  Ok (requests.Write area.address (replicate area.size value))
 
 -- whether a word is the first of two words; a word that is neither of them is refused
 abbrev pub is_first : (first second word : Text) → Result Bool Refusal
@@ -83,7 +84,7 @@ step_or_refusal None = Err refusals.Value
 
 -- the request of `step KIND`
 abbrev pub step_in : Text → Result Request Refusal
-step_in word = step_or_refusal (kind_named word)
+step_in word = step_or_refusal (step_kind_named word)
 
 -- the request to read a number of this width
 abbrev pub read_number_in : Width → List Text → Result Request Refusal
@@ -98,19 +99,14 @@ write_number_in width words = do
   value ← number_below (greatest width) (word 2 words)
   Ok (requests.Write address (bytes_spelling width value))
 
--- the request of `read ADDR SIZE`
-abbrev pub read_in : List Text → Result Request Refusal
-read_in words = do
-  address ← number_below greatest_number (word 1 words)
-  size ← size_in (word 2 words)
-  Ok (requests.Read (wanted.Bytes size) address)
+-- what a request for this number of bytes in this encoding wants
+abbrev pub wanted_bytes : Encoding → ℕ → Wanted
+wanted_bytes encodings.Hexadecimal size = wanted.Bytes size
+wanted_bytes encodings.Base64 size = wanted.Base64 size
 
--- the request of `b64read ADDR SIZE`
-abbrev pub read_base64_in : List Text → Result Request Refusal
-read_base64_in words = do
-  address ← number_below greatest_number (word 1 words)
-  size ← size_in (word 2 words)
-  Ok (requests.Read (wanted.Base64 size) address)
+-- the request of `read ADDR SIZE` or `b64read ADDR SIZE`
+abbrev pub read_request : Encoding → List Text → Result Request Refusal
+read_request encoding words = area_in words >>= λ area. Ok (requests.Read (wanted_bytes encoding area.size) area.address)
 
 -- the maximum number of an I/O port
 abbrev pub most_port : ℕ
@@ -124,16 +120,16 @@ read_port_in width word = number_below most_port word >>= λ port. Ok (requests.
 abbrev pub write_port_in : PortWidth → List Text → Result Request Refusal
 write_port_in width words = do
   port ← number_below most_port (word 1 words)
-  value ← number_below (greatest_at_port width) (word 2 words)
+  value ← number_below (ones_of width) (word 2 words)
   Ok (requests.WritePort width port value)
 
 -- the request of `arrive HEX`
 abbrev pub arrive_in : Text → Result Request Refusal
-arrive_in word = bytes_in word >>= λ bytes. Ok (requests.Arrive bytes)
+arrive_in word = bytes_spelled word >>= λ bytes. Ok (requests.Arrive bytes)
 
 -- the request of `offer HEX`
 abbrev pub offer_in : Text → Result Request Refusal
-offer_in word = bytes_in word >>= λ bytes. Ok (requests.Offer bytes)
+offer_in word = bytes_spelled word >>= λ bytes. Ok (requests.Offer bytes)
 
 -- the request of `interleave COUNT`
 abbrev pub interleave_in : Text → Result Request Refusal
@@ -166,20 +162,15 @@ abbrev pub choose_in : Text → Result Request Refusal
 choose_in word = number_below most_limit word >>= choose_below
 
 -- the request of `target ADDR SIZE`
-abbrev pub target_in : List Text → Result Request Refusal
-target_in words = do
-  address ← number_below greatest_number (word 1 words)
-  size ← size_in (word 2 words)
-  Ok (requests.Look (looks.Target address size))
+abbrev pub target_request : List Text → Result Request Refusal
+target_request words = area_in words >>= λ area. Ok (requests.Look (looks.Target area.address area.size))
 
 -- the request of a line with this kind of request and an allowed number of words
 abbrev pub request_with : Verb → List Text → Result Request Refusal
 request_with (ReadNumber width) words = read_number_in width words
 request_with (WriteNumber width) words = write_number_in width words
-request_with Read words = read_in words
-request_with Write words = write_in words
-request_with ReadBase64 words = read_base64_in words
-request_with WriteBase64 words = write_base64_in words
+request_with (Read encoding) words = read_request encoding words
+request_with (Write encoding) words = write_in encoding words
 request_with Memset words = memset_in words
 request_with (ReadPort width) words = read_port_in width (word 1 words)
 request_with (WritePort width) words = write_port_in width words
@@ -202,7 +193,7 @@ request_with Faults words = Ok (requests.Look looks.Faults)
 request_with Pace words = pace_in (word 1 words)
 request_with Enabled words = Ok (requests.Look looks.Enabled)
 request_with Choose words = choose_in (word 1 words)
-request_with Target words = target_in words
+request_with Target words = target_request words
 request_with Rings words = Ok (requests.Look looks.Rings)
 request_with Save words = Ok requests.Save
 request_with Restore words = Ok requests.Restore
@@ -219,6 +210,6 @@ request_in (first ∷ rest) = request_if (verb_named first) (first ∷ rest)
 
 -- If the line is UTF-8, the result is the request or the refusal of its words, or memory was refused.
 -- If the line isn't UTF-8, the result is the refusal `text`, or memory was refused.
-pub record IsRead (line : Text) (result : Result Request Stop) : Type 0 where
+pub record IsRequestRead (line : Text) (result : Result Request Stop) : Type 0 where
   pub text : IsUtf8 line → Gives result (request_in (words_of line))
   pub other : (¬ (IsUtf8 line)) → Gives {A = Request} result (Err refusals.Text)

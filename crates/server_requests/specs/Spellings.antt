@@ -8,6 +8,8 @@ use Rattle.server_requests.specs.Texts.{Text}
 use Rattle.server_requests.specs.declared.refusal.Refusal.{Refusal}
 use Rattle.server_requests.specs.declared.refusal.Refusal.TheVariants as refusals
 use Rattle.server_requests.specs.declared.refusal.Stop.{Stop}
+use Rattle.server_requests.specs.declared.verb.Encoding.{Encoding}
+use Rattle.server_requests.specs.declared.verb.Encoding.TheVariants as encodings
 use Rattle.server_requests.specs.declared.refusal.Stop.TheVariants.{Memory, Refused}
 
 -- Parsing stopped because memory was refused, or because of a refusal; in the second case, `read` is the same refusal.
@@ -57,13 +59,18 @@ bytes_or_refusal (Ok bytes) = Ok bytes
 bytes_or_refusal (Err fault) = Err refusals.Value
 
 -- the bytes that hexadecimal digits spell, two digits per byte, or the refusal `value`
-abbrev pub bytes_in : Text → Result (List ℕ) Refusal
-bytes_in word = bytes_or_refusal (hex.decode_of word)
+abbrev pub bytes_spelled : Text → Result (List ℕ) Refusal
+bytes_spelled word = bytes_or_refusal (hex.decode_of word)
 
 -- the bytes that a text in base64 encodes (RFC 4648, section 4), or the refusal `value`
 abbrev pub base64_in : Text → Result (List ℕ) Refusal
 base64_in word = bytes_or_refusal (decode_of standard word)
 
 -- the bytes that the hexadecimal digits after 0x spell, or the refusal `value`; a word that doesn't begin with 0x is refused
-abbrev pub payload_in : Text → Result (List ℕ) Refusal
-payload_in word = if has_x word then (if begins_0x word then bytes_in (behind_0x word) else Err refusals.Value) else Err refusals.Value
+abbrev pub prefixed_bytes_in : Text → Result (List ℕ) Refusal
+prefixed_bytes_in word = if has_x word then (if begins_0x word then bytes_spelled (behind_0x word) else Err refusals.Value) else Err refusals.Value
+
+-- the bytes that a word spells in this encoding, or the refusal `value`
+abbrev pub payload_in : Encoding → Text → Result (List ℕ) Refusal
+payload_in encodings.Hexadecimal word = prefixed_bytes_in word
+payload_in encodings.Base64 word = base64_in word

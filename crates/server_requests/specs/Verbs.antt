@@ -7,9 +7,9 @@ use Rattle.text.specs.Tables.{value_in}
 use Rattle.server_requests.specs.Texts.{Text}
 use Rattle.registers.specs.declared.port_width.PortWidth.TheVariants as port
 use Rattle.server_requests.specs.declared.request.Width.TheVariants as width
+use Rattle.server_requests.specs.declared.verb.Encoding.TheVariants as encodings
 use Rattle.server_requests.specs.declared.verb.Verb.{Verb}
-use Rattle.server_requests.specs.declared.verb.Verb.TheVariants.{ReadNumber, WriteNumber, Read, Write, ReadBase64, WriteBase64}
-use Rattle.server_requests.specs.declared.verb.Verb.TheVariants.{Memset, ReadPort, WritePort}
+use Rattle.server_requests.specs.declared.verb.Verb.TheVariants.{ReadNumber, WriteNumber, Read, Write, Memset, ReadPort, WritePort}
 use Rattle.server_requests.specs.declared.verb.Verb.TheVariants.{Endianness, Intercept, ClockStep, ClockSet, Step, Arrive, Settle}
 use Rattle.server_requests.specs.declared.verb.Verb.TheVariants.{Line, Interleave, Log, Wire, Offer, Events, Frames, Faults, Pace}
 use Rattle.server_requests.specs.declared.verb.Verb.TheVariants.{Choose, Digest, Enabled, Rings, Target, Save, Restore}
@@ -25,10 +25,10 @@ verbs =
     ∷ (codes "writeb", WriteNumber width.Byte)
     ∷ (codes "writew", WriteNumber width.Word)
     ∷ (codes "writeq", WriteNumber width.Quad)
-    ∷ (codes "read", Read)
-    ∷ (codes "write", Write)
-    ∷ (codes "b64read", ReadBase64)
-    ∷ (codes "b64write", WriteBase64)
+    ∷ (codes "read", Read encodings.Hexadecimal)
+    ∷ (codes "write", Write encodings.Hexadecimal)
+    ∷ (codes "b64read", Read encodings.Base64)
+    ∷ (codes "b64write", Write encodings.Base64)
     ∷ (codes "memset", Memset)
     ∷ (codes "inb", ReadPort port.Byte)
     ∷ (codes "inw", ReadPort port.Word)
@@ -70,10 +70,8 @@ verb_named word = value_in verbs word
 abbrev pub takes_words : Verb → (count : ℕ) → Bool
 takes_words (ReadNumber width) count = count == 2
 takes_words (WriteNumber width) count = count == 3
-takes_words Read count = count == 3
-takes_words Write count = count == 4
-takes_words ReadBase64 count = count == 3
-takes_words WriteBase64 count = count == 4
+takes_words (Read encoding) count = count == 3
+takes_words (Write encoding) count = count == 4
 takes_words Memset count = count == 4
 takes_words (ReadPort width) count = count == 2
 takes_words (WritePort width) count = count == 3
@@ -113,5 +111,5 @@ step_kinds =
     ∷ []
 
 -- the kind of steps with this name, if there is one
-unfoldable pub kind_named : Text → Option StepKind
-kind_named word = value_in step_kinds word
+unfoldable pub step_kind_named : Text → Option StepKind
+step_kind_named word = value_in step_kinds word

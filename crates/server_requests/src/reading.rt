@@ -1,22 +1,23 @@
 // Reads requests from the words of a line.
 
-ghost use Rattle.std.specs.Prelude.{◌≡◌, ◌≤◌, IsTrue, length};
+ghost use Rattle.std.specs.Prelude.{◌≡◌, ◌≢◌, ◌≤◌, IfErr, IsTrue, length};
 ghost use Rattle.server_requests.specs.Reading as reading;
 ghost use Rattle.server_requests.specs.Spellings.{Gives, number_below};
 ghost use Rattle.server_requests.specs.Verbs.{takes_words};
 ghost use Rattle.server_requests.specs.Words.{texts};
+ghost use Rattle.server_requests.specs.declared.refusal.Stop.TheVariants.{Memory};
 ghost use Rattle.server_requests.specs.declared.verb.Verb.TheVariants as verbs;
 
 use crate::refusal::{Refusal, Stop};
 use crate::request::{Look, Payload, Request, Setting, Wanted, Width};
-use crate::spelling::{base64_at, bytes_at, number_at, payload_at, size_at};
-use crate::verb::{Verb, kind_of, verb_of};
+use crate::spelling::{bytes_at, number_at, payload_at, size_at};
+use crate::verb::{Encoding, STEP_KINDS, Verb, verb_of};
 use crate::width::greatest_at_port;
 use crate::words::words_in;
 use registers::PortWidth;
 use std::alloc::Global;
 use std::str;
-use text::word_at;
+use text::{value_of, word_at};
 
 /// The maximum COUNT of `interleave` and of `pace` (our choice).
 const MOST_COUNT: u64 = 65_535;
@@ -27,36 +28,43 @@ const MOST_LIMIT: u64 = 1_000_000_000;
 /// The maximum number of an I/O port.
 const MOST_PORT: u64 = 0xFFFF;
 
-/// Returns the request to write the bytes, or refuses if their number isn't the size.
-fn sized(address: u64, size: u64, payload: Payload) -> Result<Request, Stop>
-    ensures { Gives result (reading.sized address size payload) }
+/// The ADDR and the SIZE of a line.
+#[derive(Clone, Copy)]
+struct Area {
+    /// ADDR, the address of the first byte.
+    address: u64,
+    /// SIZE, the number of bytes.
+    size: u64,
+}
+
+/// Reads the ADDR and the SIZE of a line, its words 1 and 2.
+fn area_of(words: &[&str]) -> Result<Area, Stop>
+    requires { 3 ≤ length words.now }
+    ensures { Gives result (reading.area_in (texts words.now)) }
 {
-    if payload.bytes.len() as u64 != size {
+    let address = number_at(word_at(words, 1), u64::MAX)?;
+    let size = size_at(word_at(words, 2))?;
+    Ok(Area { address, size })
+}
+
+/// Returns the request to write bytes to an area, or refuses if their number isn't the size of the area.
+fn write_to(area: Area, payload: Payload) -> Result<Request, Stop>
+    ensures { Gives result (reading.write_to area payload) }
+{
+    if payload.bytes.len() as u64 != area.size {
         return Err(Stop::Refused(Refusal::Value));
     }
-    Ok(Request::Write(address, payload))
+    Ok(Request::Write(area.address, payload))
 }
 
-/// Reads `write ADDR SIZE 0xHEX`.
-fn write_of(alloc: Global, words: &[&str]) -> Result<Request, Stop>
+/// Reads `write ADDR SIZE 0xHEX` or `b64write ADDR SIZE BASE64`.
+fn write_of(alloc: Global, encoding: Encoding, words: &[&str]) -> Result<Request, Stop>
     requires { length words.now ≡ 4 }
-    ensures { Gives result (reading.write_in (texts words.now)) }
+    ensures { Gives result (reading.write_in encoding (texts words.now)) }
 {
-    let address = number_at(word_at(words, 1), u64::MAX)?;
-    let size = size_at(word_at(words, 2))?;
-    let payload = payload_at(alloc, word_at(words, 3))?;
-    sized(address, size, payload)
-}
-
-/// Reads `b64write ADDR SIZE BASE64`.
-fn write_base64_of(alloc: Global, words: &[&str]) -> Result<Request, Stop>
-    requires { length words.now ≡ 4 }
-    ensures { Gives result (reading.write_base64_in (texts words.now)) }
-{
-    let address = number_at(word_at(words, 1), u64::MAX)?;
-    let size = size_at(word_at(words, 2))?;
-    let payload = base64_at(alloc, word_at(words, 3))?;
-    sized(address, size, payload)
+    let area = area_of(words)?;
+    let payload = payload_at(alloc, encoding, word_at(words, 3))?;
+    write_to(area, payload)
 }
 
 /// Reads `memset ADDR SIZE VALUE`.
@@ -64,11 +72,10 @@ fn memset_of(alloc: Global, words: &[&str]) -> Result<Request, Stop>
     requires { length words.now ≡ 4 }
     ensures { Gives result (reading.memset_in (texts words.now)) }
 {
-    let address = number_at(word_at(words, 1), u64::MAX)?;
-    let size = size_at(word_at(words, 2))?;
+    let area = area_of(words)?;
     let value = number_at(word_at(words, 3), u64::from(u8::MAX))?;
-    let bytes = vec![in alloc; value as u8; size as usize]?;
-    Ok(Request::Write(address, Payload { bytes }))
+    let bytes = vec![in alloc; value as u8; area.size as usize]?;
+    Ok(Request::Write(area.address, Payload { bytes }))
 }
 
 /// Reads `readb ADDR`, `readw ADDR`, `readl ADDR` or `readq ADDR`.
@@ -91,29 +98,29 @@ fn write_number_of(alloc: Global, width: Width, words: &[&str]) -> Result<Reques
     Ok(Request::Write(address, Payload { bytes }))
 }
 
-/// Reads `read ADDR SIZE`.
-fn read_of(words: &[&str]) -> Result<Request, Stop>
-    requires { length words.now ≡ 3 }
-    ensures { Gives result (reading.read_in (texts words.now)) }
+/// Returns what a request for this number of bytes in this encoding wants.
+fn wanted_bytes(encoding: Encoding, size: u64) -> Wanted
+    ensures { result ≡ reading.wanted_bytes encoding size }
 {
-    let address = number_at(word_at(words, 1), u64::MAX)?;
-    let size = size_at(word_at(words, 2))?;
-    Ok(Request::Read(Wanted::Bytes(size), address))
+    match encoding {
+        Encoding::Hexadecimal => Wanted::Bytes(size),
+        Encoding::Base64 => Wanted::Base64(size),
+    }
 }
 
-/// Reads `b64read ADDR SIZE`.
-fn read_base64_of(words: &[&str]) -> Result<Request, Stop>
+/// Reads `read ADDR SIZE` or `b64read ADDR SIZE`.
+fn read_of(encoding: Encoding, words: &[&str]) -> Result<Request, Stop>
     requires { length words.now ≡ 3 }
-    ensures { Gives result (reading.read_base64_in (texts words.now)) }
+    ensures { Gives result (reading.read_request encoding (texts words.now)) }
 {
-    let address = number_at(word_at(words, 1), u64::MAX)?;
-    let size = size_at(word_at(words, 2))?;
-    Ok(Request::Read(Wanted::Base64(size), address))
+    let area = area_of(words)?;
+    Ok(Request::Read(wanted_bytes(encoding, area.size), area.address))
 }
 
 /// Returns the number of an I/O port that a word spells, or refuses the word.
-fn port_at(word: &str) -> Result<u16, Refusal>
-    ensures { result ≡ number_below reading.most_port word.now }
+fn port_at(word: &str) -> Result<u16, Stop>
+    ensures value { Gives result (number_below reading.most_port word.now) }
+    ensures no_memory { IfErr result (λ stop. stop ≢ Memory) }
 {
     let port = number_at(word, MOST_PORT)?;
     Ok(port as u16)
@@ -162,8 +169,9 @@ fn interleave_of(word: &str) -> Result<Request, Stop>
 }
 
 /// Whether a word is the first of two words. Refuses a word that is neither of them.
-fn is_first(word: &str, first: &str, second: &str) -> Result<bool, Refusal>
-    ensures { result ≡ reading.is_first first.now second.now word.now }
+fn is_first(word: &str, first: &str, second: &str) -> Result<bool, Stop>
+    ensures value { Gives result (reading.is_first first.now second.now word.now) }
+    ensures no_memory { IfErr result (λ stop. stop ≢ Memory) }
 {
     if word == first {
         return Ok(true);
@@ -171,7 +179,7 @@ fn is_first(word: &str, first: &str, second: &str) -> Result<bool, Refusal>
     if word == second {
         return Ok(false);
     }
-    Err(Refusal::Value)
+    Err(Stop::Refused(Refusal::Value))
 }
 
 /// Reads `log on`, `log off` or `log targets`.
@@ -233,10 +241,11 @@ fn clock_set_of(word: &str) -> Result<Request, Stop>
 }
 
 /// Reads `step KIND`.
+#[tactic(auto, unfolding(crate::specs::Verbs::step_kind_named))]
 fn step_of(word: &str) -> Result<Request, Stop>
     ensures { Gives result (reading.step_in word.now) }
 {
-    match kind_of(word) {
+    match value_of(&STEP_KINDS, word) {
         Some(kind) => Ok(Request::Step(kind)),
         None => Err(Stop::Refused(Refusal::Value)),
     }
@@ -256,11 +265,10 @@ fn choose_of(word: &str) -> Result<Request, Stop>
 /// Reads `target ADDR SIZE`.
 fn target_of(words: &[&str]) -> Result<Request, Stop>
     requires { length words.now ≡ 3 }
-    ensures { Gives result (reading.target_in (texts words.now)) }
+    ensures { Gives result (reading.target_request (texts words.now)) }
 {
-    let address = number_at(word_at(words, 1), u64::MAX)?;
-    let size = size_at(word_at(words, 2))?;
-    Ok(Request::Look(Look::Target(address, size)))
+    let area = area_of(words)?;
+    Ok(Request::Look(Look::Target(area.address, area.size)))
 }
 
 /// Returns the request of a line with this kind of request. The line has an allowed number of words.
@@ -271,10 +279,8 @@ fn request_with(alloc: Global, verb: Verb, words: &[&str]) -> Result<Request, St
     match verb {
         Verb::ReadNumber(width) => read_number_of(width, words),
         Verb::WriteNumber(width) => write_number_of(alloc, width, words),
-        Verb::Read => read_of(words),
-        Verb::Write => write_of(alloc, words),
-        Verb::ReadBase64 => read_base64_of(words),
-        Verb::WriteBase64 => write_base64_of(alloc, words),
+        Verb::Read(encoding) => read_of(encoding, words),
+        Verb::Write(encoding) => write_of(alloc, encoding, words),
         Verb::Memset => memset_of(alloc, words),
         Verb::ReadPort(width) => read_port_of(width, word_at(words, 1)),
         Verb::WritePort(width) => write_port_of(width, words),
@@ -328,7 +334,7 @@ fn request_of(alloc: Global, words: &[&str]) -> Result<Request, Stop>
 /// The line is refused, for the first reason that applies: `text`, `unknown`, `count`; then, for the words from left to
 /// right, `value` or `size`; then `value` if the number of bytes in a payload isn't SIZE. Or memory was refused.
 pub fn read_line(alloc: Global, line: &[u8]) -> Result<Request, Stop>
-    ensures { reading.IsRead line.now result }
+    ensures { reading.IsRequestRead line.now result }
 {
     let Ok(line) = str::from_utf8(line) else {
         return Err(Stop::Refused(Refusal::Text));

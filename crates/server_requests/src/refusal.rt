@@ -41,14 +41,6 @@ pub enum Stop {
     Memory,
 }
 
-impl From<Refusal> for Stop {
-    ghost from_gives = { λ refusal stop. stop ≡ stops.Refused refusal };
-
-    fn from(refusal: Refusal) -> Stop {
-        Stop::Refused(refusal)
-    }
-}
-
 impl From<AllocError> for Stop {
     ghost from_gives = { λ _ stop. stop ≡ stops.Memory };
 

@@ -1,11 +1,13 @@
 // The numbers and bytes that words spell. Decoding bytes fails with `Stop::Memory` if memory is refused.
 
-ghost use Rattle.std.specs.Prelude.{◌≡◌};
-ghost use Rattle.server_requests.specs.Spellings.{Gives, base64_in, bytes_in, number_below, payload_in};
-ghost use Rattle.server_requests.specs.Spellings.{size_in};
+ghost use Rattle.std.specs.Prelude.{◌≡◌, ◌≢◌, IfErr};
+ghost use Rattle.server_requests.specs.Spellings.{Gives, base64_in, bytes_spelled, number_below, payload_in};
+ghost use Rattle.server_requests.specs.Spellings.{prefixed_bytes_in, size_in};
+ghost use Rattle.server_requests.specs.declared.refusal.Stop.TheVariants.{Memory};
 
 use crate::refusal::{Refusal, Stop};
 use crate::request::Payload;
+use crate::verb::Encoding;
 use base64::DecodeAllocError;
 use base64::engine::general_purpose::STANDARD;
 use hex::FromHexError;
@@ -16,29 +18,31 @@ use text::number_of;
 pub(crate) const MOST_BYTES: u64 = 65_536;
 
 /// Returns the number that a word spells. Refuses a word that isn't a number, or that spells a number above `most`.
-pub(crate) fn number_at(text: &str, most: u64) -> Result<u64, Refusal>
-    ensures { result ≡ number_below most text.now }
+pub(crate) fn number_at(text: &str, most: u64) -> Result<u64, Stop>
+    ensures value { Gives result (number_below most text.now) }
+    ensures no_memory { IfErr result (λ stop. stop ≢ Memory) }
 {
     match number_of(text) {
         Some(number) if number <= most => Ok(number),
-        _ => Err(Refusal::Value),
+        _ => Err(Stop::Refused(Refusal::Value)),
     }
 }
 
 /// Returns the SIZE that a word spells, in bytes. Refuses a word that isn't a number, or is a number above 65,536.
-pub(crate) fn size_at(text: &str) -> Result<u64, Refusal>
-    ensures { result ≡ size_in text.now }
+pub(crate) fn size_at(text: &str) -> Result<u64, Stop>
+    ensures value { Gives result (size_in text.now) }
+    ensures no_memory { IfErr result (λ stop. stop ≢ Memory) }
 {
     let size = number_at(text, u64::MAX)?;
     if size > MOST_BYTES {
-        return Err(Refusal::Size);
+        return Err(Stop::Refused(Refusal::Size));
     }
     Ok(size)
 }
 
 /// Returns the bytes that pairs of hexadecimal digits spell. Refuses a text that isn't such pairs.
 pub(crate) fn bytes_at(alloc: Global, text: &str) -> Result<Payload, Stop>
-    ensures { Gives result (bytes_in text.now) }
+    ensures { Gives result (bytes_spelled text.now) }
 {
     match hex::decode(alloc, text) {
         Ok(bytes) => Ok(Payload { bytes }),
@@ -48,7 +52,7 @@ pub(crate) fn bytes_at(alloc: Global, text: &str) -> Result<Payload, Stop>
 }
 
 /// Returns the bytes that a text in base64 encodes (RFC 4648, section 4). Refuses a text that isn't base64.
-pub(crate) fn base64_at(alloc: Global, text: &str) -> Result<Payload, Stop>
+fn base64_at(alloc: Global, text: &str) -> Result<Payload, Stop>
     ensures { Gives result (base64_in text.now) }
 {
     match STANDARD.decode(alloc, text.as_bytes()) {
@@ -59,8 +63,8 @@ pub(crate) fn base64_at(alloc: Global, text: &str) -> Result<Payload, Stop>
 }
 
 /// Returns the bytes that pairs of hexadecimal digits after `0x` spell. Refuses a word that isn't `0x` and such pairs.
-pub(crate) fn payload_at(alloc: Global, text: &str) -> Result<Payload, Stop>
-    ensures { Gives result (payload_in text.now) }
+fn prefixed_bytes_at(alloc: Global, text: &str) -> Result<Payload, Stop>
+    ensures { Gives result (prefixed_bytes_in text.now) }
 {
     match text.split_once('x') {
         Some((front, digits)) => if front == "0" {
@@ -69,5 +73,15 @@ pub(crate) fn payload_at(alloc: Global, text: &str) -> Result<Payload, Stop>
             Err(Stop::Refused(Refusal::Value))
         },
         None => Err(Stop::Refused(Refusal::Value)),
+    }
+}
+
+/// Returns the bytes that a word spells in this encoding. Refuses other words.
+pub(crate) fn payload_at(alloc: Global, encoding: Encoding, text: &str) -> Result<Payload, Stop>
+    ensures { Gives result (payload_in encoding text.now) }
+{
+    match encoding {
+        Encoding::Hexadecimal => prefixed_bytes_at(alloc, text),
+        Encoding::Base64 => base64_at(alloc, text),
     }
 }

@@ -1,12 +1,21 @@
 // The kinds of requests, by their first words, and the kinds of steps, by their names.
 
 ghost use Rattle.std.specs.Prelude.{◌≡◌};
-ghost use Rattle.server_requests.specs.Verbs.{kind_named, takes_words, verb_named};
+ghost use Rattle.server_requests.specs.Verbs.{takes_words, verb_named};
 
 use crate::request::Width;
 use adapter::StepKind;
 use registers::PortWidth;
 use text::value_of;
+
+/// How bytes are written as a word.
+#[derive(Clone, Copy)]
+pub(crate) enum Encoding {
+    /// `0x`, and two hexadecimal digits per byte: `read`, `write`.
+    Hexadecimal,
+    /// RFC 4648, section 4: `b64read`, `b64write`.
+    Base64,
+}
 
 /// The kind of a request, by its first word.
 #[derive(Clone, Copy)]
@@ -15,14 +24,10 @@ pub(crate) enum Verb {
     ReadNumber(Width),
     /// `writeb`, `writew`, `writel`, `writeq`.
     WriteNumber(Width),
-    /// `read`.
-    Read,
-    /// `write`.
-    Write,
-    /// `b64read`: reads bytes in base64.
-    ReadBase64,
-    /// `b64write`: writes bytes in base64.
-    WriteBase64,
+    /// `read`, `b64read`.
+    Read(Encoding),
+    /// `write`, `b64write`.
+    Write(Encoding),
     /// `memset`: writes bytes of the same value.
     Memset,
     /// `inb`, `inw`, `inl`: reads an I/O port.
@@ -91,9 +96,8 @@ impl Verb {
             Verb::Log | Verb::Wire | Verb::Offer | Verb::Events | Verb::Pace => count == 2,
             Verb::ClockSet | Verb::Intercept | Verb::ReadPort(_) => count == 2,
             Verb::Choose => count == 2,
-            Verb::WriteNumber(_) | Verb::WritePort(_) | Verb::Read | Verb::ReadBase64 => count == 3,
-            Verb::Target => count == 3,
-            Verb::Write | Verb::WriteBase64 | Verb::Memset => count == 4,
+            Verb::WriteNumber(_) | Verb::WritePort(_) | Verb::Read(_) | Verb::Target => count == 3,
+            Verb::Write(_) | Verb::Memset => count == 4,
         }
     }
 }
@@ -108,10 +112,10 @@ const VERBS: [(&str, Verb); 43] = [
     ("writeb", Verb::WriteNumber(Width::Byte)),
     ("writew", Verb::WriteNumber(Width::Word)),
     ("writeq", Verb::WriteNumber(Width::Quad)),
-    ("read", Verb::Read),
-    ("write", Verb::Write),
-    ("b64read", Verb::ReadBase64),
-    ("b64write", Verb::WriteBase64),
+    ("read", Verb::Read(Encoding::Hexadecimal)),
+    ("write", Verb::Write(Encoding::Hexadecimal)),
+    ("b64read", Verb::Read(Encoding::Base64)),
+    ("b64write", Verb::Write(Encoding::Base64)),
     ("memset", Verb::Memset),
     ("inb", Verb::ReadPort(PortWidth::Byte)),
     ("inw", Verb::ReadPort(PortWidth::Word)),
@@ -154,7 +158,7 @@ pub(crate) fn verb_of(word: &str) -> Option<Verb>
 }
 
 /// The names of the kinds of steps, and these kinds.
-const STEP_KINDS: [(&str, StepKind); 6] = [
+pub(crate) const STEP_KINDS: [(&str, StepKind); 6] = [
     ("txtake", StepKind::TxTake),
     ("txput", StepKind::TxPut),
     ("rxdata", StepKind::RxData),
@@ -162,11 +166,3 @@ const STEP_KINDS: [(&str, StepKind); 6] = [
     ("eeprom", StepKind::EepromTick),
     ("phy", StepKind::PhyTick),
 ];
-
-/// Returns the kind of steps with this name, or `None` if no kind has this name.
-#[tactic(auto, unfolding(crate::specs::Verbs::kind_named))]
-pub(crate) fn kind_of(word: &str) -> Option<StepKind>
-    ensures { result ≡ kind_named word.now }
-{
-    value_of(&STEP_KINDS, word)
-}

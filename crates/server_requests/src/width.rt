@@ -1,7 +1,8 @@
 // The sizes of accesses, and the bytes of numbers.
 
 ghost use Rattle.std.specs.Prelude.{◌≡◌, IfOk};
-ghost use Rattle.server_requests.specs.Widths.{bytes_of, bytes_spelling, greatest, greatest_at_port, size_of};
+ghost use Rattle.registers.specs.Bytes.{ones_of};
+ghost use Rattle.server_requests.specs.Widths.{width_bytes, bytes_spelling, greatest, wanted_size};
 
 use crate::request::{Wanted, Width};
 use registers::PortWidth;
@@ -22,7 +23,7 @@ impl Width {
 
     /// Returns the size of a number of this width, in bytes.
     pub fn bytes(self) -> usize
-        ensures { result ≡ bytes_of self }
+        ensures { result ≡ width_bytes self }
     {
         match self {
             Width::Byte => 1,
@@ -43,7 +44,7 @@ impl Width {
 
 /// Returns the greatest number that an access of this width can write to an I/O port.
 pub(crate) fn greatest_at_port(width: PortWidth) -> u64
-    ensures { result ≡ greatest_at_port width }
+    ensures { result ≡ ones_of width }
 {
     match width {
         PortWidth::Byte => u64::from(u8::MAX),
@@ -55,7 +56,7 @@ pub(crate) fn greatest_at_port(width: PortWidth) -> u64
 impl Wanted {
     /// Returns the number of bytes that are read.
     pub fn size(self) -> u64
-        ensures { result ≡ size_of self }
+        ensures { result ≡ wanted_size self }
     {
         match self {
             Wanted::Number(width) => width.bytes() as u64,

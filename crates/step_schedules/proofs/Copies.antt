@@ -1,9 +1,9 @@
 -- Copies of lists.
 use Rattle.std.proofs.Common.{◌≡◌, List, [], ◌∷◌, map, refl}
 use Rattle.std.specs.List.{AllZip}
-use Rattle.step_schedules.specs.Waiting.{waiting_read}
+use Rattle.step_schedules.specs.Waiting.{waiting_value}
 use Rattle.step_schedules.specs.declared.waiting.Waiting.{Waiting}
-use Rattle.step_schedules.specs.Deviations.{deviation_read}
+use Rattle.step_schedules.specs.Deviations.{deviation_value}
 use Rattle.step_schedules.specs.declared.deviation.Deviation.{Deviation}
 
 same_views : {X Y : Type 0} (view : X → Y) (xs ys : List X) → AllZip (λ x y. view y ≡ view x) xs ys
@@ -16,10 +16,10 @@ same_views view (x ∷ xs) (y ∷ ys) all =
     let rest = same_views view xs ys all.1 in
     cc
 
-pub copied_deviations : (xs ys : List Deviation) → AllZip (λ x y. deviation_read y ≡ deviation_read x) xs ys
-    → map deviation_read ys ≡ map deviation_read xs
-copied_deviations = same_views deviation_read
+pub copied_deviations : (xs ys : List Deviation) → AllZip (λ x y. deviation_value y ≡ deviation_value x) xs ys
+    → map deviation_value ys ≡ map deviation_value xs
+copied_deviations = same_views deviation_value
 
-pub copied_waiting : (xs ys : List Waiting) → AllZip (λ x y. waiting_read y ≡ waiting_read x) xs ys
-    → map waiting_read ys ≡ map waiting_read xs
-copied_waiting = same_views waiting_read
+pub copied_waiting : (xs ys : List Waiting) → AllZip (λ x y. waiting_value y ≡ waiting_value x) xs ys
+    → map waiting_value ys ≡ map waiting_value xs
+copied_waiting = same_views waiting_value

@@ -7,9 +7,9 @@ use Rattle.std.proofs.lemmas.List.Elements.{filter-append}
 use Rattle.std.proofs.lemmas.List.Folds.{list_any-append}
 use Rattle.std.specs.List.{list_any}
 use Rattle.step_schedules.specs.Agendas.{held_after, held_by, holds_eeprom, holds_phy}
-use Rattle.step_schedules.specs.Events.{EventRead}
+use Rattle.step_schedules.specs.Events.{EventValue}
 use Rattle.step_schedules.specs.Players.{chosen}
-use Rattle.step_schedules.specs.Waiting.{WaitingRead, action_of, due_action, due_before, is_due, waiting_read}
+use Rattle.step_schedules.specs.Waiting.{WaitingValue, action_of, due_action, due_before, is_due, waiting_value}
 use Rattle.step_schedules.specs.declared.deviation.Action.{Action}
 use Rattle.step_schedules.specs.declared.waiting.Waiting.{Waiting}
 
@@ -18,12 +18,12 @@ abbrev pub with_next : List Action → Option Action → List Action
 with_next actions None = actions
 with_next actions (Some action) = actions ++ action ∷ []
 
-one_due : (is : Bool) (actions : List Action) (w : WaitingRead)
+one_due : (is : Bool) (actions : List Action) (w : WaitingValue)
     → actions ++ map action_of (if is then w ∷ [] else []) ≡ with_next actions (if is then Some (action_of w) else None)
 one_due true actions w = refl
 one_due false actions w = append-nil actions
 
-pub due_next : (event : EventRead) (ws : List WaitingRead) (w : WaitingRead)
+pub due_next : (event : EventValue) (ws : List WaitingValue) (w : WaitingValue)
     → due_before event (ws ++ w ∷ []) ≡ with_next (due_before event ws) (due_action event w)
 due_next event ws w =
     ap (map action_of) (filter-append (is_due event) ws (w ∷ []))
@@ -46,18 +46,18 @@ held_so actions (Some action) =
     ∙ ap (λ (is : Bool). record { eeprom = list_any holds_eeprom actions || holds_eeprom action; phy = is })
     (any_next holds_phy actions action)
 
-pub held_next : (event : EventRead) (ws : List WaitingRead) (w : WaitingRead)
+pub held_next : (event : EventValue) (ws : List WaitingValue) (w : WaitingValue)
     → held_by (due_before event (ws ++ w ∷ [])) ≡ held_after (held_by (due_before event ws)) (due_action event w)
 held_next event ws w = ap held_by (due_next event ws w) ∙ held_so (due_before event ws) (due_action event w)
 
-chosen_here : (is : Bool) (w : WaitingRead) (later : List WaitingRead) (action : Action) (number : ℕ)
+chosen_here : (is : Bool) (w : WaitingValue) (later : List WaitingValue) (action : Action) (number : ℕ)
     → (if is then Some (action_of w) else None) ≡ Some action → ((rest : List Action) → number ≡ chosen (action ∷ rest))
     → number ≡ chosen (map action_of (if is then w ∷ later else later))
 chosen_here true w later action number same is =
     subst (λ (a : Option Action). number ≡ chosen (with_next [] a ++ map action_of later)) (sym same) (is (map action_of later))
 chosen_here false w later action number same is = absurd (cc)
 
-pub chosen_at : (event : EventRead) (before : List WaitingRead) (w : WaitingRead) (later : List WaitingRead) (action : Action) (number : ℕ)
+pub chosen_at : (event : EventValue) (before : List WaitingValue) (w : WaitingValue) (later : List WaitingValue) (action : Action) (number : ℕ)
     → due_before event before ≡ [] → due_action event w ≡ Some action → ((rest : List Action) → number ≡ chosen (action ∷ rest))
     → number ≡ chosen (due_before event (before ++ w ∷ later))
 chosen_at event before w later action number none same is =
@@ -74,12 +74,12 @@ split_at {X} xs i x inside is =
     ∙ ap (λ (y : X). y ∷ drop (suc i) xs) (sym is) ∙ ap (λ (n : ℕ). x ∷ drop n xs) next)
 
 pub read_split : (all : List Waiting) (i : ℕ) (one : Waiting) → i < length all → one ≡ get_or all i one
-    → map waiting_read all ≡ map waiting_read (take i all) ++ waiting_read one ∷ map waiting_read (drop (i + 1) all)
+    → map waiting_value all ≡ map waiting_value (take i all) ++ waiting_value one ∷ map waiting_value (drop (i + 1) all)
 read_split all i one inside is =
-    ap (map waiting_read) (split_at all i one inside is) ∙ map-append waiting_read (take i all) (one ∷ drop (i + 1) all)
+    ap (map waiting_value) (split_at all i one inside is) ∙ map-append waiting_value (take i all) (one ∷ drop (i + 1) all)
 
 pub read_more : (all : List Waiting) (i : ℕ) (one : Waiting) → i < length all → one ≡ get_or all i one
-    → map waiting_read (take (i + 1) all) ≡ map waiting_read (take i all) ++ waiting_read one ∷ []
+    → map waiting_value (take (i + 1) all) ≡ map waiting_value (take i all) ++ waiting_value one ∷ []
 read_more all i one inside is =
-    ap (map waiting_read) (take_more all i one inside ∙ ap (λ (w : Waiting). take i all ++ w ∷ []) (sym is))
-    ∙ map-append waiting_read (take i all) (one ∷ [])
+    ap (map waiting_value) (take_more all i one inside ∙ ap (λ (w : Waiting). take i all ++ w ∷ []) (sym is))
+    ∙ map-append waiting_value (take i all) (one ∷ [])

@@ -1,9 +1,9 @@
 -- Agendas: the deviations of a schedule that wait for their events in a run, and the default steps that actions leave out.
 use Rattle.std.specs.Prelude.{◌||◌, [], Bool, List, None, Option, Some, false, if◌then◌else◌, map, true}
 use Rattle.std.specs.List.{list_any}
-use Rattle.step_schedules.specs.Events.{EventRead, next_place}
-use Rattle.step_schedules.specs.Schedules.{ScheduleRead}
-use Rattle.step_schedules.specs.Waiting.{WaitingRead, counted, waits}
+use Rattle.step_schedules.specs.Events.{EventValue, next_place}
+use Rattle.step_schedules.specs.Schedules.{ScheduleValue}
+use Rattle.step_schedules.specs.Waiting.{WaitingValue, event_counted, waits}
 use Rattle.step_schedules.specs.Words.{Text}
 use Rattle.step_schedules.specs.declared.agenda.Held.{Held}
 use Rattle.step_schedules.specs.declared.deviation.Action.{Action}
@@ -18,10 +18,10 @@ pub record AgendaState : Type 0 where
   -- the place of the access or the request that came last, or 0.0 before the run
   pub last : Place
   -- all deviations of the schedule, also those that have been due
-  pub waiting : List WaitingRead
+  pub waiting : List WaitingValue
 
 -- the agenda of a schedule, before the run
-abbrev pub agenda_of : ScheduleRead → AgendaState
+abbrev pub agenda_of : ScheduleValue → AgendaState
 agenda_of schedule =
     record { plays = true; last = record { round = 0; access = 0 }; waiting = map waits schedule.deviations }
 
@@ -31,13 +31,13 @@ idle_agenda = record { plays = false; last = record { round = 0; access = 0 }; w
 
 -- The access or request of this kind, and with this name, that comes next. The place of this event is the next place of this kind after the
 -- last place.
-abbrev pub coming : Before → Text → AgendaState → EventRead
+abbrev pub coming : Before → Text → AgendaState → EventValue
 coming before name agenda = record { place = next_place before agenda.last; before = before; name = name }
 
 -- The agenda after an access or a request came. The place of this event is the last place. The event is counted for each deviation that
 -- matches it.
-abbrev pub after_event : EventRead → AgendaState → AgendaState
-after_event event agenda = record agenda { last = event.place; waiting = map (counted event) agenda.waiting }
+abbrev pub agenda_after : EventValue → AgendaState → AgendaState
+agenda_after event agenda = record agenda { last = event.place; waiting = map (event_counted event) agenda.waiting }
 
 -- whether an action leaves out the default step of the EEPROM
 abbrev pub holds_eeprom : Action → Bool
@@ -54,8 +54,8 @@ abbrev pub held_by : List Action → Held
 held_by actions = record { eeprom = list_any holds_eeprom actions; phy = list_any holds_phy actions }
 
 -- which default steps are left out before an event: those that these due actions leave out, or all if the agenda plays no schedule
-abbrev pub held_at : (due : List Action) → AgendaState → Held
-held_at due agenda = if agenda.plays then held_by due else record { eeprom = true; phy = true }
+abbrev pub default_steps_held : (due : List Action) → AgendaState → Held
+default_steps_held due agenda = if agenda.plays then held_by due else record { eeprom = true; phy = true }
 
 -- the default steps of `held`, and the default step that the action leaves out, if there is such an action
 abbrev pub held_after : Held → Option Action → Held

@@ -5,7 +5,7 @@ use Rattle.std.specs.List.{after_first, before_first, position_or_len}
 use Rattle.std.specs.Option.{option_map}
 use Rattle.std.specs.Str.{bytes_eq}
 use Rattle.step_schedules.specs.Results.{◌>>=◌}
-use Rattle.step_schedules.specs.Spellings.{digits_in, place_in}
+use Rattle.step_schedules.specs.Spellings.{digits_in, place_spelled}
 use Rattle.step_schedules.specs.Words.{Text, action_words, event_words, word}
 use Rattle.text.specs.Tables.{value_in}
 use Rattle.step_schedules.specs.declared.deviation.Before.{Before}
@@ -72,17 +72,17 @@ place_or_action None word = if begins_action word then Ok None else Err faults.P
 
 -- the place that the first word spells, or no place if the word begins an action; other words are a fault
 abbrev pub place_at : Text → Result (Option Place) Fault
-place_at word = place_or_action (place_in word) word
+place_at word = place_or_action (place_spelled word) word
 
 -- the words after the place, or all words if the line has no place
-abbrev pub words_after : Option Place → List Text → List Text
-words_after None words = words
-words_after (Some place) words = drop 1 words
+abbrev pub words_after_place : Option Place → List Text → List Text
+words_after_place None words = words
+words_after_place (Some place) words = drop 1 words
 
 -- The access or the request at the end of a line.
 
-unfoldable pub kind_named : Text → Option Before
-kind_named word = value_in ((codes "read", Read) ∷ (codes "write", Write) ∷ []) word
+unfoldable pub event_kind_named : Text → Option Before
+event_kind_named word = value_in ((codes "read", Read) ∷ (codes "write", Write) ∷ []) word
 
 -- the kind of the request that a word names: a request that begins a round, or `choose`; no kind for other words
 unfoldable pub request_named : Text → Option Before
@@ -107,14 +107,14 @@ some_number (Some number) = Ok (Some number)
 some_number None = Err faults.Access
 
 -- the number after a word's first #, or no number if the word has no #; other text after the # is a fault
-abbrev pub number_after : Text → Result (Option ℕ) Fault
-number_after word = if has_hash word then some_number (digits_in (after_first is_hash word)) else Ok None
+abbrev pub number_after_hash : Text → Result (Option ℕ) Fault
+number_after_hash word = if has_hash word then some_number (digits_in (after_first is_hash word)) else Ok None
 
 -- the kind of the request that one word names, or of the access that two words name; no kind for other words
 abbrev pub before_in : List Text → Option Before
 before_in words =
     if length words == 1 then request_named (name_in (word 0 words))
-    else if length words == 2 then kind_named (word 0 words)
+    else if length words == 2 then event_kind_named (word 0 words)
     else None
 
 abbrev pub before_or_fault : Option Before → Result Before Fault
@@ -125,10 +125,10 @@ before_or_fault None = Err faults.Access
 abbrev pub last_word : List Text → Text
 last_word words = word (length words - 1) words
 
--- as `number_after`, but an empty name is also a fault
+-- as `number_after_hash`, but an empty name is also a fault
 abbrev pub named_number : Text → Result (Option ℕ) Fault
 named_number word = do
-  number ← number_after word
+  number ← number_after_hash word
   if length (name_in word) == 0 then Err faults.Access else Ok number
 
 -- Deviations.
@@ -171,7 +171,7 @@ site_at place action before word = do
   if takes before action then site_in place number before else Err faults.Choice
 
 -- a deviation, with the bytes of its name
-pub record DeviationRead : Type 0 where
+pub record DeviationValue : Type 0 where
   -- which access or request of the run the deviation is before
   pub site : Site
   -- the action
@@ -181,8 +181,9 @@ pub record DeviationRead : Type 0 where
   -- the name of what is accessed, or the word of the request
   pub name : Text
 
-abbrev pub deviation_read : Deviation → DeviationRead
-deviation_read deviation = record {
+-- a deviation as plain data
+abbrev pub deviation_value : Deviation → DeviationValue
+deviation_value deviation = record {
   site = deviation.site;
   action = deviation.action;
   before = deviation.before;
@@ -205,16 +206,16 @@ abbrev pub nameless_in : Option Place → (action event : List Text) → Result 
 nameless_in place action event = action_or_fault (action_in action) >>= nameless_at place event
 
 -- a deviation with the bytes of its name
-abbrev pub with_name : Text → Nameless → Result DeviationRead Fault
+abbrev pub with_name : Text → Nameless → Result DeviationValue Fault
 with_name name read = Ok (record { site = read.site; action = read.action; before = read.before; name = name })
 
 -- the deviation of a line, from its place, if it has one, and the other words
-abbrev pub deviation_after : Option Place → List Text → Result DeviationRead Fault
+abbrev pub deviation_after : Option Place → List Text → Result DeviationValue Fault
 deviation_after place words =
     nameless_in place (action_words words) (event_words words) >>= with_name (name_in (last_word (event_words words)))
 
 -- the deviation of a line, from its words, of which there is at least one
-abbrev pub deviation_in : List Text → Result DeviationRead Fault
+abbrev pub deviation_in : List Text → Result DeviationValue Fault
 deviation_in words = do
   place ← place_at (word 0 words)
-  deviation_after place (words_after place words)
+  deviation_after place (words_after_place place words)

@@ -1,8 +1,8 @@
 -- The record of what was played in a run, and the numbers that actions choose.
 use Rattle.std.specs.Prelude.{◌++◌, ◌∷◌, [], ℕ, List, Option}
-use Rattle.step_schedules.specs.Events.{EventRead, no_event}
-use Rattle.step_schedules.specs.Deviations.{DeviationRead}
-use Rattle.step_schedules.specs.Schedules.{ScheduleRead}
+use Rattle.step_schedules.specs.Events.{EventValue, no_event}
+use Rattle.step_schedules.specs.Deviations.{DeviationValue}
+use Rattle.step_schedules.specs.Schedules.{ScheduleValue}
 use Rattle.step_schedules.specs.Words.{Text}
 use Rattle.step_schedules.specs.declared.deviation.Action.{Action}
 use Rattle.step_schedules.specs.declared.deviation.Site.TheVariants as site
@@ -11,9 +11,9 @@ use Rattle.step_schedules.specs.declared.deviation.Action.TheVariants.{Choose}
 -- the state of a recorder
 pub record RecorderState : Type 0 where
   -- the access or the request that began last, with its place, or `no_event` before the run
-  pub event : EventRead
+  pub event : EventValue
   -- the actions that were played, the oldest first
-  pub played : List DeviationRead
+  pub played : List DeviationValue
 
 -- a recorder before the run
 abbrev pub new_recorder : RecorderState
@@ -25,11 +25,11 @@ chosen (Choose number ∷ later) = number
 chosen actions = 0
 
 -- the recorder after this access or request began
-abbrev pub begun : EventRead → RecorderState → RecorderState
+abbrev pub begun : EventValue → RecorderState → RecorderState
 begun event recorder = record recorder { event = event }
 
 -- the deviation that plays an action before an access or a request, at the place of this event
-abbrev pub deviation_before : EventRead → Action → DeviationRead
+abbrev pub deviation_before : EventValue → Action → DeviationValue
 deviation_before event action =
     record { site = site.Place event.place; action = action; before = event.before; name = event.name }
 
@@ -39,5 +39,5 @@ after_playing action recorder =
     record recorder { played = recorder.played ++ deviation_before recorder.event action ∷ [] }
 
 -- a schedule with these options, and with the actions that were played
-abbrev pub recorded : Option (List Text) → RecorderState → ScheduleRead
+abbrev pub recorded : Option (List Text) → RecorderState → ScheduleValue
 recorded options recorder = record { options = options; deviations = recorder.played }

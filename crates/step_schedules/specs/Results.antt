@@ -6,14 +6,14 @@ use Rattle.step_schedules.specs.declared.schedule_error.ScheduleError.TheVariant
 use Rattle.step_schedules.specs.declared.schedule_error.Stop.{Stop}
 use Rattle.step_schedules.specs.declared.schedule_error.Stop.TheVariants.{Fault, Memory}
 
-abbrev pub Fails : {A : Type 0} → Stop → Result A LineFault → Type 0
-Fails Memory read = ⊤
-Fails (Fault fault) read = read ≡ Err fault
+abbrev pub FailsLine : {A : Type 0} → Stop → Result A LineFault → Type 0
+FailsLine Memory read = ⊤
+FailsLine (Fault fault) read = read ≡ Err fault
 
 -- The view of the first result's value is the second result's value; or both results have the same fault; or memory was refused.
-abbrev pub Gives : {A B : Type 0} → (A → B) → Result A Stop → Result B LineFault → Type 0
-Gives view (Ok value) read = read ≡ Ok (view value)
-Gives view (Err stop) read = Fails stop read
+abbrev pub GivesView : {A B : Type 0} → (A → B) → Result A Stop → Result B LineFault → Type 0
+GivesView view (Ok value) read = read ≡ Ok (view value)
+GivesView view (Err stop) read = FailsLine stop read
 
 -- the result of the next function, if the first result is Ok; else the first fault
 infixl 10 ◌>>=◌

@@ -14,14 +14,14 @@ abbrev pub is_dot : ℕ → Bool
 is_dot byte = byte == 0x2E
 
 -- the place with these numbers of a round and of an access; 0.0 isn't a place, because no request begins round 0
-abbrev pub place_with : ℕ → ℕ → Option Place
-place_with round access =
+abbrev pub place_of_numbers : ℕ → ℕ → Option Place
+place_of_numbers round access =
     if round == 0 && access == 0 then None else Some (record { round = round; access = access })
 
 -- the place that a word spells: the numbers of a round and of an access, joined by a dot; no place for other words
-abbrev pub place_in : Text → Option Place
-place_in word =
+abbrev pub place_spelled : Text → Option Place
+place_spelled word =
     if nat_lt (position_or_len is_dot word) (length word) then
-    option_and_then (λ round. option_and_then (place_with round) (digits_in (after_first is_dot word)))
+    option_and_then (λ round. option_and_then (place_of_numbers round) (digits_in (after_first is_dot word)))
     (digits_in (before_first is_dot word))
     else None

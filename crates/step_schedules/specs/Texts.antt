@@ -1,8 +1,8 @@
 -- Schedules as texts (our choice; the format is that of `finder/README.md`, "A schedule").
 use Rattle.std.specs.Prelude.{◌++◌, [], List, Option, Some, None, codes, flat_map}
 use Rattle.std.specs.Fmt.{decimal}
-use Rattle.step_schedules.specs.Deviations.{DeviationRead}
-use Rattle.step_schedules.specs.Schedules.{ScheduleRead}
+use Rattle.step_schedules.specs.Deviations.{DeviationValue}
+use Rattle.step_schedules.specs.Schedules.{ScheduleValue}
 use Rattle.step_schedules.specs.Words.{Text}
 use Rattle.step_schedules.specs.declared.deviation.Before.{Before}
 use Rattle.step_schedules.specs.declared.deviation.Before.TheVariants.{Choice, Read, Request, Write}
@@ -38,8 +38,8 @@ before_text Request = codes "before "
 before_text Choice = codes "before "
 
 -- the text of a deviation without its place and number
-abbrev pub event_text : DeviationRead → Text
-event_text deviation =
+abbrev pub deviation_event_text : DeviationValue → Text
+deviation_event_text deviation =
     action_text deviation.action ++ codes " " ++ before_text deviation.before ++ deviation.name
 
 abbrev pub text_at : Site → Text → Text
@@ -47,15 +47,15 @@ text_at (site.Place place) event = decimal place.round ++ codes "." ++ decimal p
 text_at (site.Number number) event = event ++ codes "#" ++ decimal number
 
 -- the line of a deviation, without its LF
-abbrev pub deviation_text : DeviationRead → Text
-deviation_text deviation = text_at deviation.site (event_text deviation)
+abbrev pub deviation_text : DeviationValue → Text
+deviation_text deviation = text_at deviation.site (deviation_event_text deviation)
 
 -- the line of a deviation, with its LF
-abbrev pub deviation_line : DeviationRead → Text
+abbrev pub deviation_line : DeviationValue → Text
 deviation_line deviation = deviation_text deviation ++ codes "\n"
 
 -- the lines of these deviations, in order
-abbrev pub deviation_lines : List DeviationRead → Text
+abbrev pub deviation_lines : List DeviationValue → Text
 deviation_lines deviations = flat_map deviation_line deviations
 
 abbrev pub option_text : Text → Text
@@ -70,5 +70,5 @@ options_text (Some options) = options_line options
 options_text None = []
 
 -- the text of a schedule
-abbrev pub schedule_text : ScheduleRead → Text
+abbrev pub schedule_text : ScheduleValue → Text
 schedule_text schedule = options_text schedule.options ++ deviation_lines schedule.deviations

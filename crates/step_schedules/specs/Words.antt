@@ -9,8 +9,8 @@ abbrev pub is_said : Text → Bool
 is_said word = not (slice_index word 0 == 0x23)
 
 -- the words of a line, which spaces and tabs separate, up to a comment
-abbrev pub words_of : Text → List Text
-words_of line = take_while is_said (words_in_line line)
+abbrev pub words_before_comment : Text → List Text
+words_before_comment line = take_while is_said (words_in_line line)
 
 -- the words before the first word `before`
 abbrev pub action_words : List Text → List Text

@@ -2,11 +2,11 @@
 
 ghost use Rattle.std.specs.Prelude.{◌≡◌, ◌∷◌, IfOk, List, map, string_bytes};
 ghost use Rattle.step_schedules.specs.Agendas as spec;
-ghost use Rattle.step_schedules.specs.Events.{event_read};
+ghost use Rattle.step_schedules.specs.Events.{event_value};
 ghost use Rattle.step_schedules.specs.Players.{chosen};
-ghost use Rattle.step_schedules.specs.Schedules.{schedule_read};
+ghost use Rattle.step_schedules.specs.Schedules.{schedule_value};
 ghost use Rattle.step_schedules.specs.Texts.{deviation_lines};
-ghost use Rattle.step_schedules.specs.Waiting.{due_before, unmet_in, waiting_read};
+ghost use Rattle.step_schedules.specs.Waiting.{due_before, unmet_in, waiting_value};
 
 use crate::deviation::{Action, Before, Place};
 use crate::event::{Event, next_place};
@@ -44,14 +44,14 @@ pub struct Agenda {
 impl Model for Agenda {
     ghost use Rattle.std.specs.Prelude.{map};
     ghost use Rattle.step_schedules.specs.Agendas.{AgendaState};
-    ghost use Rattle.step_schedules.specs.Waiting.{waiting_read};
+    ghost use Rattle.step_schedules.specs.Waiting.{waiting_value};
 
     ghost Value = { AgendaState };
 
     ghost view = { λ agenda. record {
       plays = agenda.plays;
       last = agenda.last;
-      waiting = map waiting_read agenda.waiting.items;
+      waiting = map waiting_value agenda.waiting.items;
     } };
 }
 
@@ -93,7 +93,7 @@ fn chosen_by(action: Action) -> u32
 
 /// Returns which default steps the actions that are due before an event leave out.
 fn held_in(waiting: &[Waiting], event: &Event<'_>) -> Held
-    ensures { result ≡ spec.held_by (due_before (event_read event.now) (map waiting_read waiting.now)) }
+    ensures { result ≡ spec.held_by (due_before (event_value event.now) (map waiting_value waiting.now)) }
 {
     let mut held = Held {
         eeprom: false,
@@ -108,7 +108,7 @@ fn held_in(waiting: &[Waiting], event: &Event<'_>) -> Held
 /// Returns the number that the first due action chooses. Returns 0 if no action is due, or if the first due action
 /// chooses no number.
 fn chosen_in(waiting: &[Waiting], event: &Event<'_>) -> u32
-    ensures { result ≡ chosen (due_before (event_read event.now) (map waiting_read waiting.now)) }
+    ensures { result ≡ chosen (due_before (event_value event.now) (map waiting_value waiting.now)) }
 {
     for one in waiting {
         if let Some(action) = one.due_action(event) {
@@ -121,7 +121,7 @@ fn chosen_in(waiting: &[Waiting], event: &Event<'_>) -> u32
 impl Agenda {
     /// Returns the agenda of a schedule, before the run. Fails only if memory was refused.
     pub fn new(alloc: Global, schedule: Schedule) -> Result<Agenda, AllocError>
-        ensures { IfOk result (λ agenda. agenda ≡ spec.agenda_of (schedule_read schedule)) }
+        ensures { IfOk result (λ agenda. agenda ≡ spec.agenda_of (schedule_value schedule)) }
     {
         Ok(Agenda {
             plays: true,
@@ -151,7 +151,7 @@ impl Agenda {
     /// Returns the access or request of this kind, and with this name, that comes next. The place of this event is the
     /// next place of this kind after the place of the last access or request.
     pub fn coming<'a>(&self, before: Before, name: &'a [u8]) -> Event<'a>
-        ensures { event_read result ≡ spec.coming before name.entry.now self.now }
+        ensures { event_value result ≡ spec.coming before name.entry.now self.now }
     {
         Event {
             place: next_place(self.last, before),
@@ -162,7 +162,7 @@ impl Agenda {
 
     /// Returns all deviations of the schedule, also those that have been due.
     pub fn waiting(&self) -> &[Waiting]
-        ensures { map waiting_read result.now ≡ self.now.waiting }
+        ensures { map waiting_value result.now ≡ self.now.waiting }
     {
         self.waiting.as_slice()
     }
@@ -170,7 +170,7 @@ impl Agenda {
     /// Returns which default steps are left out before an event: those that due actions leave out, or all if the agenda
     /// has no schedule.
     pub fn held(&self, event: &Event<'_>) -> Held
-        ensures { result ≡ spec.held_at (due_before (event_read event.now) self.now.waiting) self.now }
+        ensures { result ≡ spec.default_steps_held (due_before (event_value event.now) self.now.waiting) self.now }
     {
         if !self.plays {
             return Held {
@@ -184,7 +184,7 @@ impl Agenda {
     /// Returns the number that the first due action chooses. Returns 0 if no action is due, or if the first due action
     /// chooses no number.
     pub fn chosen(&self, event: &Event<'_>) -> u32
-        ensures { result ≡ chosen (due_before (event_read event.now) self.now.waiting) }
+        ensures { result ≡ chosen (due_before (event_value event.now) self.now.waiting) }
     {
         chosen_in(self.waiting.as_slice(), event)
     }
@@ -204,7 +204,7 @@ impl Agenda {
     /// Counts an access or a request that comes now, for each deviation that matches it. The event's place becomes the
     /// last place.
     pub fn count(&mut self, event: &Event<'_>)
-        ensures { self.new ≡ spec.after_event (event_read event.now) self.old }
+        ensures { self.new ≡ spec.agenda_after (event_value event.now) self.old }
     {
         self.last = event.place;
         count_all(self.waiting.as_mut_slice(), event);

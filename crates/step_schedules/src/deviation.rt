@@ -1,7 +1,7 @@
 // Deviations from what an adapter does by default.
 
 ghost use Rattle.std.specs.Prelude.{◌≡◌};
-ghost use Rattle.step_schedules.specs.Deviations.{deviation_read, is_before};
+ghost use Rattle.step_schedules.specs.Deviations.{deviation_value, is_before};
 
 use std::alloc::AllocError;
 
@@ -89,7 +89,7 @@ pub struct Deviation {
 }
 
 impl Clone for Deviation {
-    ghost is_clone = { λ deviation copy. deviation_read copy ≡ deviation_read deviation };
+    ghost is_clone = { λ deviation copy. deviation_value copy ≡ deviation_value deviation };
 
     /// Returns the same deviation. Fails only if memory was refused.
     fn clone(&self) -> Result<Deviation, AllocError> {

@@ -2,7 +2,7 @@
 
 ghost use Rattle.std.specs.Prelude.{◌≡◌, ◌<◌, length};
 ghost use Rattle.step_schedules.specs.Deviations as spec;
-ghost use Rattle.step_schedules.specs.Results.{Gives};
+ghost use Rattle.step_schedules.specs.Results.{GivesView};
 ghost use Rattle.step_schedules.specs.Words.{texts};
 
 use crate::deviation::{Action, Before, Deviation, Place, Site};
@@ -39,32 +39,12 @@ const REQUESTS: [(&str, Before); 5] = [
     ("choose", Before::Choice),
 ];
 
+/// Returns the action that one word names, or `None` if the word names no action.
 #[tactic(auto, unfolding(crate::specs::Deviations::action_named))]
 fn action_named(word: &str) -> Option<Action>
     ensures { result ≡ spec.action_named word.now }
 {
     value_of(&ACTIONS, word)
-}
-
-#[tactic(auto, unfolding(crate::specs::Deviations::hold_named))]
-fn hold_named(word: &str) -> Option<Action>
-    ensures { result ≡ spec.hold_named word.now }
-{
-    value_of(&HOLDS, word)
-}
-
-#[tactic(auto, unfolding(crate::specs::Deviations::kind_named))]
-fn kind_named(word: &str) -> Option<Before>
-    ensures { result ≡ spec.kind_named word.now }
-{
-    value_of(&KINDS, word)
-}
-
-#[tactic(auto, unfolding(crate::specs::Deviations::request_named))]
-fn request_named(word: &str) -> Option<Before>
-    ensures { result ≡ spec.request_named word.now }
-{
-    value_of(&REQUESTS, word)
 }
 
 /// Returns the action that chooses the number that a word spells, or `None` if the word isn't a number.
@@ -76,11 +56,12 @@ fn choice_of(word: &str) -> Option<Action>
 }
 
 /// Returns the action that two words name, or `None` if they name no action.
+#[tactic(auto, unfolding(crate::specs::Deviations::hold_named))]
 fn action_of_two(first: &str, second: &str) -> Option<Action>
     ensures { result ≡ spec.action_of_two first.now second.now }
 {
     if first == "hold" {
-        hold_named(second)
+        value_of(&HOLDS, second)
     } else if first == "choose" {
         choice_of(second)
     } else {
@@ -125,7 +106,7 @@ fn place_at(word: &str) -> Result<Option<Place>, Fault>
 /// Returns the words after the place, or all words if the line has no place.
 fn words_after<'a, 'b>(place: Option<Place>, words: &'b [&'a str]) -> &'b [&'a str]
     requires { 0 < length words.now }
-    ensures { texts result.now ≡ spec.words_after place (texts words.entry.now) }
+    ensures { texts result.now ≡ spec.words_after_place place (texts words.entry.now) }
 {
     if place.is_none() {
         return words;
@@ -147,7 +128,7 @@ fn name_of(word: &str) -> &str
 /// Reads the number after the first `#` of a word such as `ICR#3`. Returns `None` if the word has no `#`, and rejects
 /// other text after the `#`.
 fn number_after(word: &str) -> Result<Option<u32>, Fault>
-    ensures { result ≡ spec.number_after word.now }
+    ensures { result ≡ spec.number_after_hash word.now }
 {
     let Some((_, digits)) = word.split_once('#') else {
         return Ok(None);
@@ -159,14 +140,15 @@ fn number_after(word: &str) -> Result<Option<u32>, Fault>
 }
 
 /// Returns the kind of the request that one word names, or of the access that two words name, or else `None`.
+#[tactic(auto, unfolding(crate::specs::Deviations::event_kind_named, crate::specs::Deviations::request_named))]
 fn before_of(words: &[&str]) -> Option<Before>
     ensures { result ≡ spec.before_in (texts words.now) }
 {
     if words.len() == 1 {
-        return request_named(name_of(word_at(words, 0)));
+        return value_of(&REQUESTS, name_of(word_at(words, 0)));
     }
     if words.len() == 2 {
-        return kind_named(word_at(words, 0));
+        return value_of(&KINDS, word_at(words, 0));
     }
     None
 }
@@ -291,7 +273,7 @@ fn nameless_of(place: Option<Place>, action: &[&str], event: &[&str]) -> Result<
 impl Nameless {
     /// Returns the deviation with a copy of this name.
     fn with_name(self, alloc: Global, name: &str) -> Result<Deviation, Stop>
-        ensures { Gives spec.deviation_read result (spec.with_name name.now self) }
+        ensures { GivesView spec.deviation_value result (spec.with_name name.now self) }
     {
         let name = String::from_str(alloc, name)?;
         Ok(Deviation {
@@ -305,18 +287,18 @@ impl Nameless {
 
 /// Returns the deviation of a line, from its place and the words after the place.
 fn deviation_after(alloc: Global, place: Option<Place>, words: &[&str]) -> Result<Deviation, Stop>
-    ensures { Gives spec.deviation_read result (spec.deviation_after place (texts words.now)) }
+    ensures { GivesView spec.deviation_value result (spec.deviation_after place (texts words.now)) }
 {
     let (action, event) = split_at_word(words, "before");
-    let nameless = nameless_of(place, action, event)?;
+    let nameless = nameless_of(place, action, event).map_err(Stop::Fault)?;
     nameless.with_name(alloc, name_of(last_word(event)))
 }
 
 /// Returns the deviation of a line, from its words, of which there is at least one.
 pub(crate) fn deviation_of(alloc: Global, words: &[&str]) -> Result<Deviation, Stop>
     requires { 0 < length words.now }
-    ensures { Gives spec.deviation_read result (spec.deviation_in (texts words.now)) }
+    ensures { GivesView spec.deviation_value result (spec.deviation_in (texts words.now)) }
 {
-    let place = place_at(word_at(words, 0))?;
+    let place = place_at(word_at(words, 0)).map_err(Stop::Fault)?;
     deviation_after(alloc, place, words_after(place, words))
 }

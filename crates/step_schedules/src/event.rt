@@ -2,7 +2,7 @@
 
 ghost use Rattle.std.specs.Prelude.{◌≡◌};
 ghost use Rattle.step_schedules.specs.Events as spec;
-ghost use Rattle.step_schedules.specs.Deviations.{deviation_read};
+ghost use Rattle.step_schedules.specs.Deviations.{deviation_value};
 
 use crate::deviation::{Before, Deviation, Place, Site};
 use std::alloc::{AllocError, Global};
@@ -27,7 +27,7 @@ pub(crate) struct Past {
 }
 
 impl Clone for Past {
-    ghost is_clone = { λ past copy. spec.past_read copy ≡ spec.past_read past };
+    ghost is_clone = { λ past copy. spec.past_value copy ≡ spec.past_value past };
 
     fn clone(&self) -> Result<Past, AllocError> {
         Ok(Past {
@@ -57,7 +57,7 @@ pub(crate) fn next_place(place: Place, before: Before) -> Place
 impl Past {
     /// Returns the state before the run: no access and no request has begun.
     pub(crate) fn none(alloc: Global) -> Past
-        ensures { spec.past_read result ≡ spec.no_event }
+        ensures { spec.past_value result ≡ spec.no_event }
     {
         Past {
             place: Place {
@@ -73,7 +73,7 @@ impl Past {
 impl Event<'_> {
     /// Whether a site is the place of this event, or a number. The number isn't compared.
     fn is_at(&self, site: Site) -> bool
-        ensures { result ≡ spec.is_at (spec.event_read self.now) site }
+        ensures { result ≡ spec.is_at (spec.event_value self.now) site }
     {
         match site {
             Site::Place(place) => place == self.place,
@@ -84,7 +84,7 @@ impl Event<'_> {
     /// Whether a deviation matches this event: they have the same kind and name, and the same place if the deviation
     /// has a place. A number isn't compared.
     pub(crate) fn is_met_by(&self, deviation: &Deviation) -> bool
-        ensures { result ≡ spec.is_met_by (spec.event_read self.now) (deviation_read deviation.now) }
+        ensures { result ≡ spec.is_met_by (spec.event_value self.now) (deviation_value deviation.now) }
     {
         self.is_at(deviation.site)
             && deviation.before == self.before

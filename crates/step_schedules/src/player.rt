@@ -4,7 +4,7 @@ ghost use Rattle.std.specs.Prelude.{◌≡◌, IfOk, OnOk, string_bytes};
 ghost use Rattle.std.specs.Option.{option_map};
 ghost use Rattle.step_schedules.specs.Agendas.{agenda_of, idle_agenda};
 ghost use Rattle.step_schedules.specs.Players as spec;
-ghost use Rattle.step_schedules.specs.Schedules.{option_texts, schedule_read};
+ghost use Rattle.step_schedules.specs.Schedules.{option_texts, schedule_value};
 ghost use Rattle.step_schedules.specs.Texts.{schedule_text};
 
 use crate::agenda::Agenda;
@@ -34,15 +34,15 @@ pub struct Recorder {
 
 impl Model for Recorder {
     ghost use Rattle.std.specs.Prelude.{map};
-    ghost use Rattle.step_schedules.specs.Deviations.{deviation_read};
-    ghost use Rattle.step_schedules.specs.Events.{past_read};
+    ghost use Rattle.step_schedules.specs.Deviations.{deviation_value};
+    ghost use Rattle.step_schedules.specs.Events.{past_value};
     ghost use Rattle.step_schedules.specs.Players.{RecorderState};
 
     ghost Value = { RecorderState };
 
     ghost view = { λ recorder. record {
-      event = past_read recorder.event;
-      played = map deviation_read recorder.played.items;
+      event = past_value recorder.event;
+      played = map deviation_value recorder.played.items;
     } };
 }
 
@@ -73,7 +73,7 @@ impl Player {
 
     /// Returns a player of a schedule, before the run. Fails only if memory was refused.
     pub fn playing(alloc: Global, schedule: Schedule) -> Result<Player, AllocError>
-        ensures agenda { IfOk result (λ player. player.agenda ≡ agenda_of (schedule_read schedule)) }
+        ensures agenda { IfOk result (λ player. player.agenda ≡ agenda_of (schedule_value schedule)) }
         ensures recorder { IfOk result (λ player. player.recorder ≡ spec.new_recorder) }
     {
         Ok(Player {

@@ -2,8 +2,8 @@
 
 ghost use Rattle.std.specs.Prelude.{◌≡◌, Some, map, string_bytes};
 ghost use Rattle.std.specs.Fmt.{WritesOnOk};
-ghost use Rattle.step_schedules.specs.Deviations.{deviation_read};
-ghost use Rattle.step_schedules.specs.Schedules.{schedule_read};
+ghost use Rattle.step_schedules.specs.Deviations.{deviation_value};
+ghost use Rattle.step_schedules.specs.Schedules.{schedule_value};
 ghost use Rattle.step_schedules.specs.Texts.{action_text, action_words, before_text, deviation_lines, deviation_text};
 ghost use Rattle.step_schedules.specs.Texts.{options_line, schedule_text};
 
@@ -59,7 +59,7 @@ impl Before {
 }
 
 impl fmt::Display for Deviation {
-    ghost output = { λ deviation. Some (deviation_text (deviation_read deviation)) };
+    ghost output = { λ deviation. Some (deviation_text (deviation_value deviation)) };
 
     fn fmt<W: fmt::Write>(&self, f: &mut fmt::Formatter<W>) -> fmt::Result {
         let action = self.action;
@@ -92,7 +92,7 @@ fn write_deviations<W: fmt::Write>(
     deviations: &[Deviation],
     f: &mut fmt::Formatter<W>,
 ) -> fmt::Result
-    ensures { WritesOnOk W.write_str_gives f.old result (deviation_lines (map deviation_read deviations.now)) f.new }
+    ensures { WritesOnOk W.write_str_gives f.old result (deviation_lines (map deviation_value deviations.now)) f.new }
 {
     for deviation in deviations {
         write!(f, "{deviation}\n")?;
@@ -102,7 +102,7 @@ fn write_deviations<W: fmt::Write>(
 
 /// The text of a schedule, which [`Schedule::parse`] reads.
 impl fmt::Display for Schedule {
-    ghost output = { λ schedule. Some (schedule_text (schedule_read schedule)) };
+    ghost output = { λ schedule. Some (schedule_text (schedule_value schedule)) };
 
     fn fmt<W: fmt::Write>(&self, f: &mut fmt::Formatter<W>) -> fmt::Result {
         if let Some(options) = &self.options {

@@ -1,7 +1,7 @@
 // Reads a schedule line by line.
 
 ghost use Rattle.std.specs.Prelude.{◌≡◌, ◌<◌, length};
-ghost use Rattle.step_schedules.specs.Deviations.{deviation_read};
+ghost use Rattle.step_schedules.specs.Deviations.{deviation_value};
 ghost use Rattle.step_schedules.specs.Schedules as spec;
 ghost use Rattle.step_schedules.specs.Words.{texts};
 
@@ -24,7 +24,7 @@ pub(crate) struct Reader {
 impl Reader {
     /// Returns a reader before the first line.
     fn new(alloc: Global) -> Reader
-        ensures { spec.so_far result ≡ spec.nothing_read }
+        ensures { spec.schedule_so_far result ≡ spec.no_schedule_read }
     {
         Reader {
             schedule: Schedule {
@@ -41,8 +41,8 @@ impl Reader {
     /// Stores the options of a line `options`. Rejects the line if this line isn't the first line with words.
     fn set_options(&mut self, alloc: Global, words: &[&str]) -> Result<(), Stop>
         requires { 0 < length words.now }
-        ensures { spec.Becomes result (spec.after_options (texts words.now) (spec.so_far self.old))
-            (spec.so_far self.new) }
+        ensures { spec.Becomes result (spec.after_options (texts words.now) (spec.schedule_so_far self.old))
+            (spec.schedule_so_far self.new) }
     {
         if self.schedule.options.is_some() || !self.schedule.deviations.is_empty() {
             return Err(Stop::Fault(Fault::Options));
@@ -54,8 +54,8 @@ impl Reader {
 
     /// Appends a deviation. Rejects a deviation whose place is before the last place.
     fn push(&mut self, deviation: Deviation) -> Result<(), Stop>
-        ensures { spec.Becomes result (spec.after_deviation (deviation_read deviation) (spec.so_far self.old))
-            (spec.so_far self.new) }
+        ensures { spec.Becomes result (spec.after_deviation (deviation_value deviation) (spec.schedule_so_far self.old))
+            (spec.schedule_so_far self.new) }
     {
         if let Site::Place(place) = deviation.site {
             if place.is_before(self.last) {
@@ -63,15 +63,17 @@ impl Reader {
             }
             self.last = place;
         }
-        self.schedule.deviations.push(deviation)?;
-        Ok(())
+        self.schedule
+            .deviations
+            .push(deviation)
+            .map_err(|_refused| Stop::Memory)
     }
 
     /// Reads the words of a line that describes a deviation, and appends this deviation.
     fn read_deviation(&mut self, alloc: Global, words: &[&str]) -> Result<(), Stop>
         requires { 0 < length words.now }
-        ensures { spec.Becomes result (spec.after_deviation_in (texts words.now) (spec.so_far self.old))
-            (spec.so_far self.new) }
+        ensures { spec.Becomes result (spec.after_deviation_in (texts words.now) (spec.schedule_so_far self.old))
+            (spec.schedule_so_far self.new) }
     {
         let deviation = deviation_of(alloc, words)?;
         self.push(deviation)
@@ -79,8 +81,8 @@ impl Reader {
 
     /// Reads the words of a line: no words, the server's options, or a deviation.
     fn read_words(&mut self, alloc: Global, words: &[&str]) -> Result<(), Stop>
-        ensures { spec.Becomes result (spec.after_words (texts words.now) (spec.so_far self.old))
-            (spec.so_far self.new) }
+        ensures { spec.Becomes result (spec.after_line_words (texts words.now) (spec.schedule_so_far self.old))
+            (spec.schedule_so_far self.new) }
     {
         let Some(first) = words.first() else {
             return Ok(());
@@ -93,7 +95,7 @@ impl Reader {
 
     /// Reads a line.
     fn read_line(&mut self, alloc: Global, line: &str) -> Result<(), Stop>
-        ensures { spec.Becomes result (spec.after_line line.now (spec.so_far self.old)) (spec.so_far self.new) }
+        ensures { spec.Becomes result (spec.after_schedule_line line.now (spec.schedule_so_far self.old)) (spec.schedule_so_far self.new) }
     {
         let words = words_in(alloc, line)?;
         self.read_words(alloc, words.as_slice())
@@ -101,8 +103,8 @@ impl Reader {
 
     /// Reads lines, numbered from 1. Stops at the first faulty line, and returns the error of this line.
     fn read_lines(&mut self, alloc: Global, lines: &[&str]) -> Result<(), ScheduleError>
-        ensures { spec.AreLinesRead (spec.after_lines (texts lines.now) 1 (spec.so_far self.old)) result
-            (spec.so_far self.new) }
+        ensures { spec.AreLinesRead (spec.after_lines (texts lines.now) 1 (spec.schedule_so_far self.old)) result
+            (spec.schedule_so_far self.new) }
     {
         let mut number = 0;
         for line in lines {
@@ -118,7 +120,7 @@ impl Reader {
     pub(crate) fn read(alloc: Global, text: &str) -> Result<Reader, ScheduleError>
         ensures { spec.IsTextRead text.now result }
     {
-        let lines = lines_in(alloc, text)?;
+        let lines = lines_in(alloc, text).map_err(|_refused| ScheduleError::Memory)?;
         let mut reader = Reader::new(alloc);
         reader.read_lines(alloc, lines.as_slice())?;
         Ok(reader)

@@ -1,10 +1,9 @@
 // Why a text isn't a schedule.
 
 ghost use Rattle.std.specs.Prelude.{◌≡◌};
-ghost use Rattle.step_schedules.specs.declared.schedule_error.ScheduleError.TheVariants as errors;
 ghost use Rattle.step_schedules.specs.declared.schedule_error.Stop.TheVariants as stops;
 
-use std::alloc::{AllocError, AllocFailed};
+use std::alloc::AllocError;
 use std::error::Error;
 use std::fmt;
 
@@ -122,34 +121,10 @@ impl Stop {
     }
 }
 
-impl From<AllocError> for ScheduleError {
-    ghost from_gives = { λ _ error. error ≡ errors.Memory };
-
-    fn from(_error: AllocError) -> ScheduleError {
-        ScheduleError::Memory
-    }
-}
-
-impl From<Fault> for Stop {
-    ghost from_gives = { λ fault stopped. stopped ≡ stops.Fault fault };
-
-    fn from(fault: Fault) -> Stop {
-        Stop::Fault(fault)
-    }
-}
-
 impl From<AllocError> for Stop {
     ghost from_gives = { λ _ stopped. stopped ≡ stops.Memory };
 
     fn from(_error: AllocError) -> Stop {
-        Stop::Memory
-    }
-}
-
-impl<T: Drop> From<AllocFailed<T>> for Stop {
-    ghost from_gives = { λ _ stopped. stopped ≡ stops.Memory };
-
-    fn from(_error: AllocFailed<T>) -> Stop {
         Stop::Memory
     }
 }

@@ -23,7 +23,7 @@ pub(crate) fn number_of(text: &str) -> Option<u32>
 
 /// Returns the place with these numbers. `0.0` isn't a place, because no request begins round 0.
 fn place_with(round: u32, access: u32) -> Option<Place>
-    ensures { result ≡ spec.place_with round access }
+    ensures { result ≡ spec.place_of_numbers round access }
 {
     if round == 0 && access == 0 {
         return None;
@@ -33,7 +33,7 @@ fn place_with(round: u32, access: u32) -> Option<Place>
 
 /// Returns the place that a word such as `4.6` spells, or `None` if the word isn't a place.
 pub(crate) fn place_of(word: &str) -> Option<Place>
-    ensures { result ≡ spec.place_in word.now }
+    ensures { result ≡ spec.place_spelled word.now }
 {
     let (round, access) = word.split_once('.')?;
     place_with(number_of(round)?, number_of(access)?)

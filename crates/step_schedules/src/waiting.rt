@@ -1,9 +1,9 @@
 // Deviations that wait to be played.
 
 ghost use Rattle.std.specs.Prelude.{◌≡◌, IfOk, map};
-ghost use Rattle.step_schedules.specs.Events.{event_read};
+ghost use Rattle.step_schedules.specs.Events.{event_value};
 ghost use Rattle.step_schedules.specs.Waiting as spec;
-ghost use Rattle.step_schedules.specs.Deviations.{deviation_read};
+ghost use Rattle.step_schedules.specs.Deviations.{deviation_value};
 
 use crate::deviation::{Action, Deviation, Site};
 use crate::event::Event;
@@ -19,7 +19,7 @@ pub struct Waiting {
 }
 
 impl Clone for Waiting {
-    ghost is_clone = { λ waiting copy. spec.waiting_read copy ≡ spec.waiting_read waiting };
+    ghost is_clone = { λ waiting copy. spec.waiting_value copy ≡ spec.waiting_value waiting };
 
     fn clone(&self) -> Result<Waiting, AllocError> {
         Ok(Waiting {
@@ -32,7 +32,7 @@ impl Clone for Waiting {
 impl Waiting {
     /// Returns a deviation as it waits at the start of the run.
     pub(crate) fn new(deviation: Deviation) -> Waiting
-        ensures { spec.waiting_read result ≡ spec.waits (deviation_read deviation) }
+        ensures { spec.waiting_value result ≡ spec.waits (deviation_value deviation) }
     {
         let left = match deviation.site {
             Site::Place(_) => 1,
@@ -43,14 +43,14 @@ impl Waiting {
 
     /// Whether the deviation is due before an event that comes now.
     fn is_due(&self, event: &Event<'_>) -> bool
-        ensures { result ≡ spec.is_due (event_read event.now) (spec.waiting_read self.now) }
+        ensures { result ≡ spec.is_due (event_value event.now) (spec.waiting_value self.now) }
     {
         self.left == 1 && event.is_met_by(&self.deviation)
     }
 
     /// Returns the action of the deviation, if the deviation is due before an event that comes now.
     pub fn due_action(&self, event: &Event<'_>) -> Option<Action>
-        ensures { result ≡ spec.due_action (event_read event.now) (spec.waiting_read self.now) }
+        ensures { result ≡ spec.due_action (event_value event.now) (spec.waiting_value self.now) }
     {
         if self.is_due(event) {
             Some(self.deviation.action)
@@ -61,7 +61,7 @@ impl Waiting {
 
     /// Counts an event that comes now, if the deviation matches it.
     fn count(&mut self, event: &Event<'_>)
-        ensures { spec.waiting_read self.new ≡ spec.counted (event_read event.now) (spec.waiting_read self.old) }
+        ensures { spec.waiting_value self.new ≡ spec.event_counted (event_value event.now) (spec.waiting_value self.old) }
     {
         if event.is_met_by(&self.deviation) {
             self.left = self.left.saturating_sub(1);
@@ -71,8 +71,8 @@ impl Waiting {
 
 /// Counts an event that comes now, for each deviation that matches it.
 pub(crate) fn count_all(waiting: &mut [Waiting], event: &Event<'_>)
-    ensures { map spec.waiting_read waiting.new
-        ≡ map (spec.counted (event_read event.now)) (map spec.waiting_read waiting.old) }
+    ensures { map spec.waiting_value waiting.new
+        ≡ map (spec.event_counted (event_value event.now)) (map spec.waiting_value waiting.old) }
 {
     for one in waiting.iter_mut() {
         one.count(event);
@@ -84,8 +84,8 @@ pub(crate) fn waiting_of(
     alloc: Global,
     deviations: Vec<Deviation>,
 ) -> Result<Vec<Waiting>, AllocError>
-    ensures { IfOk result (λ waiting. map spec.waiting_read waiting.items
-        ≡ map spec.waits (map deviation_read deviations.items)) }
+    ensures { IfOk result (λ waiting. map spec.waiting_value waiting.items
+        ≡ map spec.waits (map deviation_value deviations.items)) }
 {
     let mut waiting = Vec::new(alloc);
     for deviation in deviations {
@@ -96,8 +96,8 @@ pub(crate) fn waiting_of(
 
 /// Returns copies of the deviations that haven't been due yet.
 pub(crate) fn unmet_in(alloc: Global, waiting: &[Waiting]) -> Result<Vec<Deviation>, AllocError>
-    ensures { IfOk result (λ unmet. map deviation_read unmet.items
-        ≡ spec.unmet_in (map spec.waiting_read waiting.now)) }
+    ensures { IfOk result (λ unmet. map deviation_value unmet.items
+        ≡ spec.unmet_in (map spec.waiting_value waiting.now)) }
 {
     let mut unmet = Vec::new(alloc);
     for one in waiting {

@@ -14,12 +14,20 @@ pub(crate) fn lines_in<'a>(alloc: Global, text: &'a str) -> Result<Vec<&'a str>,
     text.lines().collect(alloc)
 }
 
+/// Whether a word is before the comment of a line: it doesn't begin with `#`.
+fn is_said(word: &str) -> bool
+    ensures { result ≡ spec.is_said word.now }
+{
+    !word.starts_with('#')
+}
+
 /// Returns the number of words before a comment, or of all words if there is no comment.
+#[tactic(auto, using(std::proofs::lemmas::List::Sums::prefix_len_is))]
 fn said_count(words: &[&str]) -> usize
     ensures { result ≡ prefix_len spec.is_said (spec.texts words.now) }
 {
     let mut count = 0;
-    while count < words.len() && !words[count].starts_with('#') {
+    while count < words.len() && is_said(words[count]) {
         count += 1;
     }
     count
@@ -27,7 +35,7 @@ fn said_count(words: &[&str]) -> usize
 
 /// Returns the words of a line, up to a comment.
 pub(crate) fn words_in<'a>(alloc: Global, line: &'a str) -> Result<Vec<&'a str>, AllocError>
-    ensures { IfOk result (λ words. spec.texts words.items ≡ spec.words_of line.entry.now) }
+    ensures { IfOk result (λ words. spec.texts words.items ≡ spec.words_before_comment line.entry.now) }
 {
     let mut words = text::words_in(alloc, line)?;
     words.truncate(said_count(words.as_slice()));

@@ -1,5 +1,5 @@
 use Rattle.std.proofs.Common.{◌≡◌, ◌∙◌, Ok, ap, refl, sym}
-use Rattle.server_requests.specs.Widths.{size_of}
+use Rattle.server_requests.specs.Widths.{wanted_size}
 use Rattle.adapter_server.specs.Answers.{ReadsAt}
 use Rattle.adapter_server.specs.Sessions.{place_in}
 use Rattle.adapter_server.specs.Tasks.{Performs, task_said}
@@ -13,10 +13,10 @@ use Rattle.adapter_server.proofs.access.read.Goals as goal
 
 pub access-requires : goal.access-requires
 access-requires g c =
-    let place : place_in c.args.session.now c.args.address (size_of c.args.wanted) ≡ Ok (Register c.in-Ok-Register.offset) =
+    let place : place_in c.args.session.now c.args.address (wanted_size c.args.wanted) ≡ Ok (Register c.in-Ok-Register.offset) =
     ap (place_in c.args.session.now c.args.address) (sym c.size.ensures) ∙ sym c.place_of.ensures ∙ c.in-Ok-Register.is
     ∙ ap Ok c.in-Ok-Register.field-0-is in
-    (sym (register_place c.args.session.now c.args.address (size_of c.args.wanted) c.in-Ok-Register.offset place), refl)
+    (sym (register_place c.args.session.now c.args.address (wanted_size c.args.wanted) c.in-Ok-Register.offset place), refl)
 
 pub returns-in-Ok-Register : goal.returns-in-Ok-Register
 returns-in-Ok-Register g c =

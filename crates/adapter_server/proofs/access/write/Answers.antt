@@ -1,7 +1,7 @@
 use Rattle.std.proofs.Common.{◌∙◌, sym}
 use Rattle.server_output.specs.Texts.{ok_line}
-use Rattle.adapter_server.specs.Answers.{Accessed, Answered}
-use Rattle.adapter_server.specs.Sessions.{write_to}
+use Rattle.adapter_server.specs.Answers.{AccessServed, Answered}
+use Rattle.adapter_server.specs.Sessions.{writing_access}
 use Rattle.adapter_server.specs.Tasks.{Performs, task_said}
 use Rattle.adapter_server.specs.declared.session.Session.{Session}
 use Rattle.adapter_server.specs.declared.task.Task.TheVariants as tasks
@@ -22,7 +22,7 @@ returns-in-Ok g c =
     let said = task_said task c.args.said.now a in
     rw (← c.place_of.ensures, c.in-Ok.is)
     (answer_so c.access.result (Performs task said a)
-    (λ b. Answered (Accessed (write_to place c.args.address c.args.bytes.now) said a b) ok_line) (λ (b : Session). b)
+    (λ b. Answered (AccessServed (writing_access place c.args.address c.args.bytes.now) said a b) ok_line) (λ (b : Session). b)
     c.access.new.session _ _ (writes place c.args.address c.args.bytes said a) c.access.ensures)
 
 pub returns-in-Err : goal.returns-in-Err

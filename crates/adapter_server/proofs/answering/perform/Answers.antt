@@ -5,7 +5,7 @@ use Rattle.server_output.specs.Answers.{line_of}
 use Rattle.server_output.specs.declared.answer_error.AnswerError.{AnswerError}
 use Rattle.server_output.specs.declared.answer_error.AnswerError.TheVariants.{Memory}
 use Rattle.server_output.proofs.PartsWritten.{keeps_same}
-use Rattle.adapter_server.specs.Tasks.{Plays, task_moves, task_wanted}
+use Rattle.adapter_server.specs.Tasks.{PlaysTask, task_moves, task_wanted}
 use Rattle.adapter_server.specs.declared.session.Session.{Session}
 use Rattle.adapter_server.proofs.Printing.{answer_none, answered, unsaid}
 use Rattle.adapter_server.proofs.Tasks.{AnswersBegun, met_by, performs, begun_fits}
@@ -33,7 +33,7 @@ returns-in-Ok g c =
       c.in-Ok.ensures.agenda,
     )
     (performs c.end.result task said c.args.session.now begun _ _ _ c.in_ok-begin.ensures
-    (answered (AfterMoves (task_moves task begun.device begun.agenda) (λ d e told. Plays task line wanted d e told)) said
+    (answered (AfterMoves (task_moves task begun.device begun.agenda) (λ d e told. PlaysTask task line wanted d e told)) said
     (met_by task begun) c.perform.new.device tells.told tells.holds line
     (AnswersBegun task said begun) (λ (b : Session). b)
     (λ b text plays. (line, record { told = text; happens = plays; text_is = refl })) c.end.result heard.said.now heard.kept.now
@@ -55,7 +55,7 @@ returns-in-Err g c =
     let now = g.W.Write.contents heard.out.now in
     rw (c.out-in-Err-1.given.1 (sym tells.hears.0))
     (performs stopped task said c.args.session.now begun begun (g.W.Write.contents c.args.out.now) now c.in_ok-begin.ensures
-    (unsaid (AfterMoves moves (λ d e told. Plays task line wanted d e told)) said (met_by task begun) after.goes_on.1 tells.told
+    (unsaid (AfterMoves moves (λ d e told. PlaysTask task line wanted d e told)) said (met_by task begun) after.goes_on.1 tells.told
     (record {
       middle = after.middle;
       first = after.first;

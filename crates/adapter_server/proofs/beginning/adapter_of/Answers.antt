@@ -1,6 +1,6 @@
 use Rattle.std.proofs.Common.{◌∙◌, ℕ, ap}
 use Rattle.adapter.specs.Registers.{after_write}
-use Rattle.adapter_server.specs.NewSessions.{pba, with_missed}
+use Rattle.played_adapter.specs.FirstAdapters.{pba, with_missed}
 use Rattle.adapter_server.proofs.beginning.adapter_of.Goals as goal
 
 pub returns : goal.returns

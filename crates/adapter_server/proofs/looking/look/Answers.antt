@@ -1,7 +1,7 @@
 use Rattle.std.proofs.Common.{◌≡◌, ◌∙◌, ap, codes, rules}
 use Rattle.std.specs.Prelude.{List, ℕ}
 use Rattle.server_output.specs.Texts.{ok_line, rings_line, word_line}
-use Rattle.registers.specs.Ports.{answer_at}
+use Rattle.registers.specs.Ports.{port_answer}
 use Rattle.adapter_server.specs.Answers.{AnswersRings, Replies, line_number}
 use Rattle.adapter_server.specs.declared.session.Session.{Session}
 use Rattle.adapter_server.proofs.Printing.{answer_so, fetched, replied}
@@ -13,7 +13,7 @@ returns-in-Port g c =
     rw c.in-Port.is
     (replied c.say_number.result _ a _ _
     (rw (c.from.ensures ∙ c.read_port-value.ensures
-    ∙ ap (λ asserted. answer_at c.in-Port.port c.in-Port.width asserted a.function) c.line-asserted.ensures.line) at c.say_number.ensures))
+    ∙ ap (λ asserted. port_answer c.in-Port.port c.in-Port.width asserted a.function) c.line-asserted.ensures.line) at c.say_number.ensures))
 
 pub returns-in-Endianness : goal.returns-in-Endianness
 returns-in-Endianness g c =

@@ -1,6 +1,6 @@
 use Rattle.std.proofs.Common.{map, take}
 use Rattle.std.specs.Fmt.{HasWritten, IsPlainFormatter}
-use Rattle.step_schedules.specs.Deviations.{deviation_read}
+use Rattle.step_schedules.specs.Deviations.{deviation_value}
 use Rattle.step_schedules.specs.Texts.{deviation_lines}
 use Rattle.step_schedules.proofs.printing.write_deviations.Given as goal
 
@@ -9,4 +9,4 @@ abbrev pub invariant-loop-deviation : goal.invariant-loop-deviation
 invariant-loop-deviation g l =
     IsPlainFormatter l.initial.f
     → HasWritten g.W.Write.write_str_gives l.initial.f
-    (deviation_lines (map deviation_read (take l.deviation-index l.deviations))) l.f
+    (deviation_lines (map deviation_value (take l.deviation-index l.deviations))) l.f

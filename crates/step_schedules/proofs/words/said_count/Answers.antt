@@ -1,33 +1,30 @@
-use Rattle.std.proofs.Common.{◌≡◌, ◌∙◌, Bor, [], ap, arith, get_or, not, sym, true, false}
+use Rattle.std.proofs.Common.{◌≡◌, ◌∙◌, ◌<◌, ℕ, Bool, Bor, List, [], ap, arith, get_or, length, sym, true}
 use Rattle.std.proofs.lemmas.List.{get_or-map, length-map}
+use Rattle.std.proofs.lemmas.List.Sums.{prefix_len_is}
+use borrow.Author.Count.{below_more}
 use Rattle.step_schedules.specs.Words.{Text, is_said, texts}
-use Rattle.step_schedules.proofs.Comments.{prefix_ends, prefix_more, prefix_whole}
 use Rattle.step_schedules.proofs.words.said_count.Goals as goal
+
+said_at : (words : List (Bor Text)) (k : ℕ) (w : Bor Text) (said : Bool) → k < length words → said ≡ is_said (get_or words k w).now
+    → is_said (get_or (texts words) k []) ≡ said
+said_at words k w said below test = ap is_said (get_or-map (λ (w : Bor Text). w.now) words k w [] below) ∙ sym test
 
 pub loop-count-preserved : goal.loop-count-preserved
 loop-count-preserved c =
     let words = c.args.words.now in
     let k = c.loop-count.count in
-    let test = c.starts_with.ensures.byte (omega arith) (omega arith) (λ w o m. m) in
-    let here = get_or-map (λ (w : Bor Text). w.now) words k _ [] c.loop-count-test.true in
-    let said : is_said (get_or (texts words) k []) ≡ true =
-    ap is_said here ∙ ap not (sym test ∙ c.if-not-starts_with.true) in
-    let more = prefix_more is_said (texts words) k [] (omega (arith, length-map words (λ (w : Bor Text). w.now))) said in
-    record { within = omega arith; so_far = c.loop-count.invariant.so_far ∙ omega (arith, more) }
+    record {
+      within = omega arith;
+      said = below_more (λ (k : ℕ). is_said (get_or (texts words) k []) ≡ true) k c.loop-count.invariant.said
+          (said_at words k _ _ c.loop-count-test.true c.is_said.ensures ∙ c.if-is_said.true);
+    }
 
 pub returns-after-loop-count : goal.returns-after-loop-count
 returns-after-loop-count c =
-    let all = length-map c.args.words.now (λ (w : Bor Text). w.now) in
-    let none = prefix_whole is_said (texts c.args.words.now) c.loop-count.count (omega (arith, all)) in
-    omega (arith, none, c.loop-count.invariant.so_far)
+    sym (prefix_len_is is_said (texts c.args.words.now) c.loop-count.count [] (omega (arith, length-map {A = Bor Text} {B = Text}))
+    c.loop-count.invariant.said (λ below. absurd (omega (arith, length-map {A = Bor Text} {B = Text}))))
 
-pub returns-else-not-starts_with : goal.returns-else-not-starts_with
-returns-else-not-starts_with c =
-    let words = c.args.words.now in
-    let k = c.loop-count.count in
-    let test = c.starts_with.ensures.byte (omega arith) (omega arith) (λ w o m. m) in
-    let here = get_or-map (λ (w : Bor Text). w.now) words k _ [] c.loop-count-test.true in
-    let comment : is_said (get_or (texts words) k []) ≡ false =
-    ap is_said here ∙ ap not (sym test ∙ c.if-not-starts_with.false) in
-    let none = prefix_ends is_said (texts words) k [] (omega (arith, length-map words (λ (w : Bor Text). w.now))) comment in
-    omega (arith, none, c.loop-count.invariant.so_far)
+pub returns-else-is_said : goal.returns-else-is_said
+returns-else-is_said c =
+    sym (prefix_len_is is_said (texts c.args.words.now) c.loop-count.count [] (omega (arith, length-map {A = Bor Text} {B = Text}))
+    c.loop-count.invariant.said (λ below. said_at _ _ _ _ c.loop-count-test.true c.is_said.ensures ∙ c.if-is_said.false))

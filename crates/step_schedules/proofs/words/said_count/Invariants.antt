@@ -1,12 +1,11 @@
-use Rattle.std.proofs.Common.{◌≡◌, ◌≤◌, ◌+◌, ◌-◌, drop, length}
-use Rattle.std.specs.List.{prefix_len}
+use Rattle.std.proofs.Common.{◌≡◌, ◌<◌, ◌≤◌, ◌-◌, ℕ, [], get_or, length, true}
 use Rattle.step_schedules.specs.Words.{is_said, texts}
 use Rattle.step_schedules.proofs.words.said_count.Given as goal
 
 abbrev pub invariant-loop-count : goal.invariant-loop-count
 invariant-loop-count l = record {
   within : l.count ≤ length l.words;
-  so_far : prefix_len is_said (texts l.words) ≡ l.count + prefix_len is_said (drop l.count (texts l.words));
+  said : (k : ℕ) → k < l.count → is_said (get_or (texts l.words) k []) ≡ true;
 }
 
 abbrev pub decreases-loop-count : goal.decreases-loop-count

@@ -2,6 +2,7 @@ use Rattle.std.proofs.Common.{◌++◌, ◌∷◌, [], List, ap, refl, subst}
 use Rattle.std.specs.Prelude.{ℕ}
 use Rattle.server_output.specs.Texts.{number_line, ok_line, word_line}
 use Rattle.adapter_server.specs.Tasks.{ReadsFrom}
+use Rattle.played_adapter.proofs.Telling.{tells_so}
 use Rattle.adapter_server.proofs.task.Task.play.Goals as goal
 
 pub read_from-requires : goal.read_from-requires
@@ -27,33 +28,21 @@ returns-in-Read-clause-plays g c =
 
 pub returns-in-Write-clause-plays : goal.returns-in-Write-clause-plays
 returns-in-Write-clause-plays g c =
-    let tells = c.write_to.ensures in
-    rw c.in-Write.is (record { told = tells.told; holds = (refl, tells.holds); hears = tells.hears })
+    rw c.in-Write.is (tells_so g.O.Observer.heard _ _ _ _ (λ told plays. (refl, plays)) c.write_to.ensures)
 
 pub returns-in-Step-clause-plays : goal.returns-in-Step-clause-plays
 returns-in-Step-clause-plays g c =
-    let tells = c.step-outcome.ensures in
-    rw c.in-Step.is
-    (record {
-      told = tells.told;
-      holds = (c.step-outcome.result, ap word_line c.outcome_word.ensures, tells.holds);
-      hears = tells.hears;
-    })
+    rw c.in-Step.is (tells_so g.O.Observer.heard _ _ _ _ (λ told plays. (c.step-outcome.result, ap word_line c.outcome_word.ensures, plays))
+    c.step-outcome.ensures)
 
 pub returns-in-Arrive-clause-plays : goal.returns-in-Arrive-clause-plays
 returns-in-Arrive-clause-plays g c =
-    let tells = c.serve_arrival-fate.ensures in
-    rw c.in-Arrive.is
-    (record {
-      told = tells.told;
-      holds = (c.serve_arrival-fate.result, ap word_line c.fate_word.ensures, tells.holds);
-      hears = tells.hears;
-    })
+    rw c.in-Arrive.is (tells_so g.O.Observer.heard _ _ _ _ (λ told plays. (c.serve_arrival-fate.result, ap word_line c.fate_word.ensures, plays))
+    c.serve_arrival-fate.ensures)
 
 pub returns-in-Settle-clause-plays : goal.returns-in-Settle-clause-plays
 returns-in-Settle-clause-plays g c =
-    let tells = c.serve_settle.ensures in
-    rw c.in-Settle.is (record { told = tells.told; holds = (c.serve_settle.result, refl, tells.holds); hears = tells.hears })
+    rw c.in-Settle.is (tells_so g.O.Observer.heard _ _ _ _ (λ told plays. (c.serve_settle.result, refl, plays)) c.serve_settle.ensures)
 
 pub returns-in-Ok-clause-plays : goal.returns-in-Ok-clause-plays
 returns-in-Ok-clause-plays g c =
@@ -75,11 +64,9 @@ returns-in-Err-clause-plays g c =
 
 pub returns-in-Choose-clause-plays : goal.returns-in-Choose-clause-plays
 returns-in-Choose-clause-plays g c =
-    let tells = c.serve_choose-number.ensures.tells in
-    rw c.in-Choose.is
-    (record { told = tells.told; holds = (c.serve_choose-number.result, ap number_line c.from.ensures, tells.holds); hears = tells.hears })
+    rw c.in-Choose.is (tells_so g.O.Observer.heard _ _ _ _ (λ told plays. (c.serve_choose-number.result, ap number_line c.from.ensures, plays))
+    c.serve_choose-number.ensures.tells)
 
 pub returns-in-SetClock-clause-plays : goal.returns-in-SetClock-clause-plays
 returns-in-SetClock-clause-plays g c =
-    let tells = c.serve_settle-moved.ensures in
-    rw c.in-SetClock.is (record { told = tells.told; holds = (c.serve_settle-moved.result, refl, tells.holds); hears = tells.hears })
+    rw c.in-SetClock.is (tells_so g.O.Observer.heard _ _ _ _ (λ told plays. (c.serve_settle-moved.result, refl, plays)) c.serve_settle-moved.ensures)

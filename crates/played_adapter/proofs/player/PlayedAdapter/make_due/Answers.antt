@@ -1,7 +1,7 @@
 use Rattle.std.proofs.Common.{◌≡◌, ◌+◌, ◌∙◌, ◌++◌, List, ap, flat_map, map, subst, sym, take}
 use Rattle.step_schedules.proofs.Due.{due_next, read_more}
-use Rattle.step_schedules.specs.Events.{event_read}
-use Rattle.step_schedules.specs.Waiting.{WaitingRead, due_action, due_before, waiting_read}
+use Rattle.step_schedules.specs.Events.{event_value}
+use Rattle.step_schedules.specs.Waiting.{WaitingValue, due_action, due_before, waiting_value}
 use Rattle.played_adapter.specs.Moves.{moves_of, moves_of_next}
 use Rattle.played_adapter.specs.Order.{InOrder, Tells}
 use Rattle.played_adapter.specs.Playing.{Makes}
@@ -14,13 +14,13 @@ pub loop-one-preserved : goal.loop-one-preserved
 loop-one-preserved g c =
     let heard = g.O.Observer.heard in
     let l = c.loop-one in
-    let event = event_read c.args.event.now in
+    let event = event_value c.args.event.now in
     let all = c.args.waiting.now in
-    let before = map waiting_read (take l.one-index all) in
-    let one = waiting_read c.one-item.result in
+    let before = map waiting_value (take l.one-index all) in
+    let one = waiting_value c.one-item.result in
     let moves : flat_map moves_of (due_before event before) ++ moves_of_next c.due_action.result
-    ≡ flat_map moves_of (due_before event (map waiting_read (take (l.one-index + 1) all)))
-    = sym (ap (λ (ws : List WaitingRead). flat_map moves_of (due_before event ws))
+    ≡ flat_map moves_of (due_before event (map waiting_value (take (l.one-index + 1) all)))
+    = sym (ap (λ (ws : List WaitingValue). flat_map moves_of (due_before event ws))
     (read_more all l.one-index c.one-item.result c.loop-one-test.true c.one-item.is)
     ∙ ap (flat_map moves_of) (due_next event before one) ∙ moves_next (due_before event before) (due_action event one)
     ∙ ap (λ next. flat_map moves_of (due_before event before) ++ moves_of_next next) (sym c.due_action.ensures)) in

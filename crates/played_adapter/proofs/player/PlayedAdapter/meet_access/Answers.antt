@@ -1,7 +1,7 @@
 use Rattle.std.proofs.Common.{◌≡◌, ◌∙◌, ◌++◌, List, ap, flat_map, map, subst}
-use Rattle.step_schedules.specs.Agendas.{held_at}
-use Rattle.step_schedules.specs.Events.{EventRead, event_read}
-use Rattle.step_schedules.specs.Waiting.{WaitingRead, due_before, waiting_read}
+use Rattle.step_schedules.specs.Agendas.{default_steps_held}
+use Rattle.step_schedules.specs.Events.{EventValue, event_value}
+use Rattle.step_schedules.specs.Waiting.{WaitingValue, due_before, waiting_value}
 use Rattle.step_schedules.specs.declared.agenda.Held.{Held}
 use Rattle.played_adapter.specs.Moves.{access_moves, moves_of, tick_moves}
 use Rattle.played_adapter.specs.Order.{InOrder, Tells}
@@ -15,12 +15,12 @@ returns-clause-plays g c =
     let heard = g.O.Observer.heard in
     let a = c.args.self.now in
     let waiting = c.args.agenda.now.waiting in
-    let event = event_read c.coming-event.result in
-    let due = flat_map moves_of (due_before event (map waiting_read c.waiting.result.now)) in
+    let event = event_value c.coming-event.result in
+    let due = flat_map moves_of (due_before event (map waiting_value c.waiting.result.now)) in
     let moves : tick_moves c.held.result a ++ due ≡ access_moves c.args.before c.args.name.now c.args.agenda.now a
-    = ap (λ (ws : List WaitingRead). tick_moves c.held.result a ++ flat_map moves_of (due_before event ws)) c.waiting.ensures
+    = ap (λ (ws : List WaitingValue). tick_moves c.held.result a ++ flat_map moves_of (due_before event ws)) c.waiting.ensures
     ∙ ap (λ (held : Held). tick_moves held a ++ flat_map moves_of (due_before event waiting)) c.held.ensures
-    ∙ ap (λ (e : EventRead). tick_moves (held_at (due_before e waiting) c.args.agenda.now) a ++ flat_map moves_of (due_before e waiting))
+    ∙ ap (λ (e : EventValue). tick_moves (default_steps_held (due_before e waiting) c.args.agenda.now) a ++ flat_map moves_of (due_before e waiting))
     c.coming-event.ensures in
     subst (λ (ms : List Move). Tells heard c.args.observer.now c.make_due.new.observer (InOrder Makes ms a c.make_due.new.self)) moves
     (tells_joined Makes heard g.met.O.Observer.composes (tick_moves c.held.result a) due a c.make_ticks.new.self c.make_due.new.self

@@ -2,7 +2,7 @@ use Rattle.std.proofs.Common.{◌≡◌, ◌+◌, ◌++◌, ◌∷◌, [], List,
 use Rattle.std.proofs.lemmas.List.{take_all, take_more}
 use Rattle.adapter.specs.declared.step.StepKind.{StepKind}
 use Rattle.adapter.specs.declared.step.StepKind.TheVariants.{TxTake}
-use Rattle.played_adapter.specs.Playing.{Plays, Steps}
+use Rattle.played_adapter.specs.Playing.{PlaysStepOfKind, Steps}
 use Rattle.played_adapter.specs.Order.{InOrder, Tells}
 use Rattle.played_adapter.proofs.Cycles.{moved_little}
 use Rattle.played_adapter.proofs.Telling.{tells_more, tells_none, tells_so}
@@ -10,7 +10,7 @@ use Rattle.played_adapter.proofs.player.PlayedAdapter.play.Goals as goal
 
 pub loop-kind-init : goal.loop-kind-init
 loop-kind-init g c = record {
-  plays = tells_none Plays g.O.Observer.heard g.met.O.Observer.composes (c.args.self.now, 0) c.args.observer.now;
+  plays = tells_none PlaysStepOfKind g.O.Observer.heard g.met.O.Observer.composes (c.args.self.now, 0) c.args.observer.now;
   few = omega arith;
 }
 
@@ -23,15 +23,15 @@ loop-kind-preserved g c =
     let outcome = c.step-outcome.result in
     let more = c.loop-kind.moved + c.moved_by-moved.result in
     let plays = tells_so heard (Steps kind outcome c.loop-kind.self c.step-outcome.new.self)
-    (Plays kind (c.loop-kind.self, c.loop-kind.moved) (c.step-outcome.new.self, more)) c.loop-kind.observer c.step-outcome.new.observer
+    (PlaysStepOfKind kind (c.loop-kind.self, c.loop-kind.moved) (c.step-outcome.new.self, more)) c.loop-kind.observer c.step-outcome.new.observer
     (λ told steps. record { outcome = outcome; steps = steps; count = ap (◌+◌ c.loop-kind.moved) c.moved_by-moved.ensures })
     c.step-outcome.ensures in
     let kinds : take i all ++ kind ∷ [] ≡ take (i + 1) all = sym (take_more all i TxTake c.loop-kind-test.true) in
     record {
       plays = subst
           (λ (ks : List StepKind). Tells heard c.args.observer.now c.step-outcome.new.observer
-          (InOrder Plays ks (c.args.self.now, 0) (c.step-outcome.new.self, more))) kinds
-          (tells_more Plays heard g.met.O.Observer.composes (take i all) kind (c.args.self.now, 0)
+          (InOrder PlaysStepOfKind ks (c.args.self.now, 0) (c.step-outcome.new.self, more))) kinds
+          (tells_more PlaysStepOfKind heard g.met.O.Observer.composes (take i all) kind (c.args.self.now, 0)
           (c.loop-kind.self, c.loop-kind.moved) (c.step-outcome.new.self, more)
           c.args.observer.now c.loop-kind.observer c.step-outcome.new.observer c.loop-kind.invariant.plays plays);
       few = omega (arith, c.moved_by-moved.ensures, moved_little outcome);
@@ -41,5 +41,5 @@ pub returns-clause-plays : goal.returns-clause-plays
 returns-clause-plays g c =
     subst
     (λ (ks : List StepKind). Tells g.O.Observer.heard c.args.observer.now c.loop-kind.observer
-    (InOrder Plays ks (c.args.self.now, 0) (c.loop-kind.self, c.loop-kind.moved)))
+    (InOrder PlaysStepOfKind ks (c.args.self.now, 0) (c.loop-kind.self, c.loop-kind.moved)))
     (take_all c.loop-kind.kind-index c.args.kinds.now c.loop-kind-test.false) c.loop-kind.invariant.plays
